@@ -1,0 +1,13 @@
+pub mod Entry
+pub mod Ast
+pub mod Rule
+pub mod Read
+pub mod Kinds
+pub mod Fields
+pub mod Decode
+pub mod Encode
+pub mod Limits
+pub mod Agree
+pub mod AgreeTy
+pub mod AgreeInst
+pub mod AgreeBook

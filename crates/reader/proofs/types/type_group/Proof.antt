@@ -1,0 +1,70 @@
+-- `reader::types::type_group` meets its contract: each kind is looked up, and what is below or above the table is not in it.
+use mathlib.Core.Path.{_≡_, refl, sym, ap}
+use native.Mathlib.Omega.{arith}
+use Rattle.book.specs.Kinds.{tyTag, tyTags, tyKind}
+use Rattle.book.specs.Rule.{find}
+use Rattle.reader.specs.Groups.{typeGroupOf}
+use Rattle.reader.specs.Tables.{find-below, find-above, in-range}
+use Rattle.reader.specs.declared.types.TypeGroup.the-variants.{Sizeless}
+use Rattle.reader.proofs.types.type_group.Statement.{statement}
+use Rattle.reader.proofs.types.type_group.Tie as tie
+
+returns : tie.Need-returns
+unfolding tyTag find tyTags
+returns c = ap (λ k. typeGroupOf (tyTag k)) (sym (c .match .keys1))
+
+returns-2 : tie.Need-returns-2
+unfolding tyTag find tyTags
+returns-2 c = ap (λ k. typeGroupOf (tyTag k)) (sym (c .match .keys2))
+
+returns-3 : tie.Need-returns-3
+unfolding tyTag find tyTags
+returns-3 c = ap (λ k. typeGroupOf (tyTag k)) (sym (c .match .keys3))
+
+returns-4 : tie.Need-returns-4
+unfolding tyTag find tyTags
+returns-4 c = ap (λ k. typeGroupOf (tyTag k)) (sym (c .match .keys4))
+
+returns-5 : tie.Need-returns-5
+unfolding tyTag find tyTags
+returns-5 c = ap (λ k. typeGroupOf (tyTag k)) (sym (c .match .keys5))
+
+returns-6 : tie.Need-returns-6
+unfolding tyTag find tyTags
+returns-6 c = ap (λ k. typeGroupOf (tyTag k)) (sym (c .match .keys6))
+
+returns-7 : tie.Need-returns-7
+unfolding tyTag find tyTags
+returns-7 c = ap (λ k. typeGroupOf (tyTag k)) (sym (c .match .keys7))
+
+returns-8 : tie.Need-returns-8
+unfolding tyTag find tyTags
+returns-8 c = ap (λ k. typeGroupOf (tyTag k)) (sym (c .match .keys8))
+
+returns-9 : tie.Need-returns-9
+unfolding tyTag find tyTags
+returns-9 c = in-range (λ k. Sizeless ≡ typeGroupOf (tyTag k)) 18 3 (refl, (refl, (refl, tt))) (c .before .before .before .args .kind) (omega arith) (omega arith)
+
+returns-10 : tie.Need-returns-10
+unfolding tyTag tyTags
+returns-10 c = ap typeGroupOf (sym (find-above tyKind _ 9 tyTags refl (omega arith)))
+
+returns-11 : tie.Need-returns-11
+unfolding tyTag tyTags
+returns-11 c = ap typeGroupOf (sym (find-below tyKind _ 21 tyTags refl (omega arith)))
+
+pub type-group-spec : {M : Type 1} → statement M
+type-group-spec =
+    tie.close
+    (tie.spec
+    returns
+    returns-2
+    returns-3
+    returns-4
+    returns-5
+    returns-6
+    returns-7
+    returns-8
+    returns-9
+    returns-10
+    returns-11)
