@@ -1,3 +1,6 @@
 pub mod Length
+pub mod Fit
 pub mod Groups
 pub mod Tables
+pub mod Laws
+pub mod TypeLaws

@@ -1,0 +1,13 @@
+-- Definitions of names as document 01 has them, and the laws about them.
+pub mod Text
+pub mod Name
+pub mod Spelling
+pub mod Prefix
+pub mod Tests
+pub mod Texts
+pub mod Labels
+pub mod Order
+pub mod Lines
+pub mod Places
+pub mod Ranges
+pub mod Cases
