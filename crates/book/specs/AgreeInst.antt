@@ -64,6 +64,10 @@ agrees-align : Agrees align encNumber AlignLimits
 unfolding align
 agrees-align = agrees-number 22 isAlign
 
+-- the integer of a switch case
+pub agrees-integer : Agrees (word 32 some) (λ x. entry 32 x ∷ []) (λ x. Unit {0})
+agrees-integer = agrees-word 32 some (λ x. x) (λ x. Unit {0}) (λ w a h. (cc, tt)) (λ a k. refl)
+
 module _ (m : ℕ) where
   -- a word that is a name
   pub agrees-name : (k : ℕ) → Agrees (word k (name m)) (λ x. entry k x ∷ []) (NameLimits m)
@@ -96,9 +100,9 @@ module _ (m : ℕ) where
       s =
           agrees-mapped (λ p. record { value = p .0; label = p .1 }) (λ v. (v .value, v .label)) _ _ _ (λ x. refl) (λ x. refl)
           (agrees-both (word 32 some) (block m) (λ x. entry 32 x ∷ []) encBlock (λ x. Unit {0}) (NameLimits m)
-          (agrees-word 32 some (λ x. x) (λ x. Unit {0}) (λ w a h. (cc, tt)) (λ a k. refl)) agrees-block)
+          agrees-integer agrees-block)
 
-  agrees-item : (i : Item) → Agrees (item m i) (encItem i) (ItemLimits m i)
+  pub agrees-item : (i : Item) → Agrees (item m i) (encItem i) (ItemLimits m i)
   unfolding item
   agrees-item Item.type = agrees-type m
   agrees-item Item.value = agrees-value m

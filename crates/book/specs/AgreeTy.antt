@@ -257,7 +257,6 @@ module _ (m : ℕ) where
   agrees-typeTo (suc l) = agrees-step l (agrees-typeTo l)
 
   pub agrees-type : Agrees (type m) encTy (TyLimits m)
-  unfolding type
   agrees-type = agrees-typeTo 64
 
   -- ---- values

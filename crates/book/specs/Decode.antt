@@ -61,7 +61,7 @@ module _ (m : ℕ) where
   typeTo (suc l) [] = bad
   typeTo (suc l) (e ∷ es) = behind 1 (typeAs (typeTo l) (e .word) (tyTag (e .kind)) es)
 
-  unfoldable pub type : Reader Ty
+  abbrev pub type : Reader Ty
   type = typeTo 64
 
   -- ---- values

@@ -14,7 +14,7 @@ use Rattle.book.specs.Entry.{Entry, entry, entries}
 use Rattle.book.specs.Read.{Read, got, bad, Reader, andThen, choose, stops, mapped, until, closing, isClosing, listOf, many, word, one}
 use Rattle.book.specs.Agree.{Agrees, Begins}
 use Rattle.reader.specs.Length.{lenOf, further, stepOf, stepOfLength, lastOfLength, pickStep, frontOf}
-use Rattle.reader.specs.Fit.{Within}
+use Rattle.reader.specs.Fit.{Room}
 use Rattle.reader.specs.declared.Length.{Length}
 use Rattle.reader.specs.declared.Length.the-variants as len
 use Rattle.reader.specs.declared.Step.{Step}
@@ -102,10 +102,10 @@ module _ {A : Type 0} where
         let b : Begins w K es (g .0) n = s .sound es (g .0) n (g .1) in
         omega (arith, b .size, ap length (b .here), length-append (w (g .0)) (drop n es))
 
-    pub len-within : (es : List Entry) → 1 + length es < 2 ^ 64 → Within (lenOf (p es))
-    len-within es h = go (lenOf (p es)) refl
+    pub len-room : (a : ℕ) (es : List Entry) → a + length es < 2 ^ 64 → Room a (lenOf (p es))
+    len-room a es h = go (lenOf (p es)) refl
       where
-        go : (l : Length) → lenOf (p es) ≡ l → Within l
+        go : (l : Length) → lenOf (p es) ≡ l → Room a l
         go (len.Entries n) e = omega (arith, len-fits es n e)
         go len.Bad e = tt
 

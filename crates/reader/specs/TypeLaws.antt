@@ -22,8 +22,8 @@ use Rattle.book.specs.Ast.{Ty}
 use Rattle.book.specs.Decode.{tys, typeAs, typeTo}
 use Rattle.reader.specs.Length.{lenOf, further, stepOf, stepOfLength, lastOfLength, pickStep, frontOf, headOf, pickHead}
 use Rattle.reader.specs.Groups.{typeGroupOf, groupHead, typeHeadOf, leafIf, structIf}
-use Rattle.reader.specs.Fit.{Within}
-use Rattle.reader.specs.Laws.{length-entries, entries-part, len-within}
+use Rattle.reader.specs.Fit.{Room}
+use Rattle.reader.specs.Laws.{length-entries, entries-part, len-room}
 use Rattle.reader.specs.declared.Front.{Front}
 use Rattle.reader.specs.declared.Length.{Length}
 use Rattle.reader.specs.declared.Length.the-variants as len
@@ -154,10 +154,10 @@ pub not-struct : (h : TypeHead) → h ≡ ty.Struct → h ≡ ty.Bad → ⊥
 not-struct h e f = let z : _≡_ {A = ℕ} 0 1 = cc in omega arith
 
 -- what is read behind the entry in front leaves room for it
-pub behind-within : {A : Type 0} {p : Reader A} {w : A → List Entry} {K : A → Type 0} → Agrees p w K → (ks ws : List ℕ) (r : Length)
-    → length ks < 2 ^ 64 → 1 ≤ length ks → r ≡ lenOf (p (behindFront ks ws)) → Within r
-behind-within s ks ws r f g e =
-    subst Within (sym e) (len-within s (behindFront ks ws) (omega (arith, length-entries (take (length ks - 1) (drop 1 ks)) (take (length ws - 1) (drop 1 ws)), length-take (length ks - 1) (drop 1 ks))))
+pub behind-room : {A : Type 0} {p : Reader A} {w : A → List Entry} {K : A → Type 0} → Agrees p w K → (ks ws : List ℕ) (r : Length)
+    → length ks < 2 ^ 64 → 1 ≤ length ks → r ≡ lenOf (p (behindFront ks ws)) → Room 1 r
+behind-room s ks ws r f g e =
+    subst (Room 1) (sym e) (len-room s 1 (behindFront ks ws) (omega (arith, length-entries (take (length ks - 1) (drop 1 ks)) (take (length ws - 1) (drop 1 ws)), length-take (length ks - 1) (drop 1 ks))))
 
 pub agrees-types : (m l : ℕ) → Agrees (many (typeTo m l)) (closed encTy) (Each (TyTo m l))
 agrees-types m l = agrees-many (typeTo m l) encTy (TyTo m l) (λ t rest k. ty-head isClosing (λ j p q. ne-eqb j 0 (λ z. omega arith)) t rest) (agrees-typeTo m l)

@@ -2,6 +2,7 @@
 // of the lent kinds and words, or that none stands there. A reader is lent the rest of the entries from its
 // start; where one slice is longer than the other, what it has more does not count. `names` is the number of
 // the book's names.
+pub mod items;
 pub mod types;
 
 ghost use mathlib.Core.Path.{_≡_};
@@ -9,7 +10,8 @@ ghost use mathlib.Core.Bool.{Bool};
 ghost use Prim.Native.Nat.{_+_, min};
 ghost use lib.ListN.{length};
 ghost use Rattle.book.specs.Entry.{entries};
-ghost use Rattle.reader.specs.Length.{lenIf, stepOfLength, frontOf, headOf};
+ghost use Rattle.reader.specs.Fit.{Room};
+ghost use Rattle.reader.specs.Length.{lenIf, further, stepOfLength, frontOf, headOf};
 
 // How many entries something takes.
 pub enum Length {
@@ -29,6 +31,17 @@ pub fn entry_if(ok: bool) -> Length
     ensures { λ r. ⌜ r ≡ lenIf ok ⌝ }
 {
     if ok { Length::Entries(1) } else { Length::Bad }
+}
+
+// Two parts one after the other, the second of them as read behind the first.
+pub fn then_len(first: usize, second: Length) -> Length
+    requires { ⌜ Room first second ⌝ }
+    ensures { λ r. ⌜ r ≡ further first second ⌝ }
+{
+    match second {
+        Length::Entries(n) => Length::Entries(first + n),
+        Length::Bad => Length::Bad,
+    }
 }
 
 // An item as the next step.

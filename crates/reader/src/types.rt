@@ -1,12 +1,11 @@
 // Types: kinds 10 to 20.
-use crate::{first_entry, list_head, next_step, shorter, Front, Length, ListHead, Step};
+use crate::{first_entry, list_head, next_step, shorter, then_len, Front, Length, ListHead, Step};
 ghost use mathlib.Core.Path.{_≡_};
 ghost use Rattle.book.specs.Entry.{entries};
 ghost use Rattle.book.specs.Kinds.{tyTag};
 ghost use Rattle.book.specs.Read.{closing, isClosing, many};
 ghost use Rattle.book.specs.Decode.{typeTo};
-ghost use Rattle.reader.specs.Length.{lenOf, stepOf, further};
-ghost use Rattle.reader.specs.Fit.{Within};
+ghost use Rattle.reader.specs.Length.{lenOf, stepOf};
 ghost use Rattle.reader.specs.Groups.{typeGroupOf, leafIf, structIf, groupHead, typeHeadOf};
 
 // What the kind of a type's entry begins.
@@ -87,17 +86,6 @@ pub fn type_head(entry: Front, names: u64) -> TypeHead
     }
 }
 
-// A part, with the entry before it.
-fn one_more(part: Length) -> Length
-    requires { ⌜ Within part ⌝ }
-    ensures { λ r. ⌜ r ≡ further 1 part ⌝ }
-{
-    match part {
-        Length::Entries(n) => Length::Entries(1 + n),
-        Length::Bad => Length::Bad,
-    }
-}
-
 // The type at the front, of at most `level` levels.
 pub fn type_len(kinds: &[u64], words: &[u64], names: u64, level: u32) -> Length
     ensures { λ r. ⌜ r ≡ lenOf (typeTo names level (entries (now (kinds .entry)) (now (words .entry)))) ⌝ }
@@ -107,8 +95,8 @@ pub fn type_len(kinds: &[u64], words: &[u64], names: u64, level: u32) -> Length
     }
     match type_head(first_entry(kinds, words), names) {
         TypeHead::Leaf => Length::Entries(1),
-        TypeHead::Array => one_more(type_len(&kinds[1..], &words[1..], names, level - 1)),
-        TypeHead::Struct => one_more(types_len(&kinds[1..], &words[1..], names, level - 1)),
+        TypeHead::Array => then_len(1, type_len(&kinds[1..], &words[1..], names, level - 1)),
+        TypeHead::Struct => then_len(1, types_len(&kinds[1..], &words[1..], names, level - 1)),
         TypeHead::Bad => Length::Bad,
     }
 }

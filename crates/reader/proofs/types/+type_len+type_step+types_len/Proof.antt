@@ -26,7 +26,7 @@ use Rattle.reader.proofs.first_entry.Reads as first-entry-reads
 use Rattle.reader.proofs.list_head.Reads as list-head-reads
 use Rattle.reader.proofs.next_step.Reads as next-step-reads
 use Rattle.reader.proofs.shorter.Reads as shorter-reads
-use Rattle.reader.proofs.types.one_more.Reads as one-more-reads
+use Rattle.reader.proofs.then_len.Reads as then-len-reads
 use Rattle.reader.proofs.types.type_head.Reads as type-head-reads
 use Rattle.reader.proofs.types.+type_len+type_step+types_len.{statement}
 use Rattle.reader.proofs.types.+type_len+type_step+types_len.Tie.{close}
@@ -69,8 +69,8 @@ type-len-returns : (t : ℕ) → type-len-lts.Need-returns (
   type-head-reads.Learnt,
   type-len-below t,
   type-len.Post,
-  one-more-reads.Asked,
-  one-more-reads.Learnt,
+  then-len-reads.Asked,
+  then-len-reads.Learnt,
   types-len-below t,
   types-len.Post,
 ) (type-len-at t) type-len.Post
@@ -84,8 +84,8 @@ type-len-first-entry-requires : (t : ℕ) → type-len-lts.Need-first-entry-requ
   type-head-reads.Learnt,
   type-len-below t,
   type-len.Post,
-  one-more-reads.Asked,
-  one-more-reads.Learnt,
+  then-len-reads.Asked,
+  then-len-reads.Learnt,
   types-len-below t,
   types-len.Post,
 ) (type-len-at t) type-len.Post
@@ -99,8 +99,8 @@ type-len-type-head-requires : (t : ℕ) → type-len-lts.Need-type-head-requires
   type-head-reads.Learnt,
   type-len-below t,
   type-len.Post,
-  one-more-reads.Asked,
-  one-more-reads.Learnt,
+  then-len-reads.Asked,
+  then-len-reads.Learnt,
   types-len-below t,
   types-len.Post,
 ) (type-len-at t) type-len.Post
@@ -114,8 +114,8 @@ type-len-enum-told : (t : ℕ) → type-len-lts.Need-enum-told (
   type-head-reads.Learnt,
   type-len-below t,
   type-len.Post,
-  one-more-reads.Asked,
-  one-more-reads.Learnt,
+  then-len-reads.Asked,
+  then-len-reads.Learnt,
   types-len-below t,
   types-len.Post,
 ) (type-len-at t) type-len.Post
@@ -129,8 +129,8 @@ type-len-enum-told-2 : (t : ℕ) → type-len-lts.Need-enum-told-2 (
   type-head-reads.Learnt,
   type-len-below t,
   type-len.Post,
-  one-more-reads.Asked,
-  one-more-reads.Learnt,
+  then-len-reads.Asked,
+  then-len-reads.Learnt,
   types-len-below t,
   types-len.Post,
 ) (type-len-at t) type-len.Post
@@ -144,8 +144,8 @@ type-len-sub-type-len : (t : ℕ) → type-len-lts.Need-sub-type-len (
   type-head-reads.Learnt,
   type-len-below t,
   type-len.Post,
-  one-more-reads.Asked,
-  one-more-reads.Learnt,
+  then-len-reads.Asked,
+  then-len-reads.Learnt,
   types-len-below t,
   types-len.Post,
 ) (type-len-at t) type-len.Post
@@ -159,8 +159,8 @@ type-len-part-type-len-start : (t : ℕ) → type-len-lts.Need-part-type-len-sta
   type-head-reads.Learnt,
   type-len-below t,
   type-len.Post,
-  one-more-reads.Asked,
-  one-more-reads.Learnt,
+  then-len-reads.Asked,
+  then-len-reads.Learnt,
   types-len-below t,
   types-len.Post,
 ) (type-len-at t) type-len.Post
@@ -174,8 +174,8 @@ type-len-part-type-len-end : (t : ℕ) → type-len-lts.Need-part-type-len-end (
   type-head-reads.Learnt,
   type-len-below t,
   type-len.Post,
-  one-more-reads.Asked,
-  one-more-reads.Learnt,
+  then-len-reads.Asked,
+  then-len-reads.Learnt,
   types-len-below t,
   types-len.Post,
 ) (type-len-at t) type-len.Post
@@ -189,8 +189,8 @@ type-len-sub-type-len-2 : (t : ℕ) → type-len-lts.Need-sub-type-len-2 (
   type-head-reads.Learnt,
   type-len-below t,
   type-len.Post,
-  one-more-reads.Asked,
-  one-more-reads.Learnt,
+  then-len-reads.Asked,
+  then-len-reads.Learnt,
   types-len-below t,
   types-len.Post,
 ) (type-len-at t) type-len.Post
@@ -204,8 +204,8 @@ type-len-part-type-len-start-2 : (t : ℕ) → type-len-lts.Need-part-type-len-s
   type-head-reads.Learnt,
   type-len-below t,
   type-len.Post,
-  one-more-reads.Asked,
-  one-more-reads.Learnt,
+  then-len-reads.Asked,
+  then-len-reads.Learnt,
   types-len-below t,
   types-len.Post,
 ) (type-len-at t) type-len.Post
@@ -219,8 +219,8 @@ type-len-part-type-len-end-2 : (t : ℕ) → type-len-lts.Need-part-type-len-end
   type-head-reads.Learnt,
   type-len-below t,
   type-len.Post,
-  one-more-reads.Asked,
-  one-more-reads.Learnt,
+  then-len-reads.Asked,
+  then-len-reads.Learnt,
   types-len-below t,
   types-len.Post,
 ) (type-len-at t) type-len.Post
@@ -234,8 +234,8 @@ type-len-sub-type-len-3 : (t : ℕ) → type-len-lts.Need-sub-type-len-3 (
   type-head-reads.Learnt,
   type-len-below t,
   type-len.Post,
-  one-more-reads.Asked,
-  one-more-reads.Learnt,
+  then-len-reads.Asked,
+  then-len-reads.Learnt,
   types-len-below t,
   types-len.Post,
 ) (type-len-at t) type-len.Post
@@ -249,27 +249,27 @@ type-len-type-len-requires : (t : ℕ) → type-len-lts.Need-type-len-requires (
   type-head-reads.Learnt,
   type-len-below t,
   type-len.Post,
-  one-more-reads.Asked,
-  one-more-reads.Learnt,
+  then-len-reads.Asked,
+  then-len-reads.Learnt,
   types-len-below t,
   types-len.Post,
 ) (type-len-at t) type-len.Post
 type-len-type-len-requires t c κs = search needs
 
 -- src/types.rt:110:28
-type-len-one-more-requires : (t : ℕ) → type-len-lts.Need-one-more-requires (
+type-len-then-len-requires : (t : ℕ) → type-len-lts.Need-then-len-requires (
   first-entry-reads.Asked,
   first-entry-reads.Learnt,
   type-head-reads.Asked,
   type-head-reads.Learnt,
   type-len-below t,
   type-len.Post,
-  one-more-reads.Asked,
-  one-more-reads.Learnt,
+  then-len-reads.Asked,
+  then-len-reads.Learnt,
   types-len-below t,
   types-len.Post,
 ) (type-len-at t) type-len.Post
-type-len-one-more-requires t c κs = types.behind-within (agrees-typeTo _ _) (c .before .before .before .before .before .before .before .before .before .before .args .kinds .now) (c .before .before .before .before .before .before .before .before .before .before .args .words .now) _ (omega arith) (laws.within-kinds 1 _ _ (types.head-there (c .before .before .before .before .before .before .before .before .before .before .args .names) (c .before .before .before .before .before .before .before .before .before .before .args .level) (c .before .before .before .before .before .before .before .before .before .before .args .kinds .now) (c .before .before .before .before .before .before .before .before .before .before .args .words .now) _ _ (c .before .before .before .before .before .before .first-entry .ensures) (c .before .before .before .before .before .type-head .ensures) (types.not-array _ (c .before .before .before .enum-told2 .given .1)))) (c .type-len .ensures)
+type-len-then-len-requires t c κs = types.behind-room (agrees-typeTo _ _) (c .before .before .before .before .before .before .before .before .before .before .args .kinds .now) (c .before .before .before .before .before .before .before .before .before .before .args .words .now) _ (omega arith) (laws.within-kinds 1 _ _ (types.head-there (c .before .before .before .before .before .before .before .before .before .before .args .names) (c .before .before .before .before .before .before .before .before .before .before .args .level) (c .before .before .before .before .before .before .before .before .before .before .args .kinds .now) (c .before .before .before .before .before .before .before .before .before .before .args .words .now) _ _ (c .before .before .before .before .before .before .first-entry .ensures) (c .before .before .before .before .before .type-head .ensures) (types.not-array _ (c .before .before .before .enum-told2 .given .1)))) (c .type-len .ensures)
 
 -- src/types.rt:111:48
 type-len-enum-told-3 : (t : ℕ) → type-len-lts.Need-enum-told-3 (
@@ -279,8 +279,8 @@ type-len-enum-told-3 : (t : ℕ) → type-len-lts.Need-enum-told-3 (
   type-head-reads.Learnt,
   type-len-below t,
   type-len.Post,
-  one-more-reads.Asked,
-  one-more-reads.Learnt,
+  then-len-reads.Asked,
+  then-len-reads.Learnt,
   types-len-below t,
   types-len.Post,
 ) (type-len-at t) type-len.Post
@@ -294,8 +294,8 @@ type-len-sub-types-len : (t : ℕ) → type-len-lts.Need-sub-types-len (
   type-head-reads.Learnt,
   type-len-below t,
   type-len.Post,
-  one-more-reads.Asked,
-  one-more-reads.Learnt,
+  then-len-reads.Asked,
+  then-len-reads.Learnt,
   types-len-below t,
   types-len.Post,
 ) (type-len-at t) type-len.Post
@@ -309,8 +309,8 @@ type-len-part-types-len-start : (t : ℕ) → type-len-lts.Need-part-types-len-s
   type-head-reads.Learnt,
   type-len-below t,
   type-len.Post,
-  one-more-reads.Asked,
-  one-more-reads.Learnt,
+  then-len-reads.Asked,
+  then-len-reads.Learnt,
   types-len-below t,
   types-len.Post,
 ) (type-len-at t) type-len.Post
@@ -324,8 +324,8 @@ type-len-part-types-len-end : (t : ℕ) → type-len-lts.Need-part-types-len-end
   type-head-reads.Learnt,
   type-len-below t,
   type-len.Post,
-  one-more-reads.Asked,
-  one-more-reads.Learnt,
+  then-len-reads.Asked,
+  then-len-reads.Learnt,
   types-len-below t,
   types-len.Post,
 ) (type-len-at t) type-len.Post
@@ -339,8 +339,8 @@ type-len-sub-types-len-2 : (t : ℕ) → type-len-lts.Need-sub-types-len-2 (
   type-head-reads.Learnt,
   type-len-below t,
   type-len.Post,
-  one-more-reads.Asked,
-  one-more-reads.Learnt,
+  then-len-reads.Asked,
+  then-len-reads.Learnt,
   types-len-below t,
   types-len.Post,
 ) (type-len-at t) type-len.Post
@@ -354,8 +354,8 @@ type-len-part-types-len-start-2 : (t : ℕ) → type-len-lts.Need-part-types-len
   type-head-reads.Learnt,
   type-len-below t,
   type-len.Post,
-  one-more-reads.Asked,
-  one-more-reads.Learnt,
+  then-len-reads.Asked,
+  then-len-reads.Learnt,
   types-len-below t,
   types-len.Post,
 ) (type-len-at t) type-len.Post
@@ -369,8 +369,8 @@ type-len-part-types-len-end-2 : (t : ℕ) → type-len-lts.Need-part-types-len-e
   type-head-reads.Learnt,
   type-len-below t,
   type-len.Post,
-  one-more-reads.Asked,
-  one-more-reads.Learnt,
+  then-len-reads.Asked,
+  then-len-reads.Learnt,
   types-len-below t,
   types-len.Post,
 ) (type-len-at t) type-len.Post
@@ -384,8 +384,8 @@ type-len-sub-types-len-3 : (t : ℕ) → type-len-lts.Need-sub-types-len-3 (
   type-head-reads.Learnt,
   type-len-below t,
   type-len.Post,
-  one-more-reads.Asked,
-  one-more-reads.Learnt,
+  then-len-reads.Asked,
+  then-len-reads.Learnt,
   types-len-below t,
   types-len.Post,
 ) (type-len-at t) type-len.Post
@@ -399,27 +399,27 @@ type-len-types-len-requires : (t : ℕ) → type-len-lts.Need-types-len-requires
   type-head-reads.Learnt,
   type-len-below t,
   type-len.Post,
-  one-more-reads.Asked,
-  one-more-reads.Learnt,
+  then-len-reads.Asked,
+  then-len-reads.Learnt,
   types-len-below t,
   types-len.Post,
 ) (type-len-at t) type-len.Post
 type-len-types-len-requires t c κs = search needs
 
 -- src/types.rt:111:29
-type-len-one-more-requires-2 : (t : ℕ) → type-len-lts.Need-one-more-requires-2 (
+type-len-then-len-requires-2 : (t : ℕ) → type-len-lts.Need-then-len-requires-2 (
   first-entry-reads.Asked,
   first-entry-reads.Learnt,
   type-head-reads.Asked,
   type-head-reads.Learnt,
   type-len-below t,
   type-len.Post,
-  one-more-reads.Asked,
-  one-more-reads.Learnt,
+  then-len-reads.Asked,
+  then-len-reads.Learnt,
   types-len-below t,
   types-len.Post,
 ) (type-len-at t) type-len.Post
-type-len-one-more-requires-2 t c κs = types.behind-within (types.agrees-types _ _) (c .before .before .before .before .before .before .before .before .before .before .args .kinds .now) (c .before .before .before .before .before .before .before .before .before .before .args .words .now) _ (omega arith) (laws.within-kinds 1 _ _ (types.head-there (c .before .before .before .before .before .before .before .before .before .before .args .names) (c .before .before .before .before .before .before .before .before .before .before .args .level) (c .before .before .before .before .before .before .before .before .before .before .args .kinds .now) (c .before .before .before .before .before .before .before .before .before .before .args .words .now) _ _ (c .before .before .before .before .before .before .first-entry .ensures) (c .before .before .before .before .before .type-head .ensures) (types.not-struct _ (c .before .before .before .enum-told3 .given .1)))) (c .types-len .ensures)
+type-len-then-len-requires-2 t c κs = types.behind-room (types.agrees-types _ _) (c .before .before .before .before .before .before .before .before .before .before .args .kinds .now) (c .before .before .before .before .before .before .before .before .before .before .args .words .now) _ (omega arith) (laws.within-kinds 1 _ _ (types.head-there (c .before .before .before .before .before .before .before .before .before .before .args .names) (c .before .before .before .before .before .before .before .before .before .before .args .level) (c .before .before .before .before .before .before .before .before .before .before .args .kinds .now) (c .before .before .before .before .before .before .before .before .before .before .args .words .now) _ _ (c .before .before .before .before .before .before .first-entry .ensures) (c .before .before .before .before .before .type-head .ensures) (types.not-struct _ (c .before .before .before .enum-told3 .given .1)))) (c .types-len .ensures)
 
 -- src/types.rt:112:26
 type-len-enum-told-4 : (t : ℕ) → type-len-lts.Need-enum-told-4 (
@@ -429,8 +429,8 @@ type-len-enum-told-4 : (t : ℕ) → type-len-lts.Need-enum-told-4 (
   type-head-reads.Learnt,
   type-len-below t,
   type-len.Post,
-  one-more-reads.Asked,
-  one-more-reads.Learnt,
+  then-len-reads.Asked,
+  then-len-reads.Learnt,
   types-len-below t,
   types-len.Post,
 ) (type-len-at t) type-len.Post
@@ -444,8 +444,8 @@ type-len-returns-2 : (t : ℕ) → type-len-lts.Need-returns-2 (
   type-head-reads.Learnt,
   type-len-below t,
   type-len.Post,
-  one-more-reads.Asked,
-  one-more-reads.Learnt,
+  then-len-reads.Asked,
+  then-len-reads.Learnt,
   types-len-below t,
   types-len.Post,
 ) (type-len-at t) type-len.Post
@@ -459,12 +459,12 @@ type-len-returns-3 : (t : ℕ) → type-len-lts.Need-returns-3 (
   type-head-reads.Learnt,
   type-len-below t,
   type-len.Post,
-  one-more-reads.Asked,
-  one-more-reads.Learnt,
+  then-len-reads.Asked,
+  then-len-reads.Learnt,
   types-len-below t,
   types-len.Post,
 ) (type-len-at t) type-len.Post
-type-len-returns-3 t c = types.array-arm (c .before .before .before .before .before .before .before .before .before .before .before .args .names) (c .before .before .before .before .before .before .before .before .before .before .before .args .level) (c .before .before .before .before .before .before .before .before .before .before .before .args .kinds .now) (c .before .before .before .before .before .before .before .before .before .before .before .args .words .now) _ _ (c .before .before .before .before .before .before .before .first-entry .ensures) (c .before .before .before .before .before .before .type-head .ensures) (c .before .before .before .before .before .before .before .before .if1 .left) (c .before .before .before .before .enum-told2 .given .1) _ _ (c .before .type-len .ensures) (c .one-more .ensures)
+type-len-returns-3 t c = types.array-arm (c .before .before .before .before .before .before .before .before .before .before .before .args .names) (c .before .before .before .before .before .before .before .before .before .before .before .args .level) (c .before .before .before .before .before .before .before .before .before .before .before .args .kinds .now) (c .before .before .before .before .before .before .before .before .before .before .before .args .words .now) _ _ (c .before .before .before .before .before .before .before .first-entry .ensures) (c .before .before .before .before .before .before .type-head .ensures) (c .before .before .before .before .before .before .before .before .if1 .left) (c .before .before .before .before .enum-told2 .given .1) _ _ (c .before .type-len .ensures) (c .then-len .ensures)
 
 -- src/types.rt:102:1
 type-len-returns-4 : (t : ℕ) → type-len-lts.Need-returns-4 (
@@ -474,12 +474,12 @@ type-len-returns-4 : (t : ℕ) → type-len-lts.Need-returns-4 (
   type-head-reads.Learnt,
   type-len-below t,
   type-len.Post,
-  one-more-reads.Asked,
-  one-more-reads.Learnt,
+  then-len-reads.Asked,
+  then-len-reads.Learnt,
   types-len-below t,
   types-len.Post,
 ) (type-len-at t) type-len.Post
-type-len-returns-4 t c = types.struct-arm (c .before .before .before .before .before .before .before .before .before .before .before .args .names) (c .before .before .before .before .before .before .before .before .before .before .before .args .level) (c .before .before .before .before .before .before .before .before .before .before .before .args .kinds .now) (c .before .before .before .before .before .before .before .before .before .before .before .args .words .now) _ _ (c .before .before .before .before .before .before .before .first-entry .ensures) (c .before .before .before .before .before .before .type-head .ensures) (c .before .before .before .before .before .before .before .before .if1 .left) (c .before .before .before .before .enum-told3 .given .1) _ _ (c .before .types-len .ensures) (c .one-more2 .ensures)
+type-len-returns-4 t c = types.struct-arm (c .before .before .before .before .before .before .before .before .before .before .before .args .names) (c .before .before .before .before .before .before .before .before .before .before .before .args .level) (c .before .before .before .before .before .before .before .before .before .before .before .args .kinds .now) (c .before .before .before .before .before .before .before .before .before .before .before .args .words .now) _ _ (c .before .before .before .before .before .before .before .first-entry .ensures) (c .before .before .before .before .before .before .type-head .ensures) (c .before .before .before .before .before .before .before .before .if1 .left) (c .before .before .before .before .enum-told3 .given .1) _ _ (c .before .types-len .ensures) (c .then-len2 .ensures)
 
 -- src/types.rt:102:1
 type-len-returns-5 : (t : ℕ) → type-len-lts.Need-returns-5 (
@@ -489,8 +489,8 @@ type-len-returns-5 : (t : ℕ) → type-len-lts.Need-returns-5 (
   type-head-reads.Learnt,
   type-len-below t,
   type-len.Post,
-  one-more-reads.Asked,
-  one-more-reads.Learnt,
+  then-len-reads.Asked,
+  then-len-reads.Learnt,
   types-len-below t,
   types-len.Post,
 ) (type-len-at t) type-len.Post
@@ -840,8 +840,8 @@ pub +type-len+type-step+types-len-spec : {M : Type 1} → statement M
       type-head-reads.Learnt,
       type-len-below t,
       type-len.Post,
-      one-more-reads.Asked,
-      one-more-reads.Learnt,
+      then-len-reads.Asked,
+      then-len-reads.Learnt,
       types-len-below t,
       types-len.Post,
     )
@@ -860,7 +860,7 @@ pub +type-len+type-step+types-len-spec : {M : Type 1} → statement M
     (type-len-part-type-len-end-2 t)
     (type-len-sub-type-len-3 t)
     (type-len-type-len-requires t)
-    (type-len-one-more-requires t)
+    (type-len-then-len-requires t)
     (type-len-enum-told-3 t)
     (type-len-sub-types-len t)
     (type-len-part-types-len-start t)
@@ -870,7 +870,7 @@ pub +type-len+type-step+types-len-spec : {M : Type 1} → statement M
     (type-len-part-types-len-end-2 t)
     (type-len-sub-types-len-3 t)
     (type-len-types-len-requires t)
-    (type-len-one-more-requires-2 t)
+    (type-len-then-len-requires-2 t)
     (type-len-enum-told-4 t)
     (type-len-returns-2 t)
     (type-len-returns-3 t)

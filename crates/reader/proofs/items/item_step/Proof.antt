@@ -1,0 +1,56 @@
+-- `reader::items::item_step` meets its contract: the entry in front closes the list, or an item is read.
+use Rattle.book.specs.Decode.{item}
+use Rattle.reader.specs.Items.{itemOf}
+use Rattle.reader.specs.TypeLaws as types
+use borrow.Author.Needs.{needs}
+use Rattle.reader.proofs.items.item_step.Statement.{statement}
+use Rattle.reader.proofs.items.item_step.Tie as tie
+use Rattle.reader.proofs.first_entry.Reads as first-entry-reads
+use Rattle.reader.proofs.items.item_len.Reads as item-len-reads
+use Rattle.reader.proofs.list_head.Reads as list-head-reads
+use Rattle.reader.proofs.next_step.Reads as next-step-reads
+
+first-entry-requires : tie.Need-first-entry-requires
+first-entry-requires c κs = search needs
+
+list-head-requires : tie.Need-list-head-requires
+list-head-requires c κs = search needs
+
+enum-told : tie.Need-enum-told
+enum-told c = search needs
+
+enum-told-2 : tie.Need-enum-told-2
+enum-told-2 c = search needs
+
+item-len-requires : tie.Need-item-len-requires
+item-len-requires c κs = search needs
+
+next-step-requires : tie.Need-next-step-requires
+next-step-requires c κs = search needs
+
+enum-told-3 : tie.Need-enum-told-3
+enum-told-3 c = search needs
+
+returns : tie.Need-returns
+returns c = types.closing-arm (item (c .before .before .before .before .before .before .args .names) (itemOf (c .before .before .before .before .before .before .args .item))) (c .before .before .before .before .before .before .args .kinds .now) (c .before .before .before .before .before .before .args .words .now) _ _ (c .before .before .before .first-entry .ensures) (c .before .before .list-head .ensures) (c .enum-told .given .1)
+
+returns-2 : tie.Need-returns-2
+returns-2 c = types.item-arm (item (c .before .before .before .before .before .before .before .before .args .names) (itemOf (c .before .before .before .before .before .before .before .before .args .item))) (c .before .before .before .before .before .before .before .before .args .kinds .now) (c .before .before .before .before .before .before .before .before .args .words .now) _ _ (c .before .before .before .before .before .first-entry .ensures) (c .before .before .before .before .list-head .ensures) (c .before .before .enum-told2 .given .1) _ _ (c .before .item-len .ensures) (c .next-step .ensures)
+
+returns-3 : tie.Need-returns-3
+returns-3 c = types.none-arm (item (c .before .before .before .before .before .before .args .names) (itemOf (c .before .before .before .before .before .before .args .item))) (c .before .before .before .before .before .before .args .kinds .now) (c .before .before .before .before .before .before .args .words .now) _ _ (c .before .before .before .first-entry .ensures) (c .before .before .list-head .ensures) (c .enum-told3 .given .1)
+
+pub item-step-spec : {M : Type 1} → statement M
+item-step-spec =
+    tie.close
+    (tie.spec
+    first-entry-requires
+    list-head-requires
+    enum-told
+    enum-told-2
+    item-len-requires
+    next-step-requires
+    enum-told-3
+    returns
+    returns-2
+    returns-3)

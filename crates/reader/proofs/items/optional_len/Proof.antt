@@ -1,0 +1,48 @@
+-- `reader::items::optional_len` meets its contract: kind 21 is none, and else an item is read.
+use Rattle.book.specs.Entry.{entries}
+use Rattle.book.specs.Decode.{item}
+use Rattle.reader.specs.Items.{itemOf}
+use Rattle.reader.specs.ItemLaws as items
+use borrow.Author.Needs.{needs}
+use Rattle.reader.proofs.items.optional_len.Statement.{statement}
+use Rattle.reader.proofs.items.optional_len.Tie as tie
+use Rattle.reader.proofs.entry_if.Reads as entry-if-reads
+use Rattle.reader.proofs.first_entry.Reads as first-entry-reads
+use Rattle.reader.proofs.items.item_len.Reads as item-len-reads
+
+first-entry-requires : tie.Need-first-entry-requires
+first-entry-requires c κs = search needs
+
+enum-known-k : tie.Need-enum-known-k
+enum-known-k c = search needs
+
+enum-told : tie.Need-enum-told
+enum-told c = search needs
+
+returns : tie.Need-returns
+returns c = items.absent-none (item (c .before .before .before .before .before .args .names) (itemOf (c .before .before .before .before .before .args .item))) (entries (c .before .before .before .before .before .args .kinds .now) (c .before .before .before .before .before .args .words .now)) _ (c .before .before .first-entry .ensures) (c .enum-told .given .1)
+
+entry-if-requires : tie.Need-entry-if-requires
+entry-if-requires c κs = search needs
+
+item-len-requires : tie.Need-item-len-requires
+item-len-requires c κs = search needs
+
+returns-2 : tie.Need-returns-2
+returns-2 c = items.absent-is (item (c .before .before .before .before .before .before .before .before .args .names) (itemOf (c .before .before .before .before .before .before .before .before .args .item))) (entries (c .before .before .before .before .before .before .before .before .args .kinds .now) (c .before .before .before .before .before .before .before .before .args .words .now)) _ (c .before .before .before .before .before .first-entry .ensures) _ _ (c .before .before .before .k .given .1) (c .before .if1 .taken) _ (c .entry-if .ensures)
+
+returns-3 : tie.Need-returns-3
+returns-3 c = items.absent-not (item (c .before .before .before .before .before .before .before .before .args .names) (itemOf (c .before .before .before .before .before .before .before .before .args .item))) (entries (c .before .before .before .before .before .before .before .before .args .kinds .now) (c .before .before .before .before .before .before .before .before .args .words .now)) _ (c .before .before .before .before .before .first-entry .ensures) _ _ (c .before .before .before .k .given .1) (c .before .if1 .left) _ (c .item-len .ensures)
+
+pub optional-len-spec : {M : Type 1} → statement M
+optional-len-spec =
+    tie.close
+    (tie.spec
+    first-entry-requires
+    enum-known-k
+    enum-told
+    returns
+    entry-if-requires
+    item-len-requires
+    returns-2
+    returns-3)
