@@ -15,14 +15,14 @@ use Rattle.book.specs.Entry.{Entry, entry}
 use Rattle.book.specs.Ast.{Ty, Tys, BinOp, ConvOp, ICmpPred, Inst, Terminator, BasicBlock, Param, Function, StructBody, StructType, Mark, Book}
 use Rattle.book.specs.Rule.{when, pick}
 use Rattle.book.specs.Kinds.{InstTag, TermTag, instKind, termKind, instTags, termTags, instTag, termTag}
-use Rattle.book.specs.Fields.{instTagOf, termTagOf}
+use Rattle.book.specs.Fields.{Item, instTagOf, termTagOf}
 use Rattle.book.specs.Read.{Read, got, bad, Reader, andThen, behind, taking, choose, stops, mapped, both, until, word, isClosing, many}
-use Rattle.book.specs.Decode.{name, maybeName, type, inst, term, body, basicBlock, param, function, markAs, mark, bodyOf, structBody, structType, parts, markName, bookOf, onceEach, whole, decode}
+use Rattle.book.specs.Decode.{name, type, inst, term, body, basicBlock, item, function, markAs, mark, bodyOf, structBody, structType, parts, markName, bookOf, onceEach, whole, decode}
 use Rattle.book.specs.Encode.{ending, closed, encTy, encInst, encTerm, encBasicBlock, encParam, encFunction, markEntry, encMark, encBody, encStruct, destWord, encode}
 use Rattle.book.specs.Limits.{Each, Maybe, TyLimits, NameLimits, InstLimits, TermLimits, BlockLimits, ParamLimits, FunctionLimits, BodyLimits, StructLimits, Limits}
 use Rattle.book.specs.Agree.{Begins, Sound, Complete, Heads, Agrees, no-got, no-some, moved, when-some, entry-is, agrees-one, agrees-both, agrees-mapped, agrees-all}
 use Rattle.book.specs.AgreeTy.{find-every, ty-head, agrees-many, agrees-type}
-use Rattle.book.specs.AgreeInst.{inst-found, term-found, agrees-name, agrees-maybeName, agrees-inst, agrees-term}
+use Rattle.book.specs.AgreeInst.{inst-found, term-found, agrees-name, agrees-items, agrees-inst, agrees-term}
 
 -- an instruction stands below 90, a terminator not
 inst-more : (t : InstTag) → leb 90 (instKind t) ≡ false
@@ -34,33 +34,31 @@ unfolding termTag termTags
 term-stop t = find-every (λ t. leb 90 (termKind t)) termKind (termKind t) termTags t refl (term-found t)
 
 module _ (m : ℕ) where
-  agrees-body : Agrees (body m) (λ x. ending encInst (encTerm (x .1)) (x .0)) (λ x. Each (InstLimits m) (x .0) × TermLimits m (x .1))
+  pub agrees-body : Agrees (body m) (λ x. ending encInst (encTerm (x .1)) (x .0)) (λ x. Each (InstLimits m) (x .0) × TermLimits m (x .1))
   unfolding body stops encInst encTerm
   agrees-body =
       agrees-all (leb 90) (inst m) (term m) encInst encTerm (InstLimits m) (TermLimits m) (agrees-inst m) (agrees-term m)
       (λ i rest k. inst-more (instTagOf (i .kind))) (λ t rest k. term-stop (termTagOf t))
 
-  agrees-basicBlock : Agrees (basicBlock m) encBasicBlock (BlockLimits m)
+  pub agrees-basicBlock : Agrees (basicBlock m) encBasicBlock (BlockLimits m)
   unfolding basicBlock encBasicBlock
   agrees-basicBlock =
       agrees-mapped (λ p. record { label = p .0; insts = p .1 .0; term = p .1 .1 }) (λ b. (b .label, (b .insts, b .term))) _ _ _ (λ x. refl) (λ x. refl)
       (agrees-both (word 7 (name m)) (body m) (λ x. entry 7 x ∷ []) (λ x. ending encInst (encTerm (x .1)) (x .0)) (NameLimits m) (λ x. Each (InstLimits m) (x .0) × TermLimits m (x .1)) (agrees-name m 7) agrees-body)
 
-  agrees-param : Agrees (param m) encParam (ParamLimits m)
-  unfolding param encParam
-  agrees-param =
-      agrees-mapped (λ p. record { ty = p .1; name = p .0 }) (λ p. (p .name, p .ty)) _ _ _ (λ x. refl) (λ x. refl)
-      (agrees-both (word 6 (maybeName m)) (type m) (λ d. entry 6 (destWord d) ∷ []) encTy (Maybe (NameLimits m)) (TyLimits m) (agrees-maybeName m 6) (agrees-type m))
+  pub agrees-blocks : Agrees (many (basicBlock m)) (closed encBasicBlock) (Each (BlockLimits m))
+  unfolding encBasicBlock stops
+  agrees-blocks = agrees-many (basicBlock m) encBasicBlock (BlockLimits m) (λ b rest k. refl) agrees-basicBlock
 
-  agrees-function : Agrees (function m) encFunction (FunctionLimits m)
+  pub agrees-function : Agrees (function m) encFunction (FunctionLimits m)
   unfolding function encFunction encParam encBasicBlock stops
   agrees-function =
       agrees-mapped (λ p. record { name = p .0; retTy = p .1 .0; params = p .1 .1 .0; blocks = p .1 .1 .1 }) (λ f. (f .name, (f .retTy, (f .params, f .blocks)))) _ _ _ (λ x. refl) (λ x. refl)
-      (agrees-both (word 5 (name m)) (both (type m) (both (many (param m)) (many (basicBlock m)))) (λ x. entry 5 x ∷ []) _ (NameLimits m) _ (agrees-name m 5)
-      (agrees-both (type m) (both (many (param m)) (many (basicBlock m))) encTy _ (TyLimits m) _ (agrees-type m)
-      (agrees-both (many (param m)) (many (basicBlock m)) (closed encParam) (closed encBasicBlock) (Each (ParamLimits m)) (Each (BlockLimits m))
-      (agrees-many (param m) encParam (ParamLimits m) (λ p rest k. refl) agrees-param)
-      (agrees-many (basicBlock m) encBasicBlock (BlockLimits m) (λ b rest k. refl) agrees-basicBlock))))
+      (agrees-both (word 5 (name m)) (both (type m) (both (many (item m Item.param)) (many (basicBlock m)))) (λ x. entry 5 x ∷ []) _ (NameLimits m) _ (agrees-name m 5)
+      (agrees-both (type m) (both (many (item m Item.param)) (many (basicBlock m))) encTy _ (TyLimits m) _ (agrees-type m)
+      (agrees-both (many (item m Item.param)) (many (basicBlock m)) (closed encParam) (closed encBasicBlock) (Each (ParamLimits m)) (Each (BlockLimits m))
+      (agrees-items m Item.param)
+      agrees-blocks)))
 
   -- ---- marks
   mark-of : (e : Entry) (u k : Mark) (b : Bool) → (b ≡ true → (e ≡ markEntry u) × (markName u < m)) → when b u ≡ some k → (e ≡ markEntry k) × (markName k < m)

@@ -11,37 +11,38 @@ use lib.ListN.{length, drop}
 use lib.Dec.{eqb, ltb, leb}
 use Rattle.numbers.specs.Align.{isAlign}
 use Rattle.book.specs.Entry.{Entry, entry}
-use Rattle.book.specs.Ast.{Ty, Value, TypedVal, BinOp, ConvOp, ICmpPred, Incoming, Case, InstKind, Inst, Terminator}
+use Rattle.book.specs.Ast.{Ty, Value, TypedVal, BinOp, ConvOp, ICmpPred, Incoming, Case, Param, InstKind, Inst, Terminator}
 use Rattle.book.specs.Rule.{when, pick, find, unmentioned}
 use Rattle.book.specs.Kinds.{InstTag, TermTag, instKind, termKind, instTags, termTags, instTag, termTag}
 use Rattle.book.specs.Fields.{Item, Field, ItemMeaning, Meaning, Meanings, instFields, termFields, instOf, termOf, instTagOf, termTagOf, instArgs, termArgs}
 use Rattle.book.specs.Read.{Read, got, bad, Reader, andThen, behind, taking, choose, stops, mapped, both, word, isClosing, listOf, many, optional}
-use Rattle.book.specs.Decode.{name, maybeName, type, value, typedVal, indexFits, block, index, align, gepIndex, incoming, case, item, field, fields, taggedAs, tagged, inst, term}
-use Rattle.book.specs.Encode.{closed, orAbsent, encTy, encValue, encTyped, encBlock, encNumber, encIncoming, encCase, destWord, encItem, encField, encFields, encInst, encTerm}
-use Rattle.book.specs.Limits.{Each, Maybe, TyLimits, ValueLimits, NameLimits, TypedLimits, AlignLimits, IndexLimits, IncomingLimits, CaseLimits, ItemLimits, FieldLimits, FieldsLimits, InstLimits, TermLimits}
+use Rattle.book.specs.Decode.{name, maybeName, type, value, typedVal, indexFits, block, index, align, gepIndex, incoming, case, param, item, field, fields, taggedAs, tagged, inst, term}
+use Rattle.book.specs.Encode.{closed, orAbsent, encTy, encValue, encTyped, encBlock, encNumber, encIncoming, encCase, destWord, encParam, encItem, encField, encFields, encInst, encTerm}
+use Rattle.book.specs.Limits.{Each, Maybe, TyLimits, ValueLimits, NameLimits, TypedLimits, AlignLimits, IndexLimits, IncomingLimits, CaseLimits, ParamLimits, ItemLimits, FieldLimits, FieldsLimits, InstLimits, TermLimits}
 use Rattle.book.specs.Agree.{Begins, Sound, Complete, Heads, Agrees, no-got, no-some, moved, when-some, entry-is, agrees-one, agrees-word, agrees-both, agrees-mapped, agrees-filtered, agrees-optional, isAbsent}
 use Rattle.book.specs.AgreeTy.{find-is, ty-head, val-head, agrees-list, agrees-many, agrees-type, agrees-value, agrees-typed}
 
 typed-head : (stop : ℕ → Bool) → ((k : ℕ) → 10 ≤ k → k ≤ 20 → stop k ≡ false) → (v : TypedVal) (rest : List Entry) → stops stop (encTyped v ++ rest) ≡ false
 typed-head stop h v rest = rw (append-assoc (encTy (v .ty)) (encValue (v .val)) rest) (ty-head stop h (v .ty) (encValue (v .val) ++ rest))
 
--- an item begins with a kind from 10 to 37 that is not 21, so neither a closing entry nor an absent one
-item-head : (stop : ℕ → Bool) → ((k : ℕ) → 10 ≤ k → (k ≡ 21 → ⊥) → stop k ≡ false) → (i : Item) (a : ItemMeaning i) (rest : List Entry) → stops stop (encItem i a ++ rest) ≡ false
-unfolding stops
-item-head stop h Item.type t rest = ty-head stop (λ k p q. h k p (λ z. omega arith)) t rest
+-- an item begins with a kind that is neither 0 nor 21, so neither with a closing entry nor with an absent one
+pub item-head : (stop : ℕ → Bool) → ((k : ℕ) → 1 ≤ k → (k ≡ 21 → ⊥) → stop k ≡ false) → (i : Item) (a : ItemMeaning i) (rest : List Entry) → stops stop (encItem i a ++ rest) ≡ false
+unfolding stops encParam
+item-head stop h Item.type t rest = ty-head stop (λ k p q. h k (omega arith) (λ z. omega arith)) t rest
 item-head stop h Item.value v rest = val-head stop (λ k p q. h k (omega arith) (λ z. omega arith)) v rest
 item-head stop h Item.block x rest = h 23 (omega arith) (λ z. omega arith)
 item-head stop h Item.index x rest = h 22 (omega arith) (λ z. omega arith)
 item-head stop h Item.align x rest = h 22 (omega arith) (λ z. omega arith)
-item-head stop h Item.typed v rest = typed-head stop (λ k p q. h k p (λ z. omega arith)) v rest
-item-head stop h Item.gepIndex v rest = typed-head stop (λ k p q. h k p (λ z. omega arith)) v rest
+item-head stop h Item.typed v rest = typed-head stop (λ k p q. h k (omega arith) (λ z. omega arith)) v rest
+item-head stop h Item.gepIndex v rest = typed-head stop (λ k p q. h k (omega arith) (λ z. omega arith)) v rest
 item-head stop h Item.incoming i rest = val-head stop (λ k p q. h k (omega arith) (λ z. omega arith)) (i .val) (encBlock (i .label) ++ rest)
 item-head stop h Item.case c rest = h 32 (omega arith) (λ z. omega arith)
+item-head stop h Item.param p rest = h 6 (omega arith) (λ z. omega arith)
 
-not-closing : (k : ℕ) → 10 ≤ k → (k ≡ 21 → ⊥) → isClosing k ≡ false
+pub not-closing : (k : ℕ) → 1 ≤ k → (k ≡ 21 → ⊥) → isClosing k ≡ false
 not-closing k p q = ne-eqb k 0 (λ z. omega arith)
 
-not-absent : (k : ℕ) → 10 ≤ k → (k ≡ 21 → ⊥) → isAbsent k ≡ false
+not-absent : (k : ℕ) → 1 ≤ k → (k ≡ 21 → ⊥) → isAbsent k ≡ false
 not-absent k p q = ne-eqb k 21 q
 
 -- a word that passes a test
@@ -67,6 +68,32 @@ agrees-align = agrees-number 22 isAlign
 -- the integer of a switch case
 pub agrees-integer : Agrees (word 32 some) (λ x. entry 32 x ∷ []) (λ x. Unit {0})
 agrees-integer = agrees-word 32 some (λ x. x) (λ x. Unit {0}) (λ w a h. (cc, tt)) (λ a k. refl)
+
+module _ (m : ℕ) where
+  -- name + 1, or 0
+  maybe-is : (w : ℕ) (d : Option ℕ) → maybeName m w ≡ some d → (w ≡ destWord d) × Maybe (NameLimits m) d
+  maybe-is w d h = go (eqb w 0) refl h
+    where
+      named : (b : Bool) → leb w m ≡ b → (w ≡ 0 → ⊥) → when b (some (w - 1)) ≡ some d → (w ≡ destWord d) × Maybe (NameLimits m) d
+      named true eb nz h =
+          let z : some (w - 1) ≡ d = cc in
+          let l : w ≤ m = leb-true w m eb in
+          subst (λ x. (w ≡ destWord x) × Maybe (NameLimits m) x) z (omega (arith, nz), omega (arith, nz))
+      named false eb nz h = no-some d h
+      go : (b : Bool) → eqb w 0 ≡ b → pick b (some none) (when (leb w m) (some (w - 1))) ≡ some d → (w ≡ destWord d) × Maybe (NameLimits m) d
+      go true eb h =
+          let z : none ≡ d = cc in
+          subst (λ x. (w ≡ destWord x) × Maybe (NameLimits m) x) z (eqb-true w 0 eb, tt)
+      go false eb h = named (leb w m) refl (eqb-false w 0 eb) h
+
+  maybe-found : (d : Option ℕ) → Maybe (NameLimits m) d → maybeName m (destWord d) ≡ some d
+  maybe-found none k = refl
+  maybe-found (some x) k =
+      let e : x + 1 - 1 ≡ x = omega arith in
+      rw (ne-eqb (x + 1) 0 (λ z. omega arith), le-leb (x + 1) m (omega arith), e)
+
+  pub agrees-maybeName : (k : ℕ) → Agrees (word k (maybeName m)) (λ d. entry k (destWord d) ∷ []) (Maybe (NameLimits m))
+  agrees-maybeName k = agrees-word k (maybeName m) destWord (Maybe (NameLimits m)) maybe-is maybe-found
 
 module _ (m : ℕ) where
   -- a word that is a name
@@ -102,6 +129,12 @@ module _ (m : ℕ) where
           (agrees-both (word 32 some) (block m) (λ x. entry 32 x ∷ []) encBlock (λ x. Unit {0}) (NameLimits m)
           agrees-integer agrees-block)
 
+  agrees-param : Agrees (param m) encParam (ParamLimits m)
+  unfolding param encParam
+  agrees-param =
+      agrees-mapped (λ p. record { ty = p .1; name = p .0 }) (λ p. (p .name, p .ty)) _ _ _ (λ x. refl) (λ x. refl)
+      (agrees-both (word 6 (maybeName m)) (type m) (λ d. entry 6 (destWord d) ∷ []) encTy (Maybe (NameLimits m)) (TyLimits m) (agrees-maybeName m 6) (agrees-type m))
+
   pub agrees-item : (i : Item) → Agrees (item m i) (encItem i) (ItemLimits m i)
   unfolding item
   agrees-item Item.type = agrees-type m
@@ -113,15 +146,19 @@ module _ (m : ℕ) where
   agrees-item Item.gepIndex = agrees-gepIndex
   agrees-item Item.incoming = agrees-incoming
   agrees-item Item.case = agrees-case
+  agrees-item Item.param = agrees-param
+
+  pub agrees-items : (i : Item) → Agrees (many (item m i)) (closed (encItem i)) (Each (ItemLimits m i))
+  agrees-items i = agrees-many (item m i) (encItem i) (ItemLimits m i) (λ a rest k. item-head isClosing not-closing i a rest) (agrees-item i)
 
   agrees-field : (f : Field) → Agrees (field m f) (encField f) (FieldLimits m f)
   unfolding field
   agrees-field (Field.plain i) = agrees-item i
   agrees-field (Field.optional i) = agrees-optional (item m i) (encItem i) (ItemLimits m i) (λ a rest k. item-head isAbsent not-absent i a rest) (agrees-item i)
-  agrees-field (Field.list i) = agrees-many (item m i) (encItem i) (ItemLimits m i) (λ a rest k. item-head isClosing not-closing i a rest) (agrees-item i)
+  agrees-field (Field.list i) = agrees-items i
   agrees-field (Field.upTo n i) = agrees-list (item m i) (encItem i) (ItemLimits m i) (λ a rest k. item-head isClosing not-closing i a rest) (agrees-item i) n
 
-  agrees-fields : (fs : List Field) → Agrees (fields m fs) (encFields fs) (FieldsLimits m fs)
+  pub agrees-fields : (fs : List Field) → Agrees (fields m fs) (encFields fs) (FieldsLimits m fs)
   unfolding fields encFields
   agrees-fields [] = record { sound = λ es a n h. moved (encFields []) (FieldsLimits m []) es tt a 0 n h (record { here = refl; size = refl; keeps = tt }); complete = λ a rest k. refl }
   agrees-fields (f ∷ fs) = agrees-both (field m f) (fields m fs) (encField f) (encFields fs) (FieldLimits m f) (FieldsLimits m fs) (agrees-field f) (agrees-fields fs)
@@ -227,32 +264,6 @@ inst-again (InstKind.atomicStore t v p) = refl
 inst-again (InstKind.cmpxchg t p c v) = refl
 inst-again (InstKind.extractValue v i) = refl
 inst-again InstKind.fence = refl
-
-module _ (m : ℕ) where
-  -- name + 1, or 0
-  maybe-is : (w : ℕ) (d : Option ℕ) → maybeName m w ≡ some d → (w ≡ destWord d) × Maybe (NameLimits m) d
-  maybe-is w d h = go (eqb w 0) refl h
-    where
-      named : (b : Bool) → leb w m ≡ b → (w ≡ 0 → ⊥) → when b (some (w - 1)) ≡ some d → (w ≡ destWord d) × Maybe (NameLimits m) d
-      named true eb nz h =
-          let z : some (w - 1) ≡ d = cc in
-          let l : w ≤ m = leb-true w m eb in
-          subst (λ x. (w ≡ destWord x) × Maybe (NameLimits m) x) z (omega (arith, nz), omega (arith, nz))
-      named false eb nz h = no-some d h
-      go : (b : Bool) → eqb w 0 ≡ b → pick b (some none) (when (leb w m) (some (w - 1))) ≡ some d → (w ≡ destWord d) × Maybe (NameLimits m) d
-      go true eb h =
-          let z : none ≡ d = cc in
-          subst (λ x. (w ≡ destWord x) × Maybe (NameLimits m) x) z (eqb-true w 0 eb, tt)
-      go false eb h = named (leb w m) refl (eqb-false w 0 eb) h
-
-  maybe-found : (d : Option ℕ) → Maybe (NameLimits m) d → maybeName m (destWord d) ≡ some d
-  maybe-found none k = refl
-  maybe-found (some x) k =
-      let e : x + 1 - 1 ≡ x = omega arith in
-      rw (ne-eqb (x + 1) 0 (λ z. omega arith), le-leb (x + 1) m (omega arith), e)
-
-  pub agrees-maybeName : (k : ℕ) → Agrees (word k (maybeName m)) (λ d. entry k (destWord d) ∷ []) (Maybe (NameLimits m))
-  agrees-maybeName k = agrees-word k (maybeName m) destWord (Maybe (NameLimits m)) maybe-is maybe-found
 
 -- ---- terminators
 term-is : (k : ℕ) (t : TermTag) → termTag k ≡ some t → k ≡ termKind t

@@ -93,6 +93,9 @@ module _ (m : ℕ) where
   unfoldable pub case : Reader Case
   case = mapped (λ p. record { value = p .0; label = p .1 }) (both (word 32 some) block)
 
+  unfoldable pub param : Reader Param
+  param = mapped (λ p. record { ty = p .1; name = p .0 }) (both (word 6 maybeName) type)
+
   unfoldable pub item : (i : Item) → Reader (ItemMeaning i)
   item Item.type = type
   item Item.value = value
@@ -103,6 +106,7 @@ module _ (m : ℕ) where
   item Item.gepIndex = gepIndex
   item Item.incoming = incoming
   item Item.case = case
+  item Item.param = param
 
   unfoldable pub field : (f : Field) → Reader (Meaning f)
   field (Field.plain i) = item i
@@ -138,13 +142,10 @@ module _ (m : ℕ) where
   unfoldable pub basicBlock : Reader BasicBlock
   basicBlock = mapped (λ p. record { label = p .0; insts = p .1 .0; term = p .1 .1 }) (both (word 7 name) body)
 
-  unfoldable pub param : Reader Param
-  param = mapped (λ p. record { ty = p .1; name = p .0 }) (both (word 6 maybeName) type)
-
   unfoldable pub function : Reader Function
   function =
       mapped (λ p. record { name = p .0; retTy = p .1 .0; params = p .1 .1 .0; blocks = p .1 .1 .1 })
-      (both (word 5 name) (both type (both (many param) (many basicBlock))))
+      (both (word 5 name) (both type (both (many (item Item.param)) (many basicBlock))))
 
   -- ---- the book
   unfoldable pub markAs : ℕ → ℕ → Option Mark

@@ -88,6 +88,9 @@ abbrev pub destWord : Option ℕ → ℕ
 destWord none = 0
 destWord (some x) = x + 1
 
+unfoldable pub encParam : Param → List Entry
+encParam p = entry 6 (destWord (p .name)) ∷ encTy (p .ty)
+
 abbrev pub encItem : (i : Item) → ItemMeaning i → List Entry
 encItem Item.type = encTy
 encItem Item.value = encValue
@@ -98,6 +101,7 @@ encItem Item.typed = encTyped
 encItem Item.gepIndex = encTyped
 encItem Item.incoming = encIncoming
 encItem Item.case = encCase
+encItem Item.param = encParam
 
 abbrev pub encField : (f : Field) → Meaning f → List Entry
 encField (Field.plain i) = encItem i
@@ -118,9 +122,6 @@ encTerm t = entry (termKind (termTagOf t)) 0 ∷ encFields (termFields (termTagO
 -- instructions, then the terminator
 unfoldable pub encBasicBlock : BasicBlock → List Entry
 encBasicBlock b = entry 7 (b .label) ∷ ending encInst (encTerm (b .term)) (b .insts)
-
-unfoldable pub encParam : Param → List Entry
-encParam p = entry 6 (destWord (p .name)) ∷ encTy (p .ty)
 
 unfoldable pub encFunction : Function → List Entry
 encFunction f = entry 5 (f .name) ∷ (encTy (f .retTy) ++ (closed encParam (f .params) ++ closed encBasicBlock (f .blocks)))

@@ -2,12 +2,12 @@
 use Prim.Native.Nat.{ℕ}
 use mathlib.Core.Option.{Option}
 use mathlib.Core.List.{List, [], _∷_}
-use Rattle.book.specs.Ast.{Ty, Value, TypedVal, Incoming, Case, InstKind, Terminator}
+use Rattle.book.specs.Ast.{Ty, Value, TypedVal, Incoming, Case, Param, InstKind, Terminator}
 use Rattle.book.specs.Kinds.{InstTag, TermTag}
 
--- what may stand in a field; a stated align or an index is a number
+-- what may stand in a field or a list; a stated align or an index is a number
 pub data Item : Type 0 where
-  type value block index align typed gepIndex incoming case : Item
+  type value block index align typed gepIndex incoming case param : Item
 
 -- a field is an item, an item or None, or a list of items, of so many at most
 pub data Field : Type 0 where
@@ -24,6 +24,7 @@ ItemMeaning typed = TypedVal
 ItemMeaning gepIndex = TypedVal
 ItemMeaning incoming = Incoming
 ItemMeaning case = Case
+ItemMeaning param = Param
 
 -- what a field holds
 abbrev pub Meaning : Field → Type 0

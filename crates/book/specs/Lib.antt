@@ -11,3 +11,9 @@ pub mod Agree
 pub mod AgreeTy
 pub mod AgreeInst
 pub mod AgreeBook
+pub mod Result
+pub mod Shape
+pub mod Input
+pub mod Forbidden
+pub mod Check
+pub mod Open

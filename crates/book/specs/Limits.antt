@@ -72,6 +72,9 @@ module _ (m : ℕ) where
   abbrev pub CaseLimits : Case → Type 0
   CaseLimits c = c .label < m
 
+  abbrev pub ParamLimits : Param → Type 0
+  ParamLimits p = Maybe NameLimits (p .name) × TyLimits (p .ty)
+
   abbrev pub ItemLimits : (i : Item) → ItemMeaning i → Type 0
   ItemLimits Item.type = TyLimits
   ItemLimits Item.value = ValueLimits
@@ -82,6 +85,7 @@ module _ (m : ℕ) where
   ItemLimits Item.gepIndex = IndexLimits
   ItemLimits Item.incoming = IncomingLimits
   ItemLimits Item.case = CaseLimits
+  ItemLimits Item.param = ParamLimits
 
   abbrev pub FieldLimits : (f : Field) → Meaning f → Type 0
   FieldLimits (Field.plain i) = ItemLimits i
@@ -101,9 +105,6 @@ module _ (m : ℕ) where
 
   abbrev pub BlockLimits : BasicBlock → Type 0
   BlockLimits b = (b .label < m) × (Each InstLimits (b .insts) × TermLimits (b .term))
-
-  abbrev pub ParamLimits : Param → Type 0
-  ParamLimits p = Maybe NameLimits (p .name) × TyLimits (p .ty)
 
   abbrev pub FunctionLimits : Function → Type 0
   FunctionLimits f = (f .name < m) × (TyLimits (f .retTy) × (Each ParamLimits (f .params) × Each BlockLimits (f .blocks)))

@@ -8,21 +8,21 @@ use native.Mathlib.Omega.{arith}
 use lib.ListN.{length, drop, take, length-append, length-drop, length-take}
 use lib.Seq.{drop-append-seam, drop-at}
 use lib.Dec.{eqb, ltb, leb}
-use borrow.Author.Tests.{ne-eqb}
+use borrow.Author.Tests.{eqb-true, ne-eqb, le-leb}
 use Rattle.numbers.specs.Align.{isAlign}
 use Rattle.book.specs.Entry.{Entry, entry, entries}
 use Rattle.book.specs.Ast.{Zero, Value, TypedVal}
 use Rattle.book.specs.Rule.{when, pick}
 use Rattle.book.specs.Kinds.{ValTag, valTag, valKind}
 use Rattle.book.specs.Read.{Read, got, bad, Reader, andThen, taking, choose, one, word, mapped, both, filtered, optional}
-use Rattle.book.specs.Decode.{indexFits, index, align, type, value, valueAs, typedVal, block, gepIndex, incoming, case}
+use Rattle.book.specs.Decode.{maybeName, indexFits, index, align, type, value, valueAs, typedVal, block, gepIndex, incoming, case}
 use Rattle.book.specs.Encode.{encTy, encValue, encTyped, valueEntry}
 use Rattle.book.specs.Limits.{TypedLimits}
 use Rattle.book.specs.Agree.{Agrees, Begins}
 use Rattle.book.specs.AgreeTy.{agrees-typed}
 use Rattle.reader.specs.Length.{lenOf, further, lenIf, frontOf}
 use Rattle.reader.specs.Fit.{Room}
-use Rattle.reader.specs.Items.{valueGroupOf, valueOk, valueFront, pickLen, wordFront, alignFront, caseFront, pickBool, indexFitsFront}
+use Rattle.reader.specs.Items.{valueGroupOf, valueOk, valueFront, pickLen, wordFront, alignFront, caseFront, paramFront, pickBool, indexFitsFront}
 use Rattle.reader.specs.Laws.{length-entries, entries-part, within-kinds, within-words, lentFrom, len-got, len-bad, len-fits, len-room}
 use Rattle.reader.specs.declared.Length.{Length}
 use Rattle.reader.specs.declared.Length.the-variants as len
@@ -73,6 +73,23 @@ case-front (e ∷ es) = go (eqb (e .kind) 32)
   where
     go : (b : Bool) → lenOf (taking 1 (pick b (some (e .word)) none)) ≡ lenIf b
     go true = refl
+    go false = refl
+
+-- name + 1, or 0: at most the number of names
+pub maybe-len : (m w : ℕ) → lenOf (taking 1 (maybeName m w)) ≡ lenIf (leb w m)
+maybe-len m w = go (eqb w 0) refl
+  where
+    go : (b : Bool) → eqb w 0 ≡ b → lenOf (taking 1 (pick b (some none) (when (leb w m) (some (w - 1))))) ≡ lenIf (leb w m)
+    go true e = rw (le-leb w m (omega (arith, eqb-true w 0 e)))
+    go false e = when-len (leb w m) (some (w - 1))
+
+pub param-front : (m : ℕ) (es : List Entry) → lenOf (word 6 (maybeName m) es) ≡ paramFront m (frontOf es)
+unfolding frontOf word one
+param-front m [] = refl
+param-front m (e ∷ es) = go (eqb (e .kind) 6)
+  where
+    go : (b : Bool) → lenOf (taking 1 (pick b (maybeName m (e .word)) none)) ≡ pickLen b (lenIf (leb (e .word) m)) len.Bad
+    go true = maybe-len m (e .word)
     go false = refl
 
 -- ---- one part after the other

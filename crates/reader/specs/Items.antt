@@ -14,7 +14,7 @@ use Rattle.reader.specs.declared.Front.the-variants as front
 use Rattle.reader.specs.declared.items.ValueGroup.{ValueGroup}
 use Rattle.reader.specs.declared.items.ValueGroup.the-variants as group
 use Rattle.reader.specs.declared.items.Item.{Item}
-use Rattle.reader.specs.declared.items.Item.the-variants.{«Type», Value, Block, Index, Align, Typed, GepIndex, Incoming, Case}
+use Rattle.reader.specs.declared.items.Item.the-variants.{«Type», Value, Block, Index, Align, Typed, GepIndex, Incoming, Case, Param}
 
 abbrev pub valueGroupOf : Option ValTag → ValueGroup
 valueGroupOf none = group.Bad
@@ -54,6 +54,10 @@ abbrev pub caseFront : Front → Length
 caseFront front.Nothing = len.Bad
 caseFront (front.Entry k w) = lenIf (eqb k 32)
 
+abbrev pub paramFront : ℕ → Front → Length
+paramFront m front.Nothing = len.Bad
+paramFront m (front.Entry k w) = pickLen (eqb k 6) (lenIf (leb w m)) len.Bad
+
 abbrev pub pickBool : Bool → Bool → Bool → Bool
 pickBool true a b = a
 pickBool false a b = b
@@ -72,3 +76,4 @@ itemOf Typed = book.Item.typed
 itemOf GepIndex = book.Item.gepIndex
 itemOf Incoming = book.Item.incoming
 itemOf Case = book.Item.case
+itemOf Param = book.Item.param

@@ -7,9 +7,9 @@ ghost use lib.ListN.{length};
 ghost use Rattle.book.specs.Entry.{entries};
 ghost use Rattle.book.specs.Kinds.{valTag};
 ghost use Rattle.book.specs.Read.{closing, isClosing, optional, listOf, many};
-ghost use Rattle.book.specs.Decode.{value, typedVal, gepIndex, incoming, case, item as itemReader};
+ghost use Rattle.book.specs.Decode.{value, typedVal, gepIndex, incoming, case, param, item as itemReader};
 ghost use Rattle.reader.specs.Length.{lenOf, stepOf};
-ghost use Rattle.reader.specs.Items.{valueGroupOf, valueOk, valueFront, wordFront, alignFront, caseFront, indexFitsFront, itemOf};
+ghost use Rattle.reader.specs.Items.{valueGroupOf, valueOk, valueFront, wordFront, alignFront, caseFront, paramFront, indexFitsFront, itemOf};
 
 // The group of a value's kind: null, undef, poison and zeroinitializer are zeros.
 pub enum ValueGroup {
@@ -160,7 +160,31 @@ fn case_len(kinds: &[u64], words: &[u64], names: u64) -> Length
     then_len(n, word_len(first_entry(&kinds[n..], &words[n..]), 23, names))
 }
 
-// What may stand in a field.
+// A parameter's entry: its name + 1, or 0.
+fn param_name_len(entry: Front, names: u64) -> Length
+    ensures { λ r. ⌜ r ≡ paramFront names entry ⌝ }
+{
+    let Front::Entry(k, w) = entry else {
+        return Length::Bad;
+    };
+    if k == 6 {
+        entry_if(w <= names)
+    } else {
+        Length::Bad
+    }
+}
+
+// A parameter: its name and its type.
+fn param_len(kinds: &[u64], words: &[u64], names: u64) -> Length
+    ensures { λ r. ⌜ r ≡ lenOf (param names (entries (now (kinds .entry)) (now (words .entry)))) ⌝ }
+{
+    let Length::Entries(n) = param_name_len(first_entry(kinds, words), names) else {
+        return Length::Bad;
+    };
+    then_len(n, type_len(&kinds[n..], &words[n..], names, 64))
+}
+
+// What may stand in a field or a list.
 pub enum Item {
     Type,
     Value,
@@ -171,6 +195,7 @@ pub enum Item {
     GepIndex,
     Incoming,
     Case,
+    Param,
 }
 
 pub fn item_len(kinds: &[u64], words: &[u64], names: u64, item: Item) -> Length
@@ -186,6 +211,7 @@ pub fn item_len(kinds: &[u64], words: &[u64], names: u64, item: Item) -> Length
         Item::GepIndex => gep_index_len(kinds, words, names),
         Item::Incoming => incoming_len(kinds, words, names),
         Item::Case => case_len(kinds, words, names),
+        Item::Param => param_len(kinds, words, names),
     }
 }
 

@@ -2,6 +2,8 @@
 // of the lent kinds and words, or that none stands there. A reader is lent the rest of the entries from its
 // start; where one slice is longer than the other, what it has more does not count. `names` is the number of
 // the book's names.
+pub mod blocks;
+pub mod insts;
 pub mod items;
 pub mod types;
 
@@ -11,7 +13,7 @@ ghost use Prim.Native.Nat.{_+_, min};
 ghost use lib.ListN.{length};
 ghost use Rattle.book.specs.Entry.{entries};
 ghost use Rattle.reader.specs.Fit.{Room};
-ghost use Rattle.reader.specs.Length.{lenIf, further, stepOfLength, frontOf, headOf};
+ghost use Rattle.reader.specs.Length.{lenIf, further, stepOfLength, lastOfLength, frontOf, headOf};
 
 // How many entries something takes.
 pub enum Length {
@@ -50,6 +52,16 @@ pub fn next_step(item: Length) -> Step
 {
     match item {
         Length::Entries(n) => Step::Next(n),
+        Length::Bad => Step::Bad,
+    }
+}
+
+// An end as the last step.
+pub fn last_step(end: Length) -> Step
+    ensures { λ r. ⌜ r ≡ lastOfLength end ⌝ }
+{
+    match end {
+        Length::Entries(n) => Step::Done(n),
         Length::Bad => Step::Bad,
     }
 }

@@ -1,0 +1,1 @@
+// Definitions of the lines, their numbers and their text, and their laws.

@@ -1,0 +1,9 @@
+pub mod Layout
+pub mod Step
+pub mod Cases
+pub mod Natural
+pub mod Multiple
+pub mod Allowance
+pub mod Parts
+pub mod Limit
+pub mod AnyAllowance

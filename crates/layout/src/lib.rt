@@ -1,0 +1,1 @@
+// Definitions of sizes, alignments and offsets, and their laws.
