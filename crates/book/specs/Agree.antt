@@ -64,6 +64,7 @@ module _ {A : Type 0} (rule : Entry → Option A) (write : A → Entry) (Keeps :
       found e es a n (some b) er h =
           let q : (e ≡ write b) × Keeps b = s e b er in
           moved (λ a. write a ∷ []) Keeps (e ∷ es) b a 1 n h (record { here = ap (λ x. x ∷ es) (q .0); size = refl; keeps = q .1 })
+
       sound : Sound (λ a. write a ∷ []) Keeps (one rule)
       sound [] a n h = no-got a n h
       sound (e ∷ es) a n h = found e es a n (rule e) refl h
@@ -105,12 +106,15 @@ module _ {A B : Type 0} (p : Reader A) (q : Reader B) (w : A → List Entry) (v 
           moved writeBoth KeepsBoth es (a, b) x (k + m) n h (record {
             here = glue (w a) (v b) es k m (s .here) (t .here);
             size = ap (λ j. j + m) (s .size) ∙ ap (λ j. length (w a) + j) (t .size) ∙ sym (length-append (w a) (v b));
-            keeps = (s .keeps, t .keeps) })
+            keeps = (s .keeps, t .keeps);
+          })
       second es a k s x n bad er h = no-got x n h
+
       first : (es : List Entry) (x : A × B) (n : ℕ) (r : Read A) → p es ≡ r
           → andThen r (λ a k. andThen (q (drop k es)) (λ b m. got (a, b) (k + m))) ≡ got x n → Begins writeBoth KeepsBoth es x n
       first es x n (got a k) er h = second es a k (f .sound es a k er) x n (q (drop k es)) refl h
       first es x n bad er h = no-got x n h
+
       complete : Complete writeBoth KeepsBoth (both p q)
       complete x rest k =
           rw (append-assoc (w (x .0)) (v (x .1)) rest, f .complete (x .0) (v (x .1) ++ rest) (k .0), drop-append-seam (w (x .0)) (v (x .1) ++ rest), g .complete (x .1) rest (k .1), length-append (w (x .0)) (v (x .1)))
@@ -125,7 +129,10 @@ module _ {A B : Type 0} (f : A → B) (g : B → A) (p : Reader A) (w : A → Li
       sound es b n (got a k) er h =
           let t : Begins w K es a k = s .sound es a k er in
           moved (λ b. w (g b)) (λ b. K (g b)) es (f a) b k n h (record {
-            here = rw (gf a) (t .here); size = rw (gf a) (t .size); keeps = rw (gf a) (t .keeps) })
+            here = rw (gf a) (t .here);
+            size = rw (gf a) (t .size);
+            keeps = rw (gf a) (t .keeps);
+          })
       sound es b n bad er h = no-got b n h
 
 -- ---- only values that pass a test
@@ -140,6 +147,7 @@ module _ {A : Type 0} (test : A → Bool) (p : Reader A) (w : A → List Entry) 
       passed : (es : List Entry) (a b : A) (n k : ℕ) → Begins w K es a k → (t : Bool) → test a ≡ t → taking k (when t a) ≡ got b n → Begins w KeepsTest es b n
       passed es a b n k s true et h = moved w KeepsTest es a b k n h (record { here = s .here; size = s .size; keeps = (s .keeps, et) })
       passed es a b n k s false et h = no-got b n h
+
       sound : (es : List Entry) (b : A) (n : ℕ) (r : Read A) → p es ≡ r → andThen r (λ a k. taking k (when (test a) a)) ≡ got b n → Begins w KeepsTest es b n
       sound es b n (got a k) er h = passed es a b n k (s .sound es a k er) (test a) refl h
       sound es b n bad er h = no-got b n h
@@ -157,21 +165,26 @@ module _ {A : Type 0} (p : Reader A) (w : A → List Entry) (K : A → Type 0) w
       absent e es b n true ek ez h =
           moved (orAbsent w) (Maybe K) (e ∷ es) none b 1 n h (record { here = ap (λ x. x ∷ es) (entry-is e 21 0 ek (eqb-true _ _ ez)); size = refl; keeps = tt })
       absent e es b n false ek ez h = no-got b n h
+
       there : (e : Entry) (es : List Entry) (b : Option A) (n : ℕ) (r : Read A) → p (e ∷ es) ≡ r → andThen r (λ a k. got (some a) k) ≡ got b n → Begins (orAbsent w) (Maybe K) (e ∷ es) b n
       there e es b n (got a k) er h =
           let t : Begins w K (e ∷ es) a k = s .sound (e ∷ es) a k er in
           moved (orAbsent w) (Maybe K) (e ∷ es) (some a) b k n h (record { here = t .here; size = t .size; keeps = t .keeps })
       there e es b n bad er h = no-got b n h
+
       either : (e : Entry) (es : List Entry) (b : Option A) (n : ℕ) (z : Bool) → eqb (e .kind) 21 ≡ z
           → choose z (taking 1 (when (eqb (e .word) 0) none)) (andThen (p (e ∷ es)) (λ a k. got (some a) k)) ≡ got b n → Begins (orAbsent w) (Maybe K) (e ∷ es) b n
       either e es b n true ez h = absent e es b n (eqb (e .word) 0) (eqb-true _ _ ez) refl h
       either e es b n false ez h = there e es b n (p (e ∷ es)) refl h
+
       sound : Sound (orAbsent w) (Maybe K) (optional p)
       sound [] b n h = no-got b n h
       sound (e ∷ es) b n h = either e es b n (eqb (e .kind) 21) refl h
+
       present : (es : List Entry) (a : A) (n : ℕ) → stops isAbsent es ≡ false → p es ≡ got a n → optional p es ≡ got (some a) n
       present [] a n hs h = absurd (let z : _≡_ {A = ℕ} 0 1 = cc in omega arith)
       present (e ∷ es) a n hs h = rw (hs, h)
+
       complete : Complete (orAbsent w) (Maybe K) (optional p)
       complete none rest k = refl
       complete (some a) rest k = present (w a ++ rest) a (length (w a)) (heads a rest k) (s .complete a rest k)
@@ -205,7 +218,8 @@ module _ {A B : Type 0} (stop : ℕ → Bool) (item : Reader A) (end : Reader B)
         moved writeAll (KeepsTo (suc n)) es (a ∷ y .0, y .1) x (j + m) k h (record {
           here = glue (w a) (writeAll y) es j m (s .here) (u .here);
           size = ap (λ i. i + m) (s .size) ∙ ap (λ i. length (w a) + i) (u .size) ∙ sym (length-append (w a) (writeAll y));
-          keeps = (omega (arith, u .keeps .0), ((s .keeps, u .keeps .1 .0), u .keeps .1 .1)) })
+          keeps = (omega (arith, u .keeps .0), ((s .keeps, u .keeps .1 .0), u .keeps .1 .1));
+        })
     more n es a j s x k bad ih h = no-got x k h
 
     next : (n : ℕ) → Sound writeAll (KeepsTo n) (until stop item end n) → (es : List Entry) (x : List A × B) (k : ℕ) (r : Read A) → item es ≡ r
@@ -237,8 +251,14 @@ module _ {A B : Type 0} (stop : ℕ → Bool) (item : Reader A) (end : Reader B)
     until-complete hi he (suc n) [] b rest f k l = rw (he b rest l, t .complete b rest l)
     until-complete hi he (suc n) (a ∷ as′) b rest f k l =
         let r : List Entry = ending w (v b) as′ ++ rest in
-        rw (append-assoc (w a) (ending w (v b) as′) rest, hi a r (k .0), s .complete a r (k .0), drop-append-seam (w a) r,
-          until-complete hi he n as′ b rest (omega arith) (k .1) l, length-append (w a) (ending w (v b) as′))
+        rw (
+          append-assoc (w a) (ending w (v b) as′) rest,
+          hi a r (k .0),
+          s .complete a r (k .0),
+          drop-append-seam (w a) r,
+          until-complete hi he n as′ b rest (omega arith) (k .1) l,
+          length-append (w a) (ending w (v b) as′),
+        )
 
     pub agrees-until : Heads w K stop false → Heads v L stop true → (n : ℕ) → Agrees (until stop item end n) writeAll (KeepsTo n)
     agrees-until hi he n = record { sound = until-sound n; complete = λ x rest k. until-complete hi he n (x .0) (x .1) rest (k .0) (k .1 .0) (k .1 .1) }
@@ -259,5 +279,6 @@ module _ {A B : Type 0} (stop : ℕ → Bool) (item : Reader A) (end : Reader B)
       where
         forget : (es : List Entry) (x : List A × B) (k : ℕ) → Begins writeAll (KeepsTo (length es)) es x k → Begins writeAll KeepsAll es x k
         forget es x k u = record { here = u .here; size = u .size; keeps = u .keeps .1 }
+
         fits : (x : List A × B) (rest : List Entry) → KeepsAll x → length (x .0) ≤ length (writeAll x ++ rest)
         fits x rest k = omega (arith, length-append (writeAll x) rest, count-le hi (x .0) (x .1) (k .0))

@@ -50,15 +50,20 @@ module _ (m : ℕ) where
   unfolding encBasicBlock stops
   agrees-blocks = agrees-many (basicBlock m) encBasicBlock (BlockLimits m) (λ b rest k. refl) agrees-basicBlock
 
+  pub agrees-params-and-blocks : Agrees (both (many (item m Item.param)) (many (basicBlock m))) (λ x. closed encParam (x .0) ++ closed encBasicBlock (x .1)) (λ x. Each (ParamLimits m) (x .0) × Each (BlockLimits m) (x .1))
+  agrees-params-and-blocks =
+      agrees-both (many (item m Item.param)) (many (basicBlock m)) (closed encParam) (closed encBasicBlock) (Each (ParamLimits m)) (Each (BlockLimits m)) (agrees-items m Item.param) agrees-blocks
+
+  pub agrees-signature-and-blocks : Agrees (both (type m) (both (many (item m Item.param)) (many (basicBlock m))))
+      (λ x. encTy (x .0) ++ (closed encParam (x .1 .0) ++ closed encBasicBlock (x .1 .1))) (λ x. TyLimits m (x .0) × (Each (ParamLimits m) (x .1 .0) × Each (BlockLimits m) (x .1 .1)))
+  agrees-signature-and-blocks =
+      agrees-both (type m) (both (many (item m Item.param)) (many (basicBlock m))) encTy _ (TyLimits m) _ (agrees-type m) agrees-params-and-blocks
+
   pub agrees-function : Agrees (function m) encFunction (FunctionLimits m)
-  unfolding function encFunction encParam encBasicBlock stops
+  unfolding function encFunction
   agrees-function =
       agrees-mapped (λ p. record { name = p .0; retTy = p .1 .0; params = p .1 .1 .0; blocks = p .1 .1 .1 }) (λ f. (f .name, (f .retTy, (f .params, f .blocks)))) _ _ _ (λ x. refl) (λ x. refl)
-      (agrees-both (word 5 (name m)) (both (type m) (both (many (item m Item.param)) (many (basicBlock m)))) (λ x. entry 5 x ∷ []) _ (NameLimits m) _ (agrees-name m 5)
-      (agrees-both (type m) (both (many (item m Item.param)) (many (basicBlock m))) encTy _ (TyLimits m) _ (agrees-type m)
-      (agrees-both (many (item m Item.param)) (many (basicBlock m)) (closed encParam) (closed encBasicBlock) (Each (ParamLimits m)) (Each (BlockLimits m))
-      (agrees-items m Item.param)
-      agrees-blocks)))
+      (agrees-both (word 5 (name m)) (both (type m) (both (many (item m Item.param)) (many (basicBlock m)))) (λ x. entry 5 x ∷ []) _ (NameLimits m) _ (agrees-name m 5) agrees-signature-and-blocks)
 
   -- ---- marks
   mark-of : (e : Entry) (u k : Mark) (b : Bool) → (b ≡ true → (e ≡ markEntry u) × (markName u < m)) → when b u ≡ some k → (e ≡ markEntry k) × (markName k < m)
@@ -72,6 +77,7 @@ module _ (m : ℕ) where
       second : (b : Bool) → eqb (e .kind) 2 ≡ b → pick b (when (ltb (e .word) m) (Mark.reserved (e .word))) none ≡ some k → (e ≡ markEntry k) × (markName k < m)
       second true eb h = mark-of e (Mark.reserved (e .word)) k _ (λ t. (entry-is e 2 (e .word) (eqb-true _ _ eb) refl, ltb-true _ _ t)) h
       second false eb h = no-some k h
+
       first : (b : Bool) → eqb (e .kind) 1 ≡ b → pick b (when (ltb (e .word) m) (Mark.defined (e .word))) (pick (eqb (e .kind) 2) (when (ltb (e .word) m) (Mark.reserved (e .word))) none) ≡ some k
           → (e ≡ markEntry k) × (markName k < m)
       first true eb h = mark-of e (Mark.defined (e .word)) k _ (λ t. (entry-is e 1 (e .word) (eqb-true _ _ eb) refl, ltb-true _ _ t)) h
@@ -105,16 +111,20 @@ module _ (m : ℕ) where
       opaque : (e : Entry) (es : List Entry) (b : Option StructBody) (n : ℕ) → e .kind ≡ 4 → (z : Bool) → eqb (e .word) 0 ≡ z → taking 1 (when z none) ≡ got b n → Begins encBody (BodyLimits m) (e ∷ es) b n
       opaque e es b n ek true ez h = moved encBody (BodyLimits m) (e ∷ es) none b 1 n h (record { here = ap (λ x. x ∷ es) (entry-is e 4 0 ek (eqb-true _ _ ez)); size = refl; keeps = tt })
       opaque e es b n ek false ez h = no-got b n h
+
       typed : (e : Entry) (es : List Entry) (b : Option StructBody) (n : ℕ) (r : Read Ty) → type m (e ∷ es) ≡ r → andThen r (bodyOf m) ≡ got b n → Begins encBody (BodyLimits m) (e ∷ es) b n
       typed e es b n (got t k) er h = body-is (e ∷ es) t k (agrees-type m .sound (e ∷ es) t k er) b n h
       typed e es b n bad er h = no-got b n h
+
       either : (e : Entry) (es : List Entry) (b : Option StructBody) (n : ℕ) (z : Bool) → eqb (e .kind) 4 ≡ z
           → choose z (taking 1 (when (eqb (e .word) 0) none)) (andThen (type m (e ∷ es)) (bodyOf m)) ≡ got b n → Begins encBody (BodyLimits m) (e ∷ es) b n
       either e es b n true ez h = opaque e es b n (eqb-true _ _ ez) (eqb (e .word) 0) refl h
       either e es b n false ez h = typed e es b n (type m (e ∷ es)) refl h
+
       sound : Sound encBody (BodyLimits m) (structBody m)
       sound [] b n h = no-got b n h
       sound (e ∷ es) b n h = either e es b n (eqb (e .kind) 4) refl h
+
       complete : Complete encBody (BodyLimits m) (structBody m)
       complete none rest k = refl
       complete (some b) rest k = struct (b .packed) (b .fields) k
@@ -177,6 +187,7 @@ module _ (m : ℕ) where
       two true true e = (refl, refl)
       two true false e = (refl, e)
       two false y e = (e, absurd (let z : _≡_ {A = ℕ} 0 1 = cc in omega arith))
+
       go : (r : Read Book) → mapped bookOf (parts m) es ≡ r → whole es r ≡ some b → (es ≡ encode b) × Limits m b
       go (got a n) er h =
           let s : Begins encode PartsLimits es a n = agrees-book .sound es a n er in

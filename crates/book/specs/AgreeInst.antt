@@ -55,8 +55,9 @@ agrees-number k test =
 agrees-index : Agrees index encNumber (λ i. i < 2 ^ 32)
 unfolding index
 agrees-index = record {
-    sound = λ es a n h. let b = s .sound es a n h in record { here = b .here; size = b .size; keeps = ltb-true _ _ (b .keeps) };
-    complete = λ a rest k. s .complete a rest (lt-ltb _ _ k) }
+  sound = λ es a n h. let b = s .sound es a n h in record { here = b .here; size = b .size; keeps = ltb-true _ _ (b .keeps) };
+  complete = λ a rest k. s .complete a rest (lt-ltb _ _ k);
+}
   where
     s : Agrees (word 22 (λ w. when (ltb w (2 ^ 32)) w)) encNumber (λ x. ltb x (2 ^ 32) ≡ true)
     s = agrees-number 22 (λ w. ltb w (2 ^ 32))
@@ -80,6 +81,7 @@ module _ (m : ℕ) where
           let l : w ≤ m = leb-true w m eb in
           subst (λ x. (w ≡ destWord x) × Maybe (NameLimits m) x) z (omega (arith, nz), omega (arith, nz))
       named false eb nz h = no-some d h
+
       go : (b : Bool) → eqb w 0 ≡ b → pick b (some none) (when (leb w m) (some (w - 1))) ≡ some d → (w ≡ destWord d) × Maybe (NameLimits m) d
       go true eb h =
           let z : none ≡ d = cc in
@@ -120,8 +122,9 @@ module _ (m : ℕ) where
   agrees-case : Agrees (case m) encCase (CaseLimits m)
   unfolding case
   agrees-case = record {
-      sound = λ es a n h. let b = s .sound es a n h in record { here = b .here; size = b .size; keeps = b .keeps .1 };
-      complete = λ a rest k. s .complete a rest (tt, k) }
+    sound = λ es a n h. let b = s .sound es a n h in record { here = b .here; size = b .size; keeps = b .keeps .1 };
+    complete = λ a rest k. s .complete a rest (tt, k);
+  }
     where
       s : Agrees (case m) encCase (λ c. Unit {0} × (c .label < m))
       s =
@@ -319,7 +322,8 @@ module _ (m : ℕ) {Tag D : Type 0} (fieldsOf : Tag → List Field) (tag : ℕ �
             moved encTagged TaggedLimits (e ∷ es) (d, (t, p)) x (1 + k) n h (record {
               here = rw one-add (ap (λ x. x ∷ es) (entry-is e _ _ (tag-is _ _ et) (q .0)) ∙ ap (λ r. entry (kind t) (write d) ∷ r) (s .here));
               size = rw one-add (ap suc (s .size));
-              keeps = (q .1, s .keeps) })
+              keeps = (q .1, s .keeps);
+            })
         go bad er h = no-got x n h
 
     agrees-tagged : ((t : Tag) → tag (kind t) ≡ some t) → ((d : D) → Keeps d → rule (write d) ≡ some d) → Agrees (tagged m fieldsOf tag rule) encTagged TaggedLimits
@@ -329,6 +333,7 @@ module _ (m : ℕ) {Tag D : Type 0} (fieldsOf : Tag → List Field) (tag : ℕ �
         sound : Sound encTagged TaggedLimits (tagged m fieldsOf tag rule)
         sound [] x n h = no-got x n h
         sound (e ∷ es) x n h = tagged-sound e es _ _ refl refl x n h
+
         complete : Complete encTagged TaggedLimits (tagged m fieldsOf tag rule)
         complete x rest k =
             rw (rule-found (x .0) (k .0), tag-found (x .1 .0), agrees-fields m (fieldsOf (x .1 .0)) .complete (x .1 .1) rest (k .1), one-add)
@@ -345,8 +350,9 @@ module _ (m : ℕ) where
   pub agrees-term : Agrees (term m) encTerm (TermLimits m)
   unfolding term encTerm
   agrees-term = record {
-      sound = λ es a n h. let b = s .sound es a n h in record { here = b .here; size = b .size; keeps = b .keeps .1 };
-      complete = λ a rest k. s .complete a rest (tt, k) }
+    sound = λ es a n h. let b = s .sound es a n h in record { here = b .here; size = b .size; keeps = b .keeps .1 };
+    complete = λ a rest k. s .complete a rest (tt, k);
+  }
     where
       s : Agrees (term m) encTerm (λ t. Unit {0} × TermLimits m t)
       s =

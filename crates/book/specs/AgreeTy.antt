@@ -92,8 +92,9 @@ module _ {A : Type 0} (p : Reader A) (w : A → List Entry) (K : A → Type 0) (
   pub agrees-list : (n : ℕ) → Agrees (listOf n p) (closed w) (λ as′. (length as′ ≤ n) × Each K as′)
   unfolding listOf stops
   agrees-list n = record {
-      sound = λ es a k h. let b = t .sound es a k h in record { here = b .here; size = b .size; keeps = (b .keeps .0, b .keeps .1 .0) };
-      complete = λ a rest k. t .complete a rest (k .0, (k .1, tt)) }
+    sound = λ es a k h. let b = t .sound es a k h in record { here = b .here; size = b .size; keeps = (b .keeps .0, b .keeps .1 .0) };
+    complete = λ a rest k. t .complete a rest (k .0, (k .1, tt));
+  }
     where
       t : Agrees (listOf n p) (closed w) (λ as′. (length as′ ≤ n) × (Each K as′ × Unit {0}))
       t = agrees-mapped (λ r. r .0) (λ as′. (as′, tt)) _ _ _ (λ x. refl) (λ x. refl) (agrees-until isClosing p closing w (λ u. entry 0 0 ∷ []) K (λ u. Unit {0}) s agrees-closing heads (λ a rest k. refl) n)
@@ -101,8 +102,9 @@ module _ {A : Type 0} (p : Reader A) (w : A → List Entry) (K : A → Type 0) (
   pub agrees-many : Agrees (many p) (closed w) (Each K)
   unfolding many listOf stops mapped ending
   agrees-many = record {
-      sound = λ es a k h. let b = t .sound es a k h in record { here = b .here; size = b .size; keeps = b .keeps .0 };
-      complete = λ a rest k. t .complete a rest (k, tt) }
+    sound = λ es a k h. let b = t .sound es a k h in record { here = b .here; size = b .size; keeps = b .keeps .0 };
+    complete = λ a rest k. t .complete a rest (k, tt);
+  }
     where
       t : Agrees (many p) (closed w) (λ as′. Each K as′ × Unit {0})
       t = agrees-mapped (λ r. r .0) (λ as′. (as′, tt)) _ _ _ (λ x. refl) (λ x. refl) (agrees-all isClosing p closing w (λ u. entry 0 0 ∷ []) K (λ u. Unit {0}) s agrees-closing heads (λ a rest k. refl))
@@ -195,7 +197,8 @@ module _ (m : ℕ) where
         moved encTy (TyTo m (suc l)) (e ∷ es) (Ty.array p (e .word) u) t (1 + k) n h (record {
           here = rw one-add (ap (λ x. x ∷ es) (entry-is e _ (e .word) ek refl) ∙ ap (λ r. entry (tyKind (TyTag.array p)) (e .word) ∷ r) (s .here));
           size = rw one-add (ap suc (s .size));
-          keeps = record { deep = omega (arith, s .keeps .deep); parts = s .keeps .parts } })
+          keeps = record { deep = omega (arith, s .keeps .deep); parts = s .keeps .parts };
+        })
     array-sound p e es ek bad er t n h = no-got t n h
 
     struct-sound : (p : Bool) (e : Entry) (es : List Entry) → e .kind ≡ tyKind (TyTag.struct p) → (b : Bool) → eqb (e .word) 0 ≡ b → (r : Read (List Ty)) → many (typeTo m l) es ≡ r
@@ -207,7 +210,8 @@ module _ (m : ℕ) where
         moved encTy (TyTo m (suc l)) (e ∷ es) (Ty.struct p (tys ts)) t (1 + k) n h (record {
           here = rw (one-add, enc-tys) (ap (λ x. x ∷ es) (entry-is e _ 0 ek (eqb-true _ _ eb)) ∙ ap (λ r. entry (tyKind (TyTag.struct p)) 0 ∷ r) (s .here));
           size = rw (one-add, enc-tys) (ap suc (s .size));
-          keeps = record { deep = omega (arith, f .0); parts = f .1 } })
+          keeps = record { deep = omega (arith, f .0); parts = f .1 };
+        })
     struct-sound p e es ek true eb bad er t n h = no-got t n h
     struct-sound p e es ek false eb r er t n h = no-got t n h
 
@@ -239,7 +243,7 @@ module _ (m : ℕ) where
     type-complete (Ty.namedStruct x) rest k = rw (ty-found TyTag.named, lt-ltb x m (k .parts))
     type-complete (Ty.struct p ts) rest k =
         let c : many (typeTo m l) (closed encTy (untys ts) ++ rest) ≡ got (untys ts) (length (closed encTy (untys ts))) =
-          many-ih .complete (untys ts) rest (fields-kept l ts (omega (arith, k .deep)) (k .parts)) in
+        many-ih .complete (untys ts) rest (fields-kept l ts (omega (arith, k .deep)) (k .parts)) in
         let e : encTys ts ≡ closed encTy (untys ts) = ap encTys (sym (tys-untys ts)) ∙ enc-tys (untys ts) in
         rw (ty-found (TyTag.struct p), e, c, tys-untys, one-add)
 

@@ -53,6 +53,7 @@ module _ {A B : Type 0} where
       second : (a : A) (n : ℕ) (r : Read B) → lenOf {A = A × B} (andThen r (λ b m. got (a, b) (n + m))) ≡ further n (lenOf r)
       second a n (got b m) = refl
       second a n bad = refl
+
       first : (r : Read A) → lenOf {A = A × B} (andThen r (λ a n. andThen (q (drop n es)) (λ b m. got (a, b) (n + m)))) ≡ followed (lenOf r) (λ n. lenOf (q (drop n es)))
       first (got a n) = second a n (q (drop n es))
       first bad = refl
@@ -65,7 +66,7 @@ module _ (m : ℕ) where
   fields-append (x ∷ xs) ys es =
       both-len (field m x) (fields m (xs ++ ys)) es
       ∙ ap (followed (lenOf (field m x es))) (fun-ext λ n. fields-append xs ys (drop n es) ∙ both-len (fields m xs) (fields m ys) (drop n es)
-        ∙ ap (followed (lenOf (fields m xs (drop n es)))) (fun-ext λ k. ap (λ r. lenOf (fields m ys r)) (drop-drop k n es)))
+      ∙ ap (followed (lenOf (fields m xs (drop n es)))) (fun-ext λ k. ap (λ r. lenOf (fields m ys r)) (drop-drop k n es)))
       ∙ sym (follow-assoc (lenOf (field m x es)) (λ n. lenOf (fields m xs (drop n es))) (λ n. lenOf (fields m ys (drop n es))))
       ∙ ap (λ l. followed l (λ n. lenOf (fields m ys (drop n es)))) (sym (both-len (field m x) (fields m xs) es))
       ∙ sym (both-len (fields m (x ∷ xs)) (fields m ys) es)
@@ -201,3 +202,49 @@ module _ (m : ℕ) {Tag D C : Type 0} (fieldsOf : Tag → List book.Field) (tag 
       let t = tag-some fieldsOf (tag k) (allFields fs) (sym es ∙ ap shapeFields e) in
       eq ∙ ap (further 1) (er ∙ ap (λ x. lenOf (fields m (allFields fs) x)) (entries-part 1 ks ws) ∙ ap (λ x. lenOf (fields m x (drop 1 (entries ks ws)))) (sym (t .1 .1)))
       ∙ sym (node-some m fieldsOf tag rule f (entries ks ws) k w h d (t .0) ed (t .1 .0))
+
+-- the word of an instruction, name + 1 or 0, and of a terminator, 0
+pub maybe-none : (m w : ℕ) → m < w → maybeName m w ≡ none
+maybe-none m w h = rw (ne-eqb w 0 (λ z. omega arith), lt-leb w m h)
+
+pub maybe-some : (m w : ℕ) → w ≤ m → (d : Option ℕ) × (maybeName m w ≡ some d)
+maybe-some m w h = go (eqb w 0)
+  where
+    go : (b : Bool) → (d : Option ℕ) × (pick b (some none) (when (leb w m) (some (w - 1))) ≡ some d)
+    go true = (none, refl)
+    go false = (some (w - 1), rw (le-leb w m h))
+
+pub mentioned : (w : ℕ) → (w ≡ 0 → ⊥) → unmentioned w ≡ none
+mentioned w h = rw (ne-eqb w 0 h)
+
+pub not-mentioned : (w : ℕ) → w ≡ 0 → unmentioned w ≡ some tt
+not-mentioned w h = rw (eq-eqb w 0 h)
+
+-- ---- what comes next in a block
+pub no-term : (m : ℕ) → term m [] ≡ bad
+unfolding term mapped tagged
+no-term m = refl
+
+module _ {A B : Type 0} (stop : ℕ → Bool) (item : Reader A) (end : Reader B) (es : List Entry) where
+  pub step-none : end [] ≡ bad → frontOf es ≡ front.Nothing → step.Bad ≡ stepOf stop item end es
+  unfolding frontOf stops
+  step-none b h = go es h
+    where
+      go : (es : List Entry) → frontOf es ≡ front.Nothing → step.Bad ≡ stepOf stop item end es
+      go [] e = rw b
+      go (e ∷ es) i = absurd (let z : _≡_ {A = ℕ} 0 1 = cc in omega arith)
+
+  module _ (k w : ℕ) (h : frontOf es ≡ front.Entry k w) where
+    stops-is : stops stop es ≡ stop k
+    unfolding frontOf stops
+    stops-is = go es h
+      where
+        go : (es : List Entry) → frontOf es ≡ front.Entry k w → stops stop es ≡ stop k
+        go [] e = absurd (let z : _≡_ {A = ℕ} 0 1 = cc in omega arith)
+        go (e ∷ es) i = ap stop (cc)
+
+    pub step-end : stop k ≡ true → (r : Length) (s : Step) → r ≡ lenOf (end es) → s ≡ lastOfLength r → s ≡ stepOf stop item end es
+    step-end t r s er es′ = es′ ∙ ap lastOfLength er ∙ sym (rw (stops-is, t))
+
+    pub step-item : stop k ≡ false → (r : Length) (s : Step) → r ≡ lenOf (item es) → s ≡ stepOfLength r → s ≡ stepOf stop item end es
+    step-item t r s er es′ = es′ ∙ ap stepOfLength er ∙ sym (rw (stops-is, t))

@@ -94,20 +94,34 @@ param-front m (e ∷ es) = go (eqb (e .kind) 6)
 
 -- ---- one part after the other
 module _ {A B : Type 0} (p : Reader A) (q : Reader B) (ks ws : List ℕ) (r : Length) (er : r ≡ lenOf (p (entries ks ws))) where
+  pub both-bad : r ≡ len.Bad → len.Bad ≡ lenOf (both p q (entries ks ws))
+  unfolding both
+  both-bad h = sym (rw (len-bad (p (entries ks ws)) (sym er ∙ h)))
+
+  mapped-len : {C : Type 0} (f : A × B → C) → lenOf (both p q (entries ks ws)) ≡ lenOf (mapped f (both p q) (entries ks ws))
+  unfolding mapped
+  mapped-len {C} f = go (both p q (entries ks ws))
+    where
+      go : (r : Read (A × B)) → lenOf r ≡ lenOf (andThen r (λ a n. got (f a) n))
+      go (got a n) = refl
+      go bad = refl
+
   pub pair-bad : {C : Type 0} (f : A × B → C) → r ≡ len.Bad → len.Bad ≡ lenOf (mapped f (both p q) (entries ks ws))
-  unfolding mapped both
-  pair-bad f h = sym (rw (len-bad (p (entries ks ws)) (sym er ∙ h)))
+  pair-bad f h = both-bad h ∙ mapped-len f
 
   module _ (n : ℕ) (h : r ≡ len.Entries n) where
-    pub pair-arm : {C : Type 0} (f : A × B → C) (x y : Length) → x ≡ lenOf (q (lentFrom ks ws n)) → y ≡ further n x → y ≡ lenOf (mapped f (both p q) (entries ks ws))
-    unfolding mapped both
-    pair-arm f x y ex ey =
+    pub both-arm : (x y : Length) → x ≡ lenOf (q (lentFrom ks ws n)) → y ≡ further n x → y ≡ lenOf (both p q (entries ks ws))
+    unfolding both
+    both-arm x y ex ey =
         let g = len-got (p (entries ks ws)) n (sym er ∙ h) in
         ey ∙ ap (further n) ex ∙ rw (g .1, entries-part n ks ws) (go (g .0) (q (drop n (entries ks ws))))
       where
-        go : (a : A) (r : Read B) → further n (lenOf r) ≡ lenOf (andThen (andThen {A = B} {B = A × B} r (λ b m. got (a, b) (n + m))) (λ a n. got (f a) n))
+        go : (a : A) (r : Read B) → further n (lenOf r) ≡ lenOf (andThen {A = B} {B = A × B} r (λ b m. got (a, b) (n + m)))
         go a (got b m) = refl
         go a bad = refl
+
+    pub pair-arm : {C : Type 0} (f : A × B → C) (x y : Length) → x ≡ lenOf (q (lentFrom ks ws n)) → y ≡ further n x → y ≡ lenOf (mapped f (both p q) (entries ks ws))
+    pair-arm f x y ex ey = both-arm x y ex ey ∙ mapped-len f
 
     -- the first part is there, and the second leaves room for it
     module _ {w : A → List Entry} {K : A → Type 0} (s : Agrees p w K) where
@@ -160,7 +174,7 @@ module _ (m : ℕ) (ks ws : List ℕ) (r : Length) (er : r ≡ lenOf (typedVal m
         let k : n ≡ length (encTy (v .ty)) + 1 = b .size ∙ length-append (encTy (v .ty)) (encValue (v .val)) in
         let e : entries ks ws ≡ encTy (v .ty) ++ (valueEntry (v .val) ∷ drop n (entries ks ws)) = b .here ∙ append-assoc (encTy (v .ty)) (encValue (v .val)) (drop n (entries ks ws)) in
         let d : drop (n - 1) (entries ks ws) ≡ valueEntry (v .val) ∷ drop n (entries ks ws) =
-          ap (drop (n - 1)) e ∙ drop-at (encTy (v .ty)) (valueEntry (v .val) ∷ drop n (entries ks ws)) (n - 1) (omega arith) in
+        ap (drop (n - 1)) e ∙ drop-at (encTy (v .ty)) (valueEntry (v .val) ∷ drop n (entries ks ws)) (n - 1) (omega arith) in
         (v, record { read = g .1; some = omega arith; there = len-fits (agrees-typed m) (entries ks ws) n (sym er ∙ h); last = ap frontOf d })
 
     pub index-some : 1 ≤ n
@@ -202,6 +216,7 @@ module _ {A : Type 0} (p : Reader A) (es : List Entry) (f : Front) (ef : f ≡ f
         none-len : (b : Bool) → lenIf b ≡ lenOf (taking {A = Option A} 1 (when b none))
         none-len true = refl
         none-len false = refl
+
         go : (es : List Entry) → frontOf es ≡ front.Entry k w → lenIf (eqb w 0) ≡ lenOf (optional p es)
         go [] e = absurd (let z : _≡_ {A = ℕ} 0 1 = cc in omega arith)
         go (e ∷ es) i =
@@ -216,6 +231,7 @@ module _ {A : Type 0} (p : Reader A) (es : List Entry) (f : Front) (ef : f ≡ f
         some-len : (r : Read A) → lenOf r ≡ lenOf (andThen r (λ a n. got (some a) n))
         some-len (got a n) = refl
         some-len bad = refl
+
         go : (es : List Entry) → frontOf es ≡ front.Entry k w → lenOf (p es) ≡ lenOf (optional p es)
         go [] e = absurd (let z : _≡_ {A = ℕ} 0 1 = cc in omega arith)
         go (e ∷ es) i =

@@ -175,3 +175,8 @@ module _ {A : Type 0} (item : Reader A) (ks ws : List ℕ) (f : Front) (h : List
 
   pub item-arm : h ≡ head.Item → (r : Length) (s : Step) → r ≡ lenOf (item (entries ks ws)) → s ≡ stepOfLength r → s ≡ stepOf isClosing item closing (entries ks ws)
   item-arm e r s er es = es ∙ ap stepOfLength er ∙ sym (next-is ∙ rw e)
+
+-- a list bounded by the entries that there are
+pub listed : {A : Type 0} (item : Reader A) (es : List Entry) (n : ℕ) {r : Length} → r ≡ lenOf (listOf n item es) → n ≡ length es → r ≡ lenOf (many item es)
+unfolding many
+listed item es n e h = e ∙ ap (λ k. lenOf (listOf k item es)) h

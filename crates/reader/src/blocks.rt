@@ -1,8 +1,20 @@
 // Basic blocks and the function.
-use crate::insts::{inst_len, term_len};
-use crate::items::{list_len, word_len, Item};
+use crate::Front;
+use crate::Length;
+use crate::ListHead;
+use crate::Step;
+use crate::first_entry;
+use crate::insts::inst_len;
+use crate::insts::term_len;
+use crate::items::Item;
+use crate::items::list_len;
+use crate::items::word_len;
+use crate::last_step;
+use crate::list_head;
+use crate::next_step;
+use crate::shorter;
+use crate::then_len;
 use crate::types::type_len;
-use crate::{first_entry, last_step, list_head, next_step, shorter, then_len, Front, Length, ListHead, Step};
 ghost use mathlib.Core.Path.{_≡_};
 ghost use lib.Dec.{leb};
 ghost use Rattle.book.specs.Entry.{entries};
@@ -92,7 +104,8 @@ pub fn blocks_len(kinds: &[u64], words: &[u64], names: u64) -> Length
 fn params_and_blocks_len(kinds: &[u64], words: &[u64], names: u64) -> Length
     ensures { λ r. ⌜ r ≡ lenOf (both (many (item names BookItem.param)) (many (basicBlock names)) (entries (now (kinds .entry)) (now (words .entry)))) ⌝ }
 {
-    let Length::Entries(n) = list_len(kinds, words, names, Item::Param, shorter(kinds, words)) else {
+    let Length::Entries(n) = list_len(kinds, words, names, Item::Param, shorter(kinds, words))
+    else {
         return Length::Bad;
     };
     then_len(n, blocks_len(&kinds[n..], &words[n..], names))

@@ -1,6 +1,13 @@
 // Instructions, kinds 40 to 82, and terminators, kinds 90 to 93: an entry and the fields of its kind.
-use crate::items::{item_len, list_len, optional_len, Item};
-use crate::{first_entry, shorter, then_len, Front, Length};
+use crate::Front;
+use crate::Length;
+use crate::first_entry;
+use crate::items::Item;
+use crate::items::item_len;
+use crate::items::list_len;
+use crate::items::optional_len;
+use crate::shorter;
+use crate::then_len;
 ghost use mathlib.Core.Path.{_≡_};
 ghost use mathlib.Core.List.{_++_};
 ghost use mathlib.Core.Option.{some};
@@ -123,9 +130,13 @@ fn four(a: Field, b: Field, c: Field, d: Field) -> Shape
 }
 
 const NONE: Field = Field::Nothing;
+
 const TYPE: Field = Field::Plain(Item::Type);
+
 const VALUE: Field = Field::Plain(Item::Value);
+
 const BLOCK: Field = Field::Plain(Item::Block);
+
 const ALIGN: Field = Field::Optional(Item::Align);
 
 pub fn inst_fields(group: InstGroup) -> Shape
@@ -157,7 +168,12 @@ pub fn term_fields(group: TermGroup) -> Shape
 {
     match group {
         TermGroup::Ret => four(Field::Optional(Item::Typed), NONE, NONE, NONE),
-        TermGroup::Br => four(Field::Optional(Item::Value), BLOCK, Field::Optional(Item::Block), NONE),
+        TermGroup::Br => four(
+            Field::Optional(Item::Value),
+            BLOCK,
+            Field::Optional(Item::Block),
+            NONE,
+        ),
         TermGroup::Switch => four(TYPE, VALUE, BLOCK, Field::List(Item::Case)),
         TermGroup::Unreachable => four(NONE, NONE, NONE, NONE),
         TermGroup::Other => Shape::Unknown,

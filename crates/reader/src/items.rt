@@ -1,6 +1,14 @@
 // Values, and what the fields of instructions and terminators hold.
+use crate::Front;
+use crate::Length;
+use crate::ListHead;
+use crate::Step;
+use crate::entry_if;
+use crate::first_entry;
+use crate::list_head;
+use crate::next_step;
+use crate::then_len;
 use crate::types::type_len;
-use crate::{entry_if, first_entry, list_head, next_step, then_len, Front, Length, ListHead, Step};
 ghost use mathlib.Core.Path.{_≡_};
 ghost use Prim.Native.Nat.{_≤_};
 ghost use lib.ListN.{length};
@@ -147,7 +155,10 @@ fn incoming_len(kinds: &[u64], words: &[u64], names: u64) -> Length
     let Length::Entries(n) = value_len(first_entry(kinds, words), names) else {
         return Length::Bad;
     };
-    then_len(n, word_len(first_entry(&kinds[n..], &words[n..]), 23, names))
+    then_len(
+        n,
+        word_len(first_entry(&kinds[n..], &words[n..]), 23, names),
+    )
 }
 
 // A switch case: an integer and a block.
@@ -157,7 +168,10 @@ fn case_len(kinds: &[u64], words: &[u64], names: u64) -> Length
     let Length::Entries(n) = case_value_len(first_entry(kinds, words)) else {
         return Length::Bad;
     };
-    then_len(n, word_len(first_entry(&kinds[n..], &words[n..]), 23, names))
+    then_len(
+        n,
+        word_len(first_entry(&kinds[n..], &words[n..]), 23, names),
+    )
 }
 
 // A parameter's entry: its name + 1, or 0.

@@ -98,7 +98,11 @@ pub fn list_head(entry: Front) -> ListHead
         return ListHead::Bad;
     };
     if kind == 0 {
-        if word == 0 { ListHead::Closing } else { ListHead::Bad }
+        if word == 0 {
+            ListHead::Closing
+        } else {
+            ListHead::Bad
+        }
     } else {
         ListHead::Item
     }

@@ -1,5 +1,13 @@
 // Types: kinds 10 to 20.
-use crate::{first_entry, list_head, next_step, shorter, then_len, Front, Length, ListHead, Step};
+use crate::Front;
+use crate::Length;
+use crate::ListHead;
+use crate::Step;
+use crate::first_entry;
+use crate::list_head;
+use crate::next_step;
+use crate::shorter;
+use crate::then_len;
 ghost use mathlib.Core.Path.{_≡_};
 ghost use Rattle.book.specs.Entry.{entries};
 ghost use Rattle.book.specs.Kinds.{tyTag};

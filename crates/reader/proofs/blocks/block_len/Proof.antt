@@ -1,76 +1,69 @@
+-- `reader::blocks::block_len` meets its contract: the body is read behind the block's entry.
+use mathlib.Core.Path.{_≡_, refl, _∙_, sym, ap}
+use native.Mathlib.Omega.{arith}
+use Rattle.book.specs.Read.{word}
+use Rattle.book.specs.Decode.{name, body, basicBlock}
+use Rattle.book.specs.AgreeInst.{agrees-name}
+use Rattle.book.specs.AgreeBook.{agrees-body}
+use Rattle.reader.specs.Items.{wordFront}
+use Rattle.reader.specs.ItemLaws as items
 use borrow.Author.Needs.{needs}
 use Rattle.reader.proofs.blocks.block_len.Statement.{statement}
 use Rattle.reader.proofs.blocks.block_len.Tie as tie
-use Rattle.reader.proofs.blocks.block_len.Reads as reads
-use Rattle.reader.proofs.blocks.block_len.Lts as lts
 use Rattle.reader.proofs.blocks.body_len.Reads as body-len-reads
 use Rattle.reader.proofs.first_entry.Reads as first-entry-reads
 use Rattle.reader.proofs.items.word_len.Reads as word-len-reads
 use Rattle.reader.proofs.then_len.Reads as then-len-reads
 
--- src/blocks.rt:53:39
 first-entry-requires : tie.Need-first-entry-requires
 first-entry-requires c κs = search needs
 
--- src/blocks.rt:53:30
 word-len-requires : tie.Need-word-len-requires
 word-len-requires c κs = search needs
 
--- src/blocks.rt:53:25
 enum-known-n : tie.Need-enum-known-n
 enum-known-n c = search needs
 
--- src/blocks.rt:54:9
 enum-told : tie.Need-enum-told
 enum-told c = search needs
 
--- src/blocks.rt:54:9
 returns : tie.Need-returns
-returns c = ?
+unfolding basicBlock
+returns c = items.pair-bad (word 7 (name (c .before .before .before .before .before .before .args .names))) (body (c .before .before .before .before .before .before .args .names)) (c .before .before .before .before .before .before .args .kinds .now) (c .before .before .before .before .before .before .args .words .now) _ (c .before .before .word-len .ensures ∙ ap (wordFront _ _) (c .before .before .before .first-entry .ensures) ∙ sym (items.word-front 7 _ _)) (λ p. record { label = p .0; insts = p .1 .0; term = p .1 .1 }) (c .enum-told .given .1)
 
--- src/blocks.rt:56:26
 mul-body-len : tie.Need-mul-body-len
-mul-body-len c = ?
+mul-body-len c = omega (arith, items.pair-kinds (word 7 (name (c .before .before .before .before .before .before .before .args .names))) (body (c .before .before .before .before .before .before .before .args .names)) (c .before .before .before .before .before .before .before .args .kinds .now) (c .before .before .before .before .before .before .before .args .words .now) _ (c .before .before .before .word-len .ensures ∙ ap (wordFront _ _) (c .before .before .before .before .first-entry .ensures) ∙ sym (items.word-front 7 _ _)) _ (c .before .n .given .1) (agrees-name _ 7), c .before .before .before .before .before .before .before .good)
 
--- src/blocks.rt:56:26
 sub-body-len : tie.Need-sub-body-len
-sub-body-len c = ?
+sub-body-len c = items.pair-kinds (word 7 (name (c .before .before .before .before .before .before .before .args .names))) (body (c .before .before .before .before .before .before .before .args .names)) (c .before .before .before .before .before .before .before .args .kinds .now) (c .before .before .before .before .before .before .before .args .words .now) _ (c .before .before .before .word-len .ensures ∙ ap (wordFront _ _) (c .before .before .before .before .first-entry .ensures) ∙ sym (items.word-front 7 _ _)) _ (c .before .n .given .1) (agrees-name _ 7)
 
--- src/blocks.rt:56:26
 part-body-len-start : tie.Need-part-body-len-start
-part-body-len-start c = ?
+part-body-len-start c = items.pair-kinds (word 7 (name (c .before .before .before .before .before .before .before .args .names))) (body (c .before .before .before .before .before .before .before .args .names)) (c .before .before .before .before .before .before .before .args .kinds .now) (c .before .before .before .before .before .before .before .args .words .now) _ (c .before .before .before .word-len .ensures ∙ ap (wordFront _ _) (c .before .before .before .before .first-entry .ensures) ∙ sym (items.word-front 7 _ _)) _ (c .before .n .given .1) (agrees-name _ 7)
 
--- src/blocks.rt:56:26
 part-body-len-end : tie.Need-part-body-len-end
 part-body-len-end c = search needs
 
--- src/blocks.rt:56:39
 mul-body-len-2 : tie.Need-mul-body-len-2
-mul-body-len-2 c = ?
+mul-body-len-2 c = omega (arith, items.pair-words (word 7 (name (c .before .before .before .before .before .before .before .before .args .names))) (body (c .before .before .before .before .before .before .before .before .args .names)) (c .before .before .before .before .before .before .before .before .args .kinds .now) (c .before .before .before .before .before .before .before .before .args .words .now) _ (c .before .before .before .before .word-len .ensures ∙ ap (wordFront _ _) (c .before .before .before .before .before .first-entry .ensures) ∙ sym (items.word-front 7 _ _)) _ (c .before .before .n .given .1) (agrees-name _ 7), c .before .before .before .before .before .before .before .before .good)
 
--- src/blocks.rt:56:39
 sub-body-len-2 : tie.Need-sub-body-len-2
-sub-body-len-2 c = ?
+sub-body-len-2 c = items.pair-words (word 7 (name (c .before .before .before .before .before .before .before .before .args .names))) (body (c .before .before .before .before .before .before .before .before .args .names)) (c .before .before .before .before .before .before .before .before .args .kinds .now) (c .before .before .before .before .before .before .before .before .args .words .now) _ (c .before .before .before .before .word-len .ensures ∙ ap (wordFront _ _) (c .before .before .before .before .before .first-entry .ensures) ∙ sym (items.word-front 7 _ _)) _ (c .before .before .n .given .1) (agrees-name _ 7)
 
--- src/blocks.rt:56:39
 part-body-len-start-2 : tie.Need-part-body-len-start-2
-part-body-len-start-2 c = ?
+part-body-len-start-2 c = items.pair-words (word 7 (name (c .before .before .before .before .before .before .before .before .args .names))) (body (c .before .before .before .before .before .before .before .before .args .names)) (c .before .before .before .before .before .before .before .before .args .kinds .now) (c .before .before .before .before .before .before .before .before .args .words .now) _ (c .before .before .before .before .word-len .ensures ∙ ap (wordFront _ _) (c .before .before .before .before .before .first-entry .ensures) ∙ sym (items.word-front 7 _ _)) _ (c .before .before .n .given .1) (agrees-name _ 7)
 
--- src/blocks.rt:56:39
 part-body-len-end-2 : tie.Need-part-body-len-end-2
 part-body-len-end-2 c = search needs
 
--- src/blocks.rt:56:17
 body-len-requires : tie.Need-body-len-requires
 body-len-requires c κs = search needs
 
--- src/blocks.rt:56:5
 then-len-requires : tie.Need-then-len-requires
-then-len-requires c κs = ?
+then-len-requires c κs = items.pair-room (word 7 (name (c .before .before .before .before .before .before .before .before .before .before .args .names))) (body (c .before .before .before .before .before .before .before .before .before .before .args .names)) (c .before .before .before .before .before .before .before .before .before .before .args .kinds .now) (c .before .before .before .before .before .before .before .before .before .before .args .words .now) _ (c .before .before .before .before .before .before .word-len .ensures ∙ ap (wordFront _ _) (c .before .before .before .before .before .before .before .first-entry .ensures) ∙ sym (items.word-front 7 _ _)) _ (c .before .before .before .before .n .given .1) (agrees-name _ 7) (agrees-body _) (omega arith) _ (c .body-len .ensures)
 
--- src/blocks.rt:50:1
 returns-2 : tie.Need-returns-2
-returns-2 c = ?
+unfolding basicBlock
+returns-2 c = items.pair-arm (word 7 (name (c .before .before .before .before .before .before .before .before .before .before .before .args .names))) (body (c .before .before .before .before .before .before .before .before .before .before .before .args .names)) (c .before .before .before .before .before .before .before .before .before .before .before .args .kinds .now) (c .before .before .before .before .before .before .before .before .before .before .before .args .words .now) _ (c .before .before .before .before .before .before .before .word-len .ensures ∙ ap (wordFront _ _) (c .before .before .before .before .before .before .before .before .first-entry .ensures) ∙ sym (items.word-front 7 _ _)) _ (c .before .before .before .before .before .n .given .1) (λ p. record { label = p .0; insts = p .1 .0; term = p .1 .1 }) _ _ (c .before .body-len .ensures) (c .then-len .ensures)
 
 pub block-len-spec : {M : Type 1} → statement M
 block-len-spec =

@@ -1,103 +1,93 @@
+-- `reader::blocks::blocks_len` meets its contract: the loop goes on by the list's next step, and what is left of the list is as long as the whole from there.
+use borrow.Author.Needs.{needs}
+use native.Mathlib.Omega.{arith}
+use mathlib.Core.Path.{_≡_, refl, _∙_, sym, ap}
+use lib.ListN.{length}
+use Rattle.book.specs.Entry.{entries}
+use Rattle.book.specs.Read.{closing, isClosing}
+use Rattle.book.specs.Decode.{basicBlock}
+use Rattle.book.specs.AgreeTy.{agrees-closing}
+use Rattle.book.specs.AgreeBook.{agrees-basicBlock}
+use Rattle.reader.specs.TypeLaws as types
+use Rattle.reader.specs.Laws.{Loop}
+use Rattle.reader.specs.Laws as laws
 use Rattle.reader.proofs.blocks.blocks_len.Statement.{statement}
 use Rattle.reader.proofs.blocks.blocks_len.Tie as tie
-use Rattle.reader.proofs.blocks.blocks_len.Reads as reads
-use Rattle.reader.proofs.blocks.blocks_len.Lts as lts
 use Rattle.reader.proofs.blocks.block_step.Reads as block-step-reads
 use Rattle.reader.proofs.shorter.Reads as shorter-reads
 
 abbrev Inv-loop : tie.InvT-loop
-Inv-loop kinds words names at₀ left₀ at left = ?
+Inv-loop kinds words names at₀ left₀ at left =
+    Loop isClosing (basicBlock names) closing (length (entries kinds words)) kinds words at left
 
 abbrev μ-loop : tie.MeasureT-loop
-μ-loop kinds words names at₀ left₀ at left = ?
+μ-loop kinds words names at₀ left₀ at left = left
 
--- src/blocks.rt:75:9
 shorter-requires : tie.Need-shorter-requires Inv-loop μ-loop
-shorter-requires c κs = ?
+shorter-requires c κs = search needs
 
--- src/blocks.rt:76:5
 loop-holds : tie.Need-loop-holds Inv-loop μ-loop
-loop-holds c = ?
+loop-holds c = laws.loop-start isClosing (basicBlock (c .before .before .before .args .names)) closing (length (entries (c .before .before .before .args .kinds .now) (c .before .before .before .args .words .now))) (c .before .before .before .args .kinds .now) (c .before .before .before .args .words .now) _ (c .shorter .ensures)
 
--- src/blocks.rt:77:26
 mul-block-step : tie.Need-mul-block-step Inv-loop μ-loop
-mul-block-step c = ?
+mul-block-step c = omega (arith, c .loop .inv .kinds, c .before .before .before .before .good)
 
--- src/blocks.rt:77:26
 sub-block-step : tie.Need-sub-block-step Inv-loop μ-loop
-sub-block-step c = ?
+sub-block-step c = c .loop .inv .kinds
 
--- src/blocks.rt:77:26
 part-block-step-start : tie.Need-part-block-step-start Inv-loop μ-loop
-part-block-step-start c = ?
+part-block-step-start c = c .loop .inv .kinds
 
--- src/blocks.rt:77:26
 part-block-step-end : tie.Need-part-block-step-end Inv-loop μ-loop
-part-block-step-end c = ?
+part-block-step-end c = search needs
 
--- src/blocks.rt:77:40
 mul-block-step-2 : tie.Need-mul-block-step-2 Inv-loop μ-loop
-mul-block-step-2 c = ?
+mul-block-step-2 c = omega (arith, c .before .loop .inv .words, c .before .before .before .before .before .good)
 
--- src/blocks.rt:77:40
 sub-block-step-2 : tie.Need-sub-block-step-2 Inv-loop μ-loop
-sub-block-step-2 c = ?
+sub-block-step-2 c = c .before .loop .inv .words
 
--- src/blocks.rt:77:40
 part-block-step-start-2 : tie.Need-part-block-step-start-2 Inv-loop μ-loop
-part-block-step-start-2 c = ?
+part-block-step-start-2 c = c .before .loop .inv .words
 
--- src/blocks.rt:77:40
 part-block-step-end-2 : tie.Need-part-block-step-end-2 Inv-loop μ-loop
-part-block-step-end-2 c = ?
+part-block-step-end-2 c = search needs
 
--- src/blocks.rt:77:15
 block-step-requires : tie.Need-block-step-requires Inv-loop μ-loop
-block-step-requires c κs = ?
+block-step-requires c κs = search needs
 
--- src/blocks.rt:78:24
 enum-known-n : tie.Need-enum-known-n Inv-loop μ-loop
-enum-known-n c = ?
+enum-known-n c = search needs
 
--- src/blocks.rt:78:53
 add-t19 : tie.Need-add-t19 Inv-loop μ-loop
-add-t19 c = ?
+add-t19 c = omega (arith, laws.done-there isClosing (basicBlock (c .before .before .before .before .before .before .before .before .before .before .args .names)) closing (length (entries (c .before .before .before .before .before .before .before .before .before .before .args .kinds .now) (c .before .before .before .before .before .before .before .before .before .before .args .words .now))) (c .before .before .before .before .before .before .before .before .before .before .args .kinds .now) (c .before .before .before .before .before .before .before .before .before .before .args .words .now) _ _ (c .before .before .before .before .before .before .loop .inv) _ (c .before .before .before .block-step .ensures) (agrees-basicBlock _) agrees-closing _ (c .before .n .given .1), c .before .before .before .before .before .before .before .before .before .before .good)
 
--- src/blocks.rt:78:30
 returns : tie.Need-returns Inv-loop μ-loop
-returns c = ?
+returns c = laws.loop-done isClosing (basicBlock (c .before .before .before .before .before .before .before .before .before .before .args .names)) closing (length (entries (c .before .before .before .before .before .before .before .before .before .before .args .kinds .now) (c .before .before .before .before .before .before .before .before .before .before .args .words .now))) (c .before .before .before .before .before .before .before .before .before .before .args .kinds .now) (c .before .before .before .before .before .before .before .before .before .before .args .words .now) _ _ (c .before .before .before .before .before .before .loop .inv) _ (c .before .before .before .block-step .ensures) _ (c .before .n .given .1) ∙ sym (types.many-len _ _)
 
--- src/blocks.rt:79:26
 enum-told : tie.Need-enum-told Inv-loop μ-loop
-enum-told c = ?
+enum-told c = search needs
 
--- src/blocks.rt:79:26
 returns-2 : tie.Need-returns-2 Inv-loop μ-loop
-returns-2 c = ?
+returns-2 c = laws.loop-bad isClosing (basicBlock (c .before .before .before .before .before .before .before .before .before .args .names)) closing (length (entries (c .before .before .before .before .before .before .before .before .before .args .kinds .now) (c .before .before .before .before .before .before .before .before .before .args .words .now))) (c .before .before .before .before .before .before .before .before .before .args .kinds .now) (c .before .before .before .before .before .before .before .before .before .args .words .now) _ _ (c .before .before .before .before .before .loop .inv) _ (c .before .before .block-step .ensures) (c .enum-told .given .1) ∙ sym (types.many-len _ _)
 
--- src/blocks.rt:80:24
 enum-known-n-2 : tie.Need-enum-known-n-2 Inv-loop μ-loop
-enum-known-n-2 c = ?
+enum-known-n-2 c = search needs
 
--- src/blocks.rt:82:21
 returns-3 : tie.Need-returns-3 Inv-loop μ-loop
-returns-3 c = ?
+returns-3 c = laws.loop-full isClosing (basicBlock (c .before .before .before .before .before .before .before .before .before .before .before .args .names)) closing (length (entries (c .before .before .before .before .before .before .before .before .before .before .before .args .kinds .now) (c .before .before .before .before .before .before .before .before .before .before .before .args .words .now))) (c .before .before .before .before .before .before .before .before .before .before .before .args .kinds .now) (c .before .before .before .before .before .before .before .before .before .before .before .args .words .now) _ _ (c .before .before .before .before .before .before .before .loop .inv) _ (c .before .before .before .before .block-step .ensures) _ (c .before .before .n2 .given .1) (c .if1 .taken) ∙ sym (types.many-len _ _)
 
--- src/blocks.rt:84:22
 add-at : tie.Need-add-at Inv-loop μ-loop
-add-at c = ?
+add-at c = omega (arith, laws.loop-next isClosing (basicBlock (c .before .before .before .before .before .before .before .before .before .before .before .args .names)) closing (length (entries (c .before .before .before .before .before .before .before .before .before .before .before .args .kinds .now) (c .before .before .before .before .before .before .before .before .before .before .before .args .words .now))) (c .before .before .before .before .before .before .before .before .before .before .before .args .kinds .now) (c .before .before .before .before .before .before .before .before .before .before .before .args .words .now) _ _ (c .before .before .before .before .before .before .before .loop .inv) _ (c .before .before .before .before .block-step .ensures) (agrees-basicBlock _) agrees-closing _ (c .before .before .n2 .given .1) (c .if1 .left) .kinds, c .before .before .before .before .before .before .before .before .before .before .before .good)
 
--- src/blocks.rt:85:24
 sub-left : tie.Need-sub-left Inv-loop μ-loop
-sub-left c = ?
+sub-left c = search needs
 
--- src/blocks.rt:76:5
 loop-less : tie.Need-loop-less Inv-loop μ-loop
-loop-less c = ?
+loop-less c = search needs
 
--- src/blocks.rt:76:5
 loop-again : tie.Need-loop-again Inv-loop μ-loop
-loop-again c = ?
+loop-again c = laws.loop-next isClosing (basicBlock (c .before .before .before .before .before .before .before .before .before .before .before .args .names)) closing (length (entries (c .before .before .before .before .before .before .before .before .before .before .before .args .kinds .now) (c .before .before .before .before .before .before .before .before .before .before .before .args .words .now))) (c .before .before .before .before .before .before .before .before .before .before .before .args .kinds .now) (c .before .before .before .before .before .before .before .before .before .before .before .args .words .now) _ _ (c .before .before .before .before .before .before .before .loop .inv) _ (c .before .before .before .before .block-step .ensures) (agrees-basicBlock _) agrees-closing _ (c .before .before .n2 .given .1) (c .if1 .left)
 
 pub blocks-len-spec : {M : Type 1} → statement M
 blocks-len-spec =

@@ -1,103 +1,94 @@
+-- `reader::blocks::body_len` meets its contract: the loop goes on by the list's next step, and what is left of the list is as long as the whole from there.
+use borrow.Author.Needs.{needs}
+use native.Mathlib.Omega.{arith}
+use mathlib.Core.Path.{_≡_, refl, _∙_, sym, ap}
+use lib.ListN.{length}
+use Rattle.book.specs.Entry.{entries}
+use lib.Dec.{leb}
+use Rattle.book.specs.Decode.{inst, term, body}
+use Rattle.book.specs.AgreeInst.{agrees-inst, agrees-term}
+use Rattle.reader.specs.Laws.{Loop}
+use Rattle.reader.specs.Laws as laws
 use Rattle.reader.proofs.blocks.body_len.Statement.{statement}
 use Rattle.reader.proofs.blocks.body_len.Tie as tie
-use Rattle.reader.proofs.blocks.body_len.Reads as reads
-use Rattle.reader.proofs.blocks.body_len.Lts as lts
 use Rattle.reader.proofs.blocks.body_step.Reads as body-step-reads
 use Rattle.reader.proofs.shorter.Reads as shorter-reads
 
 abbrev Inv-loop : tie.InvT-loop
-Inv-loop kinds words names at₀ left₀ at left = ?
+Inv-loop kinds words names at₀ left₀ at left =
+    Loop (leb 90) (inst names) (term names) (length (entries kinds words)) kinds words at left
 
 abbrev μ-loop : tie.MeasureT-loop
-μ-loop kinds words names at₀ left₀ at left = ?
+μ-loop kinds words names at₀ left₀ at left = left
 
--- src/blocks.rt:33:9
 shorter-requires : tie.Need-shorter-requires Inv-loop μ-loop
-shorter-requires c κs = ?
+shorter-requires c κs = search needs
 
--- src/blocks.rt:34:5
 loop-holds : tie.Need-loop-holds Inv-loop μ-loop
-loop-holds c = ?
+loop-holds c = laws.loop-start (leb 90) (inst (c .before .before .before .args .names)) (term (c .before .before .before .args .names)) (length (entries (c .before .before .before .args .kinds .now) (c .before .before .before .args .words .now))) (c .before .before .before .args .kinds .now) (c .before .before .before .args .words .now) _ (c .shorter .ensures)
 
--- src/blocks.rt:35:25
 mul-body-step : tie.Need-mul-body-step Inv-loop μ-loop
-mul-body-step c = ?
+mul-body-step c = omega (arith, c .loop .inv .kinds, c .before .before .before .before .good)
 
--- src/blocks.rt:35:25
 sub-body-step : tie.Need-sub-body-step Inv-loop μ-loop
-sub-body-step c = ?
+sub-body-step c = c .loop .inv .kinds
 
--- src/blocks.rt:35:25
 part-body-step-start : tie.Need-part-body-step-start Inv-loop μ-loop
-part-body-step-start c = ?
+part-body-step-start c = c .loop .inv .kinds
 
--- src/blocks.rt:35:25
 part-body-step-end : tie.Need-part-body-step-end Inv-loop μ-loop
-part-body-step-end c = ?
+part-body-step-end c = search needs
 
--- src/blocks.rt:35:39
 mul-body-step-2 : tie.Need-mul-body-step-2 Inv-loop μ-loop
-mul-body-step-2 c = ?
+mul-body-step-2 c = omega (arith, c .before .loop .inv .words, c .before .before .before .before .before .good)
 
--- src/blocks.rt:35:39
 sub-body-step-2 : tie.Need-sub-body-step-2 Inv-loop μ-loop
-sub-body-step-2 c = ?
+sub-body-step-2 c = c .before .loop .inv .words
 
--- src/blocks.rt:35:39
 part-body-step-start-2 : tie.Need-part-body-step-start-2 Inv-loop μ-loop
-part-body-step-start-2 c = ?
+part-body-step-start-2 c = c .before .loop .inv .words
 
--- src/blocks.rt:35:39
 part-body-step-end-2 : tie.Need-part-body-step-end-2 Inv-loop μ-loop
-part-body-step-end-2 c = ?
+part-body-step-end-2 c = search needs
 
--- src/blocks.rt:35:15
 body-step-requires : tie.Need-body-step-requires Inv-loop μ-loop
-body-step-requires c κs = ?
+body-step-requires c κs = search needs
 
--- src/blocks.rt:36:24
 enum-known-n : tie.Need-enum-known-n Inv-loop μ-loop
-enum-known-n c = ?
+enum-known-n c = search needs
 
--- src/blocks.rt:36:53
 add-t19 : tie.Need-add-t19 Inv-loop μ-loop
-add-t19 c = ?
+add-t19 c = omega (arith, laws.done-there (leb 90) (inst (c .before .before .before .before .before .before .before .before .before .before .args .names)) (term (c .before .before .before .before .before .before .before .before .before .before .args .names)) (length (entries (c .before .before .before .before .before .before .before .before .before .before .args .kinds .now) (c .before .before .before .before .before .before .before .before .before .before .args .words .now))) (c .before .before .before .before .before .before .before .before .before .before .args .kinds .now) (c .before .before .before .before .before .before .before .before .before .before .args .words .now) _ _ (c .before .before .before .before .before .before .loop .inv) _ (c .before .before .before .body-step .ensures) (agrees-inst _) (agrees-term _) _ (c .before .n .given .1), c .before .before .before .before .before .before .before .before .before .before .good)
 
--- src/blocks.rt:36:30
 returns : tie.Need-returns Inv-loop μ-loop
-returns c = ?
+unfolding body
+returns c = laws.loop-done (leb 90) (inst (c .before .before .before .before .before .before .before .before .before .before .args .names)) (term (c .before .before .before .before .before .before .before .before .before .before .args .names)) (length (entries (c .before .before .before .before .before .before .before .before .before .before .args .kinds .now) (c .before .before .before .before .before .before .before .before .before .before .args .words .now))) (c .before .before .before .before .before .before .before .before .before .before .args .kinds .now) (c .before .before .before .before .before .before .before .before .before .before .args .words .now) _ _ (c .before .before .before .before .before .before .loop .inv) _ (c .before .before .before .body-step .ensures) _ (c .before .n .given .1)
 
--- src/blocks.rt:37:26
 enum-told : tie.Need-enum-told Inv-loop μ-loop
-enum-told c = ?
+enum-told c = search needs
 
--- src/blocks.rt:37:26
 returns-2 : tie.Need-returns-2 Inv-loop μ-loop
-returns-2 c = ?
+unfolding body
+returns-2 c = laws.loop-bad (leb 90) (inst (c .before .before .before .before .before .before .before .before .before .args .names)) (term (c .before .before .before .before .before .before .before .before .before .args .names)) (length (entries (c .before .before .before .before .before .before .before .before .before .args .kinds .now) (c .before .before .before .before .before .before .before .before .before .args .words .now))) (c .before .before .before .before .before .before .before .before .before .args .kinds .now) (c .before .before .before .before .before .before .before .before .before .args .words .now) _ _ (c .before .before .before .before .before .loop .inv) _ (c .before .before .body-step .ensures) (c .enum-told .given .1)
 
--- src/blocks.rt:38:24
 enum-known-n-2 : tie.Need-enum-known-n-2 Inv-loop μ-loop
-enum-known-n-2 c = ?
+enum-known-n-2 c = search needs
 
--- src/blocks.rt:40:21
 returns-3 : tie.Need-returns-3 Inv-loop μ-loop
-returns-3 c = ?
+unfolding body
+returns-3 c = laws.loop-full (leb 90) (inst (c .before .before .before .before .before .before .before .before .before .before .before .args .names)) (term (c .before .before .before .before .before .before .before .before .before .before .before .args .names)) (length (entries (c .before .before .before .before .before .before .before .before .before .before .before .args .kinds .now) (c .before .before .before .before .before .before .before .before .before .before .before .args .words .now))) (c .before .before .before .before .before .before .before .before .before .before .before .args .kinds .now) (c .before .before .before .before .before .before .before .before .before .before .before .args .words .now) _ _ (c .before .before .before .before .before .before .before .loop .inv) _ (c .before .before .before .before .body-step .ensures) _ (c .before .before .n2 .given .1) (c .if1 .taken)
 
--- src/blocks.rt:42:22
 add-at : tie.Need-add-at Inv-loop μ-loop
-add-at c = ?
+add-at c = omega (arith, laws.loop-next (leb 90) (inst (c .before .before .before .before .before .before .before .before .before .before .before .args .names)) (term (c .before .before .before .before .before .before .before .before .before .before .before .args .names)) (length (entries (c .before .before .before .before .before .before .before .before .before .before .before .args .kinds .now) (c .before .before .before .before .before .before .before .before .before .before .before .args .words .now))) (c .before .before .before .before .before .before .before .before .before .before .before .args .kinds .now) (c .before .before .before .before .before .before .before .before .before .before .before .args .words .now) _ _ (c .before .before .before .before .before .before .before .loop .inv) _ (c .before .before .before .before .body-step .ensures) (agrees-inst _) (agrees-term _) _ (c .before .before .n2 .given .1) (c .if1 .left) .kinds, c .before .before .before .before .before .before .before .before .before .before .before .good)
 
--- src/blocks.rt:43:24
 sub-left : tie.Need-sub-left Inv-loop μ-loop
-sub-left c = ?
+sub-left c = search needs
 
--- src/blocks.rt:34:5
 loop-less : tie.Need-loop-less Inv-loop μ-loop
-loop-less c = ?
+loop-less c = search needs
 
--- src/blocks.rt:34:5
 loop-again : tie.Need-loop-again Inv-loop μ-loop
-loop-again c = ?
+loop-again c = laws.loop-next (leb 90) (inst (c .before .before .before .before .before .before .before .before .before .before .before .args .names)) (term (c .before .before .before .before .before .before .before .before .before .before .before .args .names)) (length (entries (c .before .before .before .before .before .before .before .before .before .before .before .args .kinds .now) (c .before .before .before .before .before .before .before .before .before .before .before .args .words .now))) (c .before .before .before .before .before .before .before .before .before .before .before .args .kinds .now) (c .before .before .before .before .before .before .before .before .before .before .before .args .words .now) _ _ (c .before .before .before .before .before .before .before .loop .inv) _ (c .before .before .before .before .body-step .ensures) (agrees-inst _) (agrees-term _) _ (c .before .before .n2 .given .1) (c .if1 .left)
 
 pub body-len-spec : {M : Type 1} → statement M
 body-len-spec =

@@ -1,53 +1,48 @@
+-- `reader::blocks::body_step` meets its contract: a kind from 90 on is the terminator's, any other an instruction's.
+use mathlib.Core.Path.{_≡_, refl, _∙_, sym, ap}
+use borrow.Author.Tests.{le-leb, lt-leb}
+use lib.Dec.{leb}
+use Rattle.book.specs.Entry.{entries}
+use Rattle.book.specs.Decode.{inst, term}
+use Rattle.reader.specs.InstLaws as insts
 use borrow.Author.Needs.{needs}
 use Rattle.reader.proofs.blocks.body_step.Statement.{statement}
 use Rattle.reader.proofs.blocks.body_step.Tie as tie
-use Rattle.reader.proofs.blocks.body_step.Reads as reads
-use Rattle.reader.proofs.blocks.body_step.Lts as lts
 use Rattle.reader.proofs.first_entry.Reads as first-entry-reads
 use Rattle.reader.proofs.insts.inst_len.Reads as inst-len-reads
 use Rattle.reader.proofs.insts.term_len.Reads as term-len-reads
 use Rattle.reader.proofs.last_step.Reads as last-step-reads
 use Rattle.reader.proofs.next_step.Reads as next-step-reads
 
--- src/blocks.rt:18:33
 first-entry-requires : tie.Need-first-entry-requires
 first-entry-requires c κs = search needs
 
--- src/blocks.rt:18:22
 enum-known-kind : tie.Need-enum-known-kind
 enum-known-kind c = search needs
 
--- src/blocks.rt:19:9
 enum-told : tie.Need-enum-told
 enum-told c = search needs
 
--- src/blocks.rt:19:9
 returns : tie.Need-returns
-returns c = ?
+returns c = insts.step-none (leb 90) (inst (c .before .before .before .before .before .args .names)) (term (c .before .before .before .before .before .args .names)) (entries (c .before .before .before .before .before .args .kinds .now) (c .before .before .before .before .before .args .words .now)) (insts.no-term _) (sym (c .before .before .first-entry .ensures) ∙ c .enum-told .given .1)
 
--- src/blocks.rt:22:19
 term-len-requires : tie.Need-term-len-requires
 term-len-requires c κs = search needs
 
--- src/blocks.rt:22:9
 last-step-requires : tie.Need-last-step-requires
 last-step-requires c κs = search needs
 
--- src/blocks.rt:24:19
 inst-len-requires : tie.Need-inst-len-requires
 inst-len-requires c κs = search needs
 
--- src/blocks.rt:24:9
 next-step-requires : tie.Need-next-step-requires
 next-step-requires c κs = search needs
 
--- src/blocks.rt:15:1
 returns-2 : tie.Need-returns-2
-returns-2 c = ?
+returns-2 c = insts.step-end (leb 90) (inst (c .before .before .before .before .before .before .before .before .before .args .names)) (term (c .before .before .before .before .before .before .before .before .before .args .names)) (entries (c .before .before .before .before .before .before .before .before .before .args .kinds .now) (c .before .before .before .before .before .before .before .before .before .args .words .now)) _ _ (sym (c .before .before .before .before .before .before .first-entry .ensures) ∙ c .before .before .before .before .kind .given .1) (le-leb _ _ (c .before .before .if1 .taken)) _ _ (c .before .term-len .ensures) (c .last-step .ensures)
 
--- src/blocks.rt:15:1
 returns-3 : tie.Need-returns-3
-returns-3 c = ?
+returns-3 c = insts.step-item (leb 90) (inst (c .before .before .before .before .before .before .before .before .before .args .names)) (term (c .before .before .before .before .before .before .before .before .before .args .names)) (entries (c .before .before .before .before .before .before .before .before .before .args .kinds .now) (c .before .before .before .before .before .before .before .before .before .args .words .now)) _ _ (sym (c .before .before .before .before .before .before .first-entry .ensures) ∙ c .before .before .before .before .kind .given .1) (lt-leb _ _ (c .before .before .if1 .left)) _ _ (c .before .inst-len .ensures) (c .next-step .ensures)
 
 pub body-step-spec : {M : Type 1} → statement M
 body-step-spec =

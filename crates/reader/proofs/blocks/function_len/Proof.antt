@@ -1,76 +1,70 @@
+-- `reader::blocks::function_len` meets its contract: the rest is read behind the function's entry.
+use mathlib.Core.Path.{_≡_, refl, _∙_, sym, ap}
+use native.Mathlib.Omega.{arith}
+use Rattle.book.specs.Read.{word, many, both, listOf}
+use Rattle.book.specs.Fields.{Item}
+use Rattle.book.specs.Decode.{name, type, item, basicBlock, function}
+use Rattle.book.specs.AgreeInst.{agrees-name}
+use Rattle.book.specs.AgreeBook.{agrees-signature-and-blocks}
+use Rattle.reader.specs.Items.{wordFront}
+use Rattle.reader.specs.ItemLaws as items
 use borrow.Author.Needs.{needs}
 use Rattle.reader.proofs.blocks.function_len.Statement.{statement}
 use Rattle.reader.proofs.blocks.function_len.Tie as tie
-use Rattle.reader.proofs.blocks.function_len.Reads as reads
-use Rattle.reader.proofs.blocks.function_len.Lts as lts
 use Rattle.reader.proofs.blocks.signature_and_blocks_len.Reads as signature-and-blocks-len-reads
 use Rattle.reader.proofs.first_entry.Reads as first-entry-reads
 use Rattle.reader.proofs.items.word_len.Reads as word-len-reads
 use Rattle.reader.proofs.then_len.Reads as then-len-reads
 
--- src/blocks.rt:115:39
 first-entry-requires : tie.Need-first-entry-requires
 first-entry-requires c κs = search needs
 
--- src/blocks.rt:115:30
 word-len-requires : tie.Need-word-len-requires
 word-len-requires c κs = search needs
 
--- src/blocks.rt:115:25
 enum-known-n : tie.Need-enum-known-n
 enum-known-n c = search needs
 
--- src/blocks.rt:116:9
 enum-told : tie.Need-enum-told
 enum-told c = search needs
 
--- src/blocks.rt:116:9
 returns : tie.Need-returns
-returns c = ?
+unfolding function
+returns c = items.pair-bad (word 5 (name (c .before .before .before .before .before .before .args .names))) (both (type (c .before .before .before .before .before .before .args .names)) (both (many (item (c .before .before .before .before .before .before .args .names) Item.param)) (many (basicBlock (c .before .before .before .before .before .before .args .names))))) (c .before .before .before .before .before .before .args .kinds .now) (c .before .before .before .before .before .before .args .words .now) _ (c .before .before .word-len .ensures ∙ ap (wordFront _ _) (c .before .before .before .first-entry .ensures) ∙ sym (items.word-front 5 _ _)) (λ p. record { name = p .0; retTy = p .1 .0; params = p .1 .1 .0; blocks = p .1 .1 .1 }) (c .enum-told .given .1)
 
--- src/blocks.rt:118:42
 mul-signature-and-blocks-len : tie.Need-mul-signature-and-blocks-len
-mul-signature-and-blocks-len c = ?
+mul-signature-and-blocks-len c = omega (arith, items.pair-kinds (word 5 (name (c .before .before .before .before .before .before .before .args .names))) (both (type (c .before .before .before .before .before .before .before .args .names)) (both (many (item (c .before .before .before .before .before .before .before .args .names) Item.param)) (many (basicBlock (c .before .before .before .before .before .before .before .args .names))))) (c .before .before .before .before .before .before .before .args .kinds .now) (c .before .before .before .before .before .before .before .args .words .now) _ (c .before .before .before .word-len .ensures ∙ ap (wordFront _ _) (c .before .before .before .before .first-entry .ensures) ∙ sym (items.word-front 5 _ _)) _ (c .before .n .given .1) (agrees-name _ 5), c .before .before .before .before .before .before .before .good)
 
--- src/blocks.rt:118:42
 sub-signature-and-blocks-len : tie.Need-sub-signature-and-blocks-len
-sub-signature-and-blocks-len c = ?
+sub-signature-and-blocks-len c = items.pair-kinds (word 5 (name (c .before .before .before .before .before .before .before .args .names))) (both (type (c .before .before .before .before .before .before .before .args .names)) (both (many (item (c .before .before .before .before .before .before .before .args .names) Item.param)) (many (basicBlock (c .before .before .before .before .before .before .before .args .names))))) (c .before .before .before .before .before .before .before .args .kinds .now) (c .before .before .before .before .before .before .before .args .words .now) _ (c .before .before .before .word-len .ensures ∙ ap (wordFront _ _) (c .before .before .before .before .first-entry .ensures) ∙ sym (items.word-front 5 _ _)) _ (c .before .n .given .1) (agrees-name _ 5)
 
--- src/blocks.rt:118:42
 part-signature-and-blocks-len-start : tie.Need-part-signature-and-blocks-len-start
-part-signature-and-blocks-len-start c = ?
+part-signature-and-blocks-len-start c = items.pair-kinds (word 5 (name (c .before .before .before .before .before .before .before .args .names))) (both (type (c .before .before .before .before .before .before .before .args .names)) (both (many (item (c .before .before .before .before .before .before .before .args .names) Item.param)) (many (basicBlock (c .before .before .before .before .before .before .before .args .names))))) (c .before .before .before .before .before .before .before .args .kinds .now) (c .before .before .before .before .before .before .before .args .words .now) _ (c .before .before .before .word-len .ensures ∙ ap (wordFront _ _) (c .before .before .before .before .first-entry .ensures) ∙ sym (items.word-front 5 _ _)) _ (c .before .n .given .1) (agrees-name _ 5)
 
--- src/blocks.rt:118:42
 part-signature-and-blocks-len-end : tie.Need-part-signature-and-blocks-len-end
 part-signature-and-blocks-len-end c = search needs
 
--- src/blocks.rt:118:55
 mul-signature-and-blocks-len-2 : tie.Need-mul-signature-and-blocks-len-2
-mul-signature-and-blocks-len-2 c = ?
+mul-signature-and-blocks-len-2 c = omega (arith, items.pair-words (word 5 (name (c .before .before .before .before .before .before .before .before .args .names))) (both (type (c .before .before .before .before .before .before .before .before .args .names)) (both (many (item (c .before .before .before .before .before .before .before .before .args .names) Item.param)) (many (basicBlock (c .before .before .before .before .before .before .before .before .args .names))))) (c .before .before .before .before .before .before .before .before .args .kinds .now) (c .before .before .before .before .before .before .before .before .args .words .now) _ (c .before .before .before .before .word-len .ensures ∙ ap (wordFront _ _) (c .before .before .before .before .before .first-entry .ensures) ∙ sym (items.word-front 5 _ _)) _ (c .before .before .n .given .1) (agrees-name _ 5), c .before .before .before .before .before .before .before .before .good)
 
--- src/blocks.rt:118:55
 sub-signature-and-blocks-len-2 : tie.Need-sub-signature-and-blocks-len-2
-sub-signature-and-blocks-len-2 c = ?
+sub-signature-and-blocks-len-2 c = items.pair-words (word 5 (name (c .before .before .before .before .before .before .before .before .args .names))) (both (type (c .before .before .before .before .before .before .before .before .args .names)) (both (many (item (c .before .before .before .before .before .before .before .before .args .names) Item.param)) (many (basicBlock (c .before .before .before .before .before .before .before .before .args .names))))) (c .before .before .before .before .before .before .before .before .args .kinds .now) (c .before .before .before .before .before .before .before .before .args .words .now) _ (c .before .before .before .before .word-len .ensures ∙ ap (wordFront _ _) (c .before .before .before .before .before .first-entry .ensures) ∙ sym (items.word-front 5 _ _)) _ (c .before .before .n .given .1) (agrees-name _ 5)
 
--- src/blocks.rt:118:55
 part-signature-and-blocks-len-start-2 : tie.Need-part-signature-and-blocks-len-start-2
-part-signature-and-blocks-len-start-2 c = ?
+part-signature-and-blocks-len-start-2 c = items.pair-words (word 5 (name (c .before .before .before .before .before .before .before .before .args .names))) (both (type (c .before .before .before .before .before .before .before .before .args .names)) (both (many (item (c .before .before .before .before .before .before .before .before .args .names) Item.param)) (many (basicBlock (c .before .before .before .before .before .before .before .before .args .names))))) (c .before .before .before .before .before .before .before .before .args .kinds .now) (c .before .before .before .before .before .before .before .before .args .words .now) _ (c .before .before .before .before .word-len .ensures ∙ ap (wordFront _ _) (c .before .before .before .before .before .first-entry .ensures) ∙ sym (items.word-front 5 _ _)) _ (c .before .before .n .given .1) (agrees-name _ 5)
 
--- src/blocks.rt:118:55
 part-signature-and-blocks-len-end-2 : tie.Need-part-signature-and-blocks-len-end-2
 part-signature-and-blocks-len-end-2 c = search needs
 
--- src/blocks.rt:118:17
 signature-and-blocks-len-requires : tie.Need-signature-and-blocks-len-requires
 signature-and-blocks-len-requires c κs = search needs
 
--- src/blocks.rt:118:5
 then-len-requires : tie.Need-then-len-requires
-then-len-requires c κs = ?
+then-len-requires c κs = items.pair-room (word 5 (name (c .before .before .before .before .before .before .before .before .before .before .args .names))) (both (type (c .before .before .before .before .before .before .before .before .before .before .args .names)) (both (many (item (c .before .before .before .before .before .before .before .before .before .before .args .names) Item.param)) (many (basicBlock (c .before .before .before .before .before .before .before .before .before .before .args .names))))) (c .before .before .before .before .before .before .before .before .before .before .args .kinds .now) (c .before .before .before .before .before .before .before .before .before .before .args .words .now) _ (c .before .before .before .before .before .before .word-len .ensures ∙ ap (wordFront _ _) (c .before .before .before .before .before .before .before .first-entry .ensures) ∙ sym (items.word-front 5 _ _)) _ (c .before .before .before .before .n .given .1) (agrees-name _ 5) (agrees-signature-and-blocks _) (omega arith) _ (c .signature-and-blocks-len .ensures)
 
--- src/blocks.rt:112:1
 returns-2 : tie.Need-returns-2
-returns-2 c = ?
+unfolding function
+returns-2 c = items.pair-arm (word 5 (name (c .before .before .before .before .before .before .before .before .before .before .before .args .names))) (both (type (c .before .before .before .before .before .before .before .before .before .before .before .args .names)) (both (many (item (c .before .before .before .before .before .before .before .before .before .before .before .args .names) Item.param)) (many (basicBlock (c .before .before .before .before .before .before .before .before .before .before .before .args .names))))) (c .before .before .before .before .before .before .before .before .before .before .before .args .kinds .now) (c .before .before .before .before .before .before .before .before .before .before .before .args .words .now) _ (c .before .before .before .before .before .before .before .word-len .ensures ∙ ap (wordFront _ _) (c .before .before .before .before .before .before .before .before .first-entry .ensures) ∙ sym (items.word-front 5 _ _)) _ (c .before .before .before .before .before .n .given .1) (λ p. record { name = p .0; retTy = p .1 .0; params = p .1 .1 .0; blocks = p .1 .1 .1 }) _ _ (c .before .signature-and-blocks-len .ensures) (c .then-len .ensures)
 
 pub function-len-spec : {M : Type 1} → statement M
 function-len-spec =

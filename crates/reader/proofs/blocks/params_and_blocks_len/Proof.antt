@@ -1,76 +1,68 @@
+-- `reader::blocks::params_and_blocks_len` meets its contract: the blocks are read behind the parameters.
+use mathlib.Core.Path.{_≡_, refl, _∙_, sym, ap}
+use native.Mathlib.Omega.{arith}
+use Rattle.book.specs.Read.{word, many, both, listOf}
+use Rattle.book.specs.Fields.{Item}
+use Rattle.book.specs.Decode.{item, basicBlock}
+use Rattle.book.specs.AgreeInst.{agrees-items}
+use Rattle.book.specs.AgreeBook.{agrees-blocks}
+use Rattle.reader.specs.TypeLaws as types
+use Rattle.reader.specs.ItemLaws as items
 use borrow.Author.Needs.{needs}
 use Rattle.reader.proofs.blocks.params_and_blocks_len.Statement.{statement}
 use Rattle.reader.proofs.blocks.params_and_blocks_len.Tie as tie
-use Rattle.reader.proofs.blocks.params_and_blocks_len.Reads as reads
-use Rattle.reader.proofs.blocks.params_and_blocks_len.Lts as lts
 use Rattle.reader.proofs.blocks.blocks_len.Reads as blocks-len-reads
 use Rattle.reader.proofs.items.list_len.Reads as list-len-reads
 use Rattle.reader.proofs.shorter.Reads as shorter-reads
 use Rattle.reader.proofs.then_len.Reads as then-len-reads
 
--- src/blocks.rt:95:73
 shorter-requires : tie.Need-shorter-requires
 shorter-requires c κs = search needs
 
--- src/blocks.rt:95:30
 list-len-requires : tie.Need-list-len-requires
 list-len-requires c κs = search needs
 
--- src/blocks.rt:95:25
 enum-known-n : tie.Need-enum-known-n
 enum-known-n c = search needs
 
--- src/blocks.rt:96:9
 enum-told : tie.Need-enum-told
 enum-told c = search needs
 
--- src/blocks.rt:96:9
 returns : tie.Need-returns
-returns c = ?
+returns c = items.both-bad (many (item (c .before .before .before .before .before .before .args .names) Item.param)) (many (basicBlock (c .before .before .before .before .before .before .args .names))) (c .before .before .before .before .before .before .args .kinds .now) (c .before .before .before .before .before .before .args .words .now) _ (types.listed _ _ _ (c .before .before .list-len .ensures) (c .before .before .before .shorter .ensures)) (c .enum-told .given .1)
 
--- src/blocks.rt:98:28
 mul-blocks-len : tie.Need-mul-blocks-len
-mul-blocks-len c = ?
+mul-blocks-len c = omega (arith, items.pair-kinds (many (item (c .before .before .before .before .before .before .before .args .names) Item.param)) (many (basicBlock (c .before .before .before .before .before .before .before .args .names))) (c .before .before .before .before .before .before .before .args .kinds .now) (c .before .before .before .before .before .before .before .args .words .now) _ (types.listed _ _ _ (c .before .before .before .list-len .ensures) (c .before .before .before .before .shorter .ensures)) _ (c .before .n .given .1) (agrees-items _ Item.param), c .before .before .before .before .before .before .before .good)
 
--- src/blocks.rt:98:28
 sub-blocks-len : tie.Need-sub-blocks-len
-sub-blocks-len c = ?
+sub-blocks-len c = items.pair-kinds (many (item (c .before .before .before .before .before .before .before .args .names) Item.param)) (many (basicBlock (c .before .before .before .before .before .before .before .args .names))) (c .before .before .before .before .before .before .before .args .kinds .now) (c .before .before .before .before .before .before .before .args .words .now) _ (types.listed _ _ _ (c .before .before .before .list-len .ensures) (c .before .before .before .before .shorter .ensures)) _ (c .before .n .given .1) (agrees-items _ Item.param)
 
--- src/blocks.rt:98:28
 part-blocks-len-start : tie.Need-part-blocks-len-start
-part-blocks-len-start c = ?
+part-blocks-len-start c = items.pair-kinds (many (item (c .before .before .before .before .before .before .before .args .names) Item.param)) (many (basicBlock (c .before .before .before .before .before .before .before .args .names))) (c .before .before .before .before .before .before .before .args .kinds .now) (c .before .before .before .before .before .before .before .args .words .now) _ (types.listed _ _ _ (c .before .before .before .list-len .ensures) (c .before .before .before .before .shorter .ensures)) _ (c .before .n .given .1) (agrees-items _ Item.param)
 
--- src/blocks.rt:98:28
 part-blocks-len-end : tie.Need-part-blocks-len-end
 part-blocks-len-end c = search needs
 
--- src/blocks.rt:98:41
 mul-blocks-len-2 : tie.Need-mul-blocks-len-2
-mul-blocks-len-2 c = ?
+mul-blocks-len-2 c = omega (arith, items.pair-words (many (item (c .before .before .before .before .before .before .before .before .args .names) Item.param)) (many (basicBlock (c .before .before .before .before .before .before .before .before .args .names))) (c .before .before .before .before .before .before .before .before .args .kinds .now) (c .before .before .before .before .before .before .before .before .args .words .now) _ (types.listed _ _ _ (c .before .before .before .before .list-len .ensures) (c .before .before .before .before .before .shorter .ensures)) _ (c .before .before .n .given .1) (agrees-items _ Item.param), c .before .before .before .before .before .before .before .before .good)
 
--- src/blocks.rt:98:41
 sub-blocks-len-2 : tie.Need-sub-blocks-len-2
-sub-blocks-len-2 c = ?
+sub-blocks-len-2 c = items.pair-words (many (item (c .before .before .before .before .before .before .before .before .args .names) Item.param)) (many (basicBlock (c .before .before .before .before .before .before .before .before .args .names))) (c .before .before .before .before .before .before .before .before .args .kinds .now) (c .before .before .before .before .before .before .before .before .args .words .now) _ (types.listed _ _ _ (c .before .before .before .before .list-len .ensures) (c .before .before .before .before .before .shorter .ensures)) _ (c .before .before .n .given .1) (agrees-items _ Item.param)
 
--- src/blocks.rt:98:41
 part-blocks-len-start-2 : tie.Need-part-blocks-len-start-2
-part-blocks-len-start-2 c = ?
+part-blocks-len-start-2 c = items.pair-words (many (item (c .before .before .before .before .before .before .before .before .args .names) Item.param)) (many (basicBlock (c .before .before .before .before .before .before .before .before .args .names))) (c .before .before .before .before .before .before .before .before .args .kinds .now) (c .before .before .before .before .before .before .before .before .args .words .now) _ (types.listed _ _ _ (c .before .before .before .before .list-len .ensures) (c .before .before .before .before .before .shorter .ensures)) _ (c .before .before .n .given .1) (agrees-items _ Item.param)
 
--- src/blocks.rt:98:41
 part-blocks-len-end-2 : tie.Need-part-blocks-len-end-2
 part-blocks-len-end-2 c = search needs
 
--- src/blocks.rt:98:17
 blocks-len-requires : tie.Need-blocks-len-requires
 blocks-len-requires c κs = search needs
 
--- src/blocks.rt:98:5
 then-len-requires : tie.Need-then-len-requires
-then-len-requires c κs = ?
+then-len-requires c κs = items.pair-room (many (item (c .before .before .before .before .before .before .before .before .before .before .args .names) Item.param)) (many (basicBlock (c .before .before .before .before .before .before .before .before .before .before .args .names))) (c .before .before .before .before .before .before .before .before .before .before .args .kinds .now) (c .before .before .before .before .before .before .before .before .before .before .args .words .now) _ (types.listed _ _ _ (c .before .before .before .before .before .before .list-len .ensures) (c .before .before .before .before .before .before .before .shorter .ensures)) _ (c .before .before .before .before .n .given .1) (agrees-items _ Item.param) (agrees-blocks _) (omega arith) _ (c .blocks-len .ensures)
 
--- src/blocks.rt:92:1
 returns-2 : tie.Need-returns-2
-returns-2 c = ?
+returns-2 c = items.both-arm (many (item (c .before .before .before .before .before .before .before .before .before .before .before .args .names) Item.param)) (many (basicBlock (c .before .before .before .before .before .before .before .before .before .before .before .args .names))) (c .before .before .before .before .before .before .before .before .before .before .before .args .kinds .now) (c .before .before .before .before .before .before .before .before .before .before .before .args .words .now) _ (types.listed _ _ _ (c .before .before .before .before .before .before .before .list-len .ensures) (c .before .before .before .before .before .before .before .before .shorter .ensures)) _ (c .before .before .before .before .before .n .given .1) _ _ (c .before .blocks-len .ensures) (c .then-len .ensures)
 
 pub params-and-blocks-len-spec : {M : Type 1} → statement M
 params-and-blocks-len-spec =

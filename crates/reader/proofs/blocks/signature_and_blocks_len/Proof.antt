@@ -1,71 +1,63 @@
+-- `reader::blocks::signature_and_blocks_len` meets its contract: parameters and blocks are read behind the type.
+use mathlib.Core.Path.{_≡_, refl, _∙_, sym, ap}
+use native.Mathlib.Omega.{arith}
+use Rattle.book.specs.Read.{word, many, both, listOf}
+use Rattle.book.specs.Fields.{Item}
+use Rattle.book.specs.Decode.{type, item, basicBlock}
+use Rattle.book.specs.AgreeTy.{agrees-type}
+use Rattle.book.specs.AgreeBook.{agrees-params-and-blocks}
+use Rattle.reader.specs.ItemLaws as items
 use borrow.Author.Needs.{needs}
 use Rattle.reader.proofs.blocks.signature_and_blocks_len.Statement.{statement}
 use Rattle.reader.proofs.blocks.signature_and_blocks_len.Tie as tie
-use Rattle.reader.proofs.blocks.signature_and_blocks_len.Reads as reads
-use Rattle.reader.proofs.blocks.signature_and_blocks_len.Lts as lts
 use Rattle.reader.proofs.blocks.params_and_blocks_len.Reads as params-and-blocks-len-reads
 use Rattle.reader.proofs.then_len.Reads as then-len-reads
 use Rattle.reader.proofs.types.type_len.Reads as type-len-reads
 
--- src/blocks.rt:105:30
 type-len-requires : tie.Need-type-len-requires
 type-len-requires c κs = search needs
 
--- src/blocks.rt:105:25
 enum-known-n : tie.Need-enum-known-n
 enum-known-n c = search needs
 
--- src/blocks.rt:106:9
 enum-told : tie.Need-enum-told
 enum-told c = search needs
 
--- src/blocks.rt:106:9
 returns : tie.Need-returns
-returns c = ?
+returns c = items.both-bad (type (c .before .before .before .before .before .args .names)) (both (many (item (c .before .before .before .before .before .args .names) Item.param)) (many (basicBlock (c .before .before .before .before .before .args .names)))) (c .before .before .before .before .before .args .kinds .now) (c .before .before .before .before .before .args .words .now) _ (c .before .before .type-len .ensures) (c .enum-told .given .1)
 
--- src/blocks.rt:108:39
 mul-params-and-blocks-len : tie.Need-mul-params-and-blocks-len
-mul-params-and-blocks-len c = ?
+mul-params-and-blocks-len c = omega (arith, items.pair-kinds (type (c .before .before .before .before .before .before .args .names)) (both (many (item (c .before .before .before .before .before .before .args .names) Item.param)) (many (basicBlock (c .before .before .before .before .before .before .args .names)))) (c .before .before .before .before .before .before .args .kinds .now) (c .before .before .before .before .before .before .args .words .now) _ (c .before .before .before .type-len .ensures) _ (c .before .n .given .1) (agrees-type _), c .before .before .before .before .before .before .good)
 
--- src/blocks.rt:108:39
 sub-params-and-blocks-len : tie.Need-sub-params-and-blocks-len
-sub-params-and-blocks-len c = ?
+sub-params-and-blocks-len c = items.pair-kinds (type (c .before .before .before .before .before .before .args .names)) (both (many (item (c .before .before .before .before .before .before .args .names) Item.param)) (many (basicBlock (c .before .before .before .before .before .before .args .names)))) (c .before .before .before .before .before .before .args .kinds .now) (c .before .before .before .before .before .before .args .words .now) _ (c .before .before .before .type-len .ensures) _ (c .before .n .given .1) (agrees-type _)
 
--- src/blocks.rt:108:39
 part-params-and-blocks-len-start : tie.Need-part-params-and-blocks-len-start
-part-params-and-blocks-len-start c = ?
+part-params-and-blocks-len-start c = items.pair-kinds (type (c .before .before .before .before .before .before .args .names)) (both (many (item (c .before .before .before .before .before .before .args .names) Item.param)) (many (basicBlock (c .before .before .before .before .before .before .args .names)))) (c .before .before .before .before .before .before .args .kinds .now) (c .before .before .before .before .before .before .args .words .now) _ (c .before .before .before .type-len .ensures) _ (c .before .n .given .1) (agrees-type _)
 
--- src/blocks.rt:108:39
 part-params-and-blocks-len-end : tie.Need-part-params-and-blocks-len-end
 part-params-and-blocks-len-end c = search needs
 
--- src/blocks.rt:108:52
 mul-params-and-blocks-len-2 : tie.Need-mul-params-and-blocks-len-2
-mul-params-and-blocks-len-2 c = ?
+mul-params-and-blocks-len-2 c = omega (arith, items.pair-words (type (c .before .before .before .before .before .before .before .args .names)) (both (many (item (c .before .before .before .before .before .before .before .args .names) Item.param)) (many (basicBlock (c .before .before .before .before .before .before .before .args .names)))) (c .before .before .before .before .before .before .before .args .kinds .now) (c .before .before .before .before .before .before .before .args .words .now) _ (c .before .before .before .before .type-len .ensures) _ (c .before .before .n .given .1) (agrees-type _), c .before .before .before .before .before .before .before .good)
 
--- src/blocks.rt:108:52
 sub-params-and-blocks-len-2 : tie.Need-sub-params-and-blocks-len-2
-sub-params-and-blocks-len-2 c = ?
+sub-params-and-blocks-len-2 c = items.pair-words (type (c .before .before .before .before .before .before .before .args .names)) (both (many (item (c .before .before .before .before .before .before .before .args .names) Item.param)) (many (basicBlock (c .before .before .before .before .before .before .before .args .names)))) (c .before .before .before .before .before .before .before .args .kinds .now) (c .before .before .before .before .before .before .before .args .words .now) _ (c .before .before .before .before .type-len .ensures) _ (c .before .before .n .given .1) (agrees-type _)
 
--- src/blocks.rt:108:52
 part-params-and-blocks-len-start-2 : tie.Need-part-params-and-blocks-len-start-2
-part-params-and-blocks-len-start-2 c = ?
+part-params-and-blocks-len-start-2 c = items.pair-words (type (c .before .before .before .before .before .before .before .args .names)) (both (many (item (c .before .before .before .before .before .before .before .args .names) Item.param)) (many (basicBlock (c .before .before .before .before .before .before .before .args .names)))) (c .before .before .before .before .before .before .before .args .kinds .now) (c .before .before .before .before .before .before .before .args .words .now) _ (c .before .before .before .before .type-len .ensures) _ (c .before .before .n .given .1) (agrees-type _)
 
--- src/blocks.rt:108:52
 part-params-and-blocks-len-end-2 : tie.Need-part-params-and-blocks-len-end-2
 part-params-and-blocks-len-end-2 c = search needs
 
--- src/blocks.rt:108:17
 params-and-blocks-len-requires : tie.Need-params-and-blocks-len-requires
 params-and-blocks-len-requires c κs = search needs
 
--- src/blocks.rt:108:5
 then-len-requires : tie.Need-then-len-requires
-then-len-requires c κs = ?
+then-len-requires c κs = items.pair-room (type (c .before .before .before .before .before .before .before .before .before .args .names)) (both (many (item (c .before .before .before .before .before .before .before .before .before .args .names) Item.param)) (many (basicBlock (c .before .before .before .before .before .before .before .before .before .args .names)))) (c .before .before .before .before .before .before .before .before .before .args .kinds .now) (c .before .before .before .before .before .before .before .before .before .args .words .now) _ (c .before .before .before .before .before .before .type-len .ensures) _ (c .before .before .before .before .n .given .1) (agrees-type _) (agrees-params-and-blocks _) (omega arith) _ (c .params-and-blocks-len .ensures)
 
--- src/blocks.rt:102:1
 returns-2 : tie.Need-returns-2
-returns-2 c = ?
+returns-2 c = items.both-arm (type (c .before .before .before .before .before .before .before .before .before .before .args .names)) (both (many (item (c .before .before .before .before .before .before .before .before .before .before .args .names) Item.param)) (many (basicBlock (c .before .before .before .before .before .before .before .before .before .before .args .names)))) (c .before .before .before .before .before .before .before .before .before .before .args .kinds .now) (c .before .before .before .before .before .before .before .before .before .before .args .words .now) _ (c .before .before .before .before .before .before .before .type-len .ensures) _ (c .before .before .before .before .before .n .given .1) _ _ (c .before .params-and-blocks-len .ensures) (c .then-len .ensures)
 
 pub signature-and-blocks-len-spec : {M : Type 1} → statement M
 signature-and-blocks-len-spec =

@@ -1,72 +1,69 @@
+-- `reader::insts::field_len` meets its contract: each arm reads what its field holds.
+use mathlib.Core.Path.{_≡_, refl, _∙_, sym, ap}
+use Rattle.book.specs.Entry.{entries}
+use Rattle.book.specs.Read.{listOf, many}
+use Rattle.book.specs.Fields.{Field as BookField}
+use Rattle.book.specs.Decode.{item, field, fields}
+use Rattle.reader.specs.Length.{lenOf}
+use Rattle.reader.specs.Items.{itemOf}
+use Rattle.reader.specs.Insts.{fieldIn}
+use Rattle.reader.specs.InstLaws as insts
 use borrow.Author.Needs.{needs}
 use Rattle.reader.proofs.insts.field_len.Statement.{statement}
 use Rattle.reader.proofs.insts.field_len.Tie as tie
-use Rattle.reader.proofs.insts.field_len.Reads as reads
-use Rattle.reader.proofs.insts.field_len.Lts as lts
 use Rattle.reader.proofs.items.item_len.Reads as item-len-reads
 use Rattle.reader.proofs.items.list_len.Reads as list-len-reads
 use Rattle.reader.proofs.items.optional_len.Reads as optional-len-reads
 use Rattle.reader.proofs.shorter.Reads as shorter-reads
 
--- src/insts.rt:172:27
 enum-told : tie.Need-enum-told
 enum-told c = search needs
 
--- src/insts.rt:173:22
 enum-known-field : tie.Need-enum-known-field
 enum-known-field c = search needs
 
--- src/insts.rt:173:31
 item-len-requires : tie.Need-item-len-requires
 item-len-requires c κs = search needs
 
--- src/insts.rt:174:25
 enum-known-field-2 : tie.Need-enum-known-field-2
 enum-known-field-2 c = search needs
 
--- src/insts.rt:174:34
 optional-len-requires : tie.Need-optional-len-requires
 optional-len-requires c κs = search needs
 
--- src/insts.rt:175:21
 enum-known-field-3 : tie.Need-enum-known-field-3
 enum-known-field-3 c = search needs
 
--- src/insts.rt:175:66
 shorter-requires : tie.Need-shorter-requires
 shorter-requires c κs = search needs
 
--- src/insts.rt:175:30
 list-len-requires : tie.Need-list-len-requires
 list-len-requires c κs = search needs
 
--- src/insts.rt:176:21
 enum-known-field-4 : tie.Need-enum-known-field-4
 enum-known-field-4 c = search needs
 
--- src/insts.rt:176:36
 list-len-requires-2 : tie.Need-list-len-requires-2
 list-len-requires-2 c κs = search needs
 
--- src/insts.rt:168:1
 returns : tie.Need-returns
-returns c = ?
+returns c = insts.no-field _ _ ∙ ap (λ f. lenOf (fields (c .before .before .before .before .args .names) (fieldIn f) (entries (c .before .before .before .before .args .kinds .now) (c .before .before .before .before .args .words .now)))) (sym (c .enum-told .given .1))
 
--- src/insts.rt:168:1
 returns-2 : tie.Need-returns-2
-returns-2 c = ?
+unfolding field
+returns-2 c = c .item-len .ensures ∙ insts.field-alone _ (BookField.plain _) _ ∙ ap (λ f. lenOf (fields (c .before .before .before .before .before .before .args .names) (fieldIn f) (entries (c .before .before .before .before .before .before .args .kinds .now) (c .before .before .before .before .before .before .args .words .now)))) (sym (c .before .before .field .given .1))
 
--- src/insts.rt:168:1
 returns-3 : tie.Need-returns-3
-returns-3 c = ?
+unfolding field
+returns-3 c = c .optional-len .ensures ∙ insts.field-alone _ (BookField.optional _) _ ∙ ap (λ f. lenOf (fields (c .before .before .before .before .before .before .args .names) (fieldIn f) (entries (c .before .before .before .before .before .before .args .kinds .now) (c .before .before .before .before .before .before .args .words .now)))) (sym (c .before .before .field2 .given .1))
 
--- src/insts.rt:168:1
 returns-4 : tie.Need-returns-4
-returns-4 c = ?
+unfolding field many
+returns-4 c = c .list-len .ensures ∙ ap (λ n. lenOf (listOf n (item (c .before .before .before .before .before .before .before .args .names) (itemOf (c .before .before .before .field3 .given .0 .0))) (entries (c .before .before .before .before .before .before .before .args .kinds .now) (c .before .before .before .before .before .before .before .args .words .now)))) (c .before .shorter .ensures) ∙ insts.field-alone _ (BookField.list _) _ ∙ ap (λ f. lenOf (fields (c .before .before .before .before .before .before .before .args .names) (fieldIn f) (entries (c .before .before .before .before .before .before .before .args .kinds .now) (c .before .before .before .before .before .before .before .args .words .now)))) (sym (c .before .before .before .field3 .given .1))
 
--- src/insts.rt:168:1
 returns-5 : tie.Need-returns-5
-returns-5 c = ?
+unfolding field
+returns-5 c = c .list-len2 .ensures ∙ insts.field-alone _ (BookField.upTo _ _) _ ∙ ap (λ f. lenOf (fields (c .before .before .before .before .before .before .args .names) (fieldIn f) (entries (c .before .before .before .before .before .before .args .kinds .now) (c .before .before .before .before .before .before .args .words .now)))) (sym (c .before .before .field4 .given .1))
 
 pub field-len-spec : {M : Type 1} → statement M
 field-len-spec =

@@ -1,70 +1,61 @@
+-- `reader::insts::fields_len` meets its contract: two fields are read behind the first two.
+use mathlib.Core.Path.{_≡_, refl, _∙_, sym, ap}
+use native.Mathlib.Omega.{arith}
+use Rattle.book.specs.Decode.{fields}
+use Rattle.book.specs.AgreeInst.{agrees-fields}
+use Rattle.reader.specs.Insts.{twoFields}
+use Rattle.reader.specs.ItemLaws as items
+use Rattle.reader.specs.InstLaws as insts
 use borrow.Author.Needs.{needs}
 use Rattle.reader.proofs.insts.fields_len.Statement.{statement}
 use Rattle.reader.proofs.insts.fields_len.Tie as tie
-use Rattle.reader.proofs.insts.fields_len.Reads as reads
-use Rattle.reader.proofs.insts.fields_len.Lts as lts
 use Rattle.reader.proofs.insts.two_len.Reads as two-len-reads
 use Rattle.reader.proofs.then_len.Reads as then-len-reads
 
--- src/insts.rt:198:30
 two-len-requires : tie.Need-two-len-requires
 two-len-requires c κs = search needs
 
--- src/insts.rt:198:25
 enum-known-n : tie.Need-enum-known-n
 enum-known-n c = search needs
 
--- src/insts.rt:199:9
 enum-told : tie.Need-enum-told
 enum-told c = search needs
 
--- src/insts.rt:199:9
 returns : tie.Need-returns
-returns c = ?
+returns c = items.both-bad (fields (c .before .before .before .before .before .args .names) (twoFields (c .before .before .before .before .before .args .fields .a) (c .before .before .before .before .before .args .fields .b))) (fields (c .before .before .before .before .before .args .names) (twoFields (c .before .before .before .before .before .args .fields .c) (c .before .before .before .before .before .args .fields .d))) (c .before .before .before .before .before .args .kinds .now) (c .before .before .before .before .before .args .words .now) _ (c .before .before .two-len .ensures) (c .enum-told .given .1) ∙ sym (insts.fields-append _ (twoFields (c .before .before .before .before .before .args .fields .a) (c .before .before .before .before .before .args .fields .b)) (twoFields (c .before .before .before .before .before .args .fields .c) (c .before .before .before .before .before .args .fields .d)) _)
 
--- src/insts.rt:201:25
 mul-two-len : tie.Need-mul-two-len
-mul-two-len c = ?
+mul-two-len c = omega (arith, items.pair-kinds (fields (c .before .before .before .before .before .before .args .names) (twoFields (c .before .before .before .before .before .before .args .fields .a) (c .before .before .before .before .before .before .args .fields .b))) (fields (c .before .before .before .before .before .before .args .names) (twoFields (c .before .before .before .before .before .before .args .fields .c) (c .before .before .before .before .before .before .args .fields .d))) (c .before .before .before .before .before .before .args .kinds .now) (c .before .before .before .before .before .before .args .words .now) _ (c .before .before .before .two-len .ensures) _ (c .before .n .given .1) (agrees-fields _ (twoFields (c .before .before .before .before .before .before .args .fields .a) (c .before .before .before .before .before .before .args .fields .b))), c .before .before .before .before .before .before .good)
 
--- src/insts.rt:201:25
 sub-two-len : tie.Need-sub-two-len
-sub-two-len c = ?
+sub-two-len c = items.pair-kinds (fields (c .before .before .before .before .before .before .args .names) (twoFields (c .before .before .before .before .before .before .args .fields .a) (c .before .before .before .before .before .before .args .fields .b))) (fields (c .before .before .before .before .before .before .args .names) (twoFields (c .before .before .before .before .before .before .args .fields .c) (c .before .before .before .before .before .before .args .fields .d))) (c .before .before .before .before .before .before .args .kinds .now) (c .before .before .before .before .before .before .args .words .now) _ (c .before .before .before .two-len .ensures) _ (c .before .n .given .1) (agrees-fields _ (twoFields (c .before .before .before .before .before .before .args .fields .a) (c .before .before .before .before .before .before .args .fields .b)))
 
--- src/insts.rt:201:25
 part-two-len-start : tie.Need-part-two-len-start
-part-two-len-start c = ?
+part-two-len-start c = items.pair-kinds (fields (c .before .before .before .before .before .before .args .names) (twoFields (c .before .before .before .before .before .before .args .fields .a) (c .before .before .before .before .before .before .args .fields .b))) (fields (c .before .before .before .before .before .before .args .names) (twoFields (c .before .before .before .before .before .before .args .fields .c) (c .before .before .before .before .before .before .args .fields .d))) (c .before .before .before .before .before .before .args .kinds .now) (c .before .before .before .before .before .before .args .words .now) _ (c .before .before .before .two-len .ensures) _ (c .before .n .given .1) (agrees-fields _ (twoFields (c .before .before .before .before .before .before .args .fields .a) (c .before .before .before .before .before .before .args .fields .b)))
 
--- src/insts.rt:201:25
 part-two-len-end : tie.Need-part-two-len-end
 part-two-len-end c = search needs
 
--- src/insts.rt:201:38
 mul-two-len-2 : tie.Need-mul-two-len-2
-mul-two-len-2 c = ?
+mul-two-len-2 c = omega (arith, items.pair-words (fields (c .before .before .before .before .before .before .before .args .names) (twoFields (c .before .before .before .before .before .before .before .args .fields .a) (c .before .before .before .before .before .before .before .args .fields .b))) (fields (c .before .before .before .before .before .before .before .args .names) (twoFields (c .before .before .before .before .before .before .before .args .fields .c) (c .before .before .before .before .before .before .before .args .fields .d))) (c .before .before .before .before .before .before .before .args .kinds .now) (c .before .before .before .before .before .before .before .args .words .now) _ (c .before .before .before .before .two-len .ensures) _ (c .before .before .n .given .1) (agrees-fields _ (twoFields (c .before .before .before .before .before .before .before .args .fields .a) (c .before .before .before .before .before .before .before .args .fields .b))), c .before .before .before .before .before .before .before .good)
 
--- src/insts.rt:201:38
 sub-two-len-2 : tie.Need-sub-two-len-2
-sub-two-len-2 c = ?
+sub-two-len-2 c = items.pair-words (fields (c .before .before .before .before .before .before .before .args .names) (twoFields (c .before .before .before .before .before .before .before .args .fields .a) (c .before .before .before .before .before .before .before .args .fields .b))) (fields (c .before .before .before .before .before .before .before .args .names) (twoFields (c .before .before .before .before .before .before .before .args .fields .c) (c .before .before .before .before .before .before .before .args .fields .d))) (c .before .before .before .before .before .before .before .args .kinds .now) (c .before .before .before .before .before .before .before .args .words .now) _ (c .before .before .before .before .two-len .ensures) _ (c .before .before .n .given .1) (agrees-fields _ (twoFields (c .before .before .before .before .before .before .before .args .fields .a) (c .before .before .before .before .before .before .before .args .fields .b)))
 
--- src/insts.rt:201:38
 part-two-len-start-2 : tie.Need-part-two-len-start-2
-part-two-len-start-2 c = ?
+part-two-len-start-2 c = items.pair-words (fields (c .before .before .before .before .before .before .before .args .names) (twoFields (c .before .before .before .before .before .before .before .args .fields .a) (c .before .before .before .before .before .before .before .args .fields .b))) (fields (c .before .before .before .before .before .before .before .args .names) (twoFields (c .before .before .before .before .before .before .before .args .fields .c) (c .before .before .before .before .before .before .before .args .fields .d))) (c .before .before .before .before .before .before .before .args .kinds .now) (c .before .before .before .before .before .before .before .args .words .now) _ (c .before .before .before .before .two-len .ensures) _ (c .before .before .n .given .1) (agrees-fields _ (twoFields (c .before .before .before .before .before .before .before .args .fields .a) (c .before .before .before .before .before .before .before .args .fields .b)))
 
--- src/insts.rt:201:38
 part-two-len-end-2 : tie.Need-part-two-len-end-2
 part-two-len-end-2 c = search needs
 
--- src/insts.rt:201:17
 two-len-requires-2 : tie.Need-two-len-requires-2
 two-len-requires-2 c κs = search needs
 
--- src/insts.rt:201:5
 then-len-requires : tie.Need-then-len-requires
-then-len-requires c κs = ?
+then-len-requires c κs = items.pair-room (fields (c .before .before .before .before .before .before .before .before .before .args .names) (twoFields (c .before .before .before .before .before .before .before .before .before .args .fields .a) (c .before .before .before .before .before .before .before .before .before .args .fields .b))) (fields (c .before .before .before .before .before .before .before .before .before .args .names) (twoFields (c .before .before .before .before .before .before .before .before .before .args .fields .c) (c .before .before .before .before .before .before .before .before .before .args .fields .d))) (c .before .before .before .before .before .before .before .before .before .args .kinds .now) (c .before .before .before .before .before .before .before .before .before .args .words .now) _ (c .before .before .before .before .before .before .two-len .ensures) _ (c .before .before .before .before .n .given .1) (agrees-fields _ (twoFields (c .before .before .before .before .before .before .before .before .before .args .fields .a) (c .before .before .before .before .before .before .before .before .before .args .fields .b))) (agrees-fields _ (twoFields (c .before .before .before .before .before .before .before .before .before .args .fields .c) (c .before .before .before .before .before .before .before .before .before .args .fields .d))) (omega arith) _ (c .two-len2 .ensures)
 
--- src/insts.rt:191:1
 returns-2 : tie.Need-returns-2
-returns-2 c = ?
+returns-2 c = items.both-arm (fields (c .before .before .before .before .before .before .before .before .before .before .args .names) (twoFields (c .before .before .before .before .before .before .before .before .before .before .args .fields .a) (c .before .before .before .before .before .before .before .before .before .before .args .fields .b))) (fields (c .before .before .before .before .before .before .before .before .before .before .args .names) (twoFields (c .before .before .before .before .before .before .before .before .before .before .args .fields .c) (c .before .before .before .before .before .before .before .before .before .before .args .fields .d))) (c .before .before .before .before .before .before .before .before .before .before .args .kinds .now) (c .before .before .before .before .before .before .before .before .before .before .args .words .now) _ (c .before .before .before .before .before .before .before .two-len .ensures) _ (c .before .before .before .before .before .n .given .1) _ _ (c .before .two-len2 .ensures) (c .then-len .ensures) ∙ sym (insts.fields-append _ (twoFields (c .before .before .before .before .before .before .before .before .before .before .args .fields .a) (c .before .before .before .before .before .before .before .before .before .before .args .fields .b)) (twoFields (c .before .before .before .before .before .before .before .before .before .before .args .fields .c) (c .before .before .before .before .before .before .before .before .before .before .args .fields .d)) _)
 
 pub fields-len-spec : {M : Type 1} → statement M
 fields-len-spec =

@@ -1,89 +1,84 @@
+-- `reader::insts::inst_len` meets its contract: the kind says which fields are read behind the entry.
+use mathlib.Core.Path.{_≡_, refl, _∙_, sym, ap}
+use native.Mathlib.Omega.{arith}
+use Rattle.book.specs.Entry.{entries}
+use Rattle.book.specs.Kinds.{instTag}
+use Rattle.book.specs.Fields.{instFields, instOf}
+use Rattle.book.specs.Decode.{inst, maybeName}
+use Rattle.book.specs.AgreeInst.{agrees-fields}
+use Rattle.reader.specs.Insts.{instShape, allFields}
+use Rattle.reader.specs.Laws as laws
+use Rattle.reader.specs.TypeLaws as types
+use Rattle.reader.specs.InstLaws as insts
 use borrow.Author.Needs.{needs}
 use Rattle.reader.proofs.insts.inst_len.Statement.{statement}
 use Rattle.reader.proofs.insts.inst_len.Tie as tie
-use Rattle.reader.proofs.insts.inst_len.Reads as reads
-use Rattle.reader.proofs.insts.inst_len.Lts as lts
 use Rattle.reader.proofs.first_entry.Reads as first-entry-reads
 use Rattle.reader.proofs.insts.fields_len.Reads as fields-len-reads
 use Rattle.reader.proofs.insts.inst_fields.Reads as inst-fields-reads
 use Rattle.reader.proofs.insts.inst_group.Reads as inst-group-reads
 use Rattle.reader.proofs.then_len.Reads as then-len-reads
 
--- src/insts.rt:208:36
 first-entry-requires : tie.Need-first-entry-requires
 first-entry-requires c κs = search needs
 
--- src/insts.rt:208:22
 enum-known-kind : tie.Need-enum-known-kind
 enum-known-kind c = search needs
 
--- src/insts.rt:209:9
 enum-told : tie.Need-enum-told
 enum-told c = search needs
 
--- src/insts.rt:209:9
 returns : tie.Need-returns
-returns c = ?
+unfolding inst
+returns c = insts.node-none (c .before .before .before .before .before .args .names) instFields instTag (maybeName (c .before .before .before .before .before .args .names)) (λ x. record { dest = x .0; kind = instOf (x .1 .0) (x .1 .1) }) (entries (c .before .before .before .before .before .args .kinds .now) (c .before .before .before .before .before .args .words .now)) (sym (c .before .before .first-entry .ensures) ∙ c .enum-told .given .1)
 
--- src/insts.rt:212:9
 returns-2 : tie.Need-returns-2
-returns-2 c = ?
+unfolding inst
+returns-2 c = insts.node-rule (c .before .before .before .before .before .before .before .args .names) instFields instTag (maybeName (c .before .before .before .before .before .before .before .args .names)) (λ x. record { dest = x .0; kind = instOf (x .1 .0) (x .1 .1) }) (entries (c .before .before .before .before .before .before .before .args .kinds .now) (c .before .before .before .before .before .before .before .args .words .now)) _ _ (sym (c .before .before .before .before .first-entry .ensures) ∙ c .before .before .kind .given .1) (insts.maybe-none _ _ (c .if1 .taken))
 
--- src/insts.rt:214:44
 inst-group-requires : tie.Need-inst-group-requires
 inst-group-requires c κs = search needs
 
--- src/insts.rt:214:32
 inst-fields-requires : tie.Need-inst-fields-requires
 inst-fields-requires c κs = search needs
 
--- src/insts.rt:214:22
 enum-known-fields : tie.Need-enum-known-fields
 enum-known-fields c = search needs
 
--- src/insts.rt:215:9
 enum-told-2 : tie.Need-enum-told-2
 enum-told-2 c = search needs
 
--- src/insts.rt:215:9
 returns-3 : tie.Need-returns-3
-returns-3 c = ?
+unfolding inst
+returns-3 c = insts.shape-none (c .before .before .before .before .before .before .before .before .before .before .before .args .names) instFields instTag (maybeName (c .before .before .before .before .before .before .before .before .before .before .before .args .names)) (λ x. record { dest = x .0; kind = instOf (x .1 .0) (x .1 .1) }) (c .before .before .before .before .before .before .before .before .before .before .before .args .kinds .now) (c .before .before .before .before .before .before .before .before .before .before .before .args .words .now) _ _ (sym (c .before .before .before .before .before .before .before .before .first-entry .ensures) ∙ c .before .before .before .before .before .before .kind .given .1) _ (c .before .before .inst-fields .ensures ∙ ap instShape (c .before .before .before .inst-group .ensures) ∙ insts.inst-shape (instTag (c .before .before .before .before .before .before .kind .given .0 .0))) (c .enum-told2 .given .1)
 
--- src/insts.rt:217:28
 sub-fields-len : tie.Need-sub-fields-len
-sub-fields-len c = ?
+sub-fields-len c = laws.within-kinds 1 _ _ (insts.front-there (entries (c .before .before .before .before .before .before .before .before .before .before .before .before .args .kinds .now) (c .before .before .before .before .before .before .before .before .before .before .before .before .args .words .now)) _ _ (sym (c .before .before .before .before .before .before .before .before .before .first-entry .ensures) ∙ c .before .before .before .before .before .before .before .kind .given .1))
 
--- src/insts.rt:217:28
 part-fields-len-start : tie.Need-part-fields-len-start
-part-fields-len-start c = ?
+part-fields-len-start c = laws.within-kinds 1 _ _ (insts.front-there (entries (c .before .before .before .before .before .before .before .before .before .before .before .before .args .kinds .now) (c .before .before .before .before .before .before .before .before .before .before .before .before .args .words .now)) _ _ (sym (c .before .before .before .before .before .before .before .before .before .first-entry .ensures) ∙ c .before .before .before .before .before .before .before .kind .given .1))
 
--- src/insts.rt:217:28
 part-fields-len-end : tie.Need-part-fields-len-end
 part-fields-len-end c = search needs
 
--- src/insts.rt:217:41
 sub-fields-len-2 : tie.Need-sub-fields-len-2
-sub-fields-len-2 c = ?
+sub-fields-len-2 c = laws.within-words 1 _ _ (insts.front-there (entries (c .before .before .before .before .before .before .before .before .before .before .before .before .before .args .kinds .now) (c .before .before .before .before .before .before .before .before .before .before .before .before .before .args .words .now)) _ _ (sym (c .before .before .before .before .before .before .before .before .before .before .first-entry .ensures) ∙ c .before .before .before .before .before .before .before .before .kind .given .1))
 
--- src/insts.rt:217:41
 part-fields-len-start-2 : tie.Need-part-fields-len-start-2
-part-fields-len-start-2 c = ?
+part-fields-len-start-2 c = laws.within-words 1 _ _ (insts.front-there (entries (c .before .before .before .before .before .before .before .before .before .before .before .before .before .args .kinds .now) (c .before .before .before .before .before .before .before .before .before .before .before .before .before .args .words .now)) _ _ (sym (c .before .before .before .before .before .before .before .before .before .before .first-entry .ensures) ∙ c .before .before .before .before .before .before .before .before .kind .given .1))
 
--- src/insts.rt:217:41
 part-fields-len-end-2 : tie.Need-part-fields-len-end-2
 part-fields-len-end-2 c = search needs
 
--- src/insts.rt:217:17
 fields-len-requires : tie.Need-fields-len-requires
 fields-len-requires c κs = search needs
 
--- src/insts.rt:217:5
 then-len-requires : tie.Need-then-len-requires
-then-len-requires c κs = ?
+then-len-requires c κs = types.behind-room (agrees-fields (c .before .before .before .before .before .before .before .before .before .before .before .before .before .before .before .args .names) (allFields (c .before .before .before .before .fields .given .0 .0))) (c .before .before .before .before .before .before .before .before .before .before .before .before .before .before .before .args .kinds .now) (c .before .before .before .before .before .before .before .before .before .before .before .before .before .before .before .args .words .now) _ (omega arith) (laws.within-kinds 1 _ _ (insts.front-there (entries (c .before .before .before .before .before .before .before .before .before .before .before .before .before .before .before .args .kinds .now) (c .before .before .before .before .before .before .before .before .before .before .before .before .before .before .before .args .words .now)) _ _ (sym (c .before .before .before .before .before .before .before .before .before .before .before .before .first-entry .ensures) ∙ c .before .before .before .before .before .before .before .before .before .before .kind .given .1))) (c .fields-len .ensures)
 
--- src/insts.rt:205:1
 returns-4 : tie.Need-returns-4
-returns-4 c = ?
+unfolding inst
+returns-4 c = insts.shape-some (c .before .before .before .before .before .before .before .before .before .before .before .before .before .before .before .before .args .names) instFields instTag (maybeName (c .before .before .before .before .before .before .before .before .before .before .before .before .before .before .before .before .args .names)) (λ x. record { dest = x .0; kind = instOf (x .1 .0) (x .1 .1) }) (c .before .before .before .before .before .before .before .before .before .before .before .before .before .before .before .before .args .kinds .now) (c .before .before .before .before .before .before .before .before .before .before .before .before .before .before .before .before .args .words .now) _ _ (sym (c .before .before .before .before .before .before .before .before .before .before .before .before .before .first-entry .ensures) ∙ c .before .before .before .before .before .before .before .before .before .before .before .kind .given .1) _ (c .before .before .before .before .before .before .before .inst-fields .ensures ∙ ap instShape (c .before .before .before .before .before .before .before .before .inst-group .ensures) ∙ insts.inst-shape (instTag (c .before .before .before .before .before .before .before .before .before .before .before .kind .given .0 .0))) _ (insts.maybe-some _ _ (c .before .before .before .before .before .before .before .before .before .if1 .left) .1) _ (c .before .before .before .before .before .fields .given .1) _ _ (c .before .fields-len .ensures) (c .then-len .ensures)
 
 pub inst-len-spec : {M : Type 1} → statement M
 inst-len-spec =

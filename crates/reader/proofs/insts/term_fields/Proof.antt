@@ -1,65 +1,52 @@
+-- `reader::insts::term_fields` meets its contract: each row is the table's.
+use mathlib.Core.Path.{_≡_, refl, _∙_, sym, ap}
+use Rattle.reader.specs.Insts.{termShape}
 use borrow.Author.Needs.{needs}
 use Rattle.reader.proofs.insts.term_fields.Statement.{statement}
 use Rattle.reader.proofs.insts.term_fields.Tie as tie
-use Rattle.reader.proofs.insts.term_fields.Reads as reads
-use Rattle.reader.proofs.insts.term_fields.Lts as lts
 use Rattle.reader.proofs.insts.four.Reads as four-reads
 
--- src/insts.rt:159:48
 enum-told : tie.Need-enum-told
 enum-told c = search needs
 
--- src/insts.rt:159:27
 four-requires : tie.Need-four-requires
 four-requires c κs = search needs
 
--- src/insts.rt:160:47
 enum-told-2 : tie.Need-enum-told-2
 enum-told-2 c = search needs
 
--- src/insts.rt:160:26
 four-requires-2 : tie.Need-four-requires-2
 four-requires-2 c κs = search needs
 
--- src/insts.rt:126:34
 enum-told-3 : tie.Need-enum-told-3
 enum-told-3 c = search needs
 
--- src/insts.rt:161:30
 four-requires-3 : tie.Need-four-requires-3
 four-requires-3 c κs = search needs
 
--- src/insts.rt:125:21
 enum-told-4 : tie.Need-enum-told-4
 enum-told-4 c = search needs
 
--- src/insts.rt:162:35
 four-requires-4 : tie.Need-four-requires-4
 four-requires-4 c κs = search needs
 
--- src/insts.rt:163:29
 enum-told-5 : tie.Need-enum-told-5
 enum-told-5 c = search needs
 
--- src/insts.rt:155:1
 returns : tie.Need-returns
-returns c = ?
+returns c = c .four .ensures ∙ ap termShape (sym (c .before .enum-told .given .1))
 
--- src/insts.rt:155:1
 returns-2 : tie.Need-returns-2
-returns-2 c = ?
+returns-2 c = c .four2 .ensures ∙ ap termShape (sym (c .before .enum-told2 .given .1))
 
--- src/insts.rt:155:1
 returns-3 : tie.Need-returns-3
-returns-3 c = ?
+returns-3 c = c .four3 .ensures ∙ ap termShape (sym (c .before .enum-told3 .given .1))
 
--- src/insts.rt:155:1
 returns-4 : tie.Need-returns-4
-returns-4 c = ?
+returns-4 c = c .four4 .ensures ∙ ap termShape (sym (c .before .enum-told4 .given .1))
 
--- src/insts.rt:155:1
 returns-5 : tie.Need-returns-5
-returns-5 c = search needs
+returns-5 c = ap termShape (sym (c .enum-told5 .given .1))
 
 pub term-fields-spec : {M : Type 1} → statement M
 term-fields-spec =

@@ -1,70 +1,61 @@
+-- `reader::insts::two_len` meets its contract: the second field is read behind the first.
+use mathlib.Core.Path.{_≡_, refl, _∙_, sym, ap}
+use native.Mathlib.Omega.{arith}
+use Rattle.book.specs.Decode.{fields}
+use Rattle.book.specs.AgreeInst.{agrees-fields}
+use Rattle.reader.specs.Insts.{fieldIn}
+use Rattle.reader.specs.ItemLaws as items
+use Rattle.reader.specs.InstLaws as insts
 use borrow.Author.Needs.{needs}
 use Rattle.reader.proofs.insts.two_len.Statement.{statement}
 use Rattle.reader.proofs.insts.two_len.Tie as tie
-use Rattle.reader.proofs.insts.two_len.Reads as reads
-use Rattle.reader.proofs.insts.two_len.Lts as lts
 use Rattle.reader.proofs.insts.field_len.Reads as field-len-reads
 use Rattle.reader.proofs.then_len.Reads as then-len-reads
 
--- src/insts.rt:184:30
 field-len-requires : tie.Need-field-len-requires
 field-len-requires c κs = search needs
 
--- src/insts.rt:184:25
 enum-known-n : tie.Need-enum-known-n
 enum-known-n c = search needs
 
--- src/insts.rt:185:9
 enum-told : tie.Need-enum-told
 enum-told c = search needs
 
--- src/insts.rt:185:9
 returns : tie.Need-returns
-returns c = ?
+returns c = items.both-bad (fields (c .before .before .before .before .before .args .names) (fieldIn (c .before .before .before .before .before .args .a))) (fields (c .before .before .before .before .before .args .names) (fieldIn (c .before .before .before .before .before .args .b))) (c .before .before .before .before .before .args .kinds .now) (c .before .before .before .before .before .args .words .now) _ (c .before .before .field-len .ensures) (c .enum-told .given .1) ∙ sym (insts.fields-append _ (fieldIn (c .before .before .before .before .before .args .a)) (fieldIn (c .before .before .before .before .before .args .b)) _)
 
--- src/insts.rt:187:27
 mul-field-len : tie.Need-mul-field-len
-mul-field-len c = ?
+mul-field-len c = omega (arith, items.pair-kinds (fields (c .before .before .before .before .before .before .args .names) (fieldIn (c .before .before .before .before .before .before .args .a))) (fields (c .before .before .before .before .before .before .args .names) (fieldIn (c .before .before .before .before .before .before .args .b))) (c .before .before .before .before .before .before .args .kinds .now) (c .before .before .before .before .before .before .args .words .now) _ (c .before .before .before .field-len .ensures) _ (c .before .n .given .1) (agrees-fields _ (fieldIn (c .before .before .before .before .before .before .args .a))), c .before .before .before .before .before .before .good)
 
--- src/insts.rt:187:27
 sub-field-len : tie.Need-sub-field-len
-sub-field-len c = ?
+sub-field-len c = items.pair-kinds (fields (c .before .before .before .before .before .before .args .names) (fieldIn (c .before .before .before .before .before .before .args .a))) (fields (c .before .before .before .before .before .before .args .names) (fieldIn (c .before .before .before .before .before .before .args .b))) (c .before .before .before .before .before .before .args .kinds .now) (c .before .before .before .before .before .before .args .words .now) _ (c .before .before .before .field-len .ensures) _ (c .before .n .given .1) (agrees-fields _ (fieldIn (c .before .before .before .before .before .before .args .a)))
 
--- src/insts.rt:187:27
 part-field-len-start : tie.Need-part-field-len-start
-part-field-len-start c = ?
+part-field-len-start c = items.pair-kinds (fields (c .before .before .before .before .before .before .args .names) (fieldIn (c .before .before .before .before .before .before .args .a))) (fields (c .before .before .before .before .before .before .args .names) (fieldIn (c .before .before .before .before .before .before .args .b))) (c .before .before .before .before .before .before .args .kinds .now) (c .before .before .before .before .before .before .args .words .now) _ (c .before .before .before .field-len .ensures) _ (c .before .n .given .1) (agrees-fields _ (fieldIn (c .before .before .before .before .before .before .args .a)))
 
--- src/insts.rt:187:27
 part-field-len-end : tie.Need-part-field-len-end
 part-field-len-end c = search needs
 
--- src/insts.rt:187:40
 mul-field-len-2 : tie.Need-mul-field-len-2
-mul-field-len-2 c = ?
+mul-field-len-2 c = omega (arith, items.pair-words (fields (c .before .before .before .before .before .before .before .args .names) (fieldIn (c .before .before .before .before .before .before .before .args .a))) (fields (c .before .before .before .before .before .before .before .args .names) (fieldIn (c .before .before .before .before .before .before .before .args .b))) (c .before .before .before .before .before .before .before .args .kinds .now) (c .before .before .before .before .before .before .before .args .words .now) _ (c .before .before .before .before .field-len .ensures) _ (c .before .before .n .given .1) (agrees-fields _ (fieldIn (c .before .before .before .before .before .before .before .args .a))), c .before .before .before .before .before .before .before .good)
 
--- src/insts.rt:187:40
 sub-field-len-2 : tie.Need-sub-field-len-2
-sub-field-len-2 c = ?
+sub-field-len-2 c = items.pair-words (fields (c .before .before .before .before .before .before .before .args .names) (fieldIn (c .before .before .before .before .before .before .before .args .a))) (fields (c .before .before .before .before .before .before .before .args .names) (fieldIn (c .before .before .before .before .before .before .before .args .b))) (c .before .before .before .before .before .before .before .args .kinds .now) (c .before .before .before .before .before .before .before .args .words .now) _ (c .before .before .before .before .field-len .ensures) _ (c .before .before .n .given .1) (agrees-fields _ (fieldIn (c .before .before .before .before .before .before .before .args .a)))
 
--- src/insts.rt:187:40
 part-field-len-start-2 : tie.Need-part-field-len-start-2
-part-field-len-start-2 c = ?
+part-field-len-start-2 c = items.pair-words (fields (c .before .before .before .before .before .before .before .args .names) (fieldIn (c .before .before .before .before .before .before .before .args .a))) (fields (c .before .before .before .before .before .before .before .args .names) (fieldIn (c .before .before .before .before .before .before .before .args .b))) (c .before .before .before .before .before .before .before .args .kinds .now) (c .before .before .before .before .before .before .before .args .words .now) _ (c .before .before .before .before .field-len .ensures) _ (c .before .before .n .given .1) (agrees-fields _ (fieldIn (c .before .before .before .before .before .before .before .args .a)))
 
--- src/insts.rt:187:40
 part-field-len-end-2 : tie.Need-part-field-len-end-2
 part-field-len-end-2 c = search needs
 
--- src/insts.rt:187:17
 field-len-requires-2 : tie.Need-field-len-requires-2
 field-len-requires-2 c κs = search needs
 
--- src/insts.rt:187:5
 then-len-requires : tie.Need-then-len-requires
-then-len-requires c κs = ?
+then-len-requires c κs = items.pair-room (fields (c .before .before .before .before .before .before .before .before .before .args .names) (fieldIn (c .before .before .before .before .before .before .before .before .before .args .a))) (fields (c .before .before .before .before .before .before .before .before .before .args .names) (fieldIn (c .before .before .before .before .before .before .before .before .before .args .b))) (c .before .before .before .before .before .before .before .before .before .args .kinds .now) (c .before .before .before .before .before .before .before .before .before .args .words .now) _ (c .before .before .before .before .before .before .field-len .ensures) _ (c .before .before .before .before .n .given .1) (agrees-fields _ (fieldIn (c .before .before .before .before .before .before .before .before .before .args .a))) (agrees-fields _ (fieldIn (c .before .before .before .before .before .before .before .before .before .args .b))) (omega arith) _ (c .field-len2 .ensures)
 
--- src/insts.rt:181:1
 returns-2 : tie.Need-returns-2
-returns-2 c = ?
+returns-2 c = items.both-arm (fields (c .before .before .before .before .before .before .before .before .before .before .args .names) (fieldIn (c .before .before .before .before .before .before .before .before .before .before .args .a))) (fields (c .before .before .before .before .before .before .before .before .before .before .args .names) (fieldIn (c .before .before .before .before .before .before .before .before .before .before .args .b))) (c .before .before .before .before .before .before .before .before .before .before .args .kinds .now) (c .before .before .before .before .before .before .before .before .before .before .args .words .now) _ (c .before .before .before .before .before .before .before .field-len .ensures) _ (c .before .before .before .before .before .n .given .1) _ _ (c .before .field-len2 .ensures) (c .then-len .ensures) ∙ sym (insts.fields-append _ (fieldIn (c .before .before .before .before .before .before .before .before .before .before .args .a)) (fieldIn (c .before .before .before .before .before .before .before .before .before .before .args .b)) _)
 
 pub two-len-spec : {M : Type 1} → statement M
 two-len-spec =

@@ -40,7 +40,7 @@ Rest k = (((Unit {0} × (k ≡ 30 → ⊥)) × (k ≡ 31 → ⊥)) × (k ≡ 32 
 
 returns-7 : tie.Need-returns-7
 unfolding valTag find valTags
-returns-7 c = 
+returns-7 c =
     in-range (λ k. Rest k → Zero ≡ valueGroupOf (valTag k)) 30 8
     (λ r. absurd (r .0 .0 .0 .1 refl), (λ r. absurd (r .0 .0 .1 refl), (λ r. absurd (r .0 .1 refl), (λ r. refl, (λ r. refl, (λ r. refl, (λ r. refl, (λ r. absurd (r .1 refl), tt))))))))
     _ (c .before .before .if1 .left) (suc-le-suc (c .before .if2 .left)) (c .match .rest)
