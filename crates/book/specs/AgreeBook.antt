@@ -17,7 +17,7 @@ use Rattle.book.specs.Rule.{when, pick}
 use Rattle.book.specs.Kinds.{InstTag, TermTag, instKind, termKind, instTags, termTags, instTag, termTag}
 use Rattle.book.specs.Fields.{Item, instTagOf, termTagOf}
 use Rattle.book.specs.Read.{Read, got, bad, Reader, andThen, behind, taking, choose, stops, mapped, both, until, word, isClosing, many}
-use Rattle.book.specs.Decode.{name, type, inst, term, body, basicBlock, item, function, markAs, mark, bodyOf, structBody, structType, parts, markName, bookOf, onceEach, whole, decode}
+use Rattle.book.specs.Decode.{name, type, inst, term, body, basicBlock, item, function, markAs, mark, bodyOf, structBody, structType, structsAndFunction, parts, markName, bookOf, onceEach, whole, decode}
 use Rattle.book.specs.Encode.{ending, closed, encTy, encInst, encTerm, encBasicBlock, encParam, encFunction, markEntry, encMark, encBody, encStruct, destWord, encode}
 use Rattle.book.specs.Limits.{Each, Maybe, TyLimits, NameLimits, InstLimits, TermLimits, BlockLimits, ParamLimits, FunctionLimits, BodyLimits, StructLimits, Limits}
 use Rattle.book.specs.Agree.{Begins, Sound, Complete, Heads, Agrees, no-got, no-some, moved, when-some, entry-is, agrees-one, agrees-both, agrees-mapped, agrees-all}
@@ -88,7 +88,7 @@ module _ (m : ℕ) where
   mark-found (Mark.defined x) h = rw (lt-ltb x m h)
   mark-found (Mark.reserved x) h = rw (lt-ltb x m h)
 
-  agrees-mark : Agrees (mark m) encMark (λ k. markName k < m)
+  pub agrees-mark : Agrees (mark m) encMark (λ k. markName k < m)
   unfolding mark
   agrees-mark = agrees-one _ markEntry (λ k. markName k < m) mark-is mark-found
 
@@ -104,7 +104,7 @@ module _ (m : ℕ) where
   body-is es (Ty.array p l t) k s b n h = no-got b n h
   body-is es (Ty.namedStruct x) k s b n h = no-got b n h
 
-  agrees-structBody : Agrees (structBody m) encBody (BodyLimits m)
+  pub agrees-structBody : Agrees (structBody m) encBody (BodyLimits m)
   unfolding structBody bodyOf encTy
   agrees-structBody = record { sound = sound; complete = complete }
     where
@@ -134,22 +134,22 @@ module _ (m : ℕ) where
           struct false ts l = rw (agrees-type m .complete (Ty.struct false ts) rest l)
           struct true ts l = rw (agrees-type m .complete (Ty.struct true ts) rest l)
 
-  agrees-structType : Agrees (structType m) encStruct (StructLimits m)
+  pub agrees-structType : Agrees (structType m) encStruct (StructLimits m)
   unfolding structType encStruct
   agrees-structType =
       agrees-mapped (λ p. record { name = p .0; body = p .1 }) (λ s. (s .name, s .body)) _ _ _ (λ x. refl) (λ x. refl)
       (agrees-both (word 3 (name m)) (structBody m) (λ x. entry 3 x ∷ []) encBody (NameLimits m) (BodyLimits m) (agrees-name m 3) agrees-structBody)
 
   -- ---- the book
-  abbrev rest : List StructType × Function → List Entry
+  abbrev pub rest : List StructType × Function → List Entry
   rest x = ending encStruct (encFunction (x .1)) (x .0)
 
-  abbrev RestLimits : List StructType × Function → Type 0
+  abbrev pub RestLimits : List StructType × Function → Type 0
   RestLimits x = Each (StructLimits m) (x .0) × FunctionLimits m (x .1)
 
-  agrees-rest : Agrees (λ r. until (leb 4) (structType m) (function m) (length r) r) rest RestLimits
-  unfolding stops encStruct encFunction
-  agrees-rest =
+  pub agrees-structs : Agrees (structsAndFunction m) rest RestLimits
+  unfolding structsAndFunction stops encStruct encFunction
+  agrees-structs =
       agrees-all (leb 4) (structType m) (function m) encStruct encFunction (StructLimits m) (FunctionLimits m) agrees-structType agrees-function
       (λ s r k. refl) (λ f r k. refl)
 
@@ -169,12 +169,12 @@ module _ (m : ℕ) where
   agrees-parts : Agrees (parts m) (λ x. ending encMark (rest (x .1)) (x .0)) (λ x. Each (λ k. markName k < m) (x .0) × RestLimits (x .1))
   unfolding parts
   agrees-parts =
-      agrees-all (leb 3) (mark m) (λ r. until (leb 4) (structType m) (function m) (length r) r) encMark rest (λ k. markName k < m) RestLimits agrees-mark agrees-rest mark-more rest-stops
+      agrees-all (leb 3) (mark m) (structsAndFunction m) encMark rest (λ k. markName k < m) RestLimits agrees-mark agrees-structs mark-more rest-stops
 
-  abbrev PartsLimits : Book → Type 0
+  abbrev pub PartsLimits : Book → Type 0
   PartsLimits b = Each (λ k. markName k < m) (b .marks) × (Each (StructLimits m) (b .structs) × FunctionLimits m (b .function))
 
-  agrees-book : Agrees (mapped bookOf (parts m)) encode PartsLimits
+  pub agrees-book : Agrees (mapped bookOf (parts m)) encode PartsLimits
   unfolding encode
   agrees-book = agrees-mapped bookOf (λ b. (b .marks, (b .structs, b .function))) _ _ _ (λ x. refl) (λ x. refl) agrees-parts
 

@@ -172,8 +172,11 @@ module _ (m : ℕ) where
   structType = mapped (λ p. record { name = p .0; body = p .1 }) (both (word 3 name) structBody)
 
   -- marks, then structs, then the one function
+  unfoldable pub structsAndFunction : Reader (List StructType × Function)
+  structsAndFunction es = until (leb 4) structType function (length es) es
+
   unfoldable pub parts : Reader (List Mark × (List StructType × Function))
-  parts es = until (leb 3) mark (λ r. until (leb 4) structType function (length r) r) (length es) es
+  parts es = until (leb 3) mark structsAndFunction (length es) es
 
 -- no number twice
 unfoldable pub member : ℕ → List ℕ → Bool

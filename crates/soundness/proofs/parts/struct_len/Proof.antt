@@ -1,0 +1,87 @@
+-- `soundness::parts::struct_len` meets its contract: the body is read behind the name.
+use mathlib.Core.Path.{_≡_, refl, _∙_, sym, ap}
+use native.Mathlib.Omega.{arith}
+use Rattle.book.specs.Read.{word}
+use Rattle.book.specs.Decode.{name, structBody, structType}
+use Rattle.book.specs.AgreeInst.{agrees-name}
+use Rattle.book.specs.AgreeBook.{agrees-structBody}
+use Rattle.reader.specs.Items.{wordFront}
+use Rattle.reader.specs.ItemLaws as items
+use borrow.Author.Needs.{needs}
+use Rattle.soundness.proofs.parts.struct_len.Statement.{statement}
+use Rattle.soundness.proofs.parts.struct_len.Tie as tie
+use Rattle.reader.proofs.first_entry.Reads as first-entry-reads
+use Rattle.reader.proofs.items.word_len.Reads as word-len-reads
+use Rattle.reader.proofs.then_len.Reads as then-len-reads
+use Rattle.soundness.proofs.parts.struct_body_len.Reads as struct-body-len-reads
+
+first-entry-requires : tie.Need-first-entry-requires
+first-entry-requires c κs = search needs
+
+word-len-requires : tie.Need-word-len-requires
+word-len-requires c κs = search needs
+
+enum-known-n : tie.Need-enum-known-n
+enum-known-n c = search needs
+
+enum-told : tie.Need-enum-told
+enum-told c = search needs
+
+returns : tie.Need-returns
+unfolding structType
+returns c = items.pair-bad (word 3 (name (c .before .before .before .before .before .before .args .names))) (structBody (c .before .before .before .before .before .before .args .names)) (c .before .before .before .before .before .before .args .kinds .now) (c .before .before .before .before .before .before .args .words .now) _ (c .before .before .word-len .ensures ∙ ap (wordFront _ _) (c .before .before .before .first-entry .ensures) ∙ sym (items.word-front 3 _ _)) (λ p. record { name = p .0; body = p .1 }) (c .enum-told .given .1)
+
+mul-struct-body-len : tie.Need-mul-struct-body-len
+mul-struct-body-len c = omega (arith, items.pair-kinds (word 3 (name (c .before .before .before .before .before .before .before .args .names))) (structBody (c .before .before .before .before .before .before .before .args .names)) (c .before .before .before .before .before .before .before .args .kinds .now) (c .before .before .before .before .before .before .before .args .words .now) _ (c .before .before .before .word-len .ensures ∙ ap (wordFront _ _) (c .before .before .before .before .first-entry .ensures) ∙ sym (items.word-front 3 _ _)) _ (c .before .n .given .1) (agrees-name _ 3), c .before .before .before .before .before .before .before .good)
+
+sub-struct-body-len : tie.Need-sub-struct-body-len
+sub-struct-body-len c = items.pair-kinds (word 3 (name (c .before .before .before .before .before .before .before .args .names))) (structBody (c .before .before .before .before .before .before .before .args .names)) (c .before .before .before .before .before .before .before .args .kinds .now) (c .before .before .before .before .before .before .before .args .words .now) _ (c .before .before .before .word-len .ensures ∙ ap (wordFront _ _) (c .before .before .before .before .first-entry .ensures) ∙ sym (items.word-front 3 _ _)) _ (c .before .n .given .1) (agrees-name _ 3)
+
+part-struct-body-len-start : tie.Need-part-struct-body-len-start
+part-struct-body-len-start c = items.pair-kinds (word 3 (name (c .before .before .before .before .before .before .before .args .names))) (structBody (c .before .before .before .before .before .before .before .args .names)) (c .before .before .before .before .before .before .before .args .kinds .now) (c .before .before .before .before .before .before .before .args .words .now) _ (c .before .before .before .word-len .ensures ∙ ap (wordFront _ _) (c .before .before .before .before .first-entry .ensures) ∙ sym (items.word-front 3 _ _)) _ (c .before .n .given .1) (agrees-name _ 3)
+
+part-struct-body-len-end : tie.Need-part-struct-body-len-end
+part-struct-body-len-end c = search needs
+
+mul-struct-body-len-2 : tie.Need-mul-struct-body-len-2
+mul-struct-body-len-2 c = omega (arith, items.pair-words (word 3 (name (c .before .before .before .before .before .before .before .before .args .names))) (structBody (c .before .before .before .before .before .before .before .before .args .names)) (c .before .before .before .before .before .before .before .before .args .kinds .now) (c .before .before .before .before .before .before .before .before .args .words .now) _ (c .before .before .before .before .word-len .ensures ∙ ap (wordFront _ _) (c .before .before .before .before .before .first-entry .ensures) ∙ sym (items.word-front 3 _ _)) _ (c .before .before .n .given .1) (agrees-name _ 3), c .before .before .before .before .before .before .before .before .good)
+
+sub-struct-body-len-2 : tie.Need-sub-struct-body-len-2
+sub-struct-body-len-2 c = items.pair-words (word 3 (name (c .before .before .before .before .before .before .before .before .args .names))) (structBody (c .before .before .before .before .before .before .before .before .args .names)) (c .before .before .before .before .before .before .before .before .args .kinds .now) (c .before .before .before .before .before .before .before .before .args .words .now) _ (c .before .before .before .before .word-len .ensures ∙ ap (wordFront _ _) (c .before .before .before .before .before .first-entry .ensures) ∙ sym (items.word-front 3 _ _)) _ (c .before .before .n .given .1) (agrees-name _ 3)
+
+part-struct-body-len-start-2 : tie.Need-part-struct-body-len-start-2
+part-struct-body-len-start-2 c = items.pair-words (word 3 (name (c .before .before .before .before .before .before .before .before .args .names))) (structBody (c .before .before .before .before .before .before .before .before .args .names)) (c .before .before .before .before .before .before .before .before .args .kinds .now) (c .before .before .before .before .before .before .before .before .args .words .now) _ (c .before .before .before .before .word-len .ensures ∙ ap (wordFront _ _) (c .before .before .before .before .before .first-entry .ensures) ∙ sym (items.word-front 3 _ _)) _ (c .before .before .n .given .1) (agrees-name _ 3)
+
+part-struct-body-len-end-2 : tie.Need-part-struct-body-len-end-2
+part-struct-body-len-end-2 c = search needs
+
+struct-body-len-requires : tie.Need-struct-body-len-requires
+struct-body-len-requires c κs = search needs
+
+then-len-requires : tie.Need-then-len-requires
+then-len-requires c κs = items.pair-room (word 3 (name (c .before .before .before .before .before .before .before .before .before .before .args .names))) (structBody (c .before .before .before .before .before .before .before .before .before .before .args .names)) (c .before .before .before .before .before .before .before .before .before .before .args .kinds .now) (c .before .before .before .before .before .before .before .before .before .before .args .words .now) _ (c .before .before .before .before .before .before .word-len .ensures ∙ ap (wordFront _ _) (c .before .before .before .before .before .before .before .first-entry .ensures) ∙ sym (items.word-front 3 _ _)) _ (c .before .before .before .before .n .given .1) (agrees-name _ 3) (agrees-structBody _) (omega arith) _ (c .struct-body-len .ensures)
+
+returns-2 : tie.Need-returns-2
+unfolding structType
+returns-2 c = items.pair-arm (word 3 (name (c .before .before .before .before .before .before .before .before .before .before .before .args .names))) (structBody (c .before .before .before .before .before .before .before .before .before .before .before .args .names)) (c .before .before .before .before .before .before .before .before .before .before .before .args .kinds .now) (c .before .before .before .before .before .before .before .before .before .before .before .args .words .now) _ (c .before .before .before .before .before .before .before .word-len .ensures ∙ ap (wordFront _ _) (c .before .before .before .before .before .before .before .before .first-entry .ensures) ∙ sym (items.word-front 3 _ _)) _ (c .before .before .before .before .before .n .given .1) (λ p. record { name = p .0; body = p .1 }) _ _ (c .before .struct-body-len .ensures) (c .then-len .ensures)
+
+pub struct-len-spec : {M : Type 1} → statement M
+struct-len-spec =
+    tie.close
+    (tie.spec
+    first-entry-requires
+    word-len-requires
+    enum-known-n
+    enum-told
+    returns
+    mul-struct-body-len
+    sub-struct-body-len
+    part-struct-body-len-start
+    part-struct-body-len-end
+    mul-struct-body-len-2
+    sub-struct-body-len-2
+    part-struct-body-len-start-2
+    part-struct-body-len-end-2
+    struct-body-len-requires
+    then-len-requires
+    returns-2)
