@@ -1,3 +1,4 @@
 pub mod Words
 pub mod Once
 pub mod Parts
+pub mod Scan
