@@ -2,3 +2,4 @@ pub mod Words
 pub mod Once
 pub mod Parts
 pub mod Scan
+pub mod Barred
