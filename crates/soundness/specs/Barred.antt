@@ -85,3 +85,6 @@ module _ (barred : ℕ → Bool) (m : ℕ) where
       let n : i ≡ length es = omega arith in
       let e : drop i es ≡ [] = ap (λ n. drop n es) n ∙ drop-length es in
       rw e
+
+pub scan-by : (m : ℕ) (es : List Entry) {f f′ t t′ : ℕ} {p p′ : List ℕ} → f ≡ f′ → t ≡ t′ → p ≡ p′ → scan (barredBy f t p) m es ≡ scan (barredBy f′ t′ p′) m es
+scan-by m es {f} {f′} {t} {t′} {p} {p′} ef et ep = ap (λ x. scan (barredBy x t p) m es) ef ∙ ap (λ x. scan (barredBy f′ x p) m es) et ∙ ap (λ x. scan (barredBy f′ t′ x) m es) ep

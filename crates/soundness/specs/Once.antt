@@ -106,12 +106,14 @@ bits-marked m (x ∷ xs) t y = go (ltb (x / 64) (length m)) refl (not (bitAt m x
     or-swap true false c = refl
     or-swap false true c = refl
     or-swap false false c = refl
+
     same : (a b : ℕ) → eqb a b ≡ eqb b a
     same a b = by (eqb a b) refl
       where
         by : (t : Bool) → eqb a b ≡ t → t ≡ eqb b a
         by true e = sym (eq-eqb b a (sym (eqb-true a b e)))
         by false e = sym (ne-eqb b a (λ z. eqb-false a b e (sym z)))
+
     go : (u : Bool) → ltb (x / 64) (length m) ≡ u → (v : Bool) → ((u && v) && allNew (setBitAt m x) xs) ≡ true
         → (allNew (setBitAt m x) xs ≡ true → (y : ℕ) → bitAt (marked (setBitAt m x) xs) y ≡ (member y xs || bitAt (setBitAt m x) y))
         → bitAt (orElse (u && v) (marked (setBitAt m x) xs) m) y ≡ ((eqb y x || member y xs) || bitAt m y)

@@ -88,6 +88,7 @@ module _ (m : ℕ) (es : List Entry) (f : Front) (ef : f ≡ frontOf es) where
       where
         ik : e .kind ≡ k
         ik = cc
+
         iw : e .word ≡ w
         iw = cc
 

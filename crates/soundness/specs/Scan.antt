@@ -106,6 +106,7 @@ module _ (barred : ℕ → Bool) (m : ℕ) where
 
   mutual
     unfolding encTy encTys
+
     adds-ty : (t : Ty) → Adds false (encTy t)
     adds-ty Ty.void = adds-one 10 0 (below 10 (omega arith))
     adds-ty Ty.ptr = adds-one 12 0 (below 12 (omega arith))
@@ -220,12 +221,14 @@ module _ (barred : ℕ → Bool) (m : ℕ) where
     adds-call d t v vs k =
         let i : Inst = record { dest = d; kind = InstKind.call t v vs } in
         let fs : List Entry = encFields (instFields InstTag.call) (instArgs (InstKind.call t v vs)) in
-        record { all = λ rest.
-          let c : callBarred barred m (fs ++ rest) ≡ barredCallee names marks v =
-            rw (append-assoc (encTy t) _ rest) (call-is t v _ (k .1 .0) (k .1 .1 .0)) in
-          ap (λ b. b || scan barred m (fs ++ rest)) c
-          ∙ ap (λ r. barredCallee names marks v || r) (adds-fields (instFields InstTag.call) (instArgs (InstKind.call t v vs)) .all rest)
-          ∙ or-swap (barredCallee names marks v) (otherInst i) (scan barred m rest) }
+        record {
+          all = λ rest.
+              let c : callBarred barred m (fs ++ rest) ≡ barredCallee names marks v =
+              rw (append-assoc (encTy t) _ rest) (call-is t v _ (k .1 .0) (k .1 .1 .0)) in
+              ap (λ b. b || scan barred m (fs ++ rest)) c
+              ∙ ap (λ r. barredCallee names marks v || r) (adds-fields (instFields InstTag.call) (instArgs (InstKind.call t v vs)) .all rest)
+              ∙ or-swap (barredCallee names marks v) (otherInst i) (scan barred m rest);
+        }
 
     -- any other instruction adds its values alone
     adds-plain : (i : Inst) → (instTagOf (i .kind) ≡ InstTag.call → ⊥) → barredShape names marks (shape (i .kind)) ≡ false → Adds (forbiddenInst names marks i) (encInst i)
@@ -264,11 +267,13 @@ module _ (barred : ℕ → Bool) (m : ℕ) where
     adds-function : (f : Function) → FunctionLimits m f → Adds (any (forbiddenBlock names marks) (f .blocks)) (encFunction f)
     unfolding encFunction
     adds-function f k =
-        record { all = λ rest. adds-cons 5 (f .name) _ (below 5 (omega arith))
-          (adds-append (adds-ty (f .retTy))
-          (adds-append (adds-closed (otherItem Item.param) encParam (λ a. Unit {0}) (λ a l. adds-item Item.param a) (f .params) (free (f .params)))
-          (adds-closed (forbiddenBlock names marks) encBasicBlock (BlockLimits m) adds-block (f .blocks) (k .1 .1 .1)))) .all rest
-          ∙ ap (λ r. (r || any (forbiddenBlock names marks) (f .blocks)) || scan barred m rest) (any-none (f .params)) }
+        record {
+          all = λ rest. adds-cons 5 (f .name) _ (below 5 (omega arith))
+              (adds-append (adds-ty (f .retTy))
+              (adds-append (adds-closed (otherItem Item.param) encParam (λ a. Unit {0}) (λ a l. adds-item Item.param a) (f .params) (free (f .params)))
+              (adds-closed (forbiddenBlock names marks) encBasicBlock (BlockLimits m) adds-block (f .blocks) (k .1 .1 .1)))) .all rest
+              ∙ ap (λ r. (r || any (forbiddenBlock names marks) (f .blocks)) || scan barred m rest) (any-none (f .params));
+        }
 
     adds-struct : (s : StructType) → Adds false (encStruct s)
     unfolding encStruct
@@ -290,6 +295,6 @@ module _ (barred : ℕ → Bool) (m : ℕ) where
         let f : List Entry = encode b in
         ap (scan barred m) (sym (append-nil f))
         ∙ adds-ending (λ k. false) encMark (λ k. Unit {0}) _ (λ k u. adds-mark k)
-          (adds-ending (λ s. false) encStruct (λ s. Unit {0}) _ (λ s u. adds-struct s) (adds-function (b .function) (l .function)) (b .structs) (free (b .structs))) (b .marks) (free (b .marks)) .all []
+        (adds-ending (λ s. false) encStruct (λ s. Unit {0}) _ (λ s u. adds-struct s) (adds-function (b .function) (l .function)) (b .structs) (free (b .structs))) (b .marks) (free (b .marks)) .all []
         ∙ or-false _ ∙ ap (λ r. r || (any (λ s. false) (b .structs) || any (forbiddenBlock names marks) (b .function .blocks))) (any-none (b .marks))
         ∙ ap (λ r. r || any (forbiddenBlock names marks) (b .function .blocks)) (any-none (b .structs))

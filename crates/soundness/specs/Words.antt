@@ -74,6 +74,7 @@ module _ (test : ℕ → Bool) where
 
     mutual
       unfolding encTy encTys
+
       quiet-ty : (t : Ty) → Quiet (encTy t)
       quiet-ty Ty.void = quiet-one 10 0 (omega arith)
       quiet-ty Ty.ptr = quiet-one 12 0 (omega arith)

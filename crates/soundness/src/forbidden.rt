@@ -1,15 +1,20 @@
 // Refusal 3: a value of kind 37, or a call whose callee starts `llvm.` or is marked reserved.
 use crate::marks::mark_words;
 use names::prefix_range;
+use reader::Front;
+use reader::Length;
+use reader::first_entry;
+use reader::shorter;
 use reader::types::type_len;
-use reader::{first_entry, shorter, Front, Length};
 ghost use mathlib.Core.Path.{_≡_};
 ghost use mathlib.Core.Bool.{_&&_, _||_};
 ghost use lib.Dec.{leb, ltb};
 ghost use Rattle.numbers.specs.Bits.{bitAt};
 ghost use Rattle.book.specs.Entry.{entries};
 ghost use Rattle.soundness.specs.Scan.{calleeBarred, callBarred, entryBarred, scan};
+ghost use Rattle.names.specs.Name.{lines};
 ghost use Rattle.soundness.specs.Barred.{barredBy};
+ghost use Rattle.soundness.specs.Verdict.{barredIn};
 
 // Whether the entry is a global whose name's number lies in the range or has its bit set.
 fn callee_barred(entry: Front, from: u64, to: u64, map: &[u64]) -> bool
@@ -69,4 +74,16 @@ fn scan_entries(kinds: &[u64], words: &[u64], names: u64, from: u64, to: u64, ma
         i += 1;
     }
     false
+}
+
+// Whether a book's entries have a value of kind 37 or a call of a name that may not be called.
+pub fn forbidden_entries(kinds: &[u64], words: &[u64], count: u64, names: &[u8]) -> bool
+    ensures { λ r. ⌜ r ≡ scan (barredIn (entries (now (kinds .entry)) (now (words .entry))) (lines (now (names .entry)))) count (entries (now (kinds .entry)) (now (words .entry))) ⌝ }
+{
+    let mut map = [0u64; 2048];
+    mark_words(kinds, words, 2, 2, &mut map);
+    let range = prefix_range(names, b"llvm.");
+    let from = range.from;
+    let to = range.to;
+    scan_entries(kinds, words, count, from, to, &map)
 }

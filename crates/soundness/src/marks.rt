@@ -2,6 +2,7 @@
 ghost use mathlib.Core.Path.{_≡_};
 ghost use Rattle.book.specs.Entry.{entry, entries};
 ghost use Rattle.soundness.specs.Words.{wordsAt, between};
+ghost use Rattle.soundness.specs.Whole.{onceBy};
 ghost use Rattle.soundness.specs.Once.{isNew, setIf, allNew, marked, entryNew, entryMap};
 
 // Whether a number is new, its bit then set.
@@ -48,4 +49,16 @@ pub fn mark_words(kinds: &[u64], words: &[u64], lo: u64, hi: u64, map: &mut [u64
         i += 1;
     }
     true
+}
+
+// Whether no name has two marks and no struct name occurs twice, among the names of a book.
+pub fn once_each(kinds: &[u64], words: &[u64]) -> bool
+    ensures { λ r. ⌜ r ≡ onceBy (entries (now (kinds .entry)) (now (words .entry))) ⌝ }
+{
+    let mut marked = [0u64; 2048];
+    if !mark_words(kinds, words, 1, 2, &mut marked) {
+        return false;
+    }
+    let mut named = [0u64; 2048];
+    mark_words(kinds, words, 3, 3, &mut named)
 }

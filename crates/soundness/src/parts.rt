@@ -1,8 +1,18 @@
 // The parts of a book: marks, named structs, the function.
+use reader::Front;
+use reader::Length;
+use reader::Step;
 use reader::blocks::function_len;
+use reader::entry_if;
+use reader::first_entry;
 use reader::items::word_len;
-use reader::types::{type_group, type_len, TypeGroup};
-use reader::{entry_if, first_entry, last_step, next_step, shorter, then_len, Front, Length, Step};
+use reader::last_step;
+use reader::next_step;
+use reader::shorter;
+use reader::then_len;
+use reader::types::TypeGroup;
+use reader::types::type_group;
+use reader::types::type_len;
 ghost use mathlib.Core.Path.{_≡_};
 ghost use lib.ListN.{length};
 ghost use lib.Dec.{leb};
