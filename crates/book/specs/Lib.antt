@@ -14,6 +14,8 @@ pub mod AgreeBook
 pub mod Result
 pub mod Shape
 pub mod Input
+pub mod AgreeInput
 pub mod Forbidden
 pub mod Check
 pub mod Open
+pub mod Cases

@@ -1,19 +1,19 @@
 -- The whole check: laws from its parts to the definition.
 use Prim.Native.Nat.{ℕ, zero, suc, _+_, _-_, _*_, _/_, _≤_, _<_, _^_}
-use mathlib.Core.Path.{_≡_, refl, ap, sym, _∙_, subst}
+use mathlib.Core.Path.{_≡_, refl, ap, sym, _∙_, subst⁻¹}
 use mathlib.Core.Bool.{Bool, true, false, _&&_, _||_, not}
 use mathlib.Core.Option.{Option, none, some}
 use mathlib.Core.List.{List, [], _∷_, _++_, map, append-nil}
 use native.Mathlib.Nat.{le-of-eq}
 use native.Mathlib.Omega.{arith}
 use borrow.Author.Tests.{eq-eqb, ne-eqb, eqb-true, le-leb, lt-leb, leb-true}
-use lib.ListN.{length, getD, drop, take, replicate, length-drop}
-use lib.Seq.{drop-length, take-all, drop-drop}
+use lib.ListN.{length, getD, drop, take, replicate, length-append, length-drop}
+use lib.Seq.{drop-length, take-all, drop-drop, take-at, drop-at}
 use lib.Dec.{eqb, leb, ltb}
 use Rattle.names.specs.Name.{nameAt, accepted, namesOf, counts}
 use Rattle.names.specs.Lines.{accepted-iff}
 use Rattle.names.specs.Spelling.{isIntrinsic}
-use Rattle.book.specs.Entry.{Entry, entries}
+use Rattle.book.specs.Entry.{Entry, entries, kindsOf, wordsOf}
 use Rattle.book.specs.Ast.{Mark, StructType, Function, Book}
 use Rattle.book.specs.Rule.{pick, when}
 use Rattle.book.specs.Read.{Read, got, bad, mapped, andThen}
@@ -22,8 +22,7 @@ use Rattle.book.specs.Encode.{encode}
 use Rattle.book.specs.Limits.{Each, StructLimits, Limits}
 use Rattle.book.specs.Agree.{Begins}
 use Rattle.book.specs.AgreeBook.{PartsLimits, agrees-book}
-use Rattle.book.specs.AgreeBook.{decode-sound}
-use Rattle.book.specs.Agree.{no-some}
+use Rattle.book.specs.AgreeInput.{slice, slice-sound, entries-back, length-kinds, length-words}
 use Rattle.book.specs.Result.{Result, ok, err, bind, okOr, given, require}
 use Rattle.book.specs.Input.{Counted, counted, bookIn, namesIn}
 use Rattle.book.specs.Forbidden.{reservedBy, any, forbiddenBlock, forbidden}
@@ -160,21 +159,15 @@ pub record Holds (s : List ℕ) (c : Counted) : Type 0 where
   pub limits : Limits (c .count) (c .book)
 
 pub slice-holds : (s : List ℕ) (c : Counted) → bookIn s ≡ some c → Holds s c
-unfolding bookIn counted
-slice-holds [] c h = no-some c h
-slice-holds (n ∷ []) c h = no-some c h
-slice-holds (n ∷ (m ∷ es)) c h = tests (leb n 1048576) (leb m 131072) (eqb (length es) (2 * n)) refl refl refl h
-  where
-    read : n ≤ 1048576 → m ≤ 131072 → length es ≡ 2 * n → (o : Option Book) → decode m (entries (take n es) (drop n es)) ≡ o → counted m o ≡ some c → Holds (n ∷ (m ∷ es)) c
-    read p q l none eo g = no-some c g
-    read p q l (some b) eo g =
-        let d = decode-sound m (entries (take n es) (drop n es)) b eo in
-        let k : record { count = m; book = b } ≡ c = cc in
-        subst (Holds (n ∷ (m ∷ es))) k (record { count = refl; few = q; most = p; size = omega arith; written = d .0; limits = d .1 })
-
-    tests : (x y z : Bool) → leb n 1048576 ≡ x → leb m 131072 ≡ y → eqb (length es) (2 * n) ≡ z
-        → pick (x && (y && z)) (counted m (decode m (entries (take n es) (drop n es)))) none ≡ some c → Holds (n ∷ (m ∷ es)) c
-    tests true true true ex ey ez g = read (leb-true _ _ ex) (leb-true _ _ ey) (eqb-true _ _ ez) (decode m (entries (take n es) (drop n es))) refl g
-    tests true true false ex ey ez g = no-some c g
-    tests true false z ex ey ez g = no-some c g
-    tests false y z ex ey ez g = no-some c g
+unfolding slice
+slice-holds s c h =
+    let e = slice-sound s c h in
+    let l = e .1 in
+    let es : List Entry = encode (c .book) in
+    subst⁻¹ (λ s. Holds s c) (e .0) (record {
+      count = refl;
+      few = l .names;
+      most = l .entries;
+      size = omega (arith, length-append (kindsOf es) (wordsOf es), length-kinds es, length-words es);
+      written = rw (take-at (kindsOf es) (wordsOf es) (length es) (length-kinds es), drop-at (kindsOf es) (wordsOf es) (length es) (length-kinds es)) (entries-back es);
+      limits = l .book })
