@@ -79,7 +79,7 @@ read-slice n m xs c p q l (some b) eo g =
     let ex : xs ≡ kindsOf (encode b) ++ wordsOf (encode b) = sym (take-append-drop n xs) ∙ ap (λ r. r ++ drop n xs) ek ∙ ap (λ r. kindsOf (encode b) ++ r) ew in
     let k : record { count = m; book = b } ≡ c = cc in
     subst (λ c. (n ∷ (m ∷ xs) ≡ slice c) × SliceLimits c) k
-      ((λ i. en i ∷ (m ∷ ex i)), record { entries = omega arith; names = q; book = d .1 })
+    ((λ i. en i ∷ (m ∷ ex i)), record { entries = omega arith; names = q; book = d .1 })
 
 pub slice-sound : (s : List ℕ) (c : Counted) → bookIn s ≡ some c → (s ≡ slice c) × SliceLimits c
 unfolding bookIn
@@ -100,8 +100,15 @@ slice-complete c l =
     let es : List Entry = encode (c .book) in
     let xs : List ℕ = kindsOf es ++ wordsOf es in
     let lx : length xs ≡ 2 * length es = omega (arith, length-append (kindsOf es) (wordsOf es), length-kinds es, length-words es) in
-    rw (le-leb (length (encode (c .book))) 1048576 (l .entries), le-leb (c .count) 131072 (l .names), eq-eqb (length xs) (2 * length es) lx,
-      take-at (kindsOf es) (wordsOf es) (length es) (length-kinds es), drop-at (kindsOf es) (wordsOf es) (length es) (length-kinds es), entries-back es, decode-complete (c .count) (c .book) (l .book))
+    rw (
+      le-leb (length (encode (c .book))) 1048576 (l .entries),
+      le-leb (c .count) 131072 (l .names),
+      eq-eqb (length xs) (2 * length es) lx,
+      take-at (kindsOf es) (wordsOf es) (length es) (length-kinds es),
+      drop-at (kindsOf es) (wordsOf es) (length es) (length-kinds es),
+      entries-back es,
+      decode-complete (c .count) (c .book) (l .book),
+    )
 
 pub slice-exactly : (s : List ℕ) (c : Counted) → (bookIn s ≡ some c) ↔ ((s ≡ slice c) × SliceLimits c)
 slice-exactly s c = (slice-sound s c, λ h. rw (h .0) (slice-complete c (h .1)))

@@ -24,18 +24,22 @@ add1 =
 
 abbrev add1Book : Counted
 add1Book = record {
-    count = 4;
-    book = record {
-      marks = [];
-      structs = [];
-      function = record {
-        name = 1;
-        retTy = Ty.int 32;
-        params = record { ty = Ty.int 32; name = some 0 } ∷ [];
-        blocks = record {
-            label = 2;
-            insts = record { dest = some 3; kind = InstKind.bin BinOp.add (Ty.int 32) (Value.local 0) (Value.int 1) } ∷ [];
-            term = Terminator.ret (some (record { ty = Ty.int 32; val = Value.local 3 })) } ∷ [] } } }
+  count = 4;
+  book = record {
+    marks = [];
+    structs = [];
+    function = record {
+      name = 1;
+      retTy = Ty.int 32;
+      params = record { ty = Ty.int 32; name = some 0 } ∷ [];
+      blocks = record {
+        label = 2;
+        insts = record { dest = some 3; kind = InstKind.bin BinOp.add (Ty.int 32) (Value.local 0) (Value.int 1) } ∷ [];
+        term = Terminator.ret (some (record { ty = Ty.int 32; val = Value.local 3 }));
+      } ∷ [];
+    };
+  };
+}
 
 pub add1-decodes : bookIn add1 ≡ some add1Book
 unfolding openBook

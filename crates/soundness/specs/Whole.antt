@@ -170,4 +170,5 @@ slice-holds s c h =
       most = l .entries;
       size = omega (arith, length-append (kindsOf es) (wordsOf es), length-kinds es, length-words es);
       written = rw (take-at (kindsOf es) (wordsOf es) (length es) (length-kinds es), drop-at (kindsOf es) (wordsOf es) (length es) (length-kinds es)) (entries-back es);
-      limits = l .book })
+      limits = l .book;
+    })

@@ -59,7 +59,9 @@ check-entries-requires : tie.Need-check-entries-requires
 check-entries-requires c κs = search needs
 
 returns-5 : tie.Need-returns-5
-returns-5 c = whole.slice-ok (c .before .before .before .before .before .before .before .before .before .before .args .book .now) (c .before .before .before .before .before .before .before .before .if1 .left) (c .before .before .before .before .before .if2 .left) (c .before .before .before .before .if3 .left) (omega (arith, c .before .before .before .if4 .left)) _ (c .check-entries .ensures ∙ ap (λ es. there (decode (getD (c .before .before .before .before .before .before .before .before .before .before .args .book .now) 1 0) es)) (whole.slice-parts (c .before .before .before .before .before .before .before .before .before .before .args .book .now) (c .before .before .before .before .before .before .before .before .if1 .left) (c .before .before .before .before .before .if2 .left) (c .before .before .before .before .if3 .left) (omega (arith, c .before .before .before .if4 .left))))
+returns-5 c =
+    let a = c .before .before .before .before .before .before .before .before .before .before .args in
+    whole.slice-ok (a .book .now) (c .before .before .before .before .before .before .before .before .if1 .left) (c .before .before .before .before .before .if2 .left) (c .before .before .before .before .if3 .left) (omega (arith, c .before .before .before .if4 .left)) _ (c .check-entries .ensures ∙ ap (λ es. there (decode (getD (a .book .now) 1 0) es)) (whole.slice-parts (a .book .now) (c .before .before .before .before .before .before .before .before .if1 .left) (c .before .before .before .before .before .if2 .left) (c .before .before .before .before .if3 .left) (omega (arith, c .before .before .before .if4 .left))))
 
 pub check-book-spec : {M : Type 1} → statement M
 check-book-spec =

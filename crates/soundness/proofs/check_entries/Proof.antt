@@ -19,19 +19,25 @@ enum-told : tie.Need-enum-told
 enum-told c = search needs
 
 returns : tie.Need-returns
-returns c = whole.decode-bad (c .before .before .before .before .before .args .names) (c .before .before .before .before .before .pre) (entries (c .before .before .before .before .before .args .kinds .now) (c .before .before .before .before .before .args .words .now)) _ (c .before .before .parts-len .ensures) (c .enum-told .given .1)
+returns c =
+    let a = c .before .before .before .before .before .args in
+    whole.decode-bad (a .names) (c .before .before .before .before .before .pre) (entries (a .kinds .now) (a .words .now)) _ (c .before .before .parts-len .ensures) (c .enum-told .given .1)
 
 shorter-requires : tie.Need-shorter-requires
 shorter-requires c κs = search needs
 
 returns-2 : tie.Need-returns-2
-returns-2 c = whole.decode-short (c .before .before .before .before .before .before .before .before .args .names) (c .before .before .before .before .before .before .before .before .pre) (entries (c .before .before .before .before .before .before .before .before .args .kinds .now) (c .before .before .before .before .before .before .before .before .args .words .now)) _ (c .before .before .before .before .before .parts-len .ensures) _ (c .before .before .before .n .given .1) (λ e. c .if1 .taken (e ∙ sym (c .before .shorter .ensures)))
+returns-2 c =
+    let a = c .before .before .before .before .before .before .before .before .args in
+    whole.decode-short (a .names) (c .before .before .before .before .before .before .before .before .pre) (entries (a .kinds .now) (a .words .now)) _ (c .before .before .before .before .before .parts-len .ensures) _ (c .before .before .before .n .given .1) (λ e. c .if1 .taken (e ∙ sym (c .before .shorter .ensures)))
 
 once-each-requires : tie.Need-once-each-requires
 once-each-requires c κs = search needs
 
 returns-3 : tie.Need-returns-3
-returns-3 c = whole.decode-once (c .before .before .before .before .before .before .before .before .before .args .names) (c .before .before .before .before .before .before .before .before .before .pre) (entries (c .before .before .before .before .before .before .before .before .before .args .kinds .now) (c .before .before .before .before .before .before .before .before .before .args .words .now)) _ (c .before .before .before .before .before .before .parts-len .ensures) _ (c .before .before .before .before .n .given .1) (c .before .if1 .left ∙ c .before .before .shorter .ensures) _ (c .once-each .ensures)
+returns-3 c =
+    let a = c .before .before .before .before .before .before .before .before .before .args in
+    whole.decode-once (a .names) (c .before .before .before .before .before .before .before .before .before .pre) (entries (a .kinds .now) (a .words .now)) _ (c .before .before .before .before .before .before .parts-len .ensures) _ (c .before .before .before .before .n .given .1) (c .before .if1 .left ∙ c .before .before .shorter .ensures) _ (c .once-each .ensures)
 
 pub check-entries-spec : {M : Type 1} → statement M
 check-entries-spec =

@@ -27,7 +27,9 @@ shorter-requires : tie.Need-shorter-requires Inv-loop μ-loop
 shorter-requires c κs = search needs
 
 loop-holds : tie.Need-loop-holds Inv-loop μ-loop
-loop-holds c = laws.loop-start isClosing (basicBlock (c .before .before .before .args .names)) closing (length (entries (c .before .before .before .args .kinds .now) (c .before .before .before .args .words .now))) (c .before .before .before .args .kinds .now) (c .before .before .before .args .words .now) _ (c .shorter .ensures)
+loop-holds c =
+    let a = c .before .before .before .args in
+    laws.loop-start isClosing (basicBlock (a .names)) closing (length (entries (a .kinds .now) (a .words .now))) (a .kinds .now) (a .words .now) _ (c .shorter .ensures)
 
 mul-block-step : tie.Need-mul-block-step Inv-loop μ-loop
 mul-block-step c = omega (arith, c .loop .inv .kinds, c .before .before .before .before .good)
@@ -60,25 +62,35 @@ enum-known-n : tie.Need-enum-known-n Inv-loop μ-loop
 enum-known-n c = search needs
 
 add-t19 : tie.Need-add-t19 Inv-loop μ-loop
-add-t19 c = omega (arith, laws.done-there isClosing (basicBlock (c .before .before .before .before .before .before .before .before .before .before .args .names)) closing (length (entries (c .before .before .before .before .before .before .before .before .before .before .args .kinds .now) (c .before .before .before .before .before .before .before .before .before .before .args .words .now))) (c .before .before .before .before .before .before .before .before .before .before .args .kinds .now) (c .before .before .before .before .before .before .before .before .before .before .args .words .now) _ _ (c .before .before .before .before .before .before .loop .inv) _ (c .before .before .before .block-step .ensures) (agrees-basicBlock _) agrees-closing _ (c .before .n .given .1), c .before .before .before .before .before .before .before .before .before .before .good)
+add-t19 c =
+    let a = c .before .before .before .before .before .before .before .before .before .before .args in
+    omega (arith, laws.done-there isClosing (basicBlock (a .names)) closing (length (entries (a .kinds .now) (a .words .now))) (a .kinds .now) (a .words .now) _ _ (c .before .before .before .before .before .before .loop .inv) _ (c .before .before .before .block-step .ensures) (agrees-basicBlock _) agrees-closing _ (c .before .n .given .1), c .before .before .before .before .before .before .before .before .before .before .good)
 
 returns : tie.Need-returns Inv-loop μ-loop
-returns c = laws.loop-done isClosing (basicBlock (c .before .before .before .before .before .before .before .before .before .before .args .names)) closing (length (entries (c .before .before .before .before .before .before .before .before .before .before .args .kinds .now) (c .before .before .before .before .before .before .before .before .before .before .args .words .now))) (c .before .before .before .before .before .before .before .before .before .before .args .kinds .now) (c .before .before .before .before .before .before .before .before .before .before .args .words .now) _ _ (c .before .before .before .before .before .before .loop .inv) _ (c .before .before .before .block-step .ensures) _ (c .before .n .given .1) ∙ sym (types.many-len _ _)
+returns c =
+    let a = c .before .before .before .before .before .before .before .before .before .before .args in
+    laws.loop-done isClosing (basicBlock (a .names)) closing (length (entries (a .kinds .now) (a .words .now))) (a .kinds .now) (a .words .now) _ _ (c .before .before .before .before .before .before .loop .inv) _ (c .before .before .before .block-step .ensures) _ (c .before .n .given .1) ∙ sym (types.many-len _ _)
 
 enum-told : tie.Need-enum-told Inv-loop μ-loop
 enum-told c = search needs
 
 returns-2 : tie.Need-returns-2 Inv-loop μ-loop
-returns-2 c = laws.loop-bad isClosing (basicBlock (c .before .before .before .before .before .before .before .before .before .args .names)) closing (length (entries (c .before .before .before .before .before .before .before .before .before .args .kinds .now) (c .before .before .before .before .before .before .before .before .before .args .words .now))) (c .before .before .before .before .before .before .before .before .before .args .kinds .now) (c .before .before .before .before .before .before .before .before .before .args .words .now) _ _ (c .before .before .before .before .before .loop .inv) _ (c .before .before .block-step .ensures) (c .enum-told .given .1) ∙ sym (types.many-len _ _)
+returns-2 c =
+    let a = c .before .before .before .before .before .before .before .before .before .args in
+    laws.loop-bad isClosing (basicBlock (a .names)) closing (length (entries (a .kinds .now) (a .words .now))) (a .kinds .now) (a .words .now) _ _ (c .before .before .before .before .before .loop .inv) _ (c .before .before .block-step .ensures) (c .enum-told .given .1) ∙ sym (types.many-len _ _)
 
 enum-known-n-2 : tie.Need-enum-known-n-2 Inv-loop μ-loop
 enum-known-n-2 c = search needs
 
 returns-3 : tie.Need-returns-3 Inv-loop μ-loop
-returns-3 c = laws.loop-full isClosing (basicBlock (c .before .before .before .before .before .before .before .before .before .before .before .args .names)) closing (length (entries (c .before .before .before .before .before .before .before .before .before .before .before .args .kinds .now) (c .before .before .before .before .before .before .before .before .before .before .before .args .words .now))) (c .before .before .before .before .before .before .before .before .before .before .before .args .kinds .now) (c .before .before .before .before .before .before .before .before .before .before .before .args .words .now) _ _ (c .before .before .before .before .before .before .before .loop .inv) _ (c .before .before .before .before .block-step .ensures) _ (c .before .before .n2 .given .1) (c .if1 .taken) ∙ sym (types.many-len _ _)
+returns-3 c =
+    let a = c .before .before .before .before .before .before .before .before .before .before .before .args in
+    laws.loop-full isClosing (basicBlock (a .names)) closing (length (entries (a .kinds .now) (a .words .now))) (a .kinds .now) (a .words .now) _ _ (c .before .before .before .before .before .before .before .loop .inv) _ (c .before .before .before .before .block-step .ensures) _ (c .before .before .n2 .given .1) (c .if1 .taken) ∙ sym (types.many-len _ _)
 
 add-at : tie.Need-add-at Inv-loop μ-loop
-add-at c = omega (arith, laws.loop-next isClosing (basicBlock (c .before .before .before .before .before .before .before .before .before .before .before .args .names)) closing (length (entries (c .before .before .before .before .before .before .before .before .before .before .before .args .kinds .now) (c .before .before .before .before .before .before .before .before .before .before .before .args .words .now))) (c .before .before .before .before .before .before .before .before .before .before .before .args .kinds .now) (c .before .before .before .before .before .before .before .before .before .before .before .args .words .now) _ _ (c .before .before .before .before .before .before .before .loop .inv) _ (c .before .before .before .before .block-step .ensures) (agrees-basicBlock _) agrees-closing _ (c .before .before .n2 .given .1) (c .if1 .left) .kinds, c .before .before .before .before .before .before .before .before .before .before .before .good)
+add-at c =
+    let a = c .before .before .before .before .before .before .before .before .before .before .before .args in
+    omega (arith, laws.loop-next isClosing (basicBlock (a .names)) closing (length (entries (a .kinds .now) (a .words .now))) (a .kinds .now) (a .words .now) _ _ (c .before .before .before .before .before .before .before .loop .inv) _ (c .before .before .before .before .block-step .ensures) (agrees-basicBlock _) agrees-closing _ (c .before .before .n2 .given .1) (c .if1 .left) .kinds, c .before .before .before .before .before .before .before .before .before .before .before .good)
 
 sub-left : tie.Need-sub-left Inv-loop μ-loop
 sub-left c = search needs
@@ -87,7 +99,9 @@ loop-less : tie.Need-loop-less Inv-loop μ-loop
 loop-less c = search needs
 
 loop-again : tie.Need-loop-again Inv-loop μ-loop
-loop-again c = laws.loop-next isClosing (basicBlock (c .before .before .before .before .before .before .before .before .before .before .before .args .names)) closing (length (entries (c .before .before .before .before .before .before .before .before .before .before .before .args .kinds .now) (c .before .before .before .before .before .before .before .before .before .before .before .args .words .now))) (c .before .before .before .before .before .before .before .before .before .before .before .args .kinds .now) (c .before .before .before .before .before .before .before .before .before .before .before .args .words .now) _ _ (c .before .before .before .before .before .before .before .loop .inv) _ (c .before .before .before .before .block-step .ensures) (agrees-basicBlock _) agrees-closing _ (c .before .before .n2 .given .1) (c .if1 .left)
+loop-again c =
+    let a = c .before .before .before .before .before .before .before .before .before .before .before .args in
+    laws.loop-next isClosing (basicBlock (a .names)) closing (length (entries (a .kinds .now) (a .words .now))) (a .kinds .now) (a .words .now) _ _ (c .before .before .before .before .before .before .before .loop .inv) _ (c .before .before .before .before .block-step .ensures) (agrees-basicBlock _) agrees-closing _ (c .before .before .n2 .given .1) (c .if1 .left)
 
 pub blocks-len-spec : {M : Type 1} → statement M
 blocks-len-spec =

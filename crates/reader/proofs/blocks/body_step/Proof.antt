@@ -24,7 +24,9 @@ enum-told : tie.Need-enum-told
 enum-told c = search needs
 
 returns : tie.Need-returns
-returns c = insts.step-none (leb 90) (inst (c .before .before .before .before .before .args .names)) (term (c .before .before .before .before .before .args .names)) (entries (c .before .before .before .before .before .args .kinds .now) (c .before .before .before .before .before .args .words .now)) (insts.no-term _) (sym (c .before .before .first-entry .ensures) ∙ c .enum-told .given .1)
+returns c =
+    let a = c .before .before .before .before .before .args in
+    insts.step-none (leb 90) (inst (a .names)) (term (a .names)) (entries (a .kinds .now) (a .words .now)) (insts.no-term _) (sym (c .before .before .first-entry .ensures) ∙ c .enum-told .given .1)
 
 term-len-requires : tie.Need-term-len-requires
 term-len-requires c κs = search needs
@@ -39,10 +41,14 @@ next-step-requires : tie.Need-next-step-requires
 next-step-requires c κs = search needs
 
 returns-2 : tie.Need-returns-2
-returns-2 c = insts.step-end (leb 90) (inst (c .before .before .before .before .before .before .before .before .before .args .names)) (term (c .before .before .before .before .before .before .before .before .before .args .names)) (entries (c .before .before .before .before .before .before .before .before .before .args .kinds .now) (c .before .before .before .before .before .before .before .before .before .args .words .now)) _ _ (sym (c .before .before .before .before .before .before .first-entry .ensures) ∙ c .before .before .before .before .kind .given .1) (le-leb _ _ (c .before .before .if1 .taken)) _ _ (c .before .term-len .ensures) (c .last-step .ensures)
+returns-2 c =
+    let a = c .before .before .before .before .before .before .before .before .before .args in
+    insts.step-end (leb 90) (inst (a .names)) (term (a .names)) (entries (a .kinds .now) (a .words .now)) _ _ (sym (c .before .before .before .before .before .before .first-entry .ensures) ∙ c .before .before .before .before .kind .given .1) (le-leb _ _ (c .before .before .if1 .taken)) _ _ (c .before .term-len .ensures) (c .last-step .ensures)
 
 returns-3 : tie.Need-returns-3
-returns-3 c = insts.step-item (leb 90) (inst (c .before .before .before .before .before .before .before .before .before .args .names)) (term (c .before .before .before .before .before .before .before .before .before .args .names)) (entries (c .before .before .before .before .before .before .before .before .before .args .kinds .now) (c .before .before .before .before .before .before .before .before .before .args .words .now)) _ _ (sym (c .before .before .before .before .before .before .first-entry .ensures) ∙ c .before .before .before .before .kind .given .1) (lt-leb _ _ (c .before .before .if1 .left)) _ _ (c .before .inst-len .ensures) (c .next-step .ensures)
+returns-3 c =
+    let a = c .before .before .before .before .before .before .before .before .before .args in
+    insts.step-item (leb 90) (inst (a .names)) (term (a .names)) (entries (a .kinds .now) (a .words .now)) _ _ (sym (c .before .before .before .before .before .before .first-entry .ensures) ∙ c .before .before .before .before .kind .given .1) (lt-leb _ _ (c .before .before .if1 .left)) _ _ (c .before .inst-len .ensures) (c .next-step .ensures)
 
 pub body-step-spec : {M : Type 1} → statement M
 body-step-spec =

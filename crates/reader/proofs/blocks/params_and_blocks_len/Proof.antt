@@ -29,28 +29,42 @@ enum-told : tie.Need-enum-told
 enum-told c = search needs
 
 returns : tie.Need-returns
-returns c = items.both-bad (many (item (c .before .before .before .before .before .before .args .names) Item.param)) (many (basicBlock (c .before .before .before .before .before .before .args .names))) (c .before .before .before .before .before .before .args .kinds .now) (c .before .before .before .before .before .before .args .words .now) _ (types.listed _ _ _ (c .before .before .list-len .ensures) (c .before .before .before .shorter .ensures)) (c .enum-told .given .1)
+returns c =
+    let a = c .before .before .before .before .before .before .args in
+    items.both-bad (many (item (a .names) Item.param)) (many (basicBlock (a .names))) (a .kinds .now) (a .words .now) _ (types.listed _ _ _ (c .before .before .list-len .ensures) (c .before .before .before .shorter .ensures)) (c .enum-told .given .1)
 
 mul-blocks-len : tie.Need-mul-blocks-len
-mul-blocks-len c = omega (arith, items.pair-kinds (many (item (c .before .before .before .before .before .before .before .args .names) Item.param)) (many (basicBlock (c .before .before .before .before .before .before .before .args .names))) (c .before .before .before .before .before .before .before .args .kinds .now) (c .before .before .before .before .before .before .before .args .words .now) _ (types.listed _ _ _ (c .before .before .before .list-len .ensures) (c .before .before .before .before .shorter .ensures)) _ (c .before .n .given .1) (agrees-items _ Item.param), c .before .before .before .before .before .before .before .good)
+mul-blocks-len c =
+    let a = c .before .before .before .before .before .before .before .args in
+    omega (arith, items.pair-kinds (many (item (a .names) Item.param)) (many (basicBlock (a .names))) (a .kinds .now) (a .words .now) _ (types.listed _ _ _ (c .before .before .before .list-len .ensures) (c .before .before .before .before .shorter .ensures)) _ (c .before .n .given .1) (agrees-items _ Item.param), c .before .before .before .before .before .before .before .good)
 
 sub-blocks-len : tie.Need-sub-blocks-len
-sub-blocks-len c = items.pair-kinds (many (item (c .before .before .before .before .before .before .before .args .names) Item.param)) (many (basicBlock (c .before .before .before .before .before .before .before .args .names))) (c .before .before .before .before .before .before .before .args .kinds .now) (c .before .before .before .before .before .before .before .args .words .now) _ (types.listed _ _ _ (c .before .before .before .list-len .ensures) (c .before .before .before .before .shorter .ensures)) _ (c .before .n .given .1) (agrees-items _ Item.param)
+sub-blocks-len c =
+    let a = c .before .before .before .before .before .before .before .args in
+    items.pair-kinds (many (item (a .names) Item.param)) (many (basicBlock (a .names))) (a .kinds .now) (a .words .now) _ (types.listed _ _ _ (c .before .before .before .list-len .ensures) (c .before .before .before .before .shorter .ensures)) _ (c .before .n .given .1) (agrees-items _ Item.param)
 
 part-blocks-len-start : tie.Need-part-blocks-len-start
-part-blocks-len-start c = items.pair-kinds (many (item (c .before .before .before .before .before .before .before .args .names) Item.param)) (many (basicBlock (c .before .before .before .before .before .before .before .args .names))) (c .before .before .before .before .before .before .before .args .kinds .now) (c .before .before .before .before .before .before .before .args .words .now) _ (types.listed _ _ _ (c .before .before .before .list-len .ensures) (c .before .before .before .before .shorter .ensures)) _ (c .before .n .given .1) (agrees-items _ Item.param)
+part-blocks-len-start c =
+    let a = c .before .before .before .before .before .before .before .args in
+    items.pair-kinds (many (item (a .names) Item.param)) (many (basicBlock (a .names))) (a .kinds .now) (a .words .now) _ (types.listed _ _ _ (c .before .before .before .list-len .ensures) (c .before .before .before .before .shorter .ensures)) _ (c .before .n .given .1) (agrees-items _ Item.param)
 
 part-blocks-len-end : tie.Need-part-blocks-len-end
 part-blocks-len-end c = search needs
 
 mul-blocks-len-2 : tie.Need-mul-blocks-len-2
-mul-blocks-len-2 c = omega (arith, items.pair-words (many (item (c .before .before .before .before .before .before .before .before .args .names) Item.param)) (many (basicBlock (c .before .before .before .before .before .before .before .before .args .names))) (c .before .before .before .before .before .before .before .before .args .kinds .now) (c .before .before .before .before .before .before .before .before .args .words .now) _ (types.listed _ _ _ (c .before .before .before .before .list-len .ensures) (c .before .before .before .before .before .shorter .ensures)) _ (c .before .before .n .given .1) (agrees-items _ Item.param), c .before .before .before .before .before .before .before .before .good)
+mul-blocks-len-2 c =
+    let a = c .before .before .before .before .before .before .before .before .args in
+    omega (arith, items.pair-words (many (item (a .names) Item.param)) (many (basicBlock (a .names))) (a .kinds .now) (a .words .now) _ (types.listed _ _ _ (c .before .before .before .before .list-len .ensures) (c .before .before .before .before .before .shorter .ensures)) _ (c .before .before .n .given .1) (agrees-items _ Item.param), c .before .before .before .before .before .before .before .before .good)
 
 sub-blocks-len-2 : tie.Need-sub-blocks-len-2
-sub-blocks-len-2 c = items.pair-words (many (item (c .before .before .before .before .before .before .before .before .args .names) Item.param)) (many (basicBlock (c .before .before .before .before .before .before .before .before .args .names))) (c .before .before .before .before .before .before .before .before .args .kinds .now) (c .before .before .before .before .before .before .before .before .args .words .now) _ (types.listed _ _ _ (c .before .before .before .before .list-len .ensures) (c .before .before .before .before .before .shorter .ensures)) _ (c .before .before .n .given .1) (agrees-items _ Item.param)
+sub-blocks-len-2 c =
+    let a = c .before .before .before .before .before .before .before .before .args in
+    items.pair-words (many (item (a .names) Item.param)) (many (basicBlock (a .names))) (a .kinds .now) (a .words .now) _ (types.listed _ _ _ (c .before .before .before .before .list-len .ensures) (c .before .before .before .before .before .shorter .ensures)) _ (c .before .before .n .given .1) (agrees-items _ Item.param)
 
 part-blocks-len-start-2 : tie.Need-part-blocks-len-start-2
-part-blocks-len-start-2 c = items.pair-words (many (item (c .before .before .before .before .before .before .before .before .args .names) Item.param)) (many (basicBlock (c .before .before .before .before .before .before .before .before .args .names))) (c .before .before .before .before .before .before .before .before .args .kinds .now) (c .before .before .before .before .before .before .before .before .args .words .now) _ (types.listed _ _ _ (c .before .before .before .before .list-len .ensures) (c .before .before .before .before .before .shorter .ensures)) _ (c .before .before .n .given .1) (agrees-items _ Item.param)
+part-blocks-len-start-2 c =
+    let a = c .before .before .before .before .before .before .before .before .args in
+    items.pair-words (many (item (a .names) Item.param)) (many (basicBlock (a .names))) (a .kinds .now) (a .words .now) _ (types.listed _ _ _ (c .before .before .before .before .list-len .ensures) (c .before .before .before .before .before .shorter .ensures)) _ (c .before .before .n .given .1) (agrees-items _ Item.param)
 
 part-blocks-len-end-2 : tie.Need-part-blocks-len-end-2
 part-blocks-len-end-2 c = search needs
@@ -59,10 +73,14 @@ blocks-len-requires : tie.Need-blocks-len-requires
 blocks-len-requires c κs = search needs
 
 then-len-requires : tie.Need-then-len-requires
-then-len-requires c κs = items.pair-room (many (item (c .before .before .before .before .before .before .before .before .before .before .args .names) Item.param)) (many (basicBlock (c .before .before .before .before .before .before .before .before .before .before .args .names))) (c .before .before .before .before .before .before .before .before .before .before .args .kinds .now) (c .before .before .before .before .before .before .before .before .before .before .args .words .now) _ (types.listed _ _ _ (c .before .before .before .before .before .before .list-len .ensures) (c .before .before .before .before .before .before .before .shorter .ensures)) _ (c .before .before .before .before .n .given .1) (agrees-items _ Item.param) (agrees-blocks _) (omega arith) _ (c .blocks-len .ensures)
+then-len-requires c κs =
+    let a = c .before .before .before .before .before .before .before .before .before .before .args in
+    items.pair-room (many (item (a .names) Item.param)) (many (basicBlock (a .names))) (a .kinds .now) (a .words .now) _ (types.listed _ _ _ (c .before .before .before .before .before .before .list-len .ensures) (c .before .before .before .before .before .before .before .shorter .ensures)) _ (c .before .before .before .before .n .given .1) (agrees-items _ Item.param) (agrees-blocks _) (omega arith) _ (c .blocks-len .ensures)
 
 returns-2 : tie.Need-returns-2
-returns-2 c = items.both-arm (many (item (c .before .before .before .before .before .before .before .before .before .before .before .args .names) Item.param)) (many (basicBlock (c .before .before .before .before .before .before .before .before .before .before .before .args .names))) (c .before .before .before .before .before .before .before .before .before .before .before .args .kinds .now) (c .before .before .before .before .before .before .before .before .before .before .before .args .words .now) _ (types.listed _ _ _ (c .before .before .before .before .before .before .before .list-len .ensures) (c .before .before .before .before .before .before .before .before .shorter .ensures)) _ (c .before .before .before .before .before .n .given .1) _ _ (c .before .blocks-len .ensures) (c .then-len .ensures)
+returns-2 c =
+    let a = c .before .before .before .before .before .before .before .before .before .before .before .args in
+    items.both-arm (many (item (a .names) Item.param)) (many (basicBlock (a .names))) (a .kinds .now) (a .words .now) _ (types.listed _ _ _ (c .before .before .before .before .before .before .before .list-len .ensures) (c .before .before .before .before .before .before .before .before .shorter .ensures)) _ (c .before .before .before .before .before .n .given .1) _ _ (c .before .blocks-len .ensures) (c .then-len .ensures)
 
 pub params-and-blocks-len-spec : {M : Type 1} → statement M
 params-and-blocks-len-spec =

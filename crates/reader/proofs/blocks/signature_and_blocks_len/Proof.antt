@@ -24,28 +24,42 @@ enum-told : tie.Need-enum-told
 enum-told c = search needs
 
 returns : tie.Need-returns
-returns c = items.both-bad (type (c .before .before .before .before .before .args .names)) (both (many (item (c .before .before .before .before .before .args .names) Item.param)) (many (basicBlock (c .before .before .before .before .before .args .names)))) (c .before .before .before .before .before .args .kinds .now) (c .before .before .before .before .before .args .words .now) _ (c .before .before .type-len .ensures) (c .enum-told .given .1)
+returns c =
+    let a = c .before .before .before .before .before .args in
+    items.both-bad (type (a .names)) (both (many (item (a .names) Item.param)) (many (basicBlock (a .names)))) (a .kinds .now) (a .words .now) _ (c .before .before .type-len .ensures) (c .enum-told .given .1)
 
 mul-params-and-blocks-len : tie.Need-mul-params-and-blocks-len
-mul-params-and-blocks-len c = omega (arith, items.pair-kinds (type (c .before .before .before .before .before .before .args .names)) (both (many (item (c .before .before .before .before .before .before .args .names) Item.param)) (many (basicBlock (c .before .before .before .before .before .before .args .names)))) (c .before .before .before .before .before .before .args .kinds .now) (c .before .before .before .before .before .before .args .words .now) _ (c .before .before .before .type-len .ensures) _ (c .before .n .given .1) (agrees-type _), c .before .before .before .before .before .before .good)
+mul-params-and-blocks-len c =
+    let a = c .before .before .before .before .before .before .args in
+    omega (arith, items.pair-kinds (type (a .names)) (both (many (item (a .names) Item.param)) (many (basicBlock (a .names)))) (a .kinds .now) (a .words .now) _ (c .before .before .before .type-len .ensures) _ (c .before .n .given .1) (agrees-type _), c .before .before .before .before .before .before .good)
 
 sub-params-and-blocks-len : tie.Need-sub-params-and-blocks-len
-sub-params-and-blocks-len c = items.pair-kinds (type (c .before .before .before .before .before .before .args .names)) (both (many (item (c .before .before .before .before .before .before .args .names) Item.param)) (many (basicBlock (c .before .before .before .before .before .before .args .names)))) (c .before .before .before .before .before .before .args .kinds .now) (c .before .before .before .before .before .before .args .words .now) _ (c .before .before .before .type-len .ensures) _ (c .before .n .given .1) (agrees-type _)
+sub-params-and-blocks-len c =
+    let a = c .before .before .before .before .before .before .args in
+    items.pair-kinds (type (a .names)) (both (many (item (a .names) Item.param)) (many (basicBlock (a .names)))) (a .kinds .now) (a .words .now) _ (c .before .before .before .type-len .ensures) _ (c .before .n .given .1) (agrees-type _)
 
 part-params-and-blocks-len-start : tie.Need-part-params-and-blocks-len-start
-part-params-and-blocks-len-start c = items.pair-kinds (type (c .before .before .before .before .before .before .args .names)) (both (many (item (c .before .before .before .before .before .before .args .names) Item.param)) (many (basicBlock (c .before .before .before .before .before .before .args .names)))) (c .before .before .before .before .before .before .args .kinds .now) (c .before .before .before .before .before .before .args .words .now) _ (c .before .before .before .type-len .ensures) _ (c .before .n .given .1) (agrees-type _)
+part-params-and-blocks-len-start c =
+    let a = c .before .before .before .before .before .before .args in
+    items.pair-kinds (type (a .names)) (both (many (item (a .names) Item.param)) (many (basicBlock (a .names)))) (a .kinds .now) (a .words .now) _ (c .before .before .before .type-len .ensures) _ (c .before .n .given .1) (agrees-type _)
 
 part-params-and-blocks-len-end : tie.Need-part-params-and-blocks-len-end
 part-params-and-blocks-len-end c = search needs
 
 mul-params-and-blocks-len-2 : tie.Need-mul-params-and-blocks-len-2
-mul-params-and-blocks-len-2 c = omega (arith, items.pair-words (type (c .before .before .before .before .before .before .before .args .names)) (both (many (item (c .before .before .before .before .before .before .before .args .names) Item.param)) (many (basicBlock (c .before .before .before .before .before .before .before .args .names)))) (c .before .before .before .before .before .before .before .args .kinds .now) (c .before .before .before .before .before .before .before .args .words .now) _ (c .before .before .before .before .type-len .ensures) _ (c .before .before .n .given .1) (agrees-type _), c .before .before .before .before .before .before .before .good)
+mul-params-and-blocks-len-2 c =
+    let a = c .before .before .before .before .before .before .before .args in
+    omega (arith, items.pair-words (type (a .names)) (both (many (item (a .names) Item.param)) (many (basicBlock (a .names)))) (a .kinds .now) (a .words .now) _ (c .before .before .before .before .type-len .ensures) _ (c .before .before .n .given .1) (agrees-type _), c .before .before .before .before .before .before .before .good)
 
 sub-params-and-blocks-len-2 : tie.Need-sub-params-and-blocks-len-2
-sub-params-and-blocks-len-2 c = items.pair-words (type (c .before .before .before .before .before .before .before .args .names)) (both (many (item (c .before .before .before .before .before .before .before .args .names) Item.param)) (many (basicBlock (c .before .before .before .before .before .before .before .args .names)))) (c .before .before .before .before .before .before .before .args .kinds .now) (c .before .before .before .before .before .before .before .args .words .now) _ (c .before .before .before .before .type-len .ensures) _ (c .before .before .n .given .1) (agrees-type _)
+sub-params-and-blocks-len-2 c =
+    let a = c .before .before .before .before .before .before .before .args in
+    items.pair-words (type (a .names)) (both (many (item (a .names) Item.param)) (many (basicBlock (a .names)))) (a .kinds .now) (a .words .now) _ (c .before .before .before .before .type-len .ensures) _ (c .before .before .n .given .1) (agrees-type _)
 
 part-params-and-blocks-len-start-2 : tie.Need-part-params-and-blocks-len-start-2
-part-params-and-blocks-len-start-2 c = items.pair-words (type (c .before .before .before .before .before .before .before .args .names)) (both (many (item (c .before .before .before .before .before .before .before .args .names) Item.param)) (many (basicBlock (c .before .before .before .before .before .before .before .args .names)))) (c .before .before .before .before .before .before .before .args .kinds .now) (c .before .before .before .before .before .before .before .args .words .now) _ (c .before .before .before .before .type-len .ensures) _ (c .before .before .n .given .1) (agrees-type _)
+part-params-and-blocks-len-start-2 c =
+    let a = c .before .before .before .before .before .before .before .args in
+    items.pair-words (type (a .names)) (both (many (item (a .names) Item.param)) (many (basicBlock (a .names)))) (a .kinds .now) (a .words .now) _ (c .before .before .before .before .type-len .ensures) _ (c .before .before .n .given .1) (agrees-type _)
 
 part-params-and-blocks-len-end-2 : tie.Need-part-params-and-blocks-len-end-2
 part-params-and-blocks-len-end-2 c = search needs
@@ -54,10 +68,14 @@ params-and-blocks-len-requires : tie.Need-params-and-blocks-len-requires
 params-and-blocks-len-requires c κs = search needs
 
 then-len-requires : tie.Need-then-len-requires
-then-len-requires c κs = items.pair-room (type (c .before .before .before .before .before .before .before .before .before .args .names)) (both (many (item (c .before .before .before .before .before .before .before .before .before .args .names) Item.param)) (many (basicBlock (c .before .before .before .before .before .before .before .before .before .args .names)))) (c .before .before .before .before .before .before .before .before .before .args .kinds .now) (c .before .before .before .before .before .before .before .before .before .args .words .now) _ (c .before .before .before .before .before .before .type-len .ensures) _ (c .before .before .before .before .n .given .1) (agrees-type _) (agrees-params-and-blocks _) (omega arith) _ (c .params-and-blocks-len .ensures)
+then-len-requires c κs =
+    let a = c .before .before .before .before .before .before .before .before .before .args in
+    items.pair-room (type (a .names)) (both (many (item (a .names) Item.param)) (many (basicBlock (a .names)))) (a .kinds .now) (a .words .now) _ (c .before .before .before .before .before .before .type-len .ensures) _ (c .before .before .before .before .n .given .1) (agrees-type _) (agrees-params-and-blocks _) (omega arith) _ (c .params-and-blocks-len .ensures)
 
 returns-2 : tie.Need-returns-2
-returns-2 c = items.both-arm (type (c .before .before .before .before .before .before .before .before .before .before .args .names)) (both (many (item (c .before .before .before .before .before .before .before .before .before .before .args .names) Item.param)) (many (basicBlock (c .before .before .before .before .before .before .before .before .before .before .args .names)))) (c .before .before .before .before .before .before .before .before .before .before .args .kinds .now) (c .before .before .before .before .before .before .before .before .before .before .args .words .now) _ (c .before .before .before .before .before .before .before .type-len .ensures) _ (c .before .before .before .before .before .n .given .1) _ _ (c .before .params-and-blocks-len .ensures) (c .then-len .ensures)
+returns-2 c =
+    let a = c .before .before .before .before .before .before .before .before .before .before .args in
+    items.both-arm (type (a .names)) (both (many (item (a .names) Item.param)) (many (basicBlock (a .names)))) (a .kinds .now) (a .words .now) _ (c .before .before .before .before .before .before .before .type-len .ensures) _ (c .before .before .before .before .before .n .given .1) _ _ (c .before .params-and-blocks-len .ensures) (c .then-len .ensures)
 
 pub signature-and-blocks-len-spec : {M : Type 1} → statement M
 signature-and-blocks-len-spec =

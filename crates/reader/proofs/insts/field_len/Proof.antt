@@ -47,23 +47,33 @@ list-len-requires-2 : tie.Need-list-len-requires-2
 list-len-requires-2 c κs = search needs
 
 returns : tie.Need-returns
-returns c = insts.no-field _ _ ∙ ap (λ f. lenOf (fields (c .before .before .before .before .args .names) (fieldIn f) (entries (c .before .before .before .before .args .kinds .now) (c .before .before .before .before .args .words .now)))) (sym (c .enum-told .given .1))
+returns c =
+    let a = c .before .before .before .before .args in
+    insts.no-field _ _ ∙ ap (λ f. lenOf (fields (a .names) (fieldIn f) (entries (a .kinds .now) (a .words .now)))) (sym (c .enum-told .given .1))
 
 returns-2 : tie.Need-returns-2
 unfolding field
-returns-2 c = c .item-len .ensures ∙ insts.field-alone _ (BookField.plain _) _ ∙ ap (λ f. lenOf (fields (c .before .before .before .before .before .before .args .names) (fieldIn f) (entries (c .before .before .before .before .before .before .args .kinds .now) (c .before .before .before .before .before .before .args .words .now)))) (sym (c .before .before .field .given .1))
+returns-2 c =
+    let a = c .before .before .before .before .before .before .args in
+    c .item-len .ensures ∙ insts.field-alone _ (BookField.plain _) _ ∙ ap (λ f. lenOf (fields (a .names) (fieldIn f) (entries (a .kinds .now) (a .words .now)))) (sym (c .before .before .field .given .1))
 
 returns-3 : tie.Need-returns-3
 unfolding field
-returns-3 c = c .optional-len .ensures ∙ insts.field-alone _ (BookField.optional _) _ ∙ ap (λ f. lenOf (fields (c .before .before .before .before .before .before .args .names) (fieldIn f) (entries (c .before .before .before .before .before .before .args .kinds .now) (c .before .before .before .before .before .before .args .words .now)))) (sym (c .before .before .field2 .given .1))
+returns-3 c =
+    let a = c .before .before .before .before .before .before .args in
+    c .optional-len .ensures ∙ insts.field-alone _ (BookField.optional _) _ ∙ ap (λ f. lenOf (fields (a .names) (fieldIn f) (entries (a .kinds .now) (a .words .now)))) (sym (c .before .before .field2 .given .1))
 
 returns-4 : tie.Need-returns-4
 unfolding field many
-returns-4 c = c .list-len .ensures ∙ ap (λ n. lenOf (listOf n (item (c .before .before .before .before .before .before .before .args .names) (itemOf (c .before .before .before .field3 .given .0 .0))) (entries (c .before .before .before .before .before .before .before .args .kinds .now) (c .before .before .before .before .before .before .before .args .words .now)))) (c .before .shorter .ensures) ∙ insts.field-alone _ (BookField.list _) _ ∙ ap (λ f. lenOf (fields (c .before .before .before .before .before .before .before .args .names) (fieldIn f) (entries (c .before .before .before .before .before .before .before .args .kinds .now) (c .before .before .before .before .before .before .before .args .words .now)))) (sym (c .before .before .before .field3 .given .1))
+returns-4 c =
+    let a = c .before .before .before .before .before .before .before .args in
+    c .list-len .ensures ∙ ap (λ n. lenOf (listOf n (item (a .names) (itemOf (c .before .before .before .field3 .given .0 .0))) (entries (a .kinds .now) (a .words .now)))) (c .before .shorter .ensures) ∙ insts.field-alone _ (BookField.list _) _ ∙ ap (λ f. lenOf (fields (a .names) (fieldIn f) (entries (a .kinds .now) (a .words .now)))) (sym (c .before .before .before .field3 .given .1))
 
 returns-5 : tie.Need-returns-5
 unfolding field
-returns-5 c = c .list-len2 .ensures ∙ insts.field-alone _ (BookField.upTo _ _) _ ∙ ap (λ f. lenOf (fields (c .before .before .before .before .before .before .args .names) (fieldIn f) (entries (c .before .before .before .before .before .before .args .kinds .now) (c .before .before .before .before .before .before .args .words .now)))) (sym (c .before .before .field4 .given .1))
+returns-5 c =
+    let a = c .before .before .before .before .before .before .args in
+    c .list-len2 .ensures ∙ insts.field-alone _ (BookField.upTo _ _) _ ∙ ap (λ f. lenOf (fields (a .names) (fieldIn f) (entries (a .kinds .now) (a .words .now)))) (sym (c .before .before .field4 .given .1))
 
 pub field-len-spec : {M : Type 1} → statement M
 field-len-spec =

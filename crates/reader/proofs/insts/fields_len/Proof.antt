@@ -22,28 +22,42 @@ enum-told : tie.Need-enum-told
 enum-told c = search needs
 
 returns : tie.Need-returns
-returns c = items.both-bad (fields (c .before .before .before .before .before .args .names) (twoFields (c .before .before .before .before .before .args .fields .a) (c .before .before .before .before .before .args .fields .b))) (fields (c .before .before .before .before .before .args .names) (twoFields (c .before .before .before .before .before .args .fields .c) (c .before .before .before .before .before .args .fields .d))) (c .before .before .before .before .before .args .kinds .now) (c .before .before .before .before .before .args .words .now) _ (c .before .before .two-len .ensures) (c .enum-told .given .1) ∙ sym (insts.fields-append _ (twoFields (c .before .before .before .before .before .args .fields .a) (c .before .before .before .before .before .args .fields .b)) (twoFields (c .before .before .before .before .before .args .fields .c) (c .before .before .before .before .before .args .fields .d)) _)
+returns c =
+    let a = c .before .before .before .before .before .args in
+    items.both-bad (fields (a .names) (twoFields (a .fields .a) (a .fields .b))) (fields (a .names) (twoFields (a .fields .c) (a .fields .d))) (a .kinds .now) (a .words .now) _ (c .before .before .two-len .ensures) (c .enum-told .given .1) ∙ sym (insts.fields-append _ (twoFields (a .fields .a) (a .fields .b)) (twoFields (a .fields .c) (a .fields .d)) _)
 
 mul-two-len : tie.Need-mul-two-len
-mul-two-len c = omega (arith, items.pair-kinds (fields (c .before .before .before .before .before .before .args .names) (twoFields (c .before .before .before .before .before .before .args .fields .a) (c .before .before .before .before .before .before .args .fields .b))) (fields (c .before .before .before .before .before .before .args .names) (twoFields (c .before .before .before .before .before .before .args .fields .c) (c .before .before .before .before .before .before .args .fields .d))) (c .before .before .before .before .before .before .args .kinds .now) (c .before .before .before .before .before .before .args .words .now) _ (c .before .before .before .two-len .ensures) _ (c .before .n .given .1) (agrees-fields _ (twoFields (c .before .before .before .before .before .before .args .fields .a) (c .before .before .before .before .before .before .args .fields .b))), c .before .before .before .before .before .before .good)
+mul-two-len c =
+    let a = c .before .before .before .before .before .before .args in
+    omega (arith, items.pair-kinds (fields (a .names) (twoFields (a .fields .a) (a .fields .b))) (fields (a .names) (twoFields (a .fields .c) (a .fields .d))) (a .kinds .now) (a .words .now) _ (c .before .before .before .two-len .ensures) _ (c .before .n .given .1) (agrees-fields _ (twoFields (a .fields .a) (a .fields .b))), c .before .before .before .before .before .before .good)
 
 sub-two-len : tie.Need-sub-two-len
-sub-two-len c = items.pair-kinds (fields (c .before .before .before .before .before .before .args .names) (twoFields (c .before .before .before .before .before .before .args .fields .a) (c .before .before .before .before .before .before .args .fields .b))) (fields (c .before .before .before .before .before .before .args .names) (twoFields (c .before .before .before .before .before .before .args .fields .c) (c .before .before .before .before .before .before .args .fields .d))) (c .before .before .before .before .before .before .args .kinds .now) (c .before .before .before .before .before .before .args .words .now) _ (c .before .before .before .two-len .ensures) _ (c .before .n .given .1) (agrees-fields _ (twoFields (c .before .before .before .before .before .before .args .fields .a) (c .before .before .before .before .before .before .args .fields .b)))
+sub-two-len c =
+    let a = c .before .before .before .before .before .before .args in
+    items.pair-kinds (fields (a .names) (twoFields (a .fields .a) (a .fields .b))) (fields (a .names) (twoFields (a .fields .c) (a .fields .d))) (a .kinds .now) (a .words .now) _ (c .before .before .before .two-len .ensures) _ (c .before .n .given .1) (agrees-fields _ (twoFields (a .fields .a) (a .fields .b)))
 
 part-two-len-start : tie.Need-part-two-len-start
-part-two-len-start c = items.pair-kinds (fields (c .before .before .before .before .before .before .args .names) (twoFields (c .before .before .before .before .before .before .args .fields .a) (c .before .before .before .before .before .before .args .fields .b))) (fields (c .before .before .before .before .before .before .args .names) (twoFields (c .before .before .before .before .before .before .args .fields .c) (c .before .before .before .before .before .before .args .fields .d))) (c .before .before .before .before .before .before .args .kinds .now) (c .before .before .before .before .before .before .args .words .now) _ (c .before .before .before .two-len .ensures) _ (c .before .n .given .1) (agrees-fields _ (twoFields (c .before .before .before .before .before .before .args .fields .a) (c .before .before .before .before .before .before .args .fields .b)))
+part-two-len-start c =
+    let a = c .before .before .before .before .before .before .args in
+    items.pair-kinds (fields (a .names) (twoFields (a .fields .a) (a .fields .b))) (fields (a .names) (twoFields (a .fields .c) (a .fields .d))) (a .kinds .now) (a .words .now) _ (c .before .before .before .two-len .ensures) _ (c .before .n .given .1) (agrees-fields _ (twoFields (a .fields .a) (a .fields .b)))
 
 part-two-len-end : tie.Need-part-two-len-end
 part-two-len-end c = search needs
 
 mul-two-len-2 : tie.Need-mul-two-len-2
-mul-two-len-2 c = omega (arith, items.pair-words (fields (c .before .before .before .before .before .before .before .args .names) (twoFields (c .before .before .before .before .before .before .before .args .fields .a) (c .before .before .before .before .before .before .before .args .fields .b))) (fields (c .before .before .before .before .before .before .before .args .names) (twoFields (c .before .before .before .before .before .before .before .args .fields .c) (c .before .before .before .before .before .before .before .args .fields .d))) (c .before .before .before .before .before .before .before .args .kinds .now) (c .before .before .before .before .before .before .before .args .words .now) _ (c .before .before .before .before .two-len .ensures) _ (c .before .before .n .given .1) (agrees-fields _ (twoFields (c .before .before .before .before .before .before .before .args .fields .a) (c .before .before .before .before .before .before .before .args .fields .b))), c .before .before .before .before .before .before .before .good)
+mul-two-len-2 c =
+    let a = c .before .before .before .before .before .before .before .args in
+    omega (arith, items.pair-words (fields (a .names) (twoFields (a .fields .a) (a .fields .b))) (fields (a .names) (twoFields (a .fields .c) (a .fields .d))) (a .kinds .now) (a .words .now) _ (c .before .before .before .before .two-len .ensures) _ (c .before .before .n .given .1) (agrees-fields _ (twoFields (a .fields .a) (a .fields .b))), c .before .before .before .before .before .before .before .good)
 
 sub-two-len-2 : tie.Need-sub-two-len-2
-sub-two-len-2 c = items.pair-words (fields (c .before .before .before .before .before .before .before .args .names) (twoFields (c .before .before .before .before .before .before .before .args .fields .a) (c .before .before .before .before .before .before .before .args .fields .b))) (fields (c .before .before .before .before .before .before .before .args .names) (twoFields (c .before .before .before .before .before .before .before .args .fields .c) (c .before .before .before .before .before .before .before .args .fields .d))) (c .before .before .before .before .before .before .before .args .kinds .now) (c .before .before .before .before .before .before .before .args .words .now) _ (c .before .before .before .before .two-len .ensures) _ (c .before .before .n .given .1) (agrees-fields _ (twoFields (c .before .before .before .before .before .before .before .args .fields .a) (c .before .before .before .before .before .before .before .args .fields .b)))
+sub-two-len-2 c =
+    let a = c .before .before .before .before .before .before .before .args in
+    items.pair-words (fields (a .names) (twoFields (a .fields .a) (a .fields .b))) (fields (a .names) (twoFields (a .fields .c) (a .fields .d))) (a .kinds .now) (a .words .now) _ (c .before .before .before .before .two-len .ensures) _ (c .before .before .n .given .1) (agrees-fields _ (twoFields (a .fields .a) (a .fields .b)))
 
 part-two-len-start-2 : tie.Need-part-two-len-start-2
-part-two-len-start-2 c = items.pair-words (fields (c .before .before .before .before .before .before .before .args .names) (twoFields (c .before .before .before .before .before .before .before .args .fields .a) (c .before .before .before .before .before .before .before .args .fields .b))) (fields (c .before .before .before .before .before .before .before .args .names) (twoFields (c .before .before .before .before .before .before .before .args .fields .c) (c .before .before .before .before .before .before .before .args .fields .d))) (c .before .before .before .before .before .before .before .args .kinds .now) (c .before .before .before .before .before .before .before .args .words .now) _ (c .before .before .before .before .two-len .ensures) _ (c .before .before .n .given .1) (agrees-fields _ (twoFields (c .before .before .before .before .before .before .before .args .fields .a) (c .before .before .before .before .before .before .before .args .fields .b)))
+part-two-len-start-2 c =
+    let a = c .before .before .before .before .before .before .before .args in
+    items.pair-words (fields (a .names) (twoFields (a .fields .a) (a .fields .b))) (fields (a .names) (twoFields (a .fields .c) (a .fields .d))) (a .kinds .now) (a .words .now) _ (c .before .before .before .before .two-len .ensures) _ (c .before .before .n .given .1) (agrees-fields _ (twoFields (a .fields .a) (a .fields .b)))
 
 part-two-len-end-2 : tie.Need-part-two-len-end-2
 part-two-len-end-2 c = search needs
@@ -52,10 +66,14 @@ two-len-requires-2 : tie.Need-two-len-requires-2
 two-len-requires-2 c κs = search needs
 
 then-len-requires : tie.Need-then-len-requires
-then-len-requires c κs = items.pair-room (fields (c .before .before .before .before .before .before .before .before .before .args .names) (twoFields (c .before .before .before .before .before .before .before .before .before .args .fields .a) (c .before .before .before .before .before .before .before .before .before .args .fields .b))) (fields (c .before .before .before .before .before .before .before .before .before .args .names) (twoFields (c .before .before .before .before .before .before .before .before .before .args .fields .c) (c .before .before .before .before .before .before .before .before .before .args .fields .d))) (c .before .before .before .before .before .before .before .before .before .args .kinds .now) (c .before .before .before .before .before .before .before .before .before .args .words .now) _ (c .before .before .before .before .before .before .two-len .ensures) _ (c .before .before .before .before .n .given .1) (agrees-fields _ (twoFields (c .before .before .before .before .before .before .before .before .before .args .fields .a) (c .before .before .before .before .before .before .before .before .before .args .fields .b))) (agrees-fields _ (twoFields (c .before .before .before .before .before .before .before .before .before .args .fields .c) (c .before .before .before .before .before .before .before .before .before .args .fields .d))) (omega arith) _ (c .two-len2 .ensures)
+then-len-requires c κs =
+    let a = c .before .before .before .before .before .before .before .before .before .args in
+    items.pair-room (fields (a .names) (twoFields (a .fields .a) (a .fields .b))) (fields (a .names) (twoFields (a .fields .c) (a .fields .d))) (a .kinds .now) (a .words .now) _ (c .before .before .before .before .before .before .two-len .ensures) _ (c .before .before .before .before .n .given .1) (agrees-fields _ (twoFields (a .fields .a) (a .fields .b))) (agrees-fields _ (twoFields (a .fields .c) (a .fields .d))) (omega arith) _ (c .two-len2 .ensures)
 
 returns-2 : tie.Need-returns-2
-returns-2 c = items.both-arm (fields (c .before .before .before .before .before .before .before .before .before .before .args .names) (twoFields (c .before .before .before .before .before .before .before .before .before .before .args .fields .a) (c .before .before .before .before .before .before .before .before .before .before .args .fields .b))) (fields (c .before .before .before .before .before .before .before .before .before .before .args .names) (twoFields (c .before .before .before .before .before .before .before .before .before .before .args .fields .c) (c .before .before .before .before .before .before .before .before .before .before .args .fields .d))) (c .before .before .before .before .before .before .before .before .before .before .args .kinds .now) (c .before .before .before .before .before .before .before .before .before .before .args .words .now) _ (c .before .before .before .before .before .before .before .two-len .ensures) _ (c .before .before .before .before .before .n .given .1) _ _ (c .before .two-len2 .ensures) (c .then-len .ensures) ∙ sym (insts.fields-append _ (twoFields (c .before .before .before .before .before .before .before .before .before .before .args .fields .a) (c .before .before .before .before .before .before .before .before .before .before .args .fields .b)) (twoFields (c .before .before .before .before .before .before .before .before .before .before .args .fields .c) (c .before .before .before .before .before .before .before .before .before .before .args .fields .d)) _)
+returns-2 c =
+    let a = c .before .before .before .before .before .before .before .before .before .before .args in
+    items.both-arm (fields (a .names) (twoFields (a .fields .a) (a .fields .b))) (fields (a .names) (twoFields (a .fields .c) (a .fields .d))) (a .kinds .now) (a .words .now) _ (c .before .before .before .before .before .before .before .two-len .ensures) _ (c .before .before .before .before .before .n .given .1) _ _ (c .before .two-len2 .ensures) (c .then-len .ensures) ∙ sym (insts.fields-append _ (twoFields (a .fields .a) (a .fields .b)) (twoFields (a .fields .c) (a .fields .d)) _)
 
 pub fields-len-spec : {M : Type 1} → statement M
 fields-len-spec =

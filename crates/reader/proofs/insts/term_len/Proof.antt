@@ -31,11 +31,15 @@ enum-told c = search needs
 
 returns : tie.Need-returns
 unfolding term
-returns c = insts.node-none (c .before .before .before .before .before .args .names) termFields termTag unmentioned (λ x. termOf (x .1 .0) (x .1 .1)) (entries (c .before .before .before .before .before .args .kinds .now) (c .before .before .before .before .before .args .words .now)) (sym (c .before .before .first-entry .ensures) ∙ c .enum-told .given .1)
+returns c =
+    let a = c .before .before .before .before .before .args in
+    insts.node-none (a .names) termFields termTag unmentioned (λ x. termOf (x .1 .0) (x .1 .1)) (entries (a .kinds .now) (a .words .now)) (sym (c .before .before .first-entry .ensures) ∙ c .enum-told .given .1)
 
 returns-2 : tie.Need-returns-2
 unfolding term
-returns-2 c = insts.node-rule (c .before .before .before .before .before .before .before .args .names) termFields termTag unmentioned (λ x. termOf (x .1 .0) (x .1 .1)) (entries (c .before .before .before .before .before .before .before .args .kinds .now) (c .before .before .before .before .before .before .before .args .words .now)) _ _ (sym (c .before .before .before .before .first-entry .ensures) ∙ c .before .before .kind .given .1) (insts.mentioned _ (c .if1 .taken))
+returns-2 c =
+    let a = c .before .before .before .before .before .before .before .args in
+    insts.node-rule (a .names) termFields termTag unmentioned (λ x. termOf (x .1 .0) (x .1 .1)) (entries (a .kinds .now) (a .words .now)) _ _ (sym (c .before .before .before .before .first-entry .ensures) ∙ c .before .before .kind .given .1) (insts.mentioned _ (c .if1 .taken))
 
 term-group-requires : tie.Need-term-group-requires
 term-group-requires c κs = search needs
@@ -51,22 +55,32 @@ enum-told-2 c = search needs
 
 returns-3 : tie.Need-returns-3
 unfolding term
-returns-3 c = insts.shape-none (c .before .before .before .before .before .before .before .before .before .before .before .args .names) termFields termTag unmentioned (λ x. termOf (x .1 .0) (x .1 .1)) (c .before .before .before .before .before .before .before .before .before .before .before .args .kinds .now) (c .before .before .before .before .before .before .before .before .before .before .before .args .words .now) _ _ (sym (c .before .before .before .before .before .before .before .before .first-entry .ensures) ∙ c .before .before .before .before .before .before .kind .given .1) _ (c .before .before .term-fields .ensures ∙ ap termShape (c .before .before .before .term-group .ensures) ∙ insts.term-shape (termTag (c .before .before .before .before .before .before .kind .given .0 .0))) (c .enum-told2 .given .1)
+returns-3 c =
+    let a = c .before .before .before .before .before .before .before .before .before .before .before .args in
+    insts.shape-none (a .names) termFields termTag unmentioned (λ x. termOf (x .1 .0) (x .1 .1)) (a .kinds .now) (a .words .now) _ _ (sym (c .before .before .before .before .before .before .before .before .first-entry .ensures) ∙ c .before .before .before .before .before .before .kind .given .1) _ (c .before .before .term-fields .ensures ∙ ap termShape (c .before .before .before .term-group .ensures) ∙ insts.term-shape (termTag (c .before .before .before .before .before .before .kind .given .0 .0))) (c .enum-told2 .given .1)
 
 sub-fields-len : tie.Need-sub-fields-len
-sub-fields-len c = laws.within-kinds 1 _ _ (insts.front-there (entries (c .before .before .before .before .before .before .before .before .before .before .before .before .args .kinds .now) (c .before .before .before .before .before .before .before .before .before .before .before .before .args .words .now)) _ _ (sym (c .before .before .before .before .before .before .before .before .before .first-entry .ensures) ∙ c .before .before .before .before .before .before .before .kind .given .1))
+sub-fields-len c =
+    let a = c .before .before .before .before .before .before .before .before .before .before .before .before .args in
+    laws.within-kinds 1 _ _ (insts.front-there (entries (a .kinds .now) (a .words .now)) _ _ (sym (c .before .before .before .before .before .before .before .before .before .first-entry .ensures) ∙ c .before .before .before .before .before .before .before .kind .given .1))
 
 part-fields-len-start : tie.Need-part-fields-len-start
-part-fields-len-start c = laws.within-kinds 1 _ _ (insts.front-there (entries (c .before .before .before .before .before .before .before .before .before .before .before .before .args .kinds .now) (c .before .before .before .before .before .before .before .before .before .before .before .before .args .words .now)) _ _ (sym (c .before .before .before .before .before .before .before .before .before .first-entry .ensures) ∙ c .before .before .before .before .before .before .before .kind .given .1))
+part-fields-len-start c =
+    let a = c .before .before .before .before .before .before .before .before .before .before .before .before .args in
+    laws.within-kinds 1 _ _ (insts.front-there (entries (a .kinds .now) (a .words .now)) _ _ (sym (c .before .before .before .before .before .before .before .before .before .first-entry .ensures) ∙ c .before .before .before .before .before .before .before .kind .given .1))
 
 part-fields-len-end : tie.Need-part-fields-len-end
 part-fields-len-end c = search needs
 
 sub-fields-len-2 : tie.Need-sub-fields-len-2
-sub-fields-len-2 c = laws.within-words 1 _ _ (insts.front-there (entries (c .before .before .before .before .before .before .before .before .before .before .before .before .before .args .kinds .now) (c .before .before .before .before .before .before .before .before .before .before .before .before .before .args .words .now)) _ _ (sym (c .before .before .before .before .before .before .before .before .before .before .first-entry .ensures) ∙ c .before .before .before .before .before .before .before .before .kind .given .1))
+sub-fields-len-2 c =
+    let a = c .before .before .before .before .before .before .before .before .before .before .before .before .before .args in
+    laws.within-words 1 _ _ (insts.front-there (entries (a .kinds .now) (a .words .now)) _ _ (sym (c .before .before .before .before .before .before .before .before .before .before .first-entry .ensures) ∙ c .before .before .before .before .before .before .before .before .kind .given .1))
 
 part-fields-len-start-2 : tie.Need-part-fields-len-start-2
-part-fields-len-start-2 c = laws.within-words 1 _ _ (insts.front-there (entries (c .before .before .before .before .before .before .before .before .before .before .before .before .before .args .kinds .now) (c .before .before .before .before .before .before .before .before .before .before .before .before .before .args .words .now)) _ _ (sym (c .before .before .before .before .before .before .before .before .before .before .first-entry .ensures) ∙ c .before .before .before .before .before .before .before .before .kind .given .1))
+part-fields-len-start-2 c =
+    let a = c .before .before .before .before .before .before .before .before .before .before .before .before .before .args in
+    laws.within-words 1 _ _ (insts.front-there (entries (a .kinds .now) (a .words .now)) _ _ (sym (c .before .before .before .before .before .before .before .before .before .before .first-entry .ensures) ∙ c .before .before .before .before .before .before .before .before .kind .given .1))
 
 part-fields-len-end-2 : tie.Need-part-fields-len-end-2
 part-fields-len-end-2 c = search needs
@@ -75,11 +89,15 @@ fields-len-requires : tie.Need-fields-len-requires
 fields-len-requires c κs = search needs
 
 then-len-requires : tie.Need-then-len-requires
-then-len-requires c κs = types.behind-room (agrees-fields (c .before .before .before .before .before .before .before .before .before .before .before .before .before .before .before .args .names) (allFields (c .before .before .before .before .fields .given .0 .0))) (c .before .before .before .before .before .before .before .before .before .before .before .before .before .before .before .args .kinds .now) (c .before .before .before .before .before .before .before .before .before .before .before .before .before .before .before .args .words .now) _ (omega arith) (laws.within-kinds 1 _ _ (insts.front-there (entries (c .before .before .before .before .before .before .before .before .before .before .before .before .before .before .before .args .kinds .now) (c .before .before .before .before .before .before .before .before .before .before .before .before .before .before .before .args .words .now)) _ _ (sym (c .before .before .before .before .before .before .before .before .before .before .before .before .first-entry .ensures) ∙ c .before .before .before .before .before .before .before .before .before .before .kind .given .1))) (c .fields-len .ensures)
+then-len-requires c κs =
+    let a = c .before .before .before .before .before .before .before .before .before .before .before .before .before .before .before .args in
+    types.behind-room (agrees-fields (a .names) (allFields (c .before .before .before .before .fields .given .0 .0))) (a .kinds .now) (a .words .now) _ (omega arith) (laws.within-kinds 1 _ _ (insts.front-there (entries (a .kinds .now) (a .words .now)) _ _ (sym (c .before .before .before .before .before .before .before .before .before .before .before .before .first-entry .ensures) ∙ c .before .before .before .before .before .before .before .before .before .before .kind .given .1))) (c .fields-len .ensures)
 
 returns-4 : tie.Need-returns-4
 unfolding term
-returns-4 c = insts.shape-some (c .before .before .before .before .before .before .before .before .before .before .before .before .before .before .before .before .args .names) termFields termTag unmentioned (λ x. termOf (x .1 .0) (x .1 .1)) (c .before .before .before .before .before .before .before .before .before .before .before .before .before .before .before .before .args .kinds .now) (c .before .before .before .before .before .before .before .before .before .before .before .before .before .before .before .before .args .words .now) _ _ (sym (c .before .before .before .before .before .before .before .before .before .before .before .before .before .first-entry .ensures) ∙ c .before .before .before .before .before .before .before .before .before .before .before .kind .given .1) _ (c .before .before .before .before .before .before .before .term-fields .ensures ∙ ap termShape (c .before .before .before .before .before .before .before .before .term-group .ensures) ∙ insts.term-shape (termTag (c .before .before .before .before .before .before .before .before .before .before .before .kind .given .0 .0))) tt (insts.not-mentioned _ (c .before .before .before .before .before .before .before .before .before .if1 .left)) _ (c .before .before .before .before .before .fields .given .1) _ _ (c .before .fields-len .ensures) (c .then-len .ensures)
+returns-4 c =
+    let a = c .before .before .before .before .before .before .before .before .before .before .before .before .before .before .before .before .args in
+    insts.shape-some (a .names) termFields termTag unmentioned (λ x. termOf (x .1 .0) (x .1 .1)) (a .kinds .now) (a .words .now) _ _ (sym (c .before .before .before .before .before .before .before .before .before .before .before .before .before .first-entry .ensures) ∙ c .before .before .before .before .before .before .before .before .before .before .before .kind .given .1) _ (c .before .before .before .before .before .before .before .term-fields .ensures ∙ ap termShape (c .before .before .before .before .before .before .before .before .term-group .ensures) ∙ insts.term-shape (termTag (c .before .before .before .before .before .before .before .before .before .before .before .kind .given .0 .0))) tt (insts.not-mentioned _ (c .before .before .before .before .before .before .before .before .before .if1 .left)) _ (c .before .before .before .before .before .fields .given .1) _ _ (c .before .fields-len .ensures) (c .then-len .ensures)
 
 pub term-len-spec : {M : Type 1} → statement M
 term-len-spec =

@@ -22,28 +22,42 @@ enum-told : tie.Need-enum-told
 enum-told c = search needs
 
 returns : tie.Need-returns
-returns c = items.both-bad (fields (c .before .before .before .before .before .args .names) (fieldIn (c .before .before .before .before .before .args .a))) (fields (c .before .before .before .before .before .args .names) (fieldIn (c .before .before .before .before .before .args .b))) (c .before .before .before .before .before .args .kinds .now) (c .before .before .before .before .before .args .words .now) _ (c .before .before .field-len .ensures) (c .enum-told .given .1) ∙ sym (insts.fields-append _ (fieldIn (c .before .before .before .before .before .args .a)) (fieldIn (c .before .before .before .before .before .args .b)) _)
+returns c =
+    let a = c .before .before .before .before .before .args in
+    items.both-bad (fields (a .names) (fieldIn (a .a))) (fields (a .names) (fieldIn (a .b))) (a .kinds .now) (a .words .now) _ (c .before .before .field-len .ensures) (c .enum-told .given .1) ∙ sym (insts.fields-append _ (fieldIn (a .a)) (fieldIn (a .b)) _)
 
 mul-field-len : tie.Need-mul-field-len
-mul-field-len c = omega (arith, items.pair-kinds (fields (c .before .before .before .before .before .before .args .names) (fieldIn (c .before .before .before .before .before .before .args .a))) (fields (c .before .before .before .before .before .before .args .names) (fieldIn (c .before .before .before .before .before .before .args .b))) (c .before .before .before .before .before .before .args .kinds .now) (c .before .before .before .before .before .before .args .words .now) _ (c .before .before .before .field-len .ensures) _ (c .before .n .given .1) (agrees-fields _ (fieldIn (c .before .before .before .before .before .before .args .a))), c .before .before .before .before .before .before .good)
+mul-field-len c =
+    let a = c .before .before .before .before .before .before .args in
+    omega (arith, items.pair-kinds (fields (a .names) (fieldIn (a .a))) (fields (a .names) (fieldIn (a .b))) (a .kinds .now) (a .words .now) _ (c .before .before .before .field-len .ensures) _ (c .before .n .given .1) (agrees-fields _ (fieldIn (a .a))), c .before .before .before .before .before .before .good)
 
 sub-field-len : tie.Need-sub-field-len
-sub-field-len c = items.pair-kinds (fields (c .before .before .before .before .before .before .args .names) (fieldIn (c .before .before .before .before .before .before .args .a))) (fields (c .before .before .before .before .before .before .args .names) (fieldIn (c .before .before .before .before .before .before .args .b))) (c .before .before .before .before .before .before .args .kinds .now) (c .before .before .before .before .before .before .args .words .now) _ (c .before .before .before .field-len .ensures) _ (c .before .n .given .1) (agrees-fields _ (fieldIn (c .before .before .before .before .before .before .args .a)))
+sub-field-len c =
+    let a = c .before .before .before .before .before .before .args in
+    items.pair-kinds (fields (a .names) (fieldIn (a .a))) (fields (a .names) (fieldIn (a .b))) (a .kinds .now) (a .words .now) _ (c .before .before .before .field-len .ensures) _ (c .before .n .given .1) (agrees-fields _ (fieldIn (a .a)))
 
 part-field-len-start : tie.Need-part-field-len-start
-part-field-len-start c = items.pair-kinds (fields (c .before .before .before .before .before .before .args .names) (fieldIn (c .before .before .before .before .before .before .args .a))) (fields (c .before .before .before .before .before .before .args .names) (fieldIn (c .before .before .before .before .before .before .args .b))) (c .before .before .before .before .before .before .args .kinds .now) (c .before .before .before .before .before .before .args .words .now) _ (c .before .before .before .field-len .ensures) _ (c .before .n .given .1) (agrees-fields _ (fieldIn (c .before .before .before .before .before .before .args .a)))
+part-field-len-start c =
+    let a = c .before .before .before .before .before .before .args in
+    items.pair-kinds (fields (a .names) (fieldIn (a .a))) (fields (a .names) (fieldIn (a .b))) (a .kinds .now) (a .words .now) _ (c .before .before .before .field-len .ensures) _ (c .before .n .given .1) (agrees-fields _ (fieldIn (a .a)))
 
 part-field-len-end : tie.Need-part-field-len-end
 part-field-len-end c = search needs
 
 mul-field-len-2 : tie.Need-mul-field-len-2
-mul-field-len-2 c = omega (arith, items.pair-words (fields (c .before .before .before .before .before .before .before .args .names) (fieldIn (c .before .before .before .before .before .before .before .args .a))) (fields (c .before .before .before .before .before .before .before .args .names) (fieldIn (c .before .before .before .before .before .before .before .args .b))) (c .before .before .before .before .before .before .before .args .kinds .now) (c .before .before .before .before .before .before .before .args .words .now) _ (c .before .before .before .before .field-len .ensures) _ (c .before .before .n .given .1) (agrees-fields _ (fieldIn (c .before .before .before .before .before .before .before .args .a))), c .before .before .before .before .before .before .before .good)
+mul-field-len-2 c =
+    let a = c .before .before .before .before .before .before .before .args in
+    omega (arith, items.pair-words (fields (a .names) (fieldIn (a .a))) (fields (a .names) (fieldIn (a .b))) (a .kinds .now) (a .words .now) _ (c .before .before .before .before .field-len .ensures) _ (c .before .before .n .given .1) (agrees-fields _ (fieldIn (a .a))), c .before .before .before .before .before .before .before .good)
 
 sub-field-len-2 : tie.Need-sub-field-len-2
-sub-field-len-2 c = items.pair-words (fields (c .before .before .before .before .before .before .before .args .names) (fieldIn (c .before .before .before .before .before .before .before .args .a))) (fields (c .before .before .before .before .before .before .before .args .names) (fieldIn (c .before .before .before .before .before .before .before .args .b))) (c .before .before .before .before .before .before .before .args .kinds .now) (c .before .before .before .before .before .before .before .args .words .now) _ (c .before .before .before .before .field-len .ensures) _ (c .before .before .n .given .1) (agrees-fields _ (fieldIn (c .before .before .before .before .before .before .before .args .a)))
+sub-field-len-2 c =
+    let a = c .before .before .before .before .before .before .before .args in
+    items.pair-words (fields (a .names) (fieldIn (a .a))) (fields (a .names) (fieldIn (a .b))) (a .kinds .now) (a .words .now) _ (c .before .before .before .before .field-len .ensures) _ (c .before .before .n .given .1) (agrees-fields _ (fieldIn (a .a)))
 
 part-field-len-start-2 : tie.Need-part-field-len-start-2
-part-field-len-start-2 c = items.pair-words (fields (c .before .before .before .before .before .before .before .args .names) (fieldIn (c .before .before .before .before .before .before .before .args .a))) (fields (c .before .before .before .before .before .before .before .args .names) (fieldIn (c .before .before .before .before .before .before .before .args .b))) (c .before .before .before .before .before .before .before .args .kinds .now) (c .before .before .before .before .before .before .before .args .words .now) _ (c .before .before .before .before .field-len .ensures) _ (c .before .before .n .given .1) (agrees-fields _ (fieldIn (c .before .before .before .before .before .before .before .args .a)))
+part-field-len-start-2 c =
+    let a = c .before .before .before .before .before .before .before .args in
+    items.pair-words (fields (a .names) (fieldIn (a .a))) (fields (a .names) (fieldIn (a .b))) (a .kinds .now) (a .words .now) _ (c .before .before .before .before .field-len .ensures) _ (c .before .before .n .given .1) (agrees-fields _ (fieldIn (a .a)))
 
 part-field-len-end-2 : tie.Need-part-field-len-end-2
 part-field-len-end-2 c = search needs
@@ -52,10 +66,14 @@ field-len-requires-2 : tie.Need-field-len-requires-2
 field-len-requires-2 c κs = search needs
 
 then-len-requires : tie.Need-then-len-requires
-then-len-requires c κs = items.pair-room (fields (c .before .before .before .before .before .before .before .before .before .args .names) (fieldIn (c .before .before .before .before .before .before .before .before .before .args .a))) (fields (c .before .before .before .before .before .before .before .before .before .args .names) (fieldIn (c .before .before .before .before .before .before .before .before .before .args .b))) (c .before .before .before .before .before .before .before .before .before .args .kinds .now) (c .before .before .before .before .before .before .before .before .before .args .words .now) _ (c .before .before .before .before .before .before .field-len .ensures) _ (c .before .before .before .before .n .given .1) (agrees-fields _ (fieldIn (c .before .before .before .before .before .before .before .before .before .args .a))) (agrees-fields _ (fieldIn (c .before .before .before .before .before .before .before .before .before .args .b))) (omega arith) _ (c .field-len2 .ensures)
+then-len-requires c κs =
+    let a = c .before .before .before .before .before .before .before .before .before .args in
+    items.pair-room (fields (a .names) (fieldIn (a .a))) (fields (a .names) (fieldIn (a .b))) (a .kinds .now) (a .words .now) _ (c .before .before .before .before .before .before .field-len .ensures) _ (c .before .before .before .before .n .given .1) (agrees-fields _ (fieldIn (a .a))) (agrees-fields _ (fieldIn (a .b))) (omega arith) _ (c .field-len2 .ensures)
 
 returns-2 : tie.Need-returns-2
-returns-2 c = items.both-arm (fields (c .before .before .before .before .before .before .before .before .before .before .args .names) (fieldIn (c .before .before .before .before .before .before .before .before .before .before .args .a))) (fields (c .before .before .before .before .before .before .before .before .before .before .args .names) (fieldIn (c .before .before .before .before .before .before .before .before .before .before .args .b))) (c .before .before .before .before .before .before .before .before .before .before .args .kinds .now) (c .before .before .before .before .before .before .before .before .before .before .args .words .now) _ (c .before .before .before .before .before .before .before .field-len .ensures) _ (c .before .before .before .before .before .n .given .1) _ _ (c .before .field-len2 .ensures) (c .then-len .ensures) ∙ sym (insts.fields-append _ (fieldIn (c .before .before .before .before .before .before .before .before .before .before .args .a)) (fieldIn (c .before .before .before .before .before .before .before .before .before .before .args .b)) _)
+returns-2 c =
+    let a = c .before .before .before .before .before .before .before .before .before .before .args in
+    items.both-arm (fields (a .names) (fieldIn (a .a))) (fields (a .names) (fieldIn (a .b))) (a .kinds .now) (a .words .now) _ (c .before .before .before .before .before .before .before .field-len .ensures) _ (c .before .before .before .before .before .n .given .1) _ _ (c .before .field-len2 .ensures) (c .then-len .ensures) ∙ sym (insts.fields-append _ (fieldIn (a .a)) (fieldIn (a .b)) _)
 
 pub two-len-spec : {M : Type 1} → statement M
 two-len-spec =

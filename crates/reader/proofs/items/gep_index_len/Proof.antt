@@ -18,31 +18,47 @@ enum-told : tie.Need-enum-told
 enum-told c = search needs
 
 returns : tie.Need-returns
-returns c = items.index-bad (c .before .before .before .before .before .args .names) (c .before .before .before .before .before .args .kinds .now) (c .before .before .before .before .before .args .words .now) _ (c .before .before .typed-len .ensures) (c .enum-told .given .1)
+returns c =
+    let a = c .before .before .before .before .before .args in
+    items.index-bad (a .names) (a .kinds .now) (a .words .now) _ (c .before .before .typed-len .ensures) (c .enum-told .given .1)
 
 sub-last : tie.Need-sub-last
-sub-last c = items.index-some (c .before .before .before .before .before .before .args .names) (c .before .before .before .before .before .before .args .kinds .now) (c .before .before .before .before .before .before .args .words .now) _ (c .before .before .before .typed-len .ensures) _ (c .before .n .given .1)
+sub-last c =
+    let a = c .before .before .before .before .before .before .args in
+    items.index-some (a .names) (a .kinds .now) (a .words .now) _ (c .before .before .before .typed-len .ensures) _ (c .before .n .given .1)
 
 mul-first-entry : tie.Need-mul-first-entry
-mul-first-entry c = omega (arith, items.index-kinds (c .before .before .before .before .before .before .args .names) (c .before .before .before .before .before .before .args .kinds .now) (c .before .before .before .before .before .before .args .words .now) _ (c .before .before .before .typed-len .ensures) _ (c .before .n .given .1), c .before .before .before .before .before .before .good)
+mul-first-entry c =
+    let a = c .before .before .before .before .before .before .args in
+    omega (arith, items.index-kinds (a .names) (a .kinds .now) (a .words .now) _ (c .before .before .before .typed-len .ensures) _ (c .before .n .given .1), c .before .before .before .before .before .before .good)
 
 sub-first-entry : tie.Need-sub-first-entry
-sub-first-entry c = omega (arith, items.index-kinds (c .before .before .before .before .before .before .args .names) (c .before .before .before .before .before .before .args .kinds .now) (c .before .before .before .before .before .before .args .words .now) _ (c .before .before .before .typed-len .ensures) _ (c .before .n .given .1))
+sub-first-entry c =
+    let a = c .before .before .before .before .before .before .args in
+    omega (arith, items.index-kinds (a .names) (a .kinds .now) (a .words .now) _ (c .before .before .before .typed-len .ensures) _ (c .before .n .given .1))
 
 part-first-entry-start : tie.Need-part-first-entry-start
-part-first-entry-start c = omega (arith, items.index-kinds (c .before .before .before .before .before .before .args .names) (c .before .before .before .before .before .before .args .kinds .now) (c .before .before .before .before .before .before .args .words .now) _ (c .before .before .before .typed-len .ensures) _ (c .before .n .given .1))
+part-first-entry-start c =
+    let a = c .before .before .before .before .before .before .args in
+    omega (arith, items.index-kinds (a .names) (a .kinds .now) (a .words .now) _ (c .before .before .before .typed-len .ensures) _ (c .before .n .given .1))
 
 part-first-entry-end : tie.Need-part-first-entry-end
 part-first-entry-end c = search needs
 
 mul-first-entry-2 : tie.Need-mul-first-entry-2
-mul-first-entry-2 c = omega (arith, items.index-words (c .before .before .before .before .before .before .before .args .names) (c .before .before .before .before .before .before .before .args .kinds .now) (c .before .before .before .before .before .before .before .args .words .now) _ (c .before .before .before .before .typed-len .ensures) _ (c .before .before .n .given .1), c .before .before .before .before .before .before .before .good)
+mul-first-entry-2 c =
+    let a = c .before .before .before .before .before .before .before .args in
+    omega (arith, items.index-words (a .names) (a .kinds .now) (a .words .now) _ (c .before .before .before .before .typed-len .ensures) _ (c .before .before .n .given .1), c .before .before .before .before .before .before .before .good)
 
 sub-first-entry-2 : tie.Need-sub-first-entry-2
-sub-first-entry-2 c = omega (arith, items.index-words (c .before .before .before .before .before .before .before .args .names) (c .before .before .before .before .before .before .before .args .kinds .now) (c .before .before .before .before .before .before .before .args .words .now) _ (c .before .before .before .before .typed-len .ensures) _ (c .before .before .n .given .1))
+sub-first-entry-2 c =
+    let a = c .before .before .before .before .before .before .before .args in
+    omega (arith, items.index-words (a .names) (a .kinds .now) (a .words .now) _ (c .before .before .before .before .typed-len .ensures) _ (c .before .before .n .given .1))
 
 part-first-entry-start-2 : tie.Need-part-first-entry-start-2
-part-first-entry-start-2 c = omega (arith, items.index-words (c .before .before .before .before .before .before .before .args .names) (c .before .before .before .before .before .before .before .args .kinds .now) (c .before .before .before .before .before .before .before .args .words .now) _ (c .before .before .before .before .typed-len .ensures) _ (c .before .before .n .given .1))
+part-first-entry-start-2 c =
+    let a = c .before .before .before .before .before .before .before .args in
+    omega (arith, items.index-words (a .names) (a .kinds .now) (a .words .now) _ (c .before .before .before .before .typed-len .ensures) _ (c .before .before .n .given .1))
 
 part-first-entry-end-2 : tie.Need-part-first-entry-end-2
 part-first-entry-end-2 c = search needs
@@ -54,10 +70,14 @@ index-fits-requires : tie.Need-index-fits-requires
 index-fits-requires c κs = search needs
 
 returns-2 : tie.Need-returns-2
-returns-2 c = items.index-ok (c .before .before .before .before .before .before .before .before .before .before .before .args .names) (c .before .before .before .before .before .before .before .before .before .before .before .args .kinds .now) (c .before .before .before .before .before .before .before .before .before .before .before .args .words .now) _ (c .before .before .before .before .before .before .before .before .typed-len .ensures) _ (c .before .before .before .before .before .before .n .given .1) _ _ (c .before .before .first-entry .ensures) (c .before .index-fits .ensures) (c .if1 .taken)
+returns-2 c =
+    let a = c .before .before .before .before .before .before .before .before .before .before .before .args in
+    items.index-ok (a .names) (a .kinds .now) (a .words .now) _ (c .before .before .before .before .before .before .before .before .typed-len .ensures) _ (c .before .before .before .before .before .before .n .given .1) _ _ (c .before .before .first-entry .ensures) (c .before .index-fits .ensures) (c .if1 .taken)
 
 returns-3 : tie.Need-returns-3
-returns-3 c = items.index-out (c .before .before .before .before .before .before .before .before .before .before .before .args .names) (c .before .before .before .before .before .before .before .before .before .before .before .args .kinds .now) (c .before .before .before .before .before .before .before .before .before .before .before .args .words .now) _ (c .before .before .before .before .before .before .before .before .typed-len .ensures) _ (c .before .before .before .before .before .before .n .given .1) _ _ (c .before .before .first-entry .ensures) (c .before .index-fits .ensures) (c .if1 .left)
+returns-3 c =
+    let a = c .before .before .before .before .before .before .before .before .before .before .before .args in
+    items.index-out (a .names) (a .kinds .now) (a .words .now) _ (c .before .before .before .before .before .before .before .before .typed-len .ensures) _ (c .before .before .before .before .before .before .n .given .1) _ _ (c .before .before .first-entry .ensures) (c .before .index-fits .ensures) (c .if1 .left)
 
 pub gep-index-len-spec : {M : Type 1} → statement M
 gep-index-len-spec =

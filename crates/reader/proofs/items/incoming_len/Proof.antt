@@ -28,28 +28,42 @@ enum-told c = search needs
 
 returns : tie.Need-returns
 unfolding incoming block
-returns c = items.pair-bad (value (c .before .before .before .before .before .before .args .names)) (block (c .before .before .before .before .before .before .args .names)) (c .before .before .before .before .before .before .args .kinds .now) (c .before .before .before .before .before .before .args .words .now) _ (c .before .before .value-len .ensures ∙ ap (valueFront _) (c .before .before .before .first-entry .ensures) ∙ sym (items.value-front _ _)) (λ p. record { val = p .0; label = p .1 }) (c .enum-told .given .1)
+returns c =
+    let a = c .before .before .before .before .before .before .args in
+    items.pair-bad (value (a .names)) (block (a .names)) (a .kinds .now) (a .words .now) _ (c .before .before .value-len .ensures ∙ ap (valueFront _) (c .before .before .before .first-entry .ensures) ∙ sym (items.value-front _ _)) (λ p. record { val = p .0; label = p .1 }) (c .enum-told .given .1)
 
 mul-first-entry : tie.Need-mul-first-entry
-mul-first-entry c = omega (arith, items.pair-kinds (value (c .before .before .before .before .before .before .before .args .names)) (block (c .before .before .before .before .before .before .before .args .names)) (c .before .before .before .before .before .before .before .args .kinds .now) (c .before .before .before .before .before .before .before .args .words .now) _ (c .before .before .before .value-len .ensures ∙ ap (valueFront _) (c .before .before .before .before .first-entry .ensures) ∙ sym (items.value-front _ _)) _ (c .before .n .given .1) (agrees-value _), c .before .before .before .before .before .before .before .good)
+mul-first-entry c =
+    let a = c .before .before .before .before .before .before .before .args in
+    omega (arith, items.pair-kinds (value (a .names)) (block (a .names)) (a .kinds .now) (a .words .now) _ (c .before .before .before .value-len .ensures ∙ ap (valueFront _) (c .before .before .before .before .first-entry .ensures) ∙ sym (items.value-front _ _)) _ (c .before .n .given .1) (agrees-value _), c .before .before .before .before .before .before .before .good)
 
 sub-first-entry : tie.Need-sub-first-entry
-sub-first-entry c = items.pair-kinds (value (c .before .before .before .before .before .before .before .args .names)) (block (c .before .before .before .before .before .before .before .args .names)) (c .before .before .before .before .before .before .before .args .kinds .now) (c .before .before .before .before .before .before .before .args .words .now) _ (c .before .before .before .value-len .ensures ∙ ap (valueFront _) (c .before .before .before .before .first-entry .ensures) ∙ sym (items.value-front _ _)) _ (c .before .n .given .1) (agrees-value _)
+sub-first-entry c =
+    let a = c .before .before .before .before .before .before .before .args in
+    items.pair-kinds (value (a .names)) (block (a .names)) (a .kinds .now) (a .words .now) _ (c .before .before .before .value-len .ensures ∙ ap (valueFront _) (c .before .before .before .before .first-entry .ensures) ∙ sym (items.value-front _ _)) _ (c .before .n .given .1) (agrees-value _)
 
 part-first-entry-start : tie.Need-part-first-entry-start
-part-first-entry-start c = items.pair-kinds (value (c .before .before .before .before .before .before .before .args .names)) (block (c .before .before .before .before .before .before .before .args .names)) (c .before .before .before .before .before .before .before .args .kinds .now) (c .before .before .before .before .before .before .before .args .words .now) _ (c .before .before .before .value-len .ensures ∙ ap (valueFront _) (c .before .before .before .before .first-entry .ensures) ∙ sym (items.value-front _ _)) _ (c .before .n .given .1) (agrees-value _)
+part-first-entry-start c =
+    let a = c .before .before .before .before .before .before .before .args in
+    items.pair-kinds (value (a .names)) (block (a .names)) (a .kinds .now) (a .words .now) _ (c .before .before .before .value-len .ensures ∙ ap (valueFront _) (c .before .before .before .before .first-entry .ensures) ∙ sym (items.value-front _ _)) _ (c .before .n .given .1) (agrees-value _)
 
 part-first-entry-end : tie.Need-part-first-entry-end
 part-first-entry-end c = search needs
 
 mul-first-entry-2 : tie.Need-mul-first-entry-2
-mul-first-entry-2 c = omega (arith, items.pair-words (value (c .before .before .before .before .before .before .before .before .args .names)) (block (c .before .before .before .before .before .before .before .before .args .names)) (c .before .before .before .before .before .before .before .before .args .kinds .now) (c .before .before .before .before .before .before .before .before .args .words .now) _ (c .before .before .before .before .value-len .ensures ∙ ap (valueFront _) (c .before .before .before .before .before .first-entry .ensures) ∙ sym (items.value-front _ _)) _ (c .before .before .n .given .1) (agrees-value _), c .before .before .before .before .before .before .before .before .good)
+mul-first-entry-2 c =
+    let a = c .before .before .before .before .before .before .before .before .args in
+    omega (arith, items.pair-words (value (a .names)) (block (a .names)) (a .kinds .now) (a .words .now) _ (c .before .before .before .before .value-len .ensures ∙ ap (valueFront _) (c .before .before .before .before .before .first-entry .ensures) ∙ sym (items.value-front _ _)) _ (c .before .before .n .given .1) (agrees-value _), c .before .before .before .before .before .before .before .before .good)
 
 sub-first-entry-2 : tie.Need-sub-first-entry-2
-sub-first-entry-2 c = items.pair-words (value (c .before .before .before .before .before .before .before .before .args .names)) (block (c .before .before .before .before .before .before .before .before .args .names)) (c .before .before .before .before .before .before .before .before .args .kinds .now) (c .before .before .before .before .before .before .before .before .args .words .now) _ (c .before .before .before .before .value-len .ensures ∙ ap (valueFront _) (c .before .before .before .before .before .first-entry .ensures) ∙ sym (items.value-front _ _)) _ (c .before .before .n .given .1) (agrees-value _)
+sub-first-entry-2 c =
+    let a = c .before .before .before .before .before .before .before .before .args in
+    items.pair-words (value (a .names)) (block (a .names)) (a .kinds .now) (a .words .now) _ (c .before .before .before .before .value-len .ensures ∙ ap (valueFront _) (c .before .before .before .before .before .first-entry .ensures) ∙ sym (items.value-front _ _)) _ (c .before .before .n .given .1) (agrees-value _)
 
 part-first-entry-start-2 : tie.Need-part-first-entry-start-2
-part-first-entry-start-2 c = items.pair-words (value (c .before .before .before .before .before .before .before .before .args .names)) (block (c .before .before .before .before .before .before .before .before .args .names)) (c .before .before .before .before .before .before .before .before .args .kinds .now) (c .before .before .before .before .before .before .before .before .args .words .now) _ (c .before .before .before .before .value-len .ensures ∙ ap (valueFront _) (c .before .before .before .before .before .first-entry .ensures) ∙ sym (items.value-front _ _)) _ (c .before .before .n .given .1) (agrees-value _)
+part-first-entry-start-2 c =
+    let a = c .before .before .before .before .before .before .before .before .args in
+    items.pair-words (value (a .names)) (block (a .names)) (a .kinds .now) (a .words .now) _ (c .before .before .before .before .value-len .ensures ∙ ap (valueFront _) (c .before .before .before .before .before .first-entry .ensures) ∙ sym (items.value-front _ _)) _ (c .before .before .n .given .1) (agrees-value _)
 
 part-first-entry-end-2 : tie.Need-part-first-entry-end-2
 part-first-entry-end-2 c = search needs
@@ -62,11 +76,15 @@ word-len-requires c κs = search needs
 
 then-len-requires : tie.Need-then-len-requires
 unfolding block
-then-len-requires c κs = items.pair-room (value (c .before .before .before .before .before .before .before .before .before .before .before .args .names)) (block (c .before .before .before .before .before .before .before .before .before .before .before .args .names)) (c .before .before .before .before .before .before .before .before .before .before .before .args .kinds .now) (c .before .before .before .before .before .before .before .before .before .before .before .args .words .now) _ (c .before .before .before .before .before .before .before .value-len .ensures ∙ ap (valueFront _) (c .before .before .before .before .before .before .before .before .first-entry .ensures) ∙ sym (items.value-front _ _)) _ (c .before .before .before .before .before .n .given .1) (agrees-value _) (agrees-block _) (omega arith) _ (c .word-len .ensures ∙ ap (wordFront _ _) (c .before .first-entry2 .ensures) ∙ sym (items.word-front _ _ _))
+then-len-requires c κs =
+    let a = c .before .before .before .before .before .before .before .before .before .before .before .args in
+    items.pair-room (value (a .names)) (block (a .names)) (a .kinds .now) (a .words .now) _ (c .before .before .before .before .before .before .before .value-len .ensures ∙ ap (valueFront _) (c .before .before .before .before .before .before .before .before .first-entry .ensures) ∙ sym (items.value-front _ _)) _ (c .before .before .before .before .before .n .given .1) (agrees-value _) (agrees-block _) (omega arith) _ (c .word-len .ensures ∙ ap (wordFront _ _) (c .before .first-entry2 .ensures) ∙ sym (items.word-front _ _ _))
 
 returns-2 : tie.Need-returns-2
 unfolding incoming block
-returns-2 c = items.pair-arm (value (c .before .before .before .before .before .before .before .before .before .before .before .before .args .names)) (block (c .before .before .before .before .before .before .before .before .before .before .before .before .args .names)) (c .before .before .before .before .before .before .before .before .before .before .before .before .args .kinds .now) (c .before .before .before .before .before .before .before .before .before .before .before .before .args .words .now) _ (c .before .before .before .before .before .before .before .before .value-len .ensures ∙ ap (valueFront _) (c .before .before .before .before .before .before .before .before .before .first-entry .ensures) ∙ sym (items.value-front _ _)) _ (c .before .before .before .before .before .before .n .given .1) (λ p. record { val = p .0; label = p .1 }) _ _ (c .before .word-len .ensures ∙ ap (wordFront _ _) (c .before .before .first-entry2 .ensures) ∙ sym (items.word-front _ _ _)) (c .then-len .ensures)
+returns-2 c =
+    let a = c .before .before .before .before .before .before .before .before .before .before .before .before .args in
+    items.pair-arm (value (a .names)) (block (a .names)) (a .kinds .now) (a .words .now) _ (c .before .before .before .before .before .before .before .before .value-len .ensures ∙ ap (valueFront _) (c .before .before .before .before .before .before .before .before .before .first-entry .ensures) ∙ sym (items.value-front _ _)) _ (c .before .before .before .before .before .before .n .given .1) (λ p. record { val = p .0; label = p .1 }) _ _ (c .before .word-len .ensures ∙ ap (wordFront _ _) (c .before .before .first-entry2 .ensures) ∙ sym (items.word-front _ _ _)) (c .then-len .ensures)
 
 pub incoming-len-spec : {M : Type 1} → statement M
 incoming-len-spec =

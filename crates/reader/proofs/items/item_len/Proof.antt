@@ -93,43 +93,63 @@ param-len-requires c κs = search needs
 
 returns : tie.Need-returns
 unfolding item
-returns c = c .type-len .ensures ∙ ap (λ i. lenOf (item (c .before .before .before .before .before .args .names) (itemOf i) (entries (c .before .before .before .before .before .args .kinds .now) (c .before .before .before .before .before .args .words .now)))) (sym (c .before .enum-told .given .1))
+returns c =
+    let a = c .before .before .before .before .before .args in
+    c .type-len .ensures ∙ ap (λ i. lenOf (item (a .names) (itemOf i) (entries (a .kinds .now) (a .words .now)))) (sym (c .before .enum-told .given .1))
 
 returns-2 : tie.Need-returns-2
 unfolding item
-returns-2 c = c .value-len .ensures ∙ ap (valueFront _) (c .before .first-entry .ensures) ∙ sym (items.value-front _ _) ∙ ap (λ i. lenOf (item (c .before .before .before .before .before .before .args .names) (itemOf i) (entries (c .before .before .before .before .before .before .args .kinds .now) (c .before .before .before .before .before .before .args .words .now)))) (sym (c .before .before .enum-told2 .given .1))
+returns-2 c =
+    let a = c .before .before .before .before .before .before .args in
+    c .value-len .ensures ∙ ap (valueFront _) (c .before .first-entry .ensures) ∙ sym (items.value-front _ _) ∙ ap (λ i. lenOf (item (a .names) (itemOf i) (entries (a .kinds .now) (a .words .now)))) (sym (c .before .before .enum-told2 .given .1))
 
 returns-3 : tie.Need-returns-3
 unfolding item block
-returns-3 c = c .word-len .ensures ∙ ap (wordFront _ _) (c .before .first-entry2 .ensures) ∙ sym (items.word-front 23 _ _) ∙ ap (λ i. lenOf (item (c .before .before .before .before .before .before .args .names) (itemOf i) (entries (c .before .before .before .before .before .before .args .kinds .now) (c .before .before .before .before .before .before .args .words .now)))) (sym (c .before .before .enum-told3 .given .1))
+returns-3 c =
+    let a = c .before .before .before .before .before .before .args in
+    c .word-len .ensures ∙ ap (wordFront _ _) (c .before .first-entry2 .ensures) ∙ sym (items.word-front 23 _ _) ∙ ap (λ i. lenOf (item (a .names) (itemOf i) (entries (a .kinds .now) (a .words .now)))) (sym (c .before .before .enum-told3 .given .1))
 
 returns-4 : tie.Need-returns-4
 unfolding item index
-returns-4 c = c .word-len2 .ensures ∙ ap (wordFront _ _) (c .before .first-entry3 .ensures) ∙ sym (items.word-front 22 _ _) ∙ ap (λ i. lenOf (item (c .before .before .before .before .before .before .args .names) (itemOf i) (entries (c .before .before .before .before .before .before .args .kinds .now) (c .before .before .before .before .before .before .args .words .now)))) (sym (c .before .before .enum-told4 .given .1))
+returns-4 c =
+    let a = c .before .before .before .before .before .before .args in
+    c .word-len2 .ensures ∙ ap (wordFront _ _) (c .before .first-entry3 .ensures) ∙ sym (items.word-front 22 _ _) ∙ ap (λ i. lenOf (item (a .names) (itemOf i) (entries (a .kinds .now) (a .words .now)))) (sym (c .before .before .enum-told4 .given .1))
 
 returns-5 : tie.Need-returns-5
 unfolding item
-returns-5 c = c .align-len .ensures ∙ ap alignFront (c .before .first-entry4 .ensures) ∙ sym (items.align-front _) ∙ ap (λ i. lenOf (item (c .before .before .before .before .before .before .args .names) (itemOf i) (entries (c .before .before .before .before .before .before .args .kinds .now) (c .before .before .before .before .before .before .args .words .now)))) (sym (c .before .before .enum-told5 .given .1))
+returns-5 c =
+    let a = c .before .before .before .before .before .before .args in
+    c .align-len .ensures ∙ ap alignFront (c .before .first-entry4 .ensures) ∙ sym (items.align-front _) ∙ ap (λ i. lenOf (item (a .names) (itemOf i) (entries (a .kinds .now) (a .words .now)))) (sym (c .before .before .enum-told5 .given .1))
 
 returns-6 : tie.Need-returns-6
 unfolding item
-returns-6 c = c .typed-len .ensures ∙ ap (λ i. lenOf (item (c .before .before .before .before .before .args .names) (itemOf i) (entries (c .before .before .before .before .before .args .kinds .now) (c .before .before .before .before .before .args .words .now)))) (sym (c .before .enum-told6 .given .1))
+returns-6 c =
+    let a = c .before .before .before .before .before .args in
+    c .typed-len .ensures ∙ ap (λ i. lenOf (item (a .names) (itemOf i) (entries (a .kinds .now) (a .words .now)))) (sym (c .before .enum-told6 .given .1))
 
 returns-7 : tie.Need-returns-7
 unfolding item
-returns-7 c = c .gep-index-len .ensures ∙ ap (λ i. lenOf (item (c .before .before .before .before .before .args .names) (itemOf i) (entries (c .before .before .before .before .before .args .kinds .now) (c .before .before .before .before .before .args .words .now)))) (sym (c .before .enum-told7 .given .1))
+returns-7 c =
+    let a = c .before .before .before .before .before .args in
+    c .gep-index-len .ensures ∙ ap (λ i. lenOf (item (a .names) (itemOf i) (entries (a .kinds .now) (a .words .now)))) (sym (c .before .enum-told7 .given .1))
 
 returns-8 : tie.Need-returns-8
 unfolding item
-returns-8 c = c .incoming-len .ensures ∙ ap (λ i. lenOf (item (c .before .before .before .before .before .args .names) (itemOf i) (entries (c .before .before .before .before .before .args .kinds .now) (c .before .before .before .before .before .args .words .now)))) (sym (c .before .enum-told8 .given .1))
+returns-8 c =
+    let a = c .before .before .before .before .before .args in
+    c .incoming-len .ensures ∙ ap (λ i. lenOf (item (a .names) (itemOf i) (entries (a .kinds .now) (a .words .now)))) (sym (c .before .enum-told8 .given .1))
 
 returns-9 : tie.Need-returns-9
 unfolding item
-returns-9 c = c .case-len .ensures ∙ ap (λ i. lenOf (item (c .before .before .before .before .before .args .names) (itemOf i) (entries (c .before .before .before .before .before .args .kinds .now) (c .before .before .before .before .before .args .words .now)))) (sym (c .before .enum-told9 .given .1))
+returns-9 c =
+    let a = c .before .before .before .before .before .args in
+    c .case-len .ensures ∙ ap (λ i. lenOf (item (a .names) (itemOf i) (entries (a .kinds .now) (a .words .now)))) (sym (c .before .enum-told9 .given .1))
 
 returns-10 : tie.Need-returns-10
 unfolding item
-returns-10 c = c .param-len .ensures ∙ ap (λ i. lenOf (item (c .before .before .before .before .before .args .names) (itemOf i) (entries (c .before .before .before .before .before .args .kinds .now) (c .before .before .before .before .before .args .words .now)))) (sym (c .before .enum-told10 .given .1))
+returns-10 c =
+    let a = c .before .before .before .before .before .args in
+    c .param-len .ensures ∙ ap (λ i. lenOf (item (a .names) (itemOf i) (entries (a .kinds .now) (a .words .now)))) (sym (c .before .enum-told10 .given .1))
 
 pub item-len-spec : {M : Type 1} → statement M
 item-len-spec =

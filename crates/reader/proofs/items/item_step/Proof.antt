@@ -32,13 +32,19 @@ enum-told-3 : tie.Need-enum-told-3
 enum-told-3 c = search needs
 
 returns : tie.Need-returns
-returns c = types.closing-arm (item (c .before .before .before .before .before .before .args .names) (itemOf (c .before .before .before .before .before .before .args .item))) (c .before .before .before .before .before .before .args .kinds .now) (c .before .before .before .before .before .before .args .words .now) _ _ (c .before .before .before .first-entry .ensures) (c .before .before .list-head .ensures) (c .enum-told .given .1)
+returns c =
+    let a = c .before .before .before .before .before .before .args in
+    types.closing-arm (item (a .names) (itemOf (a .item))) (a .kinds .now) (a .words .now) _ _ (c .before .before .before .first-entry .ensures) (c .before .before .list-head .ensures) (c .enum-told .given .1)
 
 returns-2 : tie.Need-returns-2
-returns-2 c = types.item-arm (item (c .before .before .before .before .before .before .before .before .args .names) (itemOf (c .before .before .before .before .before .before .before .before .args .item))) (c .before .before .before .before .before .before .before .before .args .kinds .now) (c .before .before .before .before .before .before .before .before .args .words .now) _ _ (c .before .before .before .before .before .first-entry .ensures) (c .before .before .before .before .list-head .ensures) (c .before .before .enum-told2 .given .1) _ _ (c .before .item-len .ensures) (c .next-step .ensures)
+returns-2 c =
+    let a = c .before .before .before .before .before .before .before .before .args in
+    types.item-arm (item (a .names) (itemOf (a .item))) (a .kinds .now) (a .words .now) _ _ (c .before .before .before .before .before .first-entry .ensures) (c .before .before .before .before .list-head .ensures) (c .before .before .enum-told2 .given .1) _ _ (c .before .item-len .ensures) (c .next-step .ensures)
 
 returns-3 : tie.Need-returns-3
-returns-3 c = types.none-arm (item (c .before .before .before .before .before .before .args .names) (itemOf (c .before .before .before .before .before .before .args .item))) (c .before .before .before .before .before .before .args .kinds .now) (c .before .before .before .before .before .before .args .words .now) _ _ (c .before .before .before .first-entry .ensures) (c .before .before .list-head .ensures) (c .enum-told3 .given .1)
+returns-3 c =
+    let a = c .before .before .before .before .before .before .args in
+    types.none-arm (item (a .names) (itemOf (a .item))) (a .kinds .now) (a .words .now) _ _ (c .before .before .before .first-entry .ensures) (c .before .before .list-head .ensures) (c .enum-told3 .given .1)
 
 pub item-step-spec : {M : Type 1} → statement M
 item-step-spec =

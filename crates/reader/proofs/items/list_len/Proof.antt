@@ -22,7 +22,9 @@ abbrev μ-loop : tie.MeasureT-loop
 μ-loop kinds words names item most at₀ left₀ at left = left
 
 loop-holds : tie.Need-loop-holds Inv-loop μ-loop
-loop-holds c = laws.loop-start isClosing (itemReader (c .before .before .args .names) (itemOf (c .before .before .args .item))) closing (c .before .before .args .most) (c .before .before .args .kinds .now) (c .before .before .args .words .now) _ refl
+loop-holds c =
+    let a = c .before .before .args in
+    laws.loop-start isClosing (itemReader (a .names) (itemOf (a .item))) closing (a .most) (a .kinds .now) (a .words .now) _ refl
 
 mul-item-step : tie.Need-mul-item-step Inv-loop μ-loop
 mul-item-step c = omega (arith, c .loop .inv .kinds, c .before .before .before .good)
@@ -55,25 +57,35 @@ enum-known-n : tie.Need-enum-known-n Inv-loop μ-loop
 enum-known-n c = search needs
 
 add-t21 : tie.Need-add-t21 Inv-loop μ-loop
-add-t21 c = omega (arith, laws.done-there isClosing (itemReader (c .before .before .before .before .before .before .before .before .before .args .names) (itemOf (c .before .before .before .before .before .before .before .before .before .args .item))) closing (c .before .before .before .before .before .before .before .before .before .args .most) (c .before .before .before .before .before .before .before .before .before .args .kinds .now) (c .before .before .before .before .before .before .before .before .before .args .words .now) _ _ (c .before .before .before .before .before .before .loop .inv) _ (c .before .before .before .item-step .ensures) (agrees-item (c .before .before .before .before .before .before .before .before .before .args .names) (itemOf (c .before .before .before .before .before .before .before .before .before .args .item))) agrees-closing _ (c .before .n .given .1), c .before .before .before .before .before .before .before .before .before .good)
+add-t21 c =
+    let a = c .before .before .before .before .before .before .before .before .before .args in
+    omega (arith, laws.done-there isClosing (itemReader (a .names) (itemOf (a .item))) closing (a .most) (a .kinds .now) (a .words .now) _ _ (c .before .before .before .before .before .before .loop .inv) _ (c .before .before .before .item-step .ensures) (agrees-item (a .names) (itemOf (a .item))) agrees-closing _ (c .before .n .given .1), c .before .before .before .before .before .before .before .before .before .good)
 
 returns : tie.Need-returns Inv-loop μ-loop
-returns c = laws.loop-done isClosing (itemReader (c .before .before .before .before .before .before .before .before .before .args .names) (itemOf (c .before .before .before .before .before .before .before .before .before .args .item))) closing (c .before .before .before .before .before .before .before .before .before .args .most) (c .before .before .before .before .before .before .before .before .before .args .kinds .now) (c .before .before .before .before .before .before .before .before .before .args .words .now) _ _ (c .before .before .before .before .before .before .loop .inv) _ (c .before .before .before .item-step .ensures) _ (c .before .n .given .1) ∙ sym (types.list-len _ _ _)
+returns c =
+    let a = c .before .before .before .before .before .before .before .before .before .args in
+    laws.loop-done isClosing (itemReader (a .names) (itemOf (a .item))) closing (a .most) (a .kinds .now) (a .words .now) _ _ (c .before .before .before .before .before .before .loop .inv) _ (c .before .before .before .item-step .ensures) _ (c .before .n .given .1) ∙ sym (types.list-len _ _ _)
 
 enum-told : tie.Need-enum-told Inv-loop μ-loop
 enum-told c = search needs
 
 returns-2 : tie.Need-returns-2 Inv-loop μ-loop
-returns-2 c = laws.loop-bad isClosing (itemReader (c .before .before .before .before .before .before .before .before .args .names) (itemOf (c .before .before .before .before .before .before .before .before .args .item))) closing (c .before .before .before .before .before .before .before .before .args .most) (c .before .before .before .before .before .before .before .before .args .kinds .now) (c .before .before .before .before .before .before .before .before .args .words .now) _ _ (c .before .before .before .before .before .loop .inv) _ (c .before .before .item-step .ensures) (c .enum-told .given .1) ∙ sym (types.list-len _ _ _)
+returns-2 c =
+    let a = c .before .before .before .before .before .before .before .before .args in
+    laws.loop-bad isClosing (itemReader (a .names) (itemOf (a .item))) closing (a .most) (a .kinds .now) (a .words .now) _ _ (c .before .before .before .before .before .loop .inv) _ (c .before .before .item-step .ensures) (c .enum-told .given .1) ∙ sym (types.list-len _ _ _)
 
 enum-known-n-2 : tie.Need-enum-known-n-2 Inv-loop μ-loop
 enum-known-n-2 c = search needs
 
 returns-3 : tie.Need-returns-3 Inv-loop μ-loop
-returns-3 c = laws.loop-full isClosing (itemReader (c .before .before .before .before .before .before .before .before .before .before .args .names) (itemOf (c .before .before .before .before .before .before .before .before .before .before .args .item))) closing (c .before .before .before .before .before .before .before .before .before .before .args .most) (c .before .before .before .before .before .before .before .before .before .before .args .kinds .now) (c .before .before .before .before .before .before .before .before .before .before .args .words .now) _ _ (c .before .before .before .before .before .before .before .loop .inv) _ (c .before .before .before .before .item-step .ensures) _ (c .before .before .n2 .given .1) (c .if1 .taken) ∙ sym (types.list-len _ _ _)
+returns-3 c =
+    let a = c .before .before .before .before .before .before .before .before .before .before .args in
+    laws.loop-full isClosing (itemReader (a .names) (itemOf (a .item))) closing (a .most) (a .kinds .now) (a .words .now) _ _ (c .before .before .before .before .before .before .before .loop .inv) _ (c .before .before .before .before .item-step .ensures) _ (c .before .before .n2 .given .1) (c .if1 .taken) ∙ sym (types.list-len _ _ _)
 
 add-at : tie.Need-add-at Inv-loop μ-loop
-add-at c = omega (arith, laws.loop-next isClosing (itemReader (c .before .before .before .before .before .before .before .before .before .before .args .names) (itemOf (c .before .before .before .before .before .before .before .before .before .before .args .item))) closing (c .before .before .before .before .before .before .before .before .before .before .args .most) (c .before .before .before .before .before .before .before .before .before .before .args .kinds .now) (c .before .before .before .before .before .before .before .before .before .before .args .words .now) _ _ (c .before .before .before .before .before .before .before .loop .inv) _ (c .before .before .before .before .item-step .ensures) (agrees-item (c .before .before .before .before .before .before .before .before .before .before .args .names) (itemOf (c .before .before .before .before .before .before .before .before .before .before .args .item))) agrees-closing _ (c .before .before .n2 .given .1) (c .if1 .left) .kinds, c .before .before .before .before .before .before .before .before .before .before .good)
+add-at c =
+    let a = c .before .before .before .before .before .before .before .before .before .before .args in
+    omega (arith, laws.loop-next isClosing (itemReader (a .names) (itemOf (a .item))) closing (a .most) (a .kinds .now) (a .words .now) _ _ (c .before .before .before .before .before .before .before .loop .inv) _ (c .before .before .before .before .item-step .ensures) (agrees-item (a .names) (itemOf (a .item))) agrees-closing _ (c .before .before .n2 .given .1) (c .if1 .left) .kinds, c .before .before .before .before .before .before .before .before .before .before .good)
 
 sub-left : tie.Need-sub-left Inv-loop μ-loop
 sub-left c = search needs
@@ -82,7 +94,9 @@ loop-less : tie.Need-loop-less Inv-loop μ-loop
 loop-less c = search needs
 
 loop-again : tie.Need-loop-again Inv-loop μ-loop
-loop-again c = laws.loop-next isClosing (itemReader (c .before .before .before .before .before .before .before .before .before .before .args .names) (itemOf (c .before .before .before .before .before .before .before .before .before .before .args .item))) closing (c .before .before .before .before .before .before .before .before .before .before .args .most) (c .before .before .before .before .before .before .before .before .before .before .args .kinds .now) (c .before .before .before .before .before .before .before .before .before .before .args .words .now) _ _ (c .before .before .before .before .before .before .before .loop .inv) _ (c .before .before .before .before .item-step .ensures) (agrees-item (c .before .before .before .before .before .before .before .before .before .before .args .names) (itemOf (c .before .before .before .before .before .before .before .before .before .before .args .item))) agrees-closing _ (c .before .before .n2 .given .1) (c .if1 .left)
+loop-again c =
+    let a = c .before .before .before .before .before .before .before .before .before .before .args in
+    laws.loop-next isClosing (itemReader (a .names) (itemOf (a .item))) closing (a .most) (a .kinds .now) (a .words .now) _ _ (c .before .before .before .before .before .before .before .loop .inv) _ (c .before .before .before .before .item-step .ensures) (agrees-item (a .names) (itemOf (a .item))) agrees-closing _ (c .before .before .n2 .given .1) (c .if1 .left)
 
 pub list-len-spec : {M : Type 1} → statement M
 list-len-spec =

@@ -20,7 +20,9 @@ enum-told : tie.Need-enum-told
 enum-told c = search needs
 
 returns : tie.Need-returns
-returns c = items.absent-none (item (c .before .before .before .before .before .args .names) (itemOf (c .before .before .before .before .before .args .item))) (entries (c .before .before .before .before .before .args .kinds .now) (c .before .before .before .before .before .args .words .now)) _ (c .before .before .first-entry .ensures) (c .enum-told .given .1)
+returns c =
+    let a = c .before .before .before .before .before .args in
+    items.absent-none (item (a .names) (itemOf (a .item))) (entries (a .kinds .now) (a .words .now)) _ (c .before .before .first-entry .ensures) (c .enum-told .given .1)
 
 entry-if-requires : tie.Need-entry-if-requires
 entry-if-requires c κs = search needs
@@ -29,10 +31,14 @@ item-len-requires : tie.Need-item-len-requires
 item-len-requires c κs = search needs
 
 returns-2 : tie.Need-returns-2
-returns-2 c = items.absent-is (item (c .before .before .before .before .before .before .before .before .args .names) (itemOf (c .before .before .before .before .before .before .before .before .args .item))) (entries (c .before .before .before .before .before .before .before .before .args .kinds .now) (c .before .before .before .before .before .before .before .before .args .words .now)) _ (c .before .before .before .before .before .first-entry .ensures) _ _ (c .before .before .before .k .given .1) (c .before .if1 .taken) _ (c .entry-if .ensures)
+returns-2 c =
+    let a = c .before .before .before .before .before .before .before .before .args in
+    items.absent-is (item (a .names) (itemOf (a .item))) (entries (a .kinds .now) (a .words .now)) _ (c .before .before .before .before .before .first-entry .ensures) _ _ (c .before .before .before .k .given .1) (c .before .if1 .taken) _ (c .entry-if .ensures)
 
 returns-3 : tie.Need-returns-3
-returns-3 c = items.absent-not (item (c .before .before .before .before .before .before .before .before .args .names) (itemOf (c .before .before .before .before .before .before .before .before .args .item))) (entries (c .before .before .before .before .before .before .before .before .args .kinds .now) (c .before .before .before .before .before .before .before .before .args .words .now)) _ (c .before .before .before .before .before .first-entry .ensures) _ _ (c .before .before .before .k .given .1) (c .before .if1 .left) _ (c .item-len .ensures)
+returns-3 c =
+    let a = c .before .before .before .before .before .before .before .before .args in
+    items.absent-not (item (a .names) (itemOf (a .item))) (entries (a .kinds .now) (a .words .now)) _ (c .before .before .before .before .before .first-entry .ensures) _ _ (c .before .before .before .k .given .1) (c .before .if1 .left) _ (c .item-len .ensures)
 
 pub optional-len-spec : {M : Type 1} → statement M
 optional-len-spec =

@@ -29,28 +29,42 @@ enum-told c = search needs
 
 returns : tie.Need-returns
 unfolding param
-returns c = items.pair-bad (word 6 (maybeName (c .before .before .before .before .before .before .args .names))) (type (c .before .before .before .before .before .before .args .names)) (c .before .before .before .before .before .before .args .kinds .now) (c .before .before .before .before .before .before .args .words .now) _ (c .before .before .param-name-len .ensures ∙ ap (paramFront _) (c .before .before .before .first-entry .ensures) ∙ sym (items.param-front _ _)) (λ p. record { ty = p .1; name = p .0 }) (c .enum-told .given .1)
+returns c =
+    let a = c .before .before .before .before .before .before .args in
+    items.pair-bad (word 6 (maybeName (a .names))) (type (a .names)) (a .kinds .now) (a .words .now) _ (c .before .before .param-name-len .ensures ∙ ap (paramFront _) (c .before .before .before .first-entry .ensures) ∙ sym (items.param-front _ _)) (λ p. record { ty = p .1; name = p .0 }) (c .enum-told .given .1)
 
 mul-type-len : tie.Need-mul-type-len
-mul-type-len c = omega (arith, items.pair-kinds (word 6 (maybeName (c .before .before .before .before .before .before .before .args .names))) (type (c .before .before .before .before .before .before .before .args .names)) (c .before .before .before .before .before .before .before .args .kinds .now) (c .before .before .before .before .before .before .before .args .words .now) _ (c .before .before .before .param-name-len .ensures ∙ ap (paramFront _) (c .before .before .before .before .first-entry .ensures) ∙ sym (items.param-front _ _)) _ (c .before .n .given .1) (agrees-maybeName _ 6), c .before .before .before .before .before .before .before .good)
+mul-type-len c =
+    let a = c .before .before .before .before .before .before .before .args in
+    omega (arith, items.pair-kinds (word 6 (maybeName (a .names))) (type (a .names)) (a .kinds .now) (a .words .now) _ (c .before .before .before .param-name-len .ensures ∙ ap (paramFront _) (c .before .before .before .before .first-entry .ensures) ∙ sym (items.param-front _ _)) _ (c .before .n .given .1) (agrees-maybeName _ 6), c .before .before .before .before .before .before .before .good)
 
 sub-type-len : tie.Need-sub-type-len
-sub-type-len c = items.pair-kinds (word 6 (maybeName (c .before .before .before .before .before .before .before .args .names))) (type (c .before .before .before .before .before .before .before .args .names)) (c .before .before .before .before .before .before .before .args .kinds .now) (c .before .before .before .before .before .before .before .args .words .now) _ (c .before .before .before .param-name-len .ensures ∙ ap (paramFront _) (c .before .before .before .before .first-entry .ensures) ∙ sym (items.param-front _ _)) _ (c .before .n .given .1) (agrees-maybeName _ 6)
+sub-type-len c =
+    let a = c .before .before .before .before .before .before .before .args in
+    items.pair-kinds (word 6 (maybeName (a .names))) (type (a .names)) (a .kinds .now) (a .words .now) _ (c .before .before .before .param-name-len .ensures ∙ ap (paramFront _) (c .before .before .before .before .first-entry .ensures) ∙ sym (items.param-front _ _)) _ (c .before .n .given .1) (agrees-maybeName _ 6)
 
 part-type-len-start : tie.Need-part-type-len-start
-part-type-len-start c = items.pair-kinds (word 6 (maybeName (c .before .before .before .before .before .before .before .args .names))) (type (c .before .before .before .before .before .before .before .args .names)) (c .before .before .before .before .before .before .before .args .kinds .now) (c .before .before .before .before .before .before .before .args .words .now) _ (c .before .before .before .param-name-len .ensures ∙ ap (paramFront _) (c .before .before .before .before .first-entry .ensures) ∙ sym (items.param-front _ _)) _ (c .before .n .given .1) (agrees-maybeName _ 6)
+part-type-len-start c =
+    let a = c .before .before .before .before .before .before .before .args in
+    items.pair-kinds (word 6 (maybeName (a .names))) (type (a .names)) (a .kinds .now) (a .words .now) _ (c .before .before .before .param-name-len .ensures ∙ ap (paramFront _) (c .before .before .before .before .first-entry .ensures) ∙ sym (items.param-front _ _)) _ (c .before .n .given .1) (agrees-maybeName _ 6)
 
 part-type-len-end : tie.Need-part-type-len-end
 part-type-len-end c = search needs
 
 mul-type-len-2 : tie.Need-mul-type-len-2
-mul-type-len-2 c = omega (arith, items.pair-words (word 6 (maybeName (c .before .before .before .before .before .before .before .before .args .names))) (type (c .before .before .before .before .before .before .before .before .args .names)) (c .before .before .before .before .before .before .before .before .args .kinds .now) (c .before .before .before .before .before .before .before .before .args .words .now) _ (c .before .before .before .before .param-name-len .ensures ∙ ap (paramFront _) (c .before .before .before .before .before .first-entry .ensures) ∙ sym (items.param-front _ _)) _ (c .before .before .n .given .1) (agrees-maybeName _ 6), c .before .before .before .before .before .before .before .before .good)
+mul-type-len-2 c =
+    let a = c .before .before .before .before .before .before .before .before .args in
+    omega (arith, items.pair-words (word 6 (maybeName (a .names))) (type (a .names)) (a .kinds .now) (a .words .now) _ (c .before .before .before .before .param-name-len .ensures ∙ ap (paramFront _) (c .before .before .before .before .before .first-entry .ensures) ∙ sym (items.param-front _ _)) _ (c .before .before .n .given .1) (agrees-maybeName _ 6), c .before .before .before .before .before .before .before .before .good)
 
 sub-type-len-2 : tie.Need-sub-type-len-2
-sub-type-len-2 c = items.pair-words (word 6 (maybeName (c .before .before .before .before .before .before .before .before .args .names))) (type (c .before .before .before .before .before .before .before .before .args .names)) (c .before .before .before .before .before .before .before .before .args .kinds .now) (c .before .before .before .before .before .before .before .before .args .words .now) _ (c .before .before .before .before .param-name-len .ensures ∙ ap (paramFront _) (c .before .before .before .before .before .first-entry .ensures) ∙ sym (items.param-front _ _)) _ (c .before .before .n .given .1) (agrees-maybeName _ 6)
+sub-type-len-2 c =
+    let a = c .before .before .before .before .before .before .before .before .args in
+    items.pair-words (word 6 (maybeName (a .names))) (type (a .names)) (a .kinds .now) (a .words .now) _ (c .before .before .before .before .param-name-len .ensures ∙ ap (paramFront _) (c .before .before .before .before .before .first-entry .ensures) ∙ sym (items.param-front _ _)) _ (c .before .before .n .given .1) (agrees-maybeName _ 6)
 
 part-type-len-start-2 : tie.Need-part-type-len-start-2
-part-type-len-start-2 c = items.pair-words (word 6 (maybeName (c .before .before .before .before .before .before .before .before .args .names))) (type (c .before .before .before .before .before .before .before .before .args .names)) (c .before .before .before .before .before .before .before .before .args .kinds .now) (c .before .before .before .before .before .before .before .before .args .words .now) _ (c .before .before .before .before .param-name-len .ensures ∙ ap (paramFront _) (c .before .before .before .before .before .first-entry .ensures) ∙ sym (items.param-front _ _)) _ (c .before .before .n .given .1) (agrees-maybeName _ 6)
+part-type-len-start-2 c =
+    let a = c .before .before .before .before .before .before .before .before .args in
+    items.pair-words (word 6 (maybeName (a .names))) (type (a .names)) (a .kinds .now) (a .words .now) _ (c .before .before .before .before .param-name-len .ensures ∙ ap (paramFront _) (c .before .before .before .before .before .first-entry .ensures) ∙ sym (items.param-front _ _)) _ (c .before .before .n .given .1) (agrees-maybeName _ 6)
 
 part-type-len-end-2 : tie.Need-part-type-len-end-2
 part-type-len-end-2 c = search needs
@@ -59,11 +73,15 @@ type-len-requires : tie.Need-type-len-requires
 type-len-requires c κs = search needs
 
 then-len-requires : tie.Need-then-len-requires
-then-len-requires c κs = items.pair-room (word 6 (maybeName (c .before .before .before .before .before .before .before .before .before .before .args .names))) (type (c .before .before .before .before .before .before .before .before .before .before .args .names)) (c .before .before .before .before .before .before .before .before .before .before .args .kinds .now) (c .before .before .before .before .before .before .before .before .before .before .args .words .now) _ (c .before .before .before .before .before .before .param-name-len .ensures ∙ ap (paramFront _) (c .before .before .before .before .before .before .before .first-entry .ensures) ∙ sym (items.param-front _ _)) _ (c .before .before .before .before .n .given .1) (agrees-maybeName _ 6) (agrees-type _) (omega arith) _ (c .type-len .ensures)
+then-len-requires c κs =
+    let a = c .before .before .before .before .before .before .before .before .before .before .args in
+    items.pair-room (word 6 (maybeName (a .names))) (type (a .names)) (a .kinds .now) (a .words .now) _ (c .before .before .before .before .before .before .param-name-len .ensures ∙ ap (paramFront _) (c .before .before .before .before .before .before .before .first-entry .ensures) ∙ sym (items.param-front _ _)) _ (c .before .before .before .before .n .given .1) (agrees-maybeName _ 6) (agrees-type _) (omega arith) _ (c .type-len .ensures)
 
 returns-2 : tie.Need-returns-2
 unfolding param
-returns-2 c = items.pair-arm (word 6 (maybeName (c .before .before .before .before .before .before .before .before .before .before .before .args .names))) (type (c .before .before .before .before .before .before .before .before .before .before .before .args .names)) (c .before .before .before .before .before .before .before .before .before .before .before .args .kinds .now) (c .before .before .before .before .before .before .before .before .before .before .before .args .words .now) _ (c .before .before .before .before .before .before .before .param-name-len .ensures ∙ ap (paramFront _) (c .before .before .before .before .before .before .before .before .first-entry .ensures) ∙ sym (items.param-front _ _)) _ (c .before .before .before .before .before .n .given .1) (λ p. record { ty = p .1; name = p .0 }) _ _ (c .before .type-len .ensures) (c .then-len .ensures)
+returns-2 c =
+    let a = c .before .before .before .before .before .before .before .before .before .before .before .args in
+    items.pair-arm (word 6 (maybeName (a .names))) (type (a .names)) (a .kinds .now) (a .words .now) _ (c .before .before .before .before .before .before .before .param-name-len .ensures ∙ ap (paramFront _) (c .before .before .before .before .before .before .before .before .first-entry .ensures) ∙ sym (items.param-front _ _)) _ (c .before .before .before .before .before .n .given .1) (λ p. record { ty = p .1; name = p .0 }) _ _ (c .before .type-len .ensures) (c .then-len .ensures)
 
 pub param-len-spec : {M : Type 1} → statement M
 param-len-spec =

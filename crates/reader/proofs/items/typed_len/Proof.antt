@@ -24,28 +24,42 @@ enum-told c = search needs
 
 returns : tie.Need-returns
 unfolding typedVal
-returns c = items.pair-bad (type (c .before .before .before .before .before .args .names)) (value (c .before .before .before .before .before .args .names)) (c .before .before .before .before .before .args .kinds .now) (c .before .before .before .before .before .args .words .now) _ (c .before .before .type-len .ensures) (λ p. record { ty = p .0; val = p .1 }) (c .enum-told .given .1)
+returns c =
+    let a = c .before .before .before .before .before .args in
+    items.pair-bad (type (a .names)) (value (a .names)) (a .kinds .now) (a .words .now) _ (c .before .before .type-len .ensures) (λ p. record { ty = p .0; val = p .1 }) (c .enum-told .given .1)
 
 mul-first-entry : tie.Need-mul-first-entry
-mul-first-entry c = omega (arith, items.pair-kinds (type (c .before .before .before .before .before .before .args .names)) (value (c .before .before .before .before .before .before .args .names)) (c .before .before .before .before .before .before .args .kinds .now) (c .before .before .before .before .before .before .args .words .now) _ (c .before .before .before .type-len .ensures) _ (c .before .n .given .1) (agrees-type _), c .before .before .before .before .before .before .good)
+mul-first-entry c =
+    let a = c .before .before .before .before .before .before .args in
+    omega (arith, items.pair-kinds (type (a .names)) (value (a .names)) (a .kinds .now) (a .words .now) _ (c .before .before .before .type-len .ensures) _ (c .before .n .given .1) (agrees-type _), c .before .before .before .before .before .before .good)
 
 sub-first-entry : tie.Need-sub-first-entry
-sub-first-entry c = items.pair-kinds (type (c .before .before .before .before .before .before .args .names)) (value (c .before .before .before .before .before .before .args .names)) (c .before .before .before .before .before .before .args .kinds .now) (c .before .before .before .before .before .before .args .words .now) _ (c .before .before .before .type-len .ensures) _ (c .before .n .given .1) (agrees-type _)
+sub-first-entry c =
+    let a = c .before .before .before .before .before .before .args in
+    items.pair-kinds (type (a .names)) (value (a .names)) (a .kinds .now) (a .words .now) _ (c .before .before .before .type-len .ensures) _ (c .before .n .given .1) (agrees-type _)
 
 part-first-entry-start : tie.Need-part-first-entry-start
-part-first-entry-start c = items.pair-kinds (type (c .before .before .before .before .before .before .args .names)) (value (c .before .before .before .before .before .before .args .names)) (c .before .before .before .before .before .before .args .kinds .now) (c .before .before .before .before .before .before .args .words .now) _ (c .before .before .before .type-len .ensures) _ (c .before .n .given .1) (agrees-type _)
+part-first-entry-start c =
+    let a = c .before .before .before .before .before .before .args in
+    items.pair-kinds (type (a .names)) (value (a .names)) (a .kinds .now) (a .words .now) _ (c .before .before .before .type-len .ensures) _ (c .before .n .given .1) (agrees-type _)
 
 part-first-entry-end : tie.Need-part-first-entry-end
 part-first-entry-end c = search needs
 
 mul-first-entry-2 : tie.Need-mul-first-entry-2
-mul-first-entry-2 c = omega (arith, items.pair-words (type (c .before .before .before .before .before .before .before .args .names)) (value (c .before .before .before .before .before .before .before .args .names)) (c .before .before .before .before .before .before .before .args .kinds .now) (c .before .before .before .before .before .before .before .args .words .now) _ (c .before .before .before .before .type-len .ensures) _ (c .before .before .n .given .1) (agrees-type _), c .before .before .before .before .before .before .before .good)
+mul-first-entry-2 c =
+    let a = c .before .before .before .before .before .before .before .args in
+    omega (arith, items.pair-words (type (a .names)) (value (a .names)) (a .kinds .now) (a .words .now) _ (c .before .before .before .before .type-len .ensures) _ (c .before .before .n .given .1) (agrees-type _), c .before .before .before .before .before .before .before .good)
 
 sub-first-entry-2 : tie.Need-sub-first-entry-2
-sub-first-entry-2 c = items.pair-words (type (c .before .before .before .before .before .before .before .args .names)) (value (c .before .before .before .before .before .before .before .args .names)) (c .before .before .before .before .before .before .before .args .kinds .now) (c .before .before .before .before .before .before .before .args .words .now) _ (c .before .before .before .before .type-len .ensures) _ (c .before .before .n .given .1) (agrees-type _)
+sub-first-entry-2 c =
+    let a = c .before .before .before .before .before .before .before .args in
+    items.pair-words (type (a .names)) (value (a .names)) (a .kinds .now) (a .words .now) _ (c .before .before .before .before .type-len .ensures) _ (c .before .before .n .given .1) (agrees-type _)
 
 part-first-entry-start-2 : tie.Need-part-first-entry-start-2
-part-first-entry-start-2 c = items.pair-words (type (c .before .before .before .before .before .before .before .args .names)) (value (c .before .before .before .before .before .before .before .args .names)) (c .before .before .before .before .before .before .before .args .kinds .now) (c .before .before .before .before .before .before .before .args .words .now) _ (c .before .before .before .before .type-len .ensures) _ (c .before .before .n .given .1) (agrees-type _)
+part-first-entry-start-2 c =
+    let a = c .before .before .before .before .before .before .before .args in
+    items.pair-words (type (a .names)) (value (a .names)) (a .kinds .now) (a .words .now) _ (c .before .before .before .before .type-len .ensures) _ (c .before .before .n .given .1) (agrees-type _)
 
 part-first-entry-end-2 : tie.Need-part-first-entry-end-2
 part-first-entry-end-2 c = search needs
@@ -57,11 +71,15 @@ value-len-requires : tie.Need-value-len-requires
 value-len-requires c κs = search needs
 
 then-len-requires : tie.Need-then-len-requires
-then-len-requires c κs = items.pair-room (type (c .before .before .before .before .before .before .before .before .before .before .args .names)) (value (c .before .before .before .before .before .before .before .before .before .before .args .names)) (c .before .before .before .before .before .before .before .before .before .before .args .kinds .now) (c .before .before .before .before .before .before .before .before .before .before .args .words .now) _ (c .before .before .before .before .before .before .before .type-len .ensures) _ (c .before .before .before .before .before .n .given .1) (agrees-type _) (agrees-value _) (omega arith) _ (c .value-len .ensures ∙ ap (valueFront _) (c .before .first-entry .ensures) ∙ sym (items.value-front _ _))
+then-len-requires c κs =
+    let a = c .before .before .before .before .before .before .before .before .before .before .args in
+    items.pair-room (type (a .names)) (value (a .names)) (a .kinds .now) (a .words .now) _ (c .before .before .before .before .before .before .before .type-len .ensures) _ (c .before .before .before .before .before .n .given .1) (agrees-type _) (agrees-value _) (omega arith) _ (c .value-len .ensures ∙ ap (valueFront _) (c .before .first-entry .ensures) ∙ sym (items.value-front _ _))
 
 returns-2 : tie.Need-returns-2
 unfolding typedVal
-returns-2 c = items.pair-arm (type (c .before .before .before .before .before .before .before .before .before .before .before .args .names)) (value (c .before .before .before .before .before .before .before .before .before .before .before .args .names)) (c .before .before .before .before .before .before .before .before .before .before .before .args .kinds .now) (c .before .before .before .before .before .before .before .before .before .before .before .args .words .now) _ (c .before .before .before .before .before .before .before .before .type-len .ensures) _ (c .before .before .before .before .before .before .n .given .1) (λ p. record { ty = p .0; val = p .1 }) _ _ (c .before .value-len .ensures ∙ ap (valueFront _) (c .before .before .first-entry .ensures) ∙ sym (items.value-front _ _)) (c .then-len .ensures)
+returns-2 c =
+    let a = c .before .before .before .before .before .before .before .before .before .before .before .args in
+    items.pair-arm (type (a .names)) (value (a .names)) (a .kinds .now) (a .words .now) _ (c .before .before .before .before .before .before .before .before .type-len .ensures) _ (c .before .before .before .before .before .before .n .given .1) (λ p. record { ty = p .0; val = p .1 }) _ _ (c .before .value-len .ensures ∙ ap (valueFront _) (c .before .before .first-entry .ensures) ∙ sym (items.value-front _ _)) (c .then-len .ensures)
 
 pub typed-len-spec : {M : Type 1} → statement M
 typed-len-spec =

@@ -149,7 +149,9 @@ type-len-sub-type-len : (t : ℕ) → type-len-lts.Need-sub-type-len (
   types-len-below t,
   types-len.Post,
 ) (type-len-at t) type-len.Post
-type-len-sub-type-len t c = laws.within-kinds 1 _ _ (types.head-there (c .before .before .before .before .before .before .before .args .names) (c .before .before .before .before .before .before .before .args .level) (c .before .before .before .before .before .before .before .args .kinds .now) (c .before .before .before .before .before .before .before .args .words .now) _ _ (c .before .before .before .first-entry .ensures) (c .before .before .type-head .ensures) (types.not-array _ (c .enum-told2 .given .1)))
+type-len-sub-type-len t c =
+    let a = c .before .before .before .before .before .before .before .args in
+    laws.within-kinds 1 _ _ (types.head-there (a .names) (a .level) (a .kinds .now) (a .words .now) _ _ (c .before .before .before .first-entry .ensures) (c .before .before .type-head .ensures) (types.not-array _ (c .enum-told2 .given .1)))
 
 -- src/types.rt:110:46
 type-len-part-type-len-start : (t : ℕ) → type-len-lts.Need-part-type-len-start (
@@ -164,7 +166,9 @@ type-len-part-type-len-start : (t : ℕ) → type-len-lts.Need-part-type-len-sta
   types-len-below t,
   types-len.Post,
 ) (type-len-at t) type-len.Post
-type-len-part-type-len-start t c = laws.within-kinds 1 _ _ (types.head-there (c .before .before .before .before .before .before .before .args .names) (c .before .before .before .before .before .before .before .args .level) (c .before .before .before .before .before .before .before .args .kinds .now) (c .before .before .before .before .before .before .before .args .words .now) _ _ (c .before .before .before .first-entry .ensures) (c .before .before .type-head .ensures) (types.not-array _ (c .enum-told2 .given .1)))
+type-len-part-type-len-start t c =
+    let a = c .before .before .before .before .before .before .before .args in
+    laws.within-kinds 1 _ _ (types.head-there (a .names) (a .level) (a .kinds .now) (a .words .now) _ _ (c .before .before .before .first-entry .ensures) (c .before .before .type-head .ensures) (types.not-array _ (c .enum-told2 .given .1)))
 
 -- src/types.rt:110:46
 type-len-part-type-len-end : (t : ℕ) → type-len-lts.Need-part-type-len-end (
@@ -194,7 +198,9 @@ type-len-sub-type-len-2 : (t : ℕ) → type-len-lts.Need-sub-type-len-2 (
   types-len-below t,
   types-len.Post,
 ) (type-len-at t) type-len.Post
-type-len-sub-type-len-2 t c = laws.within-words 1 _ _ (types.head-there (c .before .before .before .before .before .before .before .before .args .names) (c .before .before .before .before .before .before .before .before .args .level) (c .before .before .before .before .before .before .before .before .args .kinds .now) (c .before .before .before .before .before .before .before .before .args .words .now) _ _ (c .before .before .before .before .first-entry .ensures) (c .before .before .before .type-head .ensures) (types.not-array _ (c .before .enum-told2 .given .1)))
+type-len-sub-type-len-2 t c =
+    let a = c .before .before .before .before .before .before .before .before .args in
+    laws.within-words 1 _ _ (types.head-there (a .names) (a .level) (a .kinds .now) (a .words .now) _ _ (c .before .before .before .before .first-entry .ensures) (c .before .before .before .type-head .ensures) (types.not-array _ (c .before .enum-told2 .given .1)))
 
 -- src/types.rt:110:59
 type-len-part-type-len-start-2 : (t : ℕ) → type-len-lts.Need-part-type-len-start-2 (
@@ -209,7 +215,9 @@ type-len-part-type-len-start-2 : (t : ℕ) → type-len-lts.Need-part-type-len-s
   types-len-below t,
   types-len.Post,
 ) (type-len-at t) type-len.Post
-type-len-part-type-len-start-2 t c = laws.within-words 1 _ _ (types.head-there (c .before .before .before .before .before .before .before .before .args .names) (c .before .before .before .before .before .before .before .before .args .level) (c .before .before .before .before .before .before .before .before .args .kinds .now) (c .before .before .before .before .before .before .before .before .args .words .now) _ _ (c .before .before .before .before .first-entry .ensures) (c .before .before .before .type-head .ensures) (types.not-array _ (c .before .enum-told2 .given .1)))
+type-len-part-type-len-start-2 t c =
+    let a = c .before .before .before .before .before .before .before .before .args in
+    laws.within-words 1 _ _ (types.head-there (a .names) (a .level) (a .kinds .now) (a .words .now) _ _ (c .before .before .before .before .first-entry .ensures) (c .before .before .before .type-head .ensures) (types.not-array _ (c .before .enum-told2 .given .1)))
 
 -- src/types.rt:110:59
 type-len-part-type-len-end-2 : (t : ℕ) → type-len-lts.Need-part-type-len-end-2 (
@@ -269,7 +277,9 @@ type-len-then-len-requires : (t : ℕ) → type-len-lts.Need-then-len-requires (
   types-len-below t,
   types-len.Post,
 ) (type-len-at t) type-len.Post
-type-len-then-len-requires t c κs = types.behind-room (agrees-typeTo _ _) (c .before .before .before .before .before .before .before .before .before .before .args .kinds .now) (c .before .before .before .before .before .before .before .before .before .before .args .words .now) _ (omega arith) (laws.within-kinds 1 _ _ (types.head-there (c .before .before .before .before .before .before .before .before .before .before .args .names) (c .before .before .before .before .before .before .before .before .before .before .args .level) (c .before .before .before .before .before .before .before .before .before .before .args .kinds .now) (c .before .before .before .before .before .before .before .before .before .before .args .words .now) _ _ (c .before .before .before .before .before .before .first-entry .ensures) (c .before .before .before .before .before .type-head .ensures) (types.not-array _ (c .before .before .before .enum-told2 .given .1)))) (c .type-len .ensures)
+type-len-then-len-requires t c κs =
+    let a = c .before .before .before .before .before .before .before .before .before .before .args in
+    types.behind-room (agrees-typeTo _ _) (a .kinds .now) (a .words .now) _ (omega arith) (laws.within-kinds 1 _ _ (types.head-there (a .names) (a .level) (a .kinds .now) (a .words .now) _ _ (c .before .before .before .before .before .before .first-entry .ensures) (c .before .before .before .before .before .type-head .ensures) (types.not-array _ (c .before .before .before .enum-told2 .given .1)))) (c .type-len .ensures)
 
 -- src/types.rt:111:48
 type-len-enum-told-3 : (t : ℕ) → type-len-lts.Need-enum-told-3 (
@@ -299,7 +309,9 @@ type-len-sub-types-len : (t : ℕ) → type-len-lts.Need-sub-types-len (
   types-len-below t,
   types-len.Post,
 ) (type-len-at t) type-len.Post
-type-len-sub-types-len t c = laws.within-kinds 1 _ _ (types.head-there (c .before .before .before .before .before .before .before .args .names) (c .before .before .before .before .before .before .before .args .level) (c .before .before .before .before .before .before .before .args .kinds .now) (c .before .before .before .before .before .before .before .args .words .now) _ _ (c .before .before .before .first-entry .ensures) (c .before .before .type-head .ensures) (types.not-struct _ (c .enum-told3 .given .1)))
+type-len-sub-types-len t c =
+    let a = c .before .before .before .before .before .before .before .args in
+    laws.within-kinds 1 _ _ (types.head-there (a .names) (a .level) (a .kinds .now) (a .words .now) _ _ (c .before .before .before .first-entry .ensures) (c .before .before .type-head .ensures) (types.not-struct _ (c .enum-told3 .given .1)))
 
 -- src/types.rt:111:48
 type-len-part-types-len-start : (t : ℕ) → type-len-lts.Need-part-types-len-start (
@@ -314,7 +326,9 @@ type-len-part-types-len-start : (t : ℕ) → type-len-lts.Need-part-types-len-s
   types-len-below t,
   types-len.Post,
 ) (type-len-at t) type-len.Post
-type-len-part-types-len-start t c = laws.within-kinds 1 _ _ (types.head-there (c .before .before .before .before .before .before .before .args .names) (c .before .before .before .before .before .before .before .args .level) (c .before .before .before .before .before .before .before .args .kinds .now) (c .before .before .before .before .before .before .before .args .words .now) _ _ (c .before .before .before .first-entry .ensures) (c .before .before .type-head .ensures) (types.not-struct _ (c .enum-told3 .given .1)))
+type-len-part-types-len-start t c =
+    let a = c .before .before .before .before .before .before .before .args in
+    laws.within-kinds 1 _ _ (types.head-there (a .names) (a .level) (a .kinds .now) (a .words .now) _ _ (c .before .before .before .first-entry .ensures) (c .before .before .type-head .ensures) (types.not-struct _ (c .enum-told3 .given .1)))
 
 -- src/types.rt:111:48
 type-len-part-types-len-end : (t : ℕ) → type-len-lts.Need-part-types-len-end (
@@ -344,7 +358,9 @@ type-len-sub-types-len-2 : (t : ℕ) → type-len-lts.Need-sub-types-len-2 (
   types-len-below t,
   types-len.Post,
 ) (type-len-at t) type-len.Post
-type-len-sub-types-len-2 t c = laws.within-words 1 _ _ (types.head-there (c .before .before .before .before .before .before .before .before .args .names) (c .before .before .before .before .before .before .before .before .args .level) (c .before .before .before .before .before .before .before .before .args .kinds .now) (c .before .before .before .before .before .before .before .before .args .words .now) _ _ (c .before .before .before .before .first-entry .ensures) (c .before .before .before .type-head .ensures) (types.not-struct _ (c .before .enum-told3 .given .1)))
+type-len-sub-types-len-2 t c =
+    let a = c .before .before .before .before .before .before .before .before .args in
+    laws.within-words 1 _ _ (types.head-there (a .names) (a .level) (a .kinds .now) (a .words .now) _ _ (c .before .before .before .before .first-entry .ensures) (c .before .before .before .type-head .ensures) (types.not-struct _ (c .before .enum-told3 .given .1)))
 
 -- src/types.rt:111:61
 type-len-part-types-len-start-2 : (t : ℕ) → type-len-lts.Need-part-types-len-start-2 (
@@ -359,7 +375,9 @@ type-len-part-types-len-start-2 : (t : ℕ) → type-len-lts.Need-part-types-len
   types-len-below t,
   types-len.Post,
 ) (type-len-at t) type-len.Post
-type-len-part-types-len-start-2 t c = laws.within-words 1 _ _ (types.head-there (c .before .before .before .before .before .before .before .before .args .names) (c .before .before .before .before .before .before .before .before .args .level) (c .before .before .before .before .before .before .before .before .args .kinds .now) (c .before .before .before .before .before .before .before .before .args .words .now) _ _ (c .before .before .before .before .first-entry .ensures) (c .before .before .before .type-head .ensures) (types.not-struct _ (c .before .enum-told3 .given .1)))
+type-len-part-types-len-start-2 t c =
+    let a = c .before .before .before .before .before .before .before .before .args in
+    laws.within-words 1 _ _ (types.head-there (a .names) (a .level) (a .kinds .now) (a .words .now) _ _ (c .before .before .before .before .first-entry .ensures) (c .before .before .before .type-head .ensures) (types.not-struct _ (c .before .enum-told3 .given .1)))
 
 -- src/types.rt:111:61
 type-len-part-types-len-end-2 : (t : ℕ) → type-len-lts.Need-part-types-len-end-2 (
@@ -419,7 +437,9 @@ type-len-then-len-requires-2 : (t : ℕ) → type-len-lts.Need-then-len-requires
   types-len-below t,
   types-len.Post,
 ) (type-len-at t) type-len.Post
-type-len-then-len-requires-2 t c κs = types.behind-room (types.agrees-types _ _) (c .before .before .before .before .before .before .before .before .before .before .args .kinds .now) (c .before .before .before .before .before .before .before .before .before .before .args .words .now) _ (omega arith) (laws.within-kinds 1 _ _ (types.head-there (c .before .before .before .before .before .before .before .before .before .before .args .names) (c .before .before .before .before .before .before .before .before .before .before .args .level) (c .before .before .before .before .before .before .before .before .before .before .args .kinds .now) (c .before .before .before .before .before .before .before .before .before .before .args .words .now) _ _ (c .before .before .before .before .before .before .first-entry .ensures) (c .before .before .before .before .before .type-head .ensures) (types.not-struct _ (c .before .before .before .enum-told3 .given .1)))) (c .types-len .ensures)
+type-len-then-len-requires-2 t c κs =
+    let a = c .before .before .before .before .before .before .before .before .before .before .args in
+    types.behind-room (types.agrees-types _ _) (a .kinds .now) (a .words .now) _ (omega arith) (laws.within-kinds 1 _ _ (types.head-there (a .names) (a .level) (a .kinds .now) (a .words .now) _ _ (c .before .before .before .before .before .before .first-entry .ensures) (c .before .before .before .before .before .type-head .ensures) (types.not-struct _ (c .before .before .before .enum-told3 .given .1)))) (c .types-len .ensures)
 
 -- src/types.rt:112:26
 type-len-enum-told-4 : (t : ℕ) → type-len-lts.Need-enum-told-4 (
@@ -449,7 +469,9 @@ type-len-returns-2 : (t : ℕ) → type-len-lts.Need-returns-2 (
   types-len-below t,
   types-len.Post,
 ) (type-len-at t) type-len.Post
-type-len-returns-2 t c = types.leaf-arm (c .before .before .before .before .before .before .before .args .names) (c .before .before .before .before .before .before .before .args .level) (c .before .before .before .before .before .before .before .args .kinds .now) (c .before .before .before .before .before .before .before .args .words .now) _ _ (c .before .before .before .first-entry .ensures) (c .before .before .type-head .ensures) (c .before .before .before .before .if1 .left) (c .enum-told .given .1)
+type-len-returns-2 t c =
+    let a = c .before .before .before .before .before .before .before .args in
+    types.leaf-arm (a .names) (a .level) (a .kinds .now) (a .words .now) _ _ (c .before .before .before .first-entry .ensures) (c .before .before .type-head .ensures) (c .before .before .before .before .if1 .left) (c .enum-told .given .1)
 
 -- src/types.rt:102:1
 type-len-returns-3 : (t : ℕ) → type-len-lts.Need-returns-3 (
@@ -464,7 +486,9 @@ type-len-returns-3 : (t : ℕ) → type-len-lts.Need-returns-3 (
   types-len-below t,
   types-len.Post,
 ) (type-len-at t) type-len.Post
-type-len-returns-3 t c = types.array-arm (c .before .before .before .before .before .before .before .before .before .before .before .args .names) (c .before .before .before .before .before .before .before .before .before .before .before .args .level) (c .before .before .before .before .before .before .before .before .before .before .before .args .kinds .now) (c .before .before .before .before .before .before .before .before .before .before .before .args .words .now) _ _ (c .before .before .before .before .before .before .before .first-entry .ensures) (c .before .before .before .before .before .before .type-head .ensures) (c .before .before .before .before .before .before .before .before .if1 .left) (c .before .before .before .before .enum-told2 .given .1) _ _ (c .before .type-len .ensures) (c .then-len .ensures)
+type-len-returns-3 t c =
+    let a = c .before .before .before .before .before .before .before .before .before .before .before .args in
+    types.array-arm (a .names) (a .level) (a .kinds .now) (a .words .now) _ _ (c .before .before .before .before .before .before .before .first-entry .ensures) (c .before .before .before .before .before .before .type-head .ensures) (c .before .before .before .before .before .before .before .before .if1 .left) (c .before .before .before .before .enum-told2 .given .1) _ _ (c .before .type-len .ensures) (c .then-len .ensures)
 
 -- src/types.rt:102:1
 type-len-returns-4 : (t : ℕ) → type-len-lts.Need-returns-4 (
@@ -479,7 +503,9 @@ type-len-returns-4 : (t : ℕ) → type-len-lts.Need-returns-4 (
   types-len-below t,
   types-len.Post,
 ) (type-len-at t) type-len.Post
-type-len-returns-4 t c = types.struct-arm (c .before .before .before .before .before .before .before .before .before .before .before .args .names) (c .before .before .before .before .before .before .before .before .before .before .before .args .level) (c .before .before .before .before .before .before .before .before .before .before .before .args .kinds .now) (c .before .before .before .before .before .before .before .before .before .before .before .args .words .now) _ _ (c .before .before .before .before .before .before .before .first-entry .ensures) (c .before .before .before .before .before .before .type-head .ensures) (c .before .before .before .before .before .before .before .before .if1 .left) (c .before .before .before .before .enum-told3 .given .1) _ _ (c .before .types-len .ensures) (c .then-len2 .ensures)
+type-len-returns-4 t c =
+    let a = c .before .before .before .before .before .before .before .before .before .before .before .args in
+    types.struct-arm (a .names) (a .level) (a .kinds .now) (a .words .now) _ _ (c .before .before .before .before .before .before .before .first-entry .ensures) (c .before .before .before .before .before .before .type-head .ensures) (c .before .before .before .before .before .before .before .before .if1 .left) (c .before .before .before .before .enum-told3 .given .1) _ _ (c .before .types-len .ensures) (c .then-len2 .ensures)
 
 -- src/types.rt:102:1
 type-len-returns-5 : (t : ℕ) → type-len-lts.Need-returns-5 (
@@ -494,7 +520,9 @@ type-len-returns-5 : (t : ℕ) → type-len-lts.Need-returns-5 (
   types-len-below t,
   types-len.Post,
 ) (type-len-at t) type-len.Post
-type-len-returns-5 t c = types.bad-arm (c .before .before .before .before .before .before .before .args .names) (c .before .before .before .before .before .before .before .args .level) (c .before .before .before .before .before .before .before .args .kinds .now) (c .before .before .before .before .before .before .before .args .words .now) _ _ (c .before .before .before .first-entry .ensures) (c .before .before .type-head .ensures) (c .before .before .before .before .if1 .left) (c .enum-told4 .given .1)
+type-len-returns-5 t c =
+    let a = c .before .before .before .before .before .before .before .args in
+    types.bad-arm (a .names) (a .level) (a .kinds .now) (a .words .now) _ _ (c .before .before .before .first-entry .ensures) (c .before .before .type-head .ensures) (c .before .before .before .before .if1 .left) (c .enum-told4 .given .1)
 
 -- src/types.rt:120:21
 type-step-first-entry-requires : (t : ℕ) → type-step-lts.Need-first-entry-requires (
@@ -598,7 +626,9 @@ type-step-returns : (t : ℕ) → type-step-lts.Need-returns (
   next-step-reads.Asked,
   next-step-reads.Learnt,
 ) (type-step-at t) type-step.Post
-type-step-returns t c = types.closing-arm (typeTo (c .before .before .before .before .before .before .args .names) (c .before .before .before .before .before .before .args .level)) (c .before .before .before .before .before .before .args .kinds .now) (c .before .before .before .before .before .before .args .words .now) _ _ (c .before .before .before .first-entry .ensures) (c .before .before .list-head .ensures) (c .enum-told .given .1)
+type-step-returns t c =
+    let a = c .before .before .before .before .before .before .args in
+    types.closing-arm (typeTo (a .names) (a .level)) (a .kinds .now) (a .words .now) _ _ (c .before .before .before .first-entry .ensures) (c .before .before .list-head .ensures) (c .enum-told .given .1)
 
 -- src/types.rt:117:1
 type-step-returns-2 : (t : ℕ) → type-step-lts.Need-returns-2 (
@@ -611,7 +641,9 @@ type-step-returns-2 : (t : ℕ) → type-step-lts.Need-returns-2 (
   next-step-reads.Asked,
   next-step-reads.Learnt,
 ) (type-step-at t) type-step.Post
-type-step-returns-2 t c = types.item-arm (typeTo (c .before .before .before .before .before .before .before .before .args .names) (c .before .before .before .before .before .before .before .before .args .level)) (c .before .before .before .before .before .before .before .before .args .kinds .now) (c .before .before .before .before .before .before .before .before .args .words .now) _ _ (c .before .before .before .before .before .first-entry .ensures) (c .before .before .before .before .list-head .ensures) (c .before .before .enum-told2 .given .1) _ _ (c .before .type-len .ensures) (c .next-step .ensures)
+type-step-returns-2 t c =
+    let a = c .before .before .before .before .before .before .before .before .args in
+    types.item-arm (typeTo (a .names) (a .level)) (a .kinds .now) (a .words .now) _ _ (c .before .before .before .before .before .first-entry .ensures) (c .before .before .before .before .list-head .ensures) (c .before .before .enum-told2 .given .1) _ _ (c .before .type-len .ensures) (c .next-step .ensures)
 
 -- src/types.rt:117:1
 type-step-returns-3 : (t : ℕ) → type-step-lts.Need-returns-3 (
@@ -624,7 +656,9 @@ type-step-returns-3 : (t : ℕ) → type-step-lts.Need-returns-3 (
   next-step-reads.Asked,
   next-step-reads.Learnt,
 ) (type-step-at t) type-step.Post
-type-step-returns-3 t c = types.none-arm (typeTo (c .before .before .before .before .before .before .args .names) (c .before .before .before .before .before .before .args .level)) (c .before .before .before .before .before .before .args .kinds .now) (c .before .before .before .before .before .before .args .words .now) _ _ (c .before .before .before .first-entry .ensures) (c .before .before .list-head .ensures) (c .enum-told3 .given .1)
+type-step-returns-3 t c =
+    let a = c .before .before .before .before .before .before .args in
+    types.none-arm (typeTo (a .names) (a .level)) (a .kinds .now) (a .words .now) _ _ (c .before .before .before .first-entry .ensures) (c .before .before .list-head .ensures) (c .enum-told3 .given .1)
 
 abbrev types-len-Inv-loop : types-len-lts.InvT-loop
 types-len-Inv-loop kinds words names level at₀ left₀ at left =
@@ -649,7 +683,9 @@ types-len-loop-holds : (t : ℕ) → types-len-lts.Need-loop-holds (
   type-step-below t,
   type-step.Post,
 ) (types-len-at t) types-len.Post types-len-Inv-loop types-len-μ-loop
-types-len-loop-holds t c = laws.loop-start isClosing (typeTo (c .before .before .before .args .names) (c .before .before .before .args .level)) closing (length (entries (c .before .before .before .args .kinds .now) (c .before .before .before .args .words .now))) (c .before .before .before .args .kinds .now) (c .before .before .before .args .words .now) _ (c .shorter .ensures)
+types-len-loop-holds t c =
+    let a = c .before .before .before .args in
+    laws.loop-start isClosing (typeTo (a .names) (a .level)) closing (length (entries (a .kinds .now) (a .words .now))) (a .kinds .now) (a .words .now) _ (c .shorter .ensures)
 
 -- src/types.rt:134:25
 types-len-mul-type-step : (t : ℕ) → types-len-lts.Need-mul-type-step (
@@ -748,7 +784,9 @@ types-len-add-t20 : (t : ℕ) → types-len-lts.Need-add-t20 (
   type-step-below t,
   type-step.Post,
 ) (types-len-at t) types-len.Post types-len-Inv-loop types-len-μ-loop
-types-len-add-t20 t c = omega (arith, laws.done-there isClosing (typeTo (c .before .before .before .before .before .before .before .before .before .before .args .names) (c .before .before .before .before .before .before .before .before .before .before .args .level)) closing (length (entries (c .before .before .before .before .before .before .before .before .before .before .args .kinds .now) (c .before .before .before .before .before .before .before .before .before .before .args .words .now))) (c .before .before .before .before .before .before .before .before .before .before .args .kinds .now) (c .before .before .before .before .before .before .before .before .before .before .args .words .now) _ _ (c .before .before .before .before .before .before .loop .inv) _ (c .before .before .before .type-step .ensures) (agrees-typeTo _ _) agrees-closing _ (c .before .n .given .1), c .before .before .before .before .before .before .before .before .before .before .good)
+types-len-add-t20 t c =
+    let a = c .before .before .before .before .before .before .before .before .before .before .args in
+    omega (arith, laws.done-there isClosing (typeTo (a .names) (a .level)) closing (length (entries (a .kinds .now) (a .words .now))) (a .kinds .now) (a .words .now) _ _ (c .before .before .before .before .before .before .loop .inv) _ (c .before .before .before .type-step .ensures) (agrees-typeTo _ _) agrees-closing _ (c .before .n .given .1), c .before .before .before .before .before .before .before .before .before .before .good)
 
 -- src/types.rt:135:30
 types-len-returns : (t : ℕ) → types-len-lts.Need-returns (
@@ -757,7 +795,9 @@ types-len-returns : (t : ℕ) → types-len-lts.Need-returns (
   type-step-below t,
   type-step.Post,
 ) (types-len-at t) types-len.Post types-len-Inv-loop types-len-μ-loop
-types-len-returns t c = laws.loop-done isClosing (typeTo (c .before .before .before .before .before .before .before .before .before .before .args .names) (c .before .before .before .before .before .before .before .before .before .before .args .level)) closing (length (entries (c .before .before .before .before .before .before .before .before .before .before .args .kinds .now) (c .before .before .before .before .before .before .before .before .before .before .args .words .now))) (c .before .before .before .before .before .before .before .before .before .before .args .kinds .now) (c .before .before .before .before .before .before .before .before .before .before .args .words .now) _ _ (c .before .before .before .before .before .before .loop .inv) _ (c .before .before .before .type-step .ensures) _ (c .before .n .given .1) ∙ sym (types.many-len _ _)
+types-len-returns t c =
+    let a = c .before .before .before .before .before .before .before .before .before .before .args in
+    laws.loop-done isClosing (typeTo (a .names) (a .level)) closing (length (entries (a .kinds .now) (a .words .now))) (a .kinds .now) (a .words .now) _ _ (c .before .before .before .before .before .before .loop .inv) _ (c .before .before .before .type-step .ensures) _ (c .before .n .given .1) ∙ sym (types.many-len _ _)
 
 -- src/types.rt:136:26
 types-len-enum-told : (t : ℕ) → types-len-lts.Need-enum-told (
@@ -775,7 +815,9 @@ types-len-returns-2 : (t : ℕ) → types-len-lts.Need-returns-2 (
   type-step-below t,
   type-step.Post,
 ) (types-len-at t) types-len.Post types-len-Inv-loop types-len-μ-loop
-types-len-returns-2 t c = laws.loop-bad isClosing (typeTo (c .before .before .before .before .before .before .before .before .before .args .names) (c .before .before .before .before .before .before .before .before .before .args .level)) closing (length (entries (c .before .before .before .before .before .before .before .before .before .args .kinds .now) (c .before .before .before .before .before .before .before .before .before .args .words .now))) (c .before .before .before .before .before .before .before .before .before .args .kinds .now) (c .before .before .before .before .before .before .before .before .before .args .words .now) _ _ (c .before .before .before .before .before .loop .inv) _ (c .before .before .type-step .ensures) (c .enum-told .given .1) ∙ sym (types.many-len _ _)
+types-len-returns-2 t c =
+    let a = c .before .before .before .before .before .before .before .before .before .args in
+    laws.loop-bad isClosing (typeTo (a .names) (a .level)) closing (length (entries (a .kinds .now) (a .words .now))) (a .kinds .now) (a .words .now) _ _ (c .before .before .before .before .before .loop .inv) _ (c .before .before .type-step .ensures) (c .enum-told .given .1) ∙ sym (types.many-len _ _)
 
 -- src/types.rt:137:24
 types-len-enum-known-n-2 : (t : ℕ) → types-len-lts.Need-enum-known-n-2 (
@@ -793,7 +835,9 @@ types-len-returns-3 : (t : ℕ) → types-len-lts.Need-returns-3 (
   type-step-below t,
   type-step.Post,
 ) (types-len-at t) types-len.Post types-len-Inv-loop types-len-μ-loop
-types-len-returns-3 t c = laws.loop-full isClosing (typeTo (c .before .before .before .before .before .before .before .before .before .before .before .args .names) (c .before .before .before .before .before .before .before .before .before .before .before .args .level)) closing (length (entries (c .before .before .before .before .before .before .before .before .before .before .before .args .kinds .now) (c .before .before .before .before .before .before .before .before .before .before .before .args .words .now))) (c .before .before .before .before .before .before .before .before .before .before .before .args .kinds .now) (c .before .before .before .before .before .before .before .before .before .before .before .args .words .now) _ _ (c .before .before .before .before .before .before .before .loop .inv) _ (c .before .before .before .before .type-step .ensures) _ (c .before .before .n2 .given .1) (c .if1 .taken) ∙ sym (types.many-len _ _)
+types-len-returns-3 t c =
+    let a = c .before .before .before .before .before .before .before .before .before .before .before .args in
+    laws.loop-full isClosing (typeTo (a .names) (a .level)) closing (length (entries (a .kinds .now) (a .words .now))) (a .kinds .now) (a .words .now) _ _ (c .before .before .before .before .before .before .before .loop .inv) _ (c .before .before .before .before .type-step .ensures) _ (c .before .before .n2 .given .1) (c .if1 .taken) ∙ sym (types.many-len _ _)
 
 -- src/types.rt:141:22
 types-len-add-at : (t : ℕ) → types-len-lts.Need-add-at (
@@ -802,7 +846,9 @@ types-len-add-at : (t : ℕ) → types-len-lts.Need-add-at (
   type-step-below t,
   type-step.Post,
 ) (types-len-at t) types-len.Post types-len-Inv-loop types-len-μ-loop
-types-len-add-at t c = omega (arith, laws.loop-next isClosing (typeTo (c .before .before .before .before .before .before .before .before .before .before .before .args .names) (c .before .before .before .before .before .before .before .before .before .before .before .args .level)) closing (length (entries (c .before .before .before .before .before .before .before .before .before .before .before .args .kinds .now) (c .before .before .before .before .before .before .before .before .before .before .before .args .words .now))) (c .before .before .before .before .before .before .before .before .before .before .before .args .kinds .now) (c .before .before .before .before .before .before .before .before .before .before .before .args .words .now) _ _ (c .before .before .before .before .before .before .before .loop .inv) _ (c .before .before .before .before .type-step .ensures) (agrees-typeTo _ _) agrees-closing _ (c .before .before .n2 .given .1) (c .if1 .left) .kinds, c .before .before .before .before .before .before .before .before .before .before .before .good)
+types-len-add-at t c =
+    let a = c .before .before .before .before .before .before .before .before .before .before .before .args in
+    omega (arith, laws.loop-next isClosing (typeTo (a .names) (a .level)) closing (length (entries (a .kinds .now) (a .words .now))) (a .kinds .now) (a .words .now) _ _ (c .before .before .before .before .before .before .before .loop .inv) _ (c .before .before .before .before .type-step .ensures) (agrees-typeTo _ _) agrees-closing _ (c .before .before .n2 .given .1) (c .if1 .left) .kinds, c .before .before .before .before .before .before .before .before .before .before .before .good)
 
 -- src/types.rt:142:24
 types-len-sub-left : (t : ℕ) → types-len-lts.Need-sub-left (
@@ -829,7 +875,9 @@ types-len-loop-again : (t : ℕ) → types-len-lts.Need-loop-again (
   type-step-below t,
   type-step.Post,
 ) (types-len-at t) types-len.Post types-len-Inv-loop types-len-μ-loop
-types-len-loop-again t c = laws.loop-next isClosing (typeTo (c .before .before .before .before .before .before .before .before .before .before .before .args .names) (c .before .before .before .before .before .before .before .before .before .before .before .args .level)) closing (length (entries (c .before .before .before .before .before .before .before .before .before .before .before .args .kinds .now) (c .before .before .before .before .before .before .before .before .before .before .before .args .words .now))) (c .before .before .before .before .before .before .before .before .before .before .before .args .kinds .now) (c .before .before .before .before .before .before .before .before .before .before .before .args .words .now) _ _ (c .before .before .before .before .before .before .before .loop .inv) _ (c .before .before .before .before .type-step .ensures) (agrees-typeTo _ _) agrees-closing _ (c .before .before .n2 .given .1) (c .if1 .left)
+types-len-loop-again t c =
+    let a = c .before .before .before .before .before .before .before .before .before .before .before .args in
+    laws.loop-next isClosing (typeTo (a .names) (a .level)) closing (length (entries (a .kinds .now) (a .words .now))) (a .kinds .now) (a .words .now) _ _ (c .before .before .before .before .before .before .before .loop .inv) _ (c .before .before .before .before .type-step .ensures) (agrees-typeTo _ _) agrees-closing _ (c .before .before .n2 .given .1) (c .if1 .left)
 
 pub +type-len+type-step+types-len-spec : {M : Type 1} → statement M
 +type-len+type-step+types-len-spec =

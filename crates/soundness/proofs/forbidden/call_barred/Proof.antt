@@ -23,28 +23,42 @@ enum-told : tie.Need-enum-told
 enum-told c = search needs
 
 returns : tie.Need-returns
-returns c = barred.call-bad (barredBy (c .before .before .before .before .before .before .args .from) (c .before .before .before .before .before .before .args .to) (c .before .before .before .before .before .before .args .map .now)) (c .before .before .before .before .before .before .args .names) (entries (c .before .before .before .before .before .before .args .kinds .now) (c .before .before .before .before .before .before .args .words .now)) _ (c .before .before .type-len .ensures) (c .enum-told .given .1)
+returns c =
+    let a = c .before .before .before .before .before .before .args in
+    barred.call-bad (barredBy (a .from) (a .to) (a .map .now)) (a .names) (entries (a .kinds .now) (a .words .now)) _ (c .before .before .type-len .ensures) (c .enum-told .given .1)
 
 mul-first-entry : tie.Need-mul-first-entry
-mul-first-entry c = omega (arith, within-kinds _ (c .before .before .before .before .before .before .before .args .kinds .now) (c .before .before .before .before .before .before .before .args .words .now) (len-fits (agrees-type (c .before .before .before .before .before .before .before .args .names)) (entries (c .before .before .before .before .before .before .before .args .kinds .now) (c .before .before .before .before .before .before .before .args .words .now)) _ (sym (c .before .before .before .type-len .ensures) ∙ c .before .n .given .1)), c .before .before .before .before .before .before .before .good)
+mul-first-entry c =
+    let a = c .before .before .before .before .before .before .before .args in
+    omega (arith, within-kinds _ (a .kinds .now) (a .words .now) (len-fits (agrees-type (a .names)) (entries (a .kinds .now) (a .words .now)) _ (sym (c .before .before .before .type-len .ensures) ∙ c .before .n .given .1)), c .before .before .before .before .before .before .before .good)
 
 sub-first-entry : tie.Need-sub-first-entry
-sub-first-entry c = within-kinds _ (c .before .before .before .before .before .before .before .args .kinds .now) (c .before .before .before .before .before .before .before .args .words .now) (len-fits (agrees-type (c .before .before .before .before .before .before .before .args .names)) (entries (c .before .before .before .before .before .before .before .args .kinds .now) (c .before .before .before .before .before .before .before .args .words .now)) _ (sym (c .before .before .before .type-len .ensures) ∙ c .before .n .given .1))
+sub-first-entry c =
+    let a = c .before .before .before .before .before .before .before .args in
+    within-kinds _ (a .kinds .now) (a .words .now) (len-fits (agrees-type (a .names)) (entries (a .kinds .now) (a .words .now)) _ (sym (c .before .before .before .type-len .ensures) ∙ c .before .n .given .1))
 
 part-first-entry-start : tie.Need-part-first-entry-start
-part-first-entry-start c = within-kinds _ (c .before .before .before .before .before .before .before .args .kinds .now) (c .before .before .before .before .before .before .before .args .words .now) (len-fits (agrees-type (c .before .before .before .before .before .before .before .args .names)) (entries (c .before .before .before .before .before .before .before .args .kinds .now) (c .before .before .before .before .before .before .before .args .words .now)) _ (sym (c .before .before .before .type-len .ensures) ∙ c .before .n .given .1))
+part-first-entry-start c =
+    let a = c .before .before .before .before .before .before .before .args in
+    within-kinds _ (a .kinds .now) (a .words .now) (len-fits (agrees-type (a .names)) (entries (a .kinds .now) (a .words .now)) _ (sym (c .before .before .before .type-len .ensures) ∙ c .before .n .given .1))
 
 part-first-entry-end : tie.Need-part-first-entry-end
 part-first-entry-end c = search needs
 
 mul-first-entry-2 : tie.Need-mul-first-entry-2
-mul-first-entry-2 c = omega (arith, within-words _ (c .before .before .before .before .before .before .before .before .args .kinds .now) (c .before .before .before .before .before .before .before .before .args .words .now) (len-fits (agrees-type (c .before .before .before .before .before .before .before .before .args .names)) (entries (c .before .before .before .before .before .before .before .before .args .kinds .now) (c .before .before .before .before .before .before .before .before .args .words .now)) _ (sym (c .before .before .before .before .type-len .ensures) ∙ c .before .before .n .given .1)), c .before .before .before .before .before .before .before .before .good)
+mul-first-entry-2 c =
+    let a = c .before .before .before .before .before .before .before .before .args in
+    omega (arith, within-words _ (a .kinds .now) (a .words .now) (len-fits (agrees-type (a .names)) (entries (a .kinds .now) (a .words .now)) _ (sym (c .before .before .before .before .type-len .ensures) ∙ c .before .before .n .given .1)), c .before .before .before .before .before .before .before .before .good)
 
 sub-first-entry-2 : tie.Need-sub-first-entry-2
-sub-first-entry-2 c = within-words _ (c .before .before .before .before .before .before .before .before .args .kinds .now) (c .before .before .before .before .before .before .before .before .args .words .now) (len-fits (agrees-type (c .before .before .before .before .before .before .before .before .args .names)) (entries (c .before .before .before .before .before .before .before .before .args .kinds .now) (c .before .before .before .before .before .before .before .before .args .words .now)) _ (sym (c .before .before .before .before .type-len .ensures) ∙ c .before .before .n .given .1))
+sub-first-entry-2 c =
+    let a = c .before .before .before .before .before .before .before .before .args in
+    within-words _ (a .kinds .now) (a .words .now) (len-fits (agrees-type (a .names)) (entries (a .kinds .now) (a .words .now)) _ (sym (c .before .before .before .before .type-len .ensures) ∙ c .before .before .n .given .1))
 
 part-first-entry-start-2 : tie.Need-part-first-entry-start-2
-part-first-entry-start-2 c = within-words _ (c .before .before .before .before .before .before .before .before .args .kinds .now) (c .before .before .before .before .before .before .before .before .args .words .now) (len-fits (agrees-type (c .before .before .before .before .before .before .before .before .args .names)) (entries (c .before .before .before .before .before .before .before .before .args .kinds .now) (c .before .before .before .before .before .before .before .before .args .words .now)) _ (sym (c .before .before .before .before .type-len .ensures) ∙ c .before .before .n .given .1))
+part-first-entry-start-2 c =
+    let a = c .before .before .before .before .before .before .before .before .args in
+    within-words _ (a .kinds .now) (a .words .now) (len-fits (agrees-type (a .names)) (entries (a .kinds .now) (a .words .now)) _ (sym (c .before .before .before .before .type-len .ensures) ∙ c .before .before .n .given .1))
 
 part-first-entry-end-2 : tie.Need-part-first-entry-end-2
 part-first-entry-end-2 c = search needs
@@ -56,7 +70,9 @@ callee-barred-requires : tie.Need-callee-barred-requires
 callee-barred-requires c κs = search needs
 
 returns-2 : tie.Need-returns-2
-returns-2 c = barred.call-arm (barredBy (c .before .before .before .before .before .before .before .before .before .before .before .args .from) (c .before .before .before .before .before .before .before .before .before .before .before .args .to) (c .before .before .before .before .before .before .before .before .before .before .before .args .map .now)) (c .before .before .before .before .before .before .before .before .before .before .before .args .names) (c .before .before .before .before .before .before .before .before .before .before .before .args .kinds .now) (c .before .before .before .before .before .before .before .before .before .before .before .args .words .now) _ _ (c .before .before .before .before .before .before .before .type-len .ensures) (c .before .before .before .before .before .n .given .1) _ _ (c .before .first-entry .ensures) (c .callee-barred .ensures)
+returns-2 c =
+    let a = c .before .before .before .before .before .before .before .before .before .before .before .args in
+    barred.call-arm (barredBy (a .from) (a .to) (a .map .now)) (a .names) (a .kinds .now) (a .words .now) _ _ (c .before .before .before .before .before .before .before .type-len .ensures) (c .before .before .before .before .before .n .given .1) _ _ (c .before .first-entry .ensures) (c .callee-barred .ensures)
 
 pub call-barred-spec : {M : Type 1} → statement M
 call-barred-spec =

@@ -22,28 +22,42 @@ enum-told : tie.Need-enum-told
 enum-told c = search needs
 
 returns : tie.Need-returns
-returns c = barred.entry-none (barredBy (c .before .before .before .before .before .before .args .from) (c .before .before .before .before .before .before .args .to) (c .before .before .before .before .before .before .args .map .now)) (c .before .before .before .before .before .before .args .names) (entries (c .before .before .before .before .before .before .args .kinds .now) (c .before .before .before .before .before .before .args .words .now)) (sym (c .before .before .first-entry .ensures) ∙ c .enum-told .given .1)
+returns c =
+    let a = c .before .before .before .before .before .before .args in
+    barred.entry-none (barredBy (a .from) (a .to) (a .map .now)) (a .names) (entries (a .kinds .now) (a .words .now)) (sym (c .before .before .first-entry .ensures) ∙ c .enum-told .given .1)
 
 returns-2 : tie.Need-returns-2
-returns-2 c = barred.entry-other (barredBy (c .before .before .before .before .before .before .before .before .args .from) (c .before .before .before .before .before .before .before .before .args .to) (c .before .before .before .before .before .before .before .before .args .map .now)) (c .before .before .before .before .before .before .before .before .args .names) (entries (c .before .before .before .before .before .before .before .before .args .kinds .now) (c .before .before .before .before .before .before .before .before .args .words .now)) _ _ (sym (c .before .before .before .before .first-entry .ensures) ∙ c .before .before .kind .given .1) (c .if1 .taken)
+returns-2 c =
+    let a = c .before .before .before .before .before .before .before .before .args in
+    barred.entry-other (barredBy (a .from) (a .to) (a .map .now)) (a .names) (entries (a .kinds .now) (a .words .now)) _ _ (sym (c .before .before .before .before .first-entry .ensures) ∙ c .before .before .kind .given .1) (c .if1 .taken)
 
 returns-3 : tie.Need-returns-3
-returns-3 c = barred.entry-plain (barredBy (c .before .before .before .before .before .before .before .before .before .args .from) (c .before .before .before .before .before .before .before .before .before .args .to) (c .before .before .before .before .before .before .before .before .before .args .map .now)) (c .before .before .before .before .before .before .before .before .before .args .names) (entries (c .before .before .before .before .before .before .before .before .before .args .kinds .now) (c .before .before .before .before .before .before .before .before .before .args .words .now)) _ _ (sym (c .before .before .before .before .before .first-entry .ensures) ∙ c .before .before .before .kind .given .1) (c .before .if1 .left) (c .if2 .taken)
+returns-3 c =
+    let a = c .before .before .before .before .before .before .before .before .before .args in
+    barred.entry-plain (barredBy (a .from) (a .to) (a .map .now)) (a .names) (entries (a .kinds .now) (a .words .now)) _ _ (sym (c .before .before .before .before .before .first-entry .ensures) ∙ c .before .before .before .kind .given .1) (c .before .if1 .left) (c .if2 .taken)
 
 sub-call-barred : tie.Need-sub-call-barred
-sub-call-barred c = within-kinds 1 _ _ (front-there (entries (c .before .before .before .before .before .before .before .before .before .args .kinds .now) (c .before .before .before .before .before .before .before .before .before .args .words .now)) _ _ (sym (c .before .before .before .before .before .first-entry .ensures) ∙ c .before .before .before .kind .given .1))
+sub-call-barred c =
+    let a = c .before .before .before .before .before .before .before .before .before .args in
+    within-kinds 1 _ _ (front-there (entries (a .kinds .now) (a .words .now)) _ _ (sym (c .before .before .before .before .before .first-entry .ensures) ∙ c .before .before .before .kind .given .1))
 
 part-call-barred-start : tie.Need-part-call-barred-start
-part-call-barred-start c = within-kinds 1 _ _ (front-there (entries (c .before .before .before .before .before .before .before .before .before .args .kinds .now) (c .before .before .before .before .before .before .before .before .before .args .words .now)) _ _ (sym (c .before .before .before .before .before .first-entry .ensures) ∙ c .before .before .before .kind .given .1))
+part-call-barred-start c =
+    let a = c .before .before .before .before .before .before .before .before .before .args in
+    within-kinds 1 _ _ (front-there (entries (a .kinds .now) (a .words .now)) _ _ (sym (c .before .before .before .before .before .first-entry .ensures) ∙ c .before .before .before .kind .given .1))
 
 part-call-barred-end : tie.Need-part-call-barred-end
 part-call-barred-end c = search needs
 
 sub-call-barred-2 : tie.Need-sub-call-barred-2
-sub-call-barred-2 c = within-words 1 _ _ (front-there (entries (c .before .before .before .before .before .before .before .before .before .before .args .kinds .now) (c .before .before .before .before .before .before .before .before .before .before .args .words .now)) _ _ (sym (c .before .before .before .before .before .before .first-entry .ensures) ∙ c .before .before .before .before .kind .given .1))
+sub-call-barred-2 c =
+    let a = c .before .before .before .before .before .before .before .before .before .before .args in
+    within-words 1 _ _ (front-there (entries (a .kinds .now) (a .words .now)) _ _ (sym (c .before .before .before .before .before .before .first-entry .ensures) ∙ c .before .before .before .before .kind .given .1))
 
 part-call-barred-start-2 : tie.Need-part-call-barred-start-2
-part-call-barred-start-2 c = within-words 1 _ _ (front-there (entries (c .before .before .before .before .before .before .before .before .before .before .args .kinds .now) (c .before .before .before .before .before .before .before .before .before .before .args .words .now)) _ _ (sym (c .before .before .before .before .before .before .first-entry .ensures) ∙ c .before .before .before .before .kind .given .1))
+part-call-barred-start-2 c =
+    let a = c .before .before .before .before .before .before .before .before .before .before .args in
+    within-words 1 _ _ (front-there (entries (a .kinds .now) (a .words .now)) _ _ (sym (c .before .before .before .before .before .before .first-entry .ensures) ∙ c .before .before .before .before .kind .given .1))
 
 part-call-barred-end-2 : tie.Need-part-call-barred-end-2
 part-call-barred-end-2 c = search needs
@@ -52,7 +66,9 @@ call-barred-requires : tie.Need-call-barred-requires
 call-barred-requires c κs = search needs
 
 returns-4 : tie.Need-returns-4
-returns-4 c = barred.entry-call (barredBy (c .before .before .before .before .before .before .before .before .before .before .before .before .args .from) (c .before .before .before .before .before .before .before .before .before .before .before .before .args .to) (c .before .before .before .before .before .before .before .before .before .before .before .before .args .map .now)) (c .before .before .before .before .before .before .before .before .before .before .before .before .args .names) (entries (c .before .before .before .before .before .before .before .before .before .before .before .before .args .kinds .now) (c .before .before .before .before .before .before .before .before .before .before .before .before .args .words .now)) _ _ (sym (c .before .before .before .before .before .before .before .before .first-entry .ensures) ∙ c .before .before .before .before .before .before .kind .given .1) (c .before .before .before .if2 .left) (c .before .before .before .before .if1 .left) _ (c .call-barred .ensures ∙ ap (callBarred (barredBy (c .before .before .before .before .before .before .before .before .before .before .before .before .args .from) (c .before .before .before .before .before .before .before .before .before .before .before .before .args .to) (c .before .before .before .before .before .before .before .before .before .before .before .before .args .map .now)) (c .before .before .before .before .before .before .before .before .before .before .before .before .args .names)) (entries-part 1 (c .before .before .before .before .before .before .before .before .before .before .before .before .args .kinds .now) (c .before .before .before .before .before .before .before .before .before .before .before .before .args .words .now)))
+returns-4 c =
+    let a = c .before .before .before .before .before .before .before .before .before .before .before .before .args in
+    barred.entry-call (barredBy (a .from) (a .to) (a .map .now)) (a .names) (entries (a .kinds .now) (a .words .now)) _ _ (sym (c .before .before .before .before .before .before .before .before .first-entry .ensures) ∙ c .before .before .before .before .before .before .kind .given .1) (c .before .before .before .if2 .left) (c .before .before .before .before .if1 .left) _ (c .call-barred .ensures ∙ ap (callBarred (barredBy (a .from) (a .to) (a .map .now)) (a .names)) (entries-part 1 (a .kinds .now) (a .words .now)))
 
 pub entry-barred-spec : {M : Type 1} → statement M
 entry-barred-spec =

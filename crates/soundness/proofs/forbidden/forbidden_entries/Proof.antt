@@ -28,7 +28,9 @@ scan-entries-requires : tie.Need-scan-entries-requires
 scan-entries-requires c κs = search needs
 
 returns : tie.Need-returns
-returns c = c .scan-entries .ensures ∙ scan-by (c .before .before .before .before .before .before .before .before .before .before .args .count) (entries (c .before .before .before .before .before .before .before .before .before .before .args .kinds .now) (c .before .before .before .before .before .before .before .before .before .before .args .words .now)) (c .before .before .prefix-range .ensures .first) (c .before .before .prefix-range .ensures .past) (c .before .before .before .before .before .mark-words .ensures .1)
+returns c =
+    let a = c .before .before .before .before .before .before .before .before .before .before .args in
+    c .scan-entries .ensures ∙ scan-by (a .count) (entries (a .kinds .now) (a .words .now)) (c .before .before .prefix-range .ensures .first) (c .before .before .prefix-range .ensures .past) (c .before .before .before .before .before .mark-words .ensures .1)
 
 pub forbidden-entries-spec : {M : Type 1} → statement M
 forbidden-entries-spec =

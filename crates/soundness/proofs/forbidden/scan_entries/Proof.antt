@@ -28,25 +28,37 @@ loop-holds : tie.Need-loop-holds Inv-loop μ-loop
 loop-holds c = (omega arith, refl)
 
 mul-entry-barred : tie.Need-mul-entry-barred Inv-loop μ-loop
-mul-entry-barred c = omega (arith, within-kinds _ (c .before .before .before .before .before .before .args .kinds .now) (c .before .before .before .before .before .before .args .words .now) (c .before .loop .inv .0), c .before .before .before .before .before .before .good)
+mul-entry-barred c =
+    let a = c .before .before .before .before .before .before .args in
+    omega (arith, within-kinds _ (a .kinds .now) (a .words .now) (c .before .loop .inv .0), c .before .before .before .before .before .before .good)
 
 sub-entry-barred : tie.Need-sub-entry-barred Inv-loop μ-loop
-sub-entry-barred c = within-kinds _ (c .before .before .before .before .before .before .args .kinds .now) (c .before .before .before .before .before .before .args .words .now) (c .before .loop .inv .0)
+sub-entry-barred c =
+    let a = c .before .before .before .before .before .before .args in
+    within-kinds _ (a .kinds .now) (a .words .now) (c .before .loop .inv .0)
 
 part-entry-barred-start : tie.Need-part-entry-barred-start Inv-loop μ-loop
-part-entry-barred-start c = within-kinds _ (c .before .before .before .before .before .before .args .kinds .now) (c .before .before .before .before .before .before .args .words .now) (c .before .loop .inv .0)
+part-entry-barred-start c =
+    let a = c .before .before .before .before .before .before .args in
+    within-kinds _ (a .kinds .now) (a .words .now) (c .before .loop .inv .0)
 
 part-entry-barred-end : tie.Need-part-entry-barred-end Inv-loop μ-loop
 part-entry-barred-end c = search needs
 
 mul-entry-barred-2 : tie.Need-mul-entry-barred-2 Inv-loop μ-loop
-mul-entry-barred-2 c = omega (arith, within-words _ (c .before .before .before .before .before .before .before .args .kinds .now) (c .before .before .before .before .before .before .before .args .words .now) (c .before .before .loop .inv .0), c .before .before .before .before .before .before .before .good)
+mul-entry-barred-2 c =
+    let a = c .before .before .before .before .before .before .before .args in
+    omega (arith, within-words _ (a .kinds .now) (a .words .now) (c .before .before .loop .inv .0), c .before .before .before .before .before .before .before .good)
 
 sub-entry-barred-2 : tie.Need-sub-entry-barred-2 Inv-loop μ-loop
-sub-entry-barred-2 c = within-words _ (c .before .before .before .before .before .before .before .args .kinds .now) (c .before .before .before .before .before .before .before .args .words .now) (c .before .before .loop .inv .0)
+sub-entry-barred-2 c =
+    let a = c .before .before .before .before .before .before .before .args in
+    within-words _ (a .kinds .now) (a .words .now) (c .before .before .loop .inv .0)
 
 part-entry-barred-start-2 : tie.Need-part-entry-barred-start-2 Inv-loop μ-loop
-part-entry-barred-start-2 c = within-words _ (c .before .before .before .before .before .before .before .args .kinds .now) (c .before .before .before .before .before .before .before .args .words .now) (c .before .before .loop .inv .0)
+part-entry-barred-start-2 c =
+    let a = c .before .before .before .before .before .before .before .args in
+    within-words _ (a .kinds .now) (a .words .now) (c .before .before .loop .inv .0)
 
 part-entry-barred-end-2 : tie.Need-part-entry-barred-end-2 Inv-loop μ-loop
 part-entry-barred-end-2 c = search needs
@@ -55,19 +67,27 @@ entry-barred-requires : tie.Need-entry-barred-requires Inv-loop μ-loop
 entry-barred-requires c κs = search needs
 
 returns : tie.Need-returns Inv-loop μ-loop
-returns c = sym (c .before .before .before .before .before .loop .inv .1 ∙ barred.scan-hit (barredBy (c .before .before .before .before .before .before .before .before .before .before .args .from) (c .before .before .before .before .before .before .before .before .before .before .args .to) (c .before .before .before .before .before .before .before .before .before .before .args .map .now)) (c .before .before .before .before .before .before .before .before .before .before .args .names) (entries (c .before .before .before .before .before .before .before .before .before .before .args .kinds .now) (c .before .before .before .before .before .before .before .before .before .before .args .words .now)) (c .before .before .before .before .before .loop .i) (omega (arith, c .before .before .before .before .before .before .shorter .ensures, c .before .before .before .before .loop-test .taken)) (sym (c .before .entry-barred .ensures ∙ ap (entryBarred (barredBy (c .before .before .before .before .before .before .before .before .before .before .args .from) (c .before .before .before .before .before .before .before .before .before .before .args .to) (c .before .before .before .before .before .before .before .before .before .before .args .map .now)) (c .before .before .before .before .before .before .before .before .before .before .args .names)) (entries-part (c .before .before .before .before .before .loop .i) (c .before .before .before .before .before .before .before .before .before .before .args .kinds .now) (c .before .before .before .before .before .before .before .before .before .before .args .words .now))) ∙ c .if1 .taken))
+returns c =
+    let a = c .before .before .before .before .before .before .before .before .before .before .args in
+    sym (c .before .before .before .before .before .loop .inv .1 ∙ barred.scan-hit (barredBy (a .from) (a .to) (a .map .now)) (a .names) (entries (a .kinds .now) (a .words .now)) (c .before .before .before .before .before .loop .i) (omega (arith, c .before .before .before .before .before .before .shorter .ensures, c .before .before .before .before .loop-test .taken)) (sym (c .before .entry-barred .ensures ∙ ap (entryBarred (barredBy (a .from) (a .to) (a .map .now)) (a .names)) (entries-part (c .before .before .before .before .before .loop .i) (a .kinds .now) (a .words .now))) ∙ c .if1 .taken))
 
 add-i : tie.Need-add-i Inv-loop μ-loop
-add-i c = omega (arith, c .before .before .before .before .before .before .shorter .ensures, c .before .before .before .before .loop-test .taken, within-kinds _ (c .before .before .before .before .before .before .before .before .before .before .args .kinds .now) (c .before .before .before .before .before .before .before .before .before .before .args .words .now) (c .before .before .before .before .before .loop .inv .0), length-entries (c .before .before .before .before .before .before .before .before .before .before .args .kinds .now) (c .before .before .before .before .before .before .before .before .before .before .args .words .now), c .before .before .before .before .before .before .before .before .before .before .good)
+add-i c =
+    let a = c .before .before .before .before .before .before .before .before .before .before .args in
+    omega (arith, c .before .before .before .before .before .before .shorter .ensures, c .before .before .before .before .loop-test .taken, within-kinds _ (a .kinds .now) (a .words .now) (c .before .before .before .before .before .loop .inv .0), length-entries (a .kinds .now) (a .words .now), c .before .before .before .before .before .before .before .before .before .before .good)
 
 loop-less : tie.Need-loop-less Inv-loop μ-loop
 loop-less c = omega (arith, c .before .before .before .before .loop-test .taken)
 
 loop-again : tie.Need-loop-again Inv-loop μ-loop
-loop-again c = (omega (arith, c .before .before .before .before .before .before .shorter .ensures, c .before .before .before .before .loop-test .taken), c .before .before .before .before .before .loop .inv .1 ∙ barred.scan-miss (barredBy (c .before .before .before .before .before .before .before .before .before .before .args .from) (c .before .before .before .before .before .before .before .before .before .before .args .to) (c .before .before .before .before .before .before .before .before .before .before .args .map .now)) (c .before .before .before .before .before .before .before .before .before .before .args .names) (entries (c .before .before .before .before .before .before .before .before .before .before .args .kinds .now) (c .before .before .before .before .before .before .before .before .before .before .args .words .now)) (c .before .before .before .before .before .loop .i) (omega (arith, c .before .before .before .before .before .before .shorter .ensures, c .before .before .before .before .loop-test .taken)) (sym (c .before .entry-barred .ensures ∙ ap (entryBarred (barredBy (c .before .before .before .before .before .before .before .before .before .before .args .from) (c .before .before .before .before .before .before .before .before .before .before .args .to) (c .before .before .before .before .before .before .before .before .before .before .args .map .now)) (c .before .before .before .before .before .before .before .before .before .before .args .names)) (entries-part (c .before .before .before .before .before .loop .i) (c .before .before .before .before .before .before .before .before .before .before .args .kinds .now) (c .before .before .before .before .before .before .before .before .before .before .args .words .now))) ∙ c .if1 .left))
+loop-again c =
+    let a = c .before .before .before .before .before .before .before .before .before .before .args in
+    (omega (arith, c .before .before .before .before .before .before .shorter .ensures, c .before .before .before .before .loop-test .taken), c .before .before .before .before .before .loop .inv .1 ∙ barred.scan-miss (barredBy (a .from) (a .to) (a .map .now)) (a .names) (entries (a .kinds .now) (a .words .now)) (c .before .before .before .before .before .loop .i) (omega (arith, c .before .before .before .before .before .before .shorter .ensures, c .before .before .before .before .loop-test .taken)) (sym (c .before .entry-barred .ensures ∙ ap (entryBarred (barredBy (a .from) (a .to) (a .map .now)) (a .names)) (entries-part (c .before .before .before .before .before .loop .i) (a .kinds .now) (a .words .now))) ∙ c .if1 .left))
 
 returns-2 : tie.Need-returns-2 Inv-loop μ-loop
-returns-2 c = sym (c .before .loop .inv .1 ∙ barred.scan-end (barredBy (c .before .before .before .before .before .before .args .from) (c .before .before .before .before .before .before .args .to) (c .before .before .before .before .before .before .args .map .now)) (c .before .before .before .before .before .before .args .names) (entries (c .before .before .before .before .before .before .args .kinds .now) (c .before .before .before .before .before .before .args .words .now)) (c .before .loop .i) (omega (arith, c .before .before .shorter .ensures, c .loop-test .left)) (c .before .loop .inv .0))
+returns-2 c =
+    let a = c .before .before .before .before .before .before .args in
+    sym (c .before .loop .inv .1 ∙ barred.scan-end (barredBy (a .from) (a .to) (a .map .now)) (a .names) (entries (a .kinds .now) (a .words .now)) (c .before .loop .i) (omega (arith, c .before .before .shorter .ensures, c .loop-test .left)) (c .before .loop .inv .0))
 
 pub scan-entries-spec : {M : Type 1} → statement M
 scan-entries-spec =

@@ -22,7 +22,9 @@ same-length : tie.Need-same-length
 same-length c = search needs
 
 returns-3 : tie.Need-returns-3
-returns-3 c = let t : between (c .before .before .before .before .before .before .before .args .lo) (c .before .before .before .before .before .before .before .args .hi) (c .before .before .before .before .before .before .before .args .kind) ≡ true = rw (le-leb _ _ (c .before .before .before .before .before .if1 .left), le-leb _ _ (c .before .before .before .before .if2 .left)) in (c .before .before .mark-new .ensures .0 ∙ ap (λ b. not b || isNew (c .before .before .before .before .before .before .before .args .map .now) (c .before .before .before .before .before .before .before .args .word)) (sym t), c .before .before .mark-new .ensures .1 ∙ ap (λ b. setIf b (c .before .before .before .before .before .before .before .args .map .now) (c .before .before .before .before .before .before .before .args .word)) (c .before .before .mark-new .ensures .0) ∙ ap (λ b. orElse b (setIf (isNew (c .before .before .before .before .before .before .before .args .map .now) (c .before .before .before .before .before .before .before .args .word)) (c .before .before .before .before .before .before .before .args .map .now) (c .before .before .before .before .before .before .before .args .word)) (c .before .before .before .before .before .before .before .args .map .now)) (sym t))
+returns-3 c =
+    let a = c .before .before .before .before .before .before .before .args in
+    let t : between (a .lo) (a .hi) (a .kind) ≡ true = rw (le-leb _ _ (c .before .before .before .before .before .if1 .left), le-leb _ _ (c .before .before .before .before .if2 .left)) in (c .before .before .mark-new .ensures .0 ∙ ap (λ b. not b || isNew (a .map .now) (a .word)) (sym t), c .before .before .mark-new .ensures .1 ∙ ap (λ b. setIf b (a .map .now) (a .word)) (c .before .before .mark-new .ensures .0) ∙ ap (λ b. orElse b (setIf (isNew (a .map .now) (a .word)) (a .map .now) (a .word)) (a .map .now)) (sym t))
 
 pub mark-entry-spec : {M : Type 1} → statement M
 mark-entry-spec = tie.close (tie.spec returns returns-2 mark-new-requires same-length returns-3)

@@ -19,7 +19,9 @@ same-length : tie.Need-same-length
 same-length c = search needs
 
 returns-2 : tie.Need-returns-2
-returns-2 c = let e : isNew (c .before .before .before .before .before .args .map .now) (c .before .before .before .before .before .args .x) ≡ false = rw (lt-ltb _ _ (c .before .before .before .if1 .left), sym (c .before .bit .ensures) ∙ c .if2 .taken) in (sym e, refl)
+returns-2 c =
+    let a = c .before .before .before .before .before .args in
+    let e : isNew (a .map .now) (a .x) ≡ false = rw (lt-ltb _ _ (c .before .before .before .if1 .left), sym (c .before .bit .ensures) ∙ c .if2 .taken) in (sym e, refl)
 
 set-bit-requires : tie.Need-set-bit-requires
 set-bit-requires c κs = search needs
@@ -28,7 +30,9 @@ same-length-2 : tie.Need-same-length-2
 same-length-2 c = search needs
 
 returns-3 : tie.Need-returns-3
-returns-3 c = let e : isNew (c .before .before .before .before .before .before .before .before .before .args .map .now) (c .before .before .before .before .before .before .before .before .before .args .x) ≡ true = rw (lt-ltb _ _ (c .before .before .before .before .before .before .before .if1 .left), sym (c .before .before .before .before .before .bit .ensures) ∙ c .before .before .before .before .if2 .left) in (sym e, c .before .before .set-bit .ensures)
+returns-3 c =
+    let a = c .before .before .before .before .before .before .before .before .before .args in
+    let e : isNew (a .map .now) (a .x) ≡ true = rw (lt-ltb _ _ (c .before .before .before .before .before .before .before .if1 .left), sym (c .before .before .before .before .before .bit .ensures) ∙ c .before .before .before .before .if2 .left) in (sym e, c .before .before .set-bit .ensures)
 
 pub mark-new-spec : {M : Type 1} → statement M
 mark-new-spec =

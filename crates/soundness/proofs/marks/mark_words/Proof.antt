@@ -28,16 +28,24 @@ loop-holds : tie.Need-loop-holds Inv-loop μ-loop
 loop-holds c = once.at-start _ _ _
 
 mul-mark-entry : tie.Need-mul-mark-entry Inv-loop μ-loop
-mul-mark-entry c = omega (arith, length-entries (c .before .before .before .before .before .before .args .kinds .now) (c .before .before .before .before .before .before .args .words .now), c .before .before .shorter .ensures, c .loop-test .taken, c .before .before .before .before .before .before .good)
+mul-mark-entry c =
+    let a = c .before .before .before .before .before .before .args in
+    omega (arith, length-entries (a .kinds .now) (a .words .now), c .before .before .shorter .ensures, c .loop-test .taken, c .before .before .before .before .before .before .good)
 
 shared-slice-read-mark-entry : tie.Need-shared-slice-read-mark-entry Inv-loop μ-loop
-shared-slice-read-mark-entry c = omega (arith, length-entries (c .before .before .before .before .before .before .before .args .kinds .now) (c .before .before .before .before .before .before .before .args .words .now), c .before .before .before .shorter .ensures, c .before .loop-test .taken)
+shared-slice-read-mark-entry c =
+    let a = c .before .before .before .before .before .before .before .args in
+    omega (arith, length-entries (a .kinds .now) (a .words .now), c .before .before .before .shorter .ensures, c .before .loop-test .taken)
 
 mul-mark-entry-2 : tie.Need-mul-mark-entry-2 Inv-loop μ-loop
-mul-mark-entry-2 c = omega (arith, length-entries (c .before .before .before .before .before .before .before .args .kinds .now) (c .before .before .before .before .before .before .before .args .words .now), c .before .before .before .shorter .ensures, c .before .loop-test .taken, c .before .before .before .before .before .before .before .good)
+mul-mark-entry-2 c =
+    let a = c .before .before .before .before .before .before .before .args in
+    omega (arith, length-entries (a .kinds .now) (a .words .now), c .before .before .before .shorter .ensures, c .before .loop-test .taken, c .before .before .before .before .before .before .before .good)
 
 shared-slice-read-mark-entry-2 : tie.Need-shared-slice-read-mark-entry-2 Inv-loop μ-loop
-shared-slice-read-mark-entry-2 c = omega (arith, length-entries (c .before .before .before .before .before .before .before .before .args .kinds .now) (c .before .before .before .before .before .before .before .before .args .words .now), c .before .before .before .before .shorter .ensures, c .before .before .loop-test .taken)
+shared-slice-read-mark-entry-2 c =
+    let a = c .before .before .before .before .before .before .before .before .args in
+    omega (arith, length-entries (a .kinds .now) (a .words .now), c .before .before .before .before .shorter .ensures, c .before .before .loop-test .taken)
 
 mark-entry-requires : tie.Need-mark-entry-requires Inv-loop μ-loop
 mark-entry-requires c κs = search needs
@@ -46,22 +54,30 @@ same-length : tie.Need-same-length Inv-loop μ-loop
 same-length c = (c .before .before .before .mark-entry .kept .1 .1 .1 .1 .0) ∙ c .before .before .before .before .before .before .before .before .loop .inv .size
 
 returns : tie.Need-returns Inv-loop μ-loop
-returns c = let s = once.at-seen (between (c .before .before .before .before .before .before .before .before .before .before .before .before .before .args .lo) (c .before .before .before .before .before .before .before .before .before .before .before .before .before .args .hi)) (entries (c .before .before .before .before .before .before .before .before .before .before .before .before .before .args .kinds .now) (c .before .before .before .before .before .before .before .before .before .before .before .before .before .args .words .now)) (c .before .before .before .before .before .before .before .before .before .before .before .before .before .args .map .now) (c .before .before .before .before .before .before .before .before .loop .map) (c .before .before .before .before .before .before .before .before .loop .i) (c .before .before .before .before .before .before .before .before .loop .inv) (entry (getD (c .before .before .before .before .before .before .before .before .before .before .before .before .before .args .kinds .now) (c .before .before .before .before .before .before .before .before .loop .i) 0) (getD (c .before .before .before .before .before .before .before .before .before .before .before .before .before .args .words .now) (c .before .before .before .before .before .before .before .before .loop .i) 0)) (once.entry-at (c .before .before .before .before .before .before .before .before .before .before .before .before .before .args .kinds .now) (c .before .before .before .before .before .before .before .before .before .before .before .before .before .args .words .now) (c .before .before .before .before .before .before .before .before .loop .i) (omega (arith, c .before .before .before .before .before .before .before .before .before .shorter .ensures, c .before .before .before .before .before .before .before .loop-test .taken))) (sym (c .before .before .before .mark-entry .ensures .0) ∙ not-true _ (c .if1 .taken)) in (s .0, c .before .before .before .mark-entry .ensures .1 ∙ s .1)
+returns c =
+    let a = c .before .before .before .before .before .before .before .before .before .before .before .before .before .args in
+    let s = once.at-seen (between (a .lo) (a .hi)) (entries (a .kinds .now) (a .words .now)) (a .map .now) (c .before .before .before .before .before .before .before .before .loop .map) (c .before .before .before .before .before .before .before .before .loop .i) (c .before .before .before .before .before .before .before .before .loop .inv) (entry (getD (a .kinds .now) (c .before .before .before .before .before .before .before .before .loop .i) 0) (getD (a .words .now) (c .before .before .before .before .before .before .before .before .loop .i) 0)) (once.entry-at (a .kinds .now) (a .words .now) (c .before .before .before .before .before .before .before .before .loop .i) (omega (arith, c .before .before .before .before .before .before .before .before .before .shorter .ensures, c .before .before .before .before .before .before .before .loop-test .taken))) (sym (c .before .before .before .mark-entry .ensures .0) ∙ not-true _ (c .if1 .taken)) in (s .0, c .before .before .before .mark-entry .ensures .1 ∙ s .1)
 
 add-i : tie.Need-add-i Inv-loop μ-loop
-add-i c = omega (arith, c .before .before .before .before .before .before .before .before .before .shorter .ensures, c .before .before .before .before .before .before .before .loop-test .taken, length-entries (c .before .before .before .before .before .before .before .before .before .before .before .before .before .args .kinds .now) (c .before .before .before .before .before .before .before .before .before .before .before .before .before .args .words .now), c .before .before .before .before .before .before .before .before .before .before .before .before .before .good)
+add-i c =
+    let a = c .before .before .before .before .before .before .before .before .before .before .before .before .before .args in
+    omega (arith, c .before .before .before .before .before .before .before .before .before .shorter .ensures, c .before .before .before .before .before .before .before .loop-test .taken, length-entries (a .kinds .now) (a .words .now), c .before .before .before .before .before .before .before .before .before .before .before .before .before .good)
 
 loop-less : tie.Need-loop-less Inv-loop μ-loop
 loop-less c = omega (arith, c .before .before .before .before .before .before .before .loop-test .taken)
 
 loop-again : tie.Need-loop-again Inv-loop μ-loop
-loop-again c = rw (c .before .before .before .mark-entry .ensures .1) (once.at-next (between (c .before .before .before .before .before .before .before .before .before .before .before .before .before .args .lo) (c .before .before .before .before .before .before .before .before .before .before .before .before .before .args .hi)) (entries (c .before .before .before .before .before .before .before .before .before .before .before .before .before .args .kinds .now) (c .before .before .before .before .before .before .before .before .before .before .before .before .before .args .words .now)) (c .before .before .before .before .before .before .before .before .before .before .before .before .before .args .map .now) (c .before .before .before .before .before .before .before .before .loop .map) (c .before .before .before .before .before .before .before .before .loop .i) (c .before .before .before .before .before .before .before .before .loop .inv) (entry (getD (c .before .before .before .before .before .before .before .before .before .before .before .before .before .args .kinds .now) (c .before .before .before .before .before .before .before .before .loop .i) 0) (getD (c .before .before .before .before .before .before .before .before .before .before .before .before .before .args .words .now) (c .before .before .before .before .before .before .before .before .loop .i) 0)) (once.entry-at (c .before .before .before .before .before .before .before .before .before .before .before .before .before .args .kinds .now) (c .before .before .before .before .before .before .before .before .before .before .before .before .before .args .words .now) (c .before .before .before .before .before .before .before .before .loop .i) (omega (arith, c .before .before .before .before .before .before .before .before .before .shorter .ensures, c .before .before .before .before .before .before .before .loop-test .taken))) (sym (c .before .before .before .mark-entry .ensures .0) ∙ not-false _ (c .if1 .left)) (omega (arith, c .before .before .before .before .before .before .before .before .before .shorter .ensures, c .before .before .before .before .before .before .before .loop-test .taken)))
+loop-again c =
+    let a = c .before .before .before .before .before .before .before .before .before .before .before .before .before .args in
+    rw (c .before .before .before .mark-entry .ensures .1) (once.at-next (between (a .lo) (a .hi)) (entries (a .kinds .now) (a .words .now)) (a .map .now) (c .before .before .before .before .before .before .before .before .loop .map) (c .before .before .before .before .before .before .before .before .loop .i) (c .before .before .before .before .before .before .before .before .loop .inv) (entry (getD (a .kinds .now) (c .before .before .before .before .before .before .before .before .loop .i) 0) (getD (a .words .now) (c .before .before .before .before .before .before .before .before .loop .i) 0)) (once.entry-at (a .kinds .now) (a .words .now) (c .before .before .before .before .before .before .before .before .loop .i) (omega (arith, c .before .before .before .before .before .before .before .before .before .shorter .ensures, c .before .before .before .before .before .before .before .loop-test .taken))) (sym (c .before .before .before .mark-entry .ensures .0) ∙ not-false _ (c .if1 .left)) (omega (arith, c .before .before .before .before .before .before .before .before .before .shorter .ensures, c .before .before .before .before .before .before .before .loop-test .taken)))
 
 same-length-2 : tie.Need-same-length-2 Inv-loop μ-loop
 same-length-2 c = c .before .loop .inv .size
 
 returns-2 : tie.Need-returns-2 Inv-loop μ-loop
-returns-2 c = once.at-end (between (c .before .before .before .before .before .before .args .lo) (c .before .before .before .before .before .before .args .hi)) (entries (c .before .before .before .before .before .before .args .kinds .now) (c .before .before .before .before .before .before .args .words .now)) (c .before .before .before .before .before .before .args .map .now) (c .before .loop .map) (c .before .loop .i) (c .before .loop .inv) (omega (arith, c .before .before .shorter .ensures, c .loop-test .left))
+returns-2 c =
+    let a = c .before .before .before .before .before .before .args in
+    once.at-end (between (a .lo) (a .hi)) (entries (a .kinds .now) (a .words .now)) (a .map .now) (c .before .loop .map) (c .before .loop .i) (c .before .loop .inv) (omega (arith, c .before .before .shorter .ensures, c .loop-test .left))
 
 pub mark-words-spec : {M : Type 1} → statement M
 mark-words-spec =

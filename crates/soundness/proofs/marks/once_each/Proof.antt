@@ -18,7 +18,9 @@ mark-words-requires : tie.Need-mark-words-requires
 mark-words-requires c κs = search needs
 
 returns : tie.Need-returns
-returns c = sym (ap (λ b. b && allNew (replicate 2048 0) (wordsAt isStruct (entries (c .before .before .before .before .before .before .args .kinds .now) (c .before .before .before .before .before .before .args .words .now)))) (sym (c .before .before .mark-words .ensures .0) ∙ not-true _ (c .if1 .taken)))
+returns c =
+    let a = c .before .before .before .before .before .before .args in
+    sym (ap (λ b. b && allNew (replicate 2048 0) (wordsAt isStruct (entries (a .kinds .now) (a .words .now)))) (sym (c .before .before .mark-words .ensures .0) ∙ not-true _ (c .if1 .taken)))
 
 slice-aggregate-mark-words-2 : tie.Need-slice-aggregate-mark-words-2
 slice-aggregate-mark-words-2 c = search needs
@@ -27,7 +29,9 @@ mark-words-requires-2 : tie.Need-mark-words-requires-2
 mark-words-requires-2 c κs = search needs
 
 returns-2 : tie.Need-returns-2
-returns-2 c = c .before .mark-words2 .ensures .0 ∙ sym (ap (λ b. b && allNew (replicate 2048 0) (wordsAt isStruct (entries (c .before .before .before .before .before .before .before .before .before .args .kinds .now) (c .before .before .before .before .before .before .before .before .before .args .words .now)))) (sym (c .before .before .before .before .before .mark-words .ensures .0) ∙ not-false _ (c .before .before .before .if1 .left)))
+returns-2 c =
+    let a = c .before .before .before .before .before .before .before .before .before .args in
+    c .before .mark-words2 .ensures .0 ∙ sym (ap (λ b. b && allNew (replicate 2048 0) (wordsAt isStruct (entries (a .kinds .now) (a .words .now)))) (sym (c .before .before .before .before .before .mark-words .ensures .0) ∙ not-false _ (c .before .before .before .if1 .left)))
 
 pub once-each-spec : {M : Type 1} → statement M
 once-each-spec =

@@ -26,7 +26,9 @@ enum-told : tie.Need-enum-told
 enum-told c = search needs
 
 returns : tie.Need-returns
-returns c = insts.step-none (leb 3) (mark (c .before .before .before .before .before .args .names)) (structsAndFunction (c .before .before .before .before .before .args .names)) (entries (c .before .before .before .before .before .args .kinds .now) (c .before .before .before .before .before .args .words .now)) (parts.no-structs _) (sym (c .before .before .first-entry .ensures) ∙ c .enum-told .given .1)
+returns c =
+    let a = c .before .before .before .before .before .args in
+    insts.step-none (leb 3) (mark (a .names)) (structsAndFunction (a .names)) (entries (a .kinds .now) (a .words .now)) (parts.no-structs _) (sym (c .before .before .first-entry .ensures) ∙ c .enum-told .given .1)
 
 structs-len-requires : tie.Need-structs-len-requires
 structs-len-requires c κs = search needs
@@ -41,10 +43,14 @@ next-step-requires : tie.Need-next-step-requires
 next-step-requires c κs = search needs
 
 returns-2 : tie.Need-returns-2
-returns-2 c = insts.step-end (leb 3) (mark (c .before .before .before .before .before .before .before .before .before .args .names)) (structsAndFunction (c .before .before .before .before .before .before .before .before .before .args .names)) (entries (c .before .before .before .before .before .before .before .before .before .args .kinds .now) (c .before .before .before .before .before .before .before .before .before .args .words .now)) _ _ (sym (c .before .before .before .before .before .before .first-entry .ensures) ∙ c .before .before .before .before .kind .given .1) (le-leb _ _ (c .before .before .if1 .taken)) _ _ (c .before .structs-len .ensures) (c .last-step .ensures)
+returns-2 c =
+    let a = c .before .before .before .before .before .before .before .before .before .args in
+    insts.step-end (leb 3) (mark (a .names)) (structsAndFunction (a .names)) (entries (a .kinds .now) (a .words .now)) _ _ (sym (c .before .before .before .before .before .before .first-entry .ensures) ∙ c .before .before .before .before .kind .given .1) (le-leb _ _ (c .before .before .if1 .taken)) _ _ (c .before .structs-len .ensures) (c .last-step .ensures)
 
 returns-3 : tie.Need-returns-3
-returns-3 c = insts.step-item (leb 3) (mark (c .before .before .before .before .before .before .before .before .before .args .names)) (structsAndFunction (c .before .before .before .before .before .before .before .before .before .args .names)) (entries (c .before .before .before .before .before .before .before .before .before .args .kinds .now) (c .before .before .before .before .before .before .before .before .before .args .words .now)) _ _ (sym (c .before .before .before .before .before .before .first-entry .ensures) ∙ c .before .before .before .before .kind .given .1) (lt-leb _ _ (c .before .before .if1 .left)) _ _ (c .before .mark-len .ensures ∙ ap (markFront _) (sym (sym (c .before .before .before .before .before .before .first-entry .ensures) ∙ c .before .before .before .before .kind .given .1)) ∙ sym (parts.mark-front _ _)) (c .next-step .ensures)
+returns-3 c =
+    let a = c .before .before .before .before .before .before .before .before .before .args in
+    insts.step-item (leb 3) (mark (a .names)) (structsAndFunction (a .names)) (entries (a .kinds .now) (a .words .now)) _ _ (sym (c .before .before .before .before .before .before .first-entry .ensures) ∙ c .before .before .before .before .kind .given .1) (lt-leb _ _ (c .before .before .if1 .left)) _ _ (c .before .mark-len .ensures ∙ ap (markFront _) (sym (sym (c .before .before .before .before .before .before .first-entry .ensures) ∙ c .before .before .before .before .kind .given .1)) ∙ sym (parts.mark-front _ _)) (c .next-step .ensures)
 
 pub mark-step-spec : {M : Type 1} → statement M
 mark-step-spec =

@@ -20,13 +20,17 @@ enum-told : tie.Need-enum-told
 enum-told c = search needs
 
 returns : tie.Need-returns
-returns c = parts.body-none (c .before .before .before .before .before .args .names) (entries (c .before .before .before .before .before .args .kinds .now) (c .before .before .before .before .before .args .words .now)) _ (c .before .before .first-entry .ensures) (c .enum-told .given .1)
+returns c =
+    let a = c .before .before .before .before .before .args in
+    parts.body-none (a .names) (entries (a .kinds .now) (a .words .now)) _ (c .before .before .first-entry .ensures) (c .enum-told .given .1)
 
 entry-if-requires : tie.Need-entry-if-requires
 entry-if-requires c κs = search needs
 
 returns-2 : tie.Need-returns-2
-returns-2 c = parts.body-opaque (c .before .before .before .before .before .before .before .before .args .names) (entries (c .before .before .before .before .before .before .before .before .args .kinds .now) (c .before .before .before .before .before .before .before .before .args .words .now)) _ (c .before .before .before .before .before .first-entry .ensures) _ _ (c .before .before .before .kind .given .1) (c .before .if1 .taken) _ (c .entry-if .ensures)
+returns-2 c =
+    let a = c .before .before .before .before .before .before .before .before .args in
+    parts.body-opaque (a .names) (entries (a .kinds .now) (a .words .now)) _ (c .before .before .before .before .before .first-entry .ensures) _ _ (c .before .before .before .kind .given .1) (c .before .if1 .taken) _ (c .entry-if .ensures)
 
 type-group-requires : tie.Need-type-group-requires
 type-group-requires c κs = search needs
@@ -38,10 +42,14 @@ type-len-requires : tie.Need-type-len-requires
 type-len-requires c κs = search needs
 
 returns-3 : tie.Need-returns-3
-returns-3 c = parts.body-struct (c .before .before .before .before .before .before .before .before .before .before .before .args .names) (entries (c .before .before .before .before .before .before .before .before .before .before .before .args .kinds .now) (c .before .before .before .before .before .before .before .before .before .before .before .args .words .now)) _ (c .before .before .before .before .before .before .before .before .first-entry .ensures) _ _ (c .before .before .before .before .before .before .kind .given .1) (c .before .before .before .before .if1 .left) _ _ (c .before .before .before .type-group .ensures) (c .before .before .is-struct .ensures) (c .before .if2 .taken) _ (c .type-len .ensures)
+returns-3 c =
+    let a = c .before .before .before .before .before .before .before .before .before .before .before .args in
+    parts.body-struct (a .names) (entries (a .kinds .now) (a .words .now)) _ (c .before .before .before .before .before .before .before .before .first-entry .ensures) _ _ (c .before .before .before .before .before .before .kind .given .1) (c .before .before .before .before .if1 .left) _ _ (c .before .before .before .type-group .ensures) (c .before .before .is-struct .ensures) (c .before .if2 .taken) _ (c .type-len .ensures)
 
 returns-4 : tie.Need-returns-4
-returns-4 c = parts.body-other (c .before .before .before .before .before .before .before .before .before .before .args .names) (entries (c .before .before .before .before .before .before .before .before .before .before .args .kinds .now) (c .before .before .before .before .before .before .before .before .before .before .args .words .now)) _ (c .before .before .before .before .before .before .before .first-entry .ensures) _ _ (c .before .before .before .before .before .kind .given .1) (c .before .before .before .if1 .left) _ _ (c .before .before .type-group .ensures) (c .before .is-struct .ensures) (c .if2 .left)
+returns-4 c =
+    let a = c .before .before .before .before .before .before .before .before .before .before .args in
+    parts.body-other (a .names) (entries (a .kinds .now) (a .words .now)) _ (c .before .before .before .before .before .before .before .first-entry .ensures) _ _ (c .before .before .before .before .before .kind .given .1) (c .before .before .before .if1 .left) _ _ (c .before .before .type-group .ensures) (c .before .is-struct .ensures) (c .if2 .left)
 
 pub struct-body-len-spec : {M : Type 1} → statement M
 struct-body-len-spec =

@@ -29,28 +29,42 @@ enum-told c = search needs
 
 returns : tie.Need-returns
 unfolding structType
-returns c = items.pair-bad (word 3 (name (c .before .before .before .before .before .before .args .names))) (structBody (c .before .before .before .before .before .before .args .names)) (c .before .before .before .before .before .before .args .kinds .now) (c .before .before .before .before .before .before .args .words .now) _ (c .before .before .word-len .ensures ∙ ap (wordFront _ _) (c .before .before .before .first-entry .ensures) ∙ sym (items.word-front 3 _ _)) (λ p. record { name = p .0; body = p .1 }) (c .enum-told .given .1)
+returns c =
+    let a = c .before .before .before .before .before .before .args in
+    items.pair-bad (word 3 (name (a .names))) (structBody (a .names)) (a .kinds .now) (a .words .now) _ (c .before .before .word-len .ensures ∙ ap (wordFront _ _) (c .before .before .before .first-entry .ensures) ∙ sym (items.word-front 3 _ _)) (λ p. record { name = p .0; body = p .1 }) (c .enum-told .given .1)
 
 mul-struct-body-len : tie.Need-mul-struct-body-len
-mul-struct-body-len c = omega (arith, items.pair-kinds (word 3 (name (c .before .before .before .before .before .before .before .args .names))) (structBody (c .before .before .before .before .before .before .before .args .names)) (c .before .before .before .before .before .before .before .args .kinds .now) (c .before .before .before .before .before .before .before .args .words .now) _ (c .before .before .before .word-len .ensures ∙ ap (wordFront _ _) (c .before .before .before .before .first-entry .ensures) ∙ sym (items.word-front 3 _ _)) _ (c .before .n .given .1) (agrees-name _ 3), c .before .before .before .before .before .before .before .good)
+mul-struct-body-len c =
+    let a = c .before .before .before .before .before .before .before .args in
+    omega (arith, items.pair-kinds (word 3 (name (a .names))) (structBody (a .names)) (a .kinds .now) (a .words .now) _ (c .before .before .before .word-len .ensures ∙ ap (wordFront _ _) (c .before .before .before .before .first-entry .ensures) ∙ sym (items.word-front 3 _ _)) _ (c .before .n .given .1) (agrees-name _ 3), c .before .before .before .before .before .before .before .good)
 
 sub-struct-body-len : tie.Need-sub-struct-body-len
-sub-struct-body-len c = items.pair-kinds (word 3 (name (c .before .before .before .before .before .before .before .args .names))) (structBody (c .before .before .before .before .before .before .before .args .names)) (c .before .before .before .before .before .before .before .args .kinds .now) (c .before .before .before .before .before .before .before .args .words .now) _ (c .before .before .before .word-len .ensures ∙ ap (wordFront _ _) (c .before .before .before .before .first-entry .ensures) ∙ sym (items.word-front 3 _ _)) _ (c .before .n .given .1) (agrees-name _ 3)
+sub-struct-body-len c =
+    let a = c .before .before .before .before .before .before .before .args in
+    items.pair-kinds (word 3 (name (a .names))) (structBody (a .names)) (a .kinds .now) (a .words .now) _ (c .before .before .before .word-len .ensures ∙ ap (wordFront _ _) (c .before .before .before .before .first-entry .ensures) ∙ sym (items.word-front 3 _ _)) _ (c .before .n .given .1) (agrees-name _ 3)
 
 part-struct-body-len-start : tie.Need-part-struct-body-len-start
-part-struct-body-len-start c = items.pair-kinds (word 3 (name (c .before .before .before .before .before .before .before .args .names))) (structBody (c .before .before .before .before .before .before .before .args .names)) (c .before .before .before .before .before .before .before .args .kinds .now) (c .before .before .before .before .before .before .before .args .words .now) _ (c .before .before .before .word-len .ensures ∙ ap (wordFront _ _) (c .before .before .before .before .first-entry .ensures) ∙ sym (items.word-front 3 _ _)) _ (c .before .n .given .1) (agrees-name _ 3)
+part-struct-body-len-start c =
+    let a = c .before .before .before .before .before .before .before .args in
+    items.pair-kinds (word 3 (name (a .names))) (structBody (a .names)) (a .kinds .now) (a .words .now) _ (c .before .before .before .word-len .ensures ∙ ap (wordFront _ _) (c .before .before .before .before .first-entry .ensures) ∙ sym (items.word-front 3 _ _)) _ (c .before .n .given .1) (agrees-name _ 3)
 
 part-struct-body-len-end : tie.Need-part-struct-body-len-end
 part-struct-body-len-end c = search needs
 
 mul-struct-body-len-2 : tie.Need-mul-struct-body-len-2
-mul-struct-body-len-2 c = omega (arith, items.pair-words (word 3 (name (c .before .before .before .before .before .before .before .before .args .names))) (structBody (c .before .before .before .before .before .before .before .before .args .names)) (c .before .before .before .before .before .before .before .before .args .kinds .now) (c .before .before .before .before .before .before .before .before .args .words .now) _ (c .before .before .before .before .word-len .ensures ∙ ap (wordFront _ _) (c .before .before .before .before .before .first-entry .ensures) ∙ sym (items.word-front 3 _ _)) _ (c .before .before .n .given .1) (agrees-name _ 3), c .before .before .before .before .before .before .before .before .good)
+mul-struct-body-len-2 c =
+    let a = c .before .before .before .before .before .before .before .before .args in
+    omega (arith, items.pair-words (word 3 (name (a .names))) (structBody (a .names)) (a .kinds .now) (a .words .now) _ (c .before .before .before .before .word-len .ensures ∙ ap (wordFront _ _) (c .before .before .before .before .before .first-entry .ensures) ∙ sym (items.word-front 3 _ _)) _ (c .before .before .n .given .1) (agrees-name _ 3), c .before .before .before .before .before .before .before .before .good)
 
 sub-struct-body-len-2 : tie.Need-sub-struct-body-len-2
-sub-struct-body-len-2 c = items.pair-words (word 3 (name (c .before .before .before .before .before .before .before .before .args .names))) (structBody (c .before .before .before .before .before .before .before .before .args .names)) (c .before .before .before .before .before .before .before .before .args .kinds .now) (c .before .before .before .before .before .before .before .before .args .words .now) _ (c .before .before .before .before .word-len .ensures ∙ ap (wordFront _ _) (c .before .before .before .before .before .first-entry .ensures) ∙ sym (items.word-front 3 _ _)) _ (c .before .before .n .given .1) (agrees-name _ 3)
+sub-struct-body-len-2 c =
+    let a = c .before .before .before .before .before .before .before .before .args in
+    items.pair-words (word 3 (name (a .names))) (structBody (a .names)) (a .kinds .now) (a .words .now) _ (c .before .before .before .before .word-len .ensures ∙ ap (wordFront _ _) (c .before .before .before .before .before .first-entry .ensures) ∙ sym (items.word-front 3 _ _)) _ (c .before .before .n .given .1) (agrees-name _ 3)
 
 part-struct-body-len-start-2 : tie.Need-part-struct-body-len-start-2
-part-struct-body-len-start-2 c = items.pair-words (word 3 (name (c .before .before .before .before .before .before .before .before .args .names))) (structBody (c .before .before .before .before .before .before .before .before .args .names)) (c .before .before .before .before .before .before .before .before .args .kinds .now) (c .before .before .before .before .before .before .before .before .args .words .now) _ (c .before .before .before .before .word-len .ensures ∙ ap (wordFront _ _) (c .before .before .before .before .before .first-entry .ensures) ∙ sym (items.word-front 3 _ _)) _ (c .before .before .n .given .1) (agrees-name _ 3)
+part-struct-body-len-start-2 c =
+    let a = c .before .before .before .before .before .before .before .before .args in
+    items.pair-words (word 3 (name (a .names))) (structBody (a .names)) (a .kinds .now) (a .words .now) _ (c .before .before .before .before .word-len .ensures ∙ ap (wordFront _ _) (c .before .before .before .before .before .first-entry .ensures) ∙ sym (items.word-front 3 _ _)) _ (c .before .before .n .given .1) (agrees-name _ 3)
 
 part-struct-body-len-end-2 : tie.Need-part-struct-body-len-end-2
 part-struct-body-len-end-2 c = search needs
@@ -59,11 +73,15 @@ struct-body-len-requires : tie.Need-struct-body-len-requires
 struct-body-len-requires c κs = search needs
 
 then-len-requires : tie.Need-then-len-requires
-then-len-requires c κs = items.pair-room (word 3 (name (c .before .before .before .before .before .before .before .before .before .before .args .names))) (structBody (c .before .before .before .before .before .before .before .before .before .before .args .names)) (c .before .before .before .before .before .before .before .before .before .before .args .kinds .now) (c .before .before .before .before .before .before .before .before .before .before .args .words .now) _ (c .before .before .before .before .before .before .word-len .ensures ∙ ap (wordFront _ _) (c .before .before .before .before .before .before .before .first-entry .ensures) ∙ sym (items.word-front 3 _ _)) _ (c .before .before .before .before .n .given .1) (agrees-name _ 3) (agrees-structBody _) (omega arith) _ (c .struct-body-len .ensures)
+then-len-requires c κs =
+    let a = c .before .before .before .before .before .before .before .before .before .before .args in
+    items.pair-room (word 3 (name (a .names))) (structBody (a .names)) (a .kinds .now) (a .words .now) _ (c .before .before .before .before .before .before .word-len .ensures ∙ ap (wordFront _ _) (c .before .before .before .before .before .before .before .first-entry .ensures) ∙ sym (items.word-front 3 _ _)) _ (c .before .before .before .before .n .given .1) (agrees-name _ 3) (agrees-structBody _) (omega arith) _ (c .struct-body-len .ensures)
 
 returns-2 : tie.Need-returns-2
 unfolding structType
-returns-2 c = items.pair-arm (word 3 (name (c .before .before .before .before .before .before .before .before .before .before .before .args .names))) (structBody (c .before .before .before .before .before .before .before .before .before .before .before .args .names)) (c .before .before .before .before .before .before .before .before .before .before .before .args .kinds .now) (c .before .before .before .before .before .before .before .before .before .before .before .args .words .now) _ (c .before .before .before .before .before .before .before .word-len .ensures ∙ ap (wordFront _ _) (c .before .before .before .before .before .before .before .before .first-entry .ensures) ∙ sym (items.word-front 3 _ _)) _ (c .before .before .before .before .before .n .given .1) (λ p. record { name = p .0; body = p .1 }) _ _ (c .before .struct-body-len .ensures) (c .then-len .ensures)
+returns-2 c =
+    let a = c .before .before .before .before .before .before .before .before .before .before .before .args in
+    items.pair-arm (word 3 (name (a .names))) (structBody (a .names)) (a .kinds .now) (a .words .now) _ (c .before .before .before .before .before .before .before .word-len .ensures ∙ ap (wordFront _ _) (c .before .before .before .before .before .before .before .before .first-entry .ensures) ∙ sym (items.word-front 3 _ _)) _ (c .before .before .before .before .before .n .given .1) (λ p. record { name = p .0; body = p .1 }) _ _ (c .before .struct-body-len .ensures) (c .then-len .ensures)
 
 pub struct-len-spec : {M : Type 1} → statement M
 struct-len-spec =

@@ -25,7 +25,9 @@ enum-told : tie.Need-enum-told
 enum-told c = search needs
 
 returns : tie.Need-returns
-returns c = insts.step-none (leb 4) (structType (c .before .before .before .before .before .args .names)) (function (c .before .before .before .before .before .args .names)) (entries (c .before .before .before .before .before .args .kinds .now) (c .before .before .before .before .before .args .words .now)) (parts.no-function _) (sym (c .before .before .first-entry .ensures) ∙ c .enum-told .given .1)
+returns c =
+    let a = c .before .before .before .before .before .args in
+    insts.step-none (leb 4) (structType (a .names)) (function (a .names)) (entries (a .kinds .now) (a .words .now)) (parts.no-function _) (sym (c .before .before .first-entry .ensures) ∙ c .enum-told .given .1)
 
 function-len-requires : tie.Need-function-len-requires
 function-len-requires c κs = search needs
@@ -40,10 +42,14 @@ next-step-requires : tie.Need-next-step-requires
 next-step-requires c κs = search needs
 
 returns-2 : tie.Need-returns-2
-returns-2 c = insts.step-end (leb 4) (structType (c .before .before .before .before .before .before .before .before .before .args .names)) (function (c .before .before .before .before .before .before .before .before .before .args .names)) (entries (c .before .before .before .before .before .before .before .before .before .args .kinds .now) (c .before .before .before .before .before .before .before .before .before .args .words .now)) _ _ (sym (c .before .before .before .before .before .before .first-entry .ensures) ∙ c .before .before .before .before .kind .given .1) (le-leb _ _ (c .before .before .if1 .taken)) _ _ (c .before .function-len .ensures) (c .last-step .ensures)
+returns-2 c =
+    let a = c .before .before .before .before .before .before .before .before .before .args in
+    insts.step-end (leb 4) (structType (a .names)) (function (a .names)) (entries (a .kinds .now) (a .words .now)) _ _ (sym (c .before .before .before .before .before .before .first-entry .ensures) ∙ c .before .before .before .before .kind .given .1) (le-leb _ _ (c .before .before .if1 .taken)) _ _ (c .before .function-len .ensures) (c .last-step .ensures)
 
 returns-3 : tie.Need-returns-3
-returns-3 c = insts.step-item (leb 4) (structType (c .before .before .before .before .before .before .before .before .before .args .names)) (function (c .before .before .before .before .before .before .before .before .before .args .names)) (entries (c .before .before .before .before .before .before .before .before .before .args .kinds .now) (c .before .before .before .before .before .before .before .before .before .args .words .now)) _ _ (sym (c .before .before .before .before .before .before .first-entry .ensures) ∙ c .before .before .before .before .kind .given .1) (lt-leb _ _ (c .before .before .if1 .left)) _ _ (c .before .struct-len .ensures) (c .next-step .ensures)
+returns-3 c =
+    let a = c .before .before .before .before .before .before .before .before .before .args in
+    insts.step-item (leb 4) (structType (a .names)) (function (a .names)) (entries (a .kinds .now) (a .words .now)) _ _ (sym (c .before .before .before .before .before .before .first-entry .ensures) ∙ c .before .before .before .before .kind .given .1) (lt-leb _ _ (c .before .before .if1 .left)) _ _ (c .before .struct-len .ensures) (c .next-step .ensures)
 
 pub struct-step-spec : {M : Type 1} → statement M
 struct-step-spec =

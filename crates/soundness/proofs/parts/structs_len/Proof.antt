@@ -25,7 +25,9 @@ shorter-requires : tie.Need-shorter-requires Inv-loop μ-loop
 shorter-requires c κs = search needs
 
 loop-holds : tie.Need-loop-holds Inv-loop μ-loop
-loop-holds c = laws.loop-start (leb 4) (structType (c .before .before .before .args .names)) (function (c .before .before .before .args .names)) (length (entries (c .before .before .before .args .kinds .now) (c .before .before .before .args .words .now))) (c .before .before .before .args .kinds .now) (c .before .before .before .args .words .now) _ (c .shorter .ensures)
+loop-holds c =
+    let a = c .before .before .before .args in
+    laws.loop-start (leb 4) (structType (a .names)) (function (a .names)) (length (entries (a .kinds .now) (a .words .now))) (a .kinds .now) (a .words .now) _ (c .shorter .ensures)
 
 mul-struct-step : tie.Need-mul-struct-step Inv-loop μ-loop
 mul-struct-step c = omega (arith, c .loop .inv .kinds, c .before .before .before .before .good)
@@ -58,28 +60,38 @@ enum-known-n : tie.Need-enum-known-n Inv-loop μ-loop
 enum-known-n c = search needs
 
 add-t19 : tie.Need-add-t19 Inv-loop μ-loop
-add-t19 c = omega (arith, laws.done-there (leb 4) (structType (c .before .before .before .before .before .before .before .before .before .before .args .names)) (function (c .before .before .before .before .before .before .before .before .before .before .args .names)) (length (entries (c .before .before .before .before .before .before .before .before .before .before .args .kinds .now) (c .before .before .before .before .before .before .before .before .before .before .args .words .now))) (c .before .before .before .before .before .before .before .before .before .before .args .kinds .now) (c .before .before .before .before .before .before .before .before .before .before .args .words .now) _ _ (c .before .before .before .before .before .before .loop .inv) _ (c .before .before .before .struct-step .ensures) (agrees-structType _) (agrees-function _) _ (c .before .n .given .1), c .before .before .before .before .before .before .before .before .before .before .good)
+add-t19 c =
+    let a = c .before .before .before .before .before .before .before .before .before .before .args in
+    omega (arith, laws.done-there (leb 4) (structType (a .names)) (function (a .names)) (length (entries (a .kinds .now) (a .words .now))) (a .kinds .now) (a .words .now) _ _ (c .before .before .before .before .before .before .loop .inv) _ (c .before .before .before .struct-step .ensures) (agrees-structType _) (agrees-function _) _ (c .before .n .given .1), c .before .before .before .before .before .before .before .before .before .before .good)
 
 returns : tie.Need-returns Inv-loop μ-loop
 unfolding structsAndFunction
-returns c = laws.loop-done (leb 4) (structType (c .before .before .before .before .before .before .before .before .before .before .args .names)) (function (c .before .before .before .before .before .before .before .before .before .before .args .names)) (length (entries (c .before .before .before .before .before .before .before .before .before .before .args .kinds .now) (c .before .before .before .before .before .before .before .before .before .before .args .words .now))) (c .before .before .before .before .before .before .before .before .before .before .args .kinds .now) (c .before .before .before .before .before .before .before .before .before .before .args .words .now) _ _ (c .before .before .before .before .before .before .loop .inv) _ (c .before .before .before .struct-step .ensures) _ (c .before .n .given .1)
+returns c =
+    let a = c .before .before .before .before .before .before .before .before .before .before .args in
+    laws.loop-done (leb 4) (structType (a .names)) (function (a .names)) (length (entries (a .kinds .now) (a .words .now))) (a .kinds .now) (a .words .now) _ _ (c .before .before .before .before .before .before .loop .inv) _ (c .before .before .before .struct-step .ensures) _ (c .before .n .given .1)
 
 enum-told : tie.Need-enum-told Inv-loop μ-loop
 enum-told c = search needs
 
 returns-2 : tie.Need-returns-2 Inv-loop μ-loop
 unfolding structsAndFunction
-returns-2 c = laws.loop-bad (leb 4) (structType (c .before .before .before .before .before .before .before .before .before .args .names)) (function (c .before .before .before .before .before .before .before .before .before .args .names)) (length (entries (c .before .before .before .before .before .before .before .before .before .args .kinds .now) (c .before .before .before .before .before .before .before .before .before .args .words .now))) (c .before .before .before .before .before .before .before .before .before .args .kinds .now) (c .before .before .before .before .before .before .before .before .before .args .words .now) _ _ (c .before .before .before .before .before .loop .inv) _ (c .before .before .struct-step .ensures) (c .enum-told .given .1)
+returns-2 c =
+    let a = c .before .before .before .before .before .before .before .before .before .args in
+    laws.loop-bad (leb 4) (structType (a .names)) (function (a .names)) (length (entries (a .kinds .now) (a .words .now))) (a .kinds .now) (a .words .now) _ _ (c .before .before .before .before .before .loop .inv) _ (c .before .before .struct-step .ensures) (c .enum-told .given .1)
 
 enum-known-n-2 : tie.Need-enum-known-n-2 Inv-loop μ-loop
 enum-known-n-2 c = search needs
 
 returns-3 : tie.Need-returns-3 Inv-loop μ-loop
 unfolding structsAndFunction
-returns-3 c = laws.loop-full (leb 4) (structType (c .before .before .before .before .before .before .before .before .before .before .before .args .names)) (function (c .before .before .before .before .before .before .before .before .before .before .before .args .names)) (length (entries (c .before .before .before .before .before .before .before .before .before .before .before .args .kinds .now) (c .before .before .before .before .before .before .before .before .before .before .before .args .words .now))) (c .before .before .before .before .before .before .before .before .before .before .before .args .kinds .now) (c .before .before .before .before .before .before .before .before .before .before .before .args .words .now) _ _ (c .before .before .before .before .before .before .before .loop .inv) _ (c .before .before .before .before .struct-step .ensures) _ (c .before .before .n2 .given .1) (c .if1 .taken)
+returns-3 c =
+    let a = c .before .before .before .before .before .before .before .before .before .before .before .args in
+    laws.loop-full (leb 4) (structType (a .names)) (function (a .names)) (length (entries (a .kinds .now) (a .words .now))) (a .kinds .now) (a .words .now) _ _ (c .before .before .before .before .before .before .before .loop .inv) _ (c .before .before .before .before .struct-step .ensures) _ (c .before .before .n2 .given .1) (c .if1 .taken)
 
 add-at : tie.Need-add-at Inv-loop μ-loop
-add-at c = omega (arith, laws.loop-next (leb 4) (structType (c .before .before .before .before .before .before .before .before .before .before .before .args .names)) (function (c .before .before .before .before .before .before .before .before .before .before .before .args .names)) (length (entries (c .before .before .before .before .before .before .before .before .before .before .before .args .kinds .now) (c .before .before .before .before .before .before .before .before .before .before .before .args .words .now))) (c .before .before .before .before .before .before .before .before .before .before .before .args .kinds .now) (c .before .before .before .before .before .before .before .before .before .before .before .args .words .now) _ _ (c .before .before .before .before .before .before .before .loop .inv) _ (c .before .before .before .before .struct-step .ensures) (agrees-structType _) (agrees-function _) _ (c .before .before .n2 .given .1) (c .if1 .left) .kinds, c .before .before .before .before .before .before .before .before .before .before .before .good)
+add-at c =
+    let a = c .before .before .before .before .before .before .before .before .before .before .before .args in
+    omega (arith, laws.loop-next (leb 4) (structType (a .names)) (function (a .names)) (length (entries (a .kinds .now) (a .words .now))) (a .kinds .now) (a .words .now) _ _ (c .before .before .before .before .before .before .before .loop .inv) _ (c .before .before .before .before .struct-step .ensures) (agrees-structType _) (agrees-function _) _ (c .before .before .n2 .given .1) (c .if1 .left) .kinds, c .before .before .before .before .before .before .before .before .before .before .before .good)
 
 sub-left : tie.Need-sub-left Inv-loop μ-loop
 sub-left c = search needs
@@ -88,7 +100,9 @@ loop-less : tie.Need-loop-less Inv-loop μ-loop
 loop-less c = search needs
 
 loop-again : tie.Need-loop-again Inv-loop μ-loop
-loop-again c = laws.loop-next (leb 4) (structType (c .before .before .before .before .before .before .before .before .before .before .before .args .names)) (function (c .before .before .before .before .before .before .before .before .before .before .before .args .names)) (length (entries (c .before .before .before .before .before .before .before .before .before .before .before .args .kinds .now) (c .before .before .before .before .before .before .before .before .before .before .before .args .words .now))) (c .before .before .before .before .before .before .before .before .before .before .before .args .kinds .now) (c .before .before .before .before .before .before .before .before .before .before .before .args .words .now) _ _ (c .before .before .before .before .before .before .before .loop .inv) _ (c .before .before .before .before .struct-step .ensures) (agrees-structType _) (agrees-function _) _ (c .before .before .n2 .given .1) (c .if1 .left)
+loop-again c =
+    let a = c .before .before .before .before .before .before .before .before .before .before .before .args in
+    laws.loop-next (leb 4) (structType (a .names)) (function (a .names)) (length (entries (a .kinds .now) (a .words .now))) (a .kinds .now) (a .words .now) _ _ (c .before .before .before .before .before .before .before .loop .inv) _ (c .before .before .before .before .struct-step .ensures) (agrees-structType _) (agrees-function _) _ (c .before .before .n2 .given .1) (c .if1 .left)
 
 pub structs-len-spec : {M : Type 1} → statement M
 structs-len-spec =
