@@ -1,0 +1,73 @@
+-- Positions in lists.
+use Prim.Native.Nat.{ℕ, zero, suc, _+_, _<_, _≤_}
+use mathlib.Core.Path.{_≡_, refl, ap}
+use mathlib.Core.Option.{Option, none, some}
+use mathlib.Core.List.{List, [], _∷_, _++_}
+use native.Mathlib.Omega.{arith}
+use native.Mathlib.Nat.{zero-add, suc-add}
+use lib.ListN.{length, drop, set}
+use Rattle.machine.specs.State.{cellAt}
+
+pub none-some : {A X : Type 0} (a : A) → none ≡ some a → X
+none-some a h = absurd (let z : _≡_ {A = ℕ} 0 1 = cc in omega arith)
+
+pub some-same : {A : Type 0} {a b : A} → some a ≡ some b → a ≡ b
+some-same e = cc
+
+module _ {A : Type 0} where
+  pub drop-tail : (p : ℕ) (l : List A) {x : A} {k : List A} → drop p l ≡ x ∷ k → drop (suc p) l ≡ k
+  drop-tail zero [] e = cc
+  drop-tail zero (y ∷ ys) e = cc
+  drop-tail (suc p) [] e = cc
+  drop-tail (suc p) (y ∷ ys) e = drop-tail p ys e
+
+  -- a later part of what stands at a position stands at a position, no earlier
+  pub drop-past : (l : List A) (a : List A) (p : ℕ) {b : List A} → drop p l ≡ a ++ b → (q : ℕ) × (drop q l ≡ b) × (p ≤ q)
+  drop-past l [] p e = (p, e, omega arith)
+  drop-past l (x ∷ a) p e = let (q, h, k) = drop-past l a (suc p) (drop-tail p l e) in (q, h, omega arith)
+
+  pub drop-part : (l : List A) (a : List A) (p : ℕ) {b : List A} → drop p l ≡ a ++ b → (q : ℕ) × (drop q l ≡ b)
+  drop-part l a p e = let (q, h, k) = drop-past l a p e in (q, h)
+
+  pub cell-lt : (l : List A) (i : ℕ) (x : A) → cellAt l i ≡ some x → i < length l
+  unfolding cellAt
+  cell-lt [] i x e = none-some x e
+  cell-lt (y ∷ ys) zero x e = omega arith
+  cell-lt (y ∷ ys) (suc i) x e = let h = cell-lt ys i x e in omega arith
+
+  pub cell-set-same : (l : List A) (i : ℕ) (v : A) → i < length l → cellAt (set l i v) i ≡ some v
+  unfolding cellAt
+  cell-set-same [] i v h = absurd (omega arith)
+  cell-set-same (y ∷ ys) zero v h = refl
+  cell-set-same (y ∷ ys) (suc i) v h = cell-set-same ys i v (omega arith)
+
+  pub cell-set-other : (l : List A) (i j : ℕ) (v : A) → ¬ (j ≡ i) → cellAt (set l i v) j ≡ cellAt l j
+  unfolding cellAt
+  cell-set-other [] i j v h = refl
+  cell-set-other (y ∷ ys) zero zero v h = absurd (h refl)
+  cell-set-other (y ∷ ys) zero (suc j) v h = refl
+  cell-set-other (y ∷ ys) (suc i) zero v h = refl
+  cell-set-other (y ∷ ys) (suc i) (suc j) v h = cell-set-other ys i j v (λ e. h (ap suc e))
+
+  pub cell-left : (a b : List A) (i : ℕ) (x : A) → cellAt a i ≡ some x → cellAt (a ++ b) i ≡ some x
+  unfolding cellAt
+  cell-left [] b i x h = none-some x h
+  cell-left (y ∷ a) b zero x h = h
+  cell-left (y ∷ a) b (suc i) x h = cell-left a b i x h
+
+  pub cell-right : (a b : List A) (i : ℕ) {r : Option A} → cellAt b i ≡ r → cellAt (a ++ b) (length a + i) ≡ r
+  unfolding cellAt
+  cell-right [] b i h = rw zero-add h
+  cell-right (y ∷ a) b i h = rw suc-add (cell-right a b i h)
+
+pub data In {A : Type 0} : A → List A → Type 0 where
+  here : {a : A} {l : List A} → In a (a ∷ l)
+  there : {a b : A} {l : List A} → In a l → In a (b ∷ l)
+
+pub in-left : {A : Type 0} {a : A} {l : List A} (m : List A) → In a l → In a (l ++ m)
+in-left m here = here
+in-left m (there h) = there (in-left m h)
+
+pub in-right : {A : Type 0} {a : A} (l : List A) {m : List A} → In a m → In a (l ++ m)
+in-right [] h = h
+in-right (x ∷ l) h = there (in-right l h)

@@ -1,0 +1,65 @@
+-- "no label line occurs twice": then a jump finds the line that prints its label.
+use Prim.Native.Nat.{ℕ, zero, suc}
+use mathlib.Core.Path.{_≡_, refl, ap, sym, _∙_}
+use mathlib.Core.Bool.{Bool, true, false, false≢true}
+use mathlib.Core.Option.{Option, none, some}
+use mathlib.Core.List.{List, [], _∷_}
+use lib.ListN.{drop}
+use Rattle.names.specs.Texts.{same-iff}
+use Rattle.assembly.specs.Line.{Line}
+use Rattle.machine.specs.Labels.{moved, prints, labelOf, find}
+use Rattle.agreement.specs.Lists.{none-some}
+
+module _ (names : List (List ℕ)) (f : ℕ) where
+  -- two lines that print one label are one line
+  unfoldable pub LabelsOnce : List Line → Type 0
+  LabelsOnce prog =
+      (p q : ℕ) (l k : Line) (j i : List Line) (t : List ℕ) → drop p prog ≡ l ∷ j → drop q prog ≡ k ∷ i → labelOf names f l ≡ some t → labelOf names f k ≡ some t → p ≡ q
+
+  prints-some : (t : List ℕ) (u : Option (List ℕ)) → prints t u ≡ true → u ≡ some t
+  unfolding prints
+  prints-some t none e = absurd (false≢true e)
+  prints-some t (some u) e = ap {B = Option (List ℕ)} some (sym (same-iff t u .0 e))
+
+  some-prints : (t : List ℕ) (u : Option (List ℕ)) → u ≡ some t → prints t u ≡ true
+  unfolding prints
+  some-prints t u e = rw e (same-iff t t .1 refl)
+
+  record Found (t : List ℕ) (prog : List Line) : Type 0 where
+    place : ℕ
+    line : Line
+    rest : List Line
+    finds : find names f t prog ≡ some place
+    stands : drop place prog ≡ line ∷ rest
+    prints-it : labelOf names f line ≡ some t
+
+  found : (t : List ℕ) (prog : List Line) (p : ℕ) (l : Line) (k : List Line) → drop p prog ≡ l ∷ k → labelOf names f l ≡ some t → Found t prog
+  unfolding find moved
+  found t [] zero l k e h = none-some l (ap first e)
+    where
+      first : List Line → Option Line
+      first [] = none
+      first (x ∷ xs) = some x
+  found t [] (suc p) l k e h = none-some l (ap first e)
+    where
+      first : List Line → Option Line
+      first [] = none
+      first (x ∷ xs) = some x
+  found t (x ∷ xs) p l k e h = go (λ q j i. found t xs q l j i h) (prints t (labelOf names f x)) refl p k e
+    where
+      go : ((q : ℕ) (j : List Line) → drop q xs ≡ l ∷ j → Found t xs) → (b : Bool) → prints t (labelOf names f x) ≡ b → (p : ℕ) (k : List Line) → drop p (x ∷ xs) ≡ l ∷ k → Found t (x ∷ xs)
+      go ih true b p k e = record { place = 0; line = x; rest = xs; finds = rw b refl; stands = refl; prints-it = prints-some t (labelOf names f x) b }
+      go ih false b zero k e =
+          let i : x ≡ l = cc in
+          absurd (false≢true (sym b ∙ some-prints t (labelOf names f x) (rw i h)))
+      go ih false b (suc p) k e =
+          let r = ih p k e in
+          record { place = suc (r .place); line = r .line; rest = r .rest; finds = rw (b, r .finds) refl; stands = r .stands; prints-it = r .prints-it }
+
+  -- the one line with a label is found
+  pub found-there : (prog : List Line) → LabelsOnce prog → (t : List ℕ) (p : ℕ) (l : Line) (k : List Line) → drop p prog ≡ l ∷ k → labelOf names f l ≡ some t → find names f t prog ≡ some p
+  unfolding LabelsOnce
+  found-there prog u t p l k e h =
+      let r = found t prog p l k e h in
+      let same-place : r .place ≡ p = u (r .place) p (r .line) l (r .rest) k t (r .stands) e (r .prints-it) h in
+      rw (← same-place) (r .finds)

@@ -1,0 +1,10 @@
+-- The stack machine of document 01, "The two runs".
+pub mod Signed
+pub mod Memory
+pub mod State
+pub mod Values
+pub mod Labels
+pub mod Line
+pub mod Run
+pub mod Open
+pub mod Printed

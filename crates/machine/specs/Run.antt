@@ -1,0 +1,62 @@
+-- Steps of the machine, and the block labels that it has passed.
+use Prim.Native.Nat.{ℕ, zero, suc}
+use mathlib.Core.Option.{Option, none, some}
+use mathlib.Core.List.{List, [], _∷_}
+use lib.ListN.{drop}
+use Rattle.assembly.specs.Line.{Line}
+use Rattle.machine.specs.Memory.{Memory}
+use Rattle.machine.specs.State.{World, Frame}
+use Rattle.machine.specs.Labels.{find}
+use Rattle.machine.specs.Line.{Effect, does}
+
+-- where the machine stands: a line's position, and how many block labels it has passed
+pub record State : Type 0 where
+  pub pos : ℕ
+  pub frame : Frame
+  pub operands : List ℕ
+  pub passed : ℕ
+
+abbrev pub state : ℕ → Frame → List ℕ → ℕ → State
+state p e o n = record { pos = p; frame = e; operands = o; passed = n }
+
+pub data Outcome : Type 0 where
+  running : State → Outcome
+  returned : (value : ℕ) → Frame → Outcome
+  failed : Outcome
+
+-- f: the name of the function whose lines these are
+module _ (names : List (List ℕ)) (f : ℕ) (world : World) (lines : List Line) where
+  unfoldable pub found : Option ℕ → Frame → List ℕ → (passed : ℕ) → Outcome
+  found none e o n = failed
+  found (some p) e o n = running (state p e o n)
+
+  -- from the line at p on
+  unfoldable pub follow : (p passed : ℕ) → Effect → Outcome
+  follow p n (Effect.goes e o) = running (state (suc p) e o n)
+  follow p n (Effect.passes e o) = running (state (suc p) e o (suc n))
+  follow p n (Effect.jumps t e o) = found (find names f t lines) e o n
+  follow p n (Effect.ends v e) = returned v e
+  follow p n Effect.fails = failed
+
+  -- the lines from the position on are the ones given
+  unfoldable pub stepAt : List Line → State → Outcome
+  stepAt [] s = failed
+  stepAt (l ∷ ls) s = follow (s .pos) (s .passed) (does names f world l (s .frame) (s .operands))
+
+  unfoldable pub step : State → Outcome
+  step s = stepAt (drop (s .pos) lines) s
+
+  unfoldable pub steps : ℕ → Outcome → Outcome
+  steps zero x = x
+  steps (suc k) (running s) = steps k (step s)
+  steps (suc k) (returned v e) = returned v e
+  steps (suc k) failed = failed
+
+-- "it begins at the function's first line without slots, operands or listed calls"
+unfoldable pub start : (args : List ℕ) → Memory → (sp : ℕ) → State
+start args m sp = state 0 (record { args = args; slots = []; memory = m; calls = []; sp = sp }) [] 0
+
+-- opens every definition of this file, for an example that computes
+unfoldable pub openRun : Unit {0}
+unfolding found follow stepAt step steps start
+openRun = tt

@@ -1,0 +1,11 @@
+-- The source run of document 01, "The two runs": what a function means by the LLVM Language Reference Manual.
+pub mod Stop
+pub mod Values
+pub mod State
+pub mod Operand
+pub mod Gep
+pub mod Call
+pub mod Inst
+pub mod Term
+pub mod Run
+pub mod Open
