@@ -1,17 +1,14 @@
 -- `gen_function`'s blocks: a block's lines do what the source does in a block, and stand in the program behind its label.
 use Prim.Native.Nat.{ℕ, zero, suc, _+_}
 use mathlib.Core.Path.{_≡_, refl, sym, ap, _∙_, subst}
-use mathlib.Core.Logic.{_⊎_, inl, inr, ⊎-elim}
-use mathlib.Core.Bool.{Bool, true, false}
+use mathlib.Core.Logic.{⊎-elim}
 use mathlib.Core.Option.{Option, some}
 use mathlib.Core.List.{List, [], _∷_, _++_, append-assoc}
 use native.Mathlib.Nat.{add-zero, add-suc, suc-add}
 use native.Mathlib.Omega.{arith}
-use lib.Dec.{eqb}
 use lib.ListN.{drop}
-use borrow.Author.Tests.{eqb-true, eq-eqb, ne-eqb}
 use Rattle.book.specs.Ast.{InstKind, Inst, BasicBlock}
-use Rattle.book.specs.Rule.{find, pick}
+use Rattle.book.specs.Rule.{find}
 use Rattle.book.specs.Result.{bind}
 use Rattle.book.specs.Shape.{shape}
 use Rattle.assembly.specs.Line.{Line}
@@ -20,8 +17,7 @@ use Rattle.machine.specs.Labels.{labelOf}
 use Rattle.machine.specs.Line.{does}
 use Rattle.machine.specs.Run.{State, follow, stepAt, step}
 use Rattle.lowering.specs.Gen.{Gen, _>>_, each}
-use Rattle.lowering.specs.Context.{Map, lookup, blockMap}
-use Rattle.lowering.specs.Places.{lookup-cons}
+use Rattle.lowering.specs.Context.{lookup}
 use Rattle.lowering.specs.Inst.{genKind, genInst}
 use Rattle.lowering.specs.Term.{genTerm}
 use Rattle.lowering.specs.Function.{genBlock}
@@ -32,7 +28,8 @@ use Rattle.manual.specs.Run.{runBlock, go, run}
 use Rattle.agreement.specs.Holds.{Holds, H-ok, H-bind, H-eq, H-map}
 use Rattle.agreement.specs.Gives.{Gives, G-put, G-skip, G-then, G-map, Made, G-self, G-use}
 use Rattle.agreement.specs.Lists.{none-some, drop-tail, drop-part, drop-past, In, here, there}
-use Rattle.agreement.specs.Names.{Distinct, Stands, stands-left, stands-right, apart, distinct-right}
+use Rattle.agreement.specs.Names.{Distinct, Stands}
+use Rattle.agreement.specs.Labels.{block-found, distinct-nil, distinct-cons, labelsOf, find-in, find-some}
 use Rattle.agreement.specs.Setup.{Setup, ctx, given}
 use Rattle.agreement.specs.Unique.{LabelsOnce}
 use Rattle.agreement.specs.Reach.{Once, next, once}
@@ -43,58 +40,6 @@ use Rattle.agreement.specs.Inst.{Good, Goods, insts-ok}
 use Rattle.agreement.specs.Flow.{Arrives, Goes, before, Lands, then-lands}
 use Rattle.agreement.specs.Edge.{SoundPhi, PhisSound, LabelsStand, FoundAlike}
 use Rattle.agreement.specs.Term.{GoodTerm, term-ok}
-
--- ---- a block that is found is one of them
-pub block-found : (b : ℕ) (k : BasicBlock) (bs : List BasicBlock) (m : Map BasicBlock) → lookup b (blockMap bs m) ≡ some k → (In k bs × (k .label ≡ b)) ⊎ (lookup b m ≡ some k)
-unfolding blockMap
-block-found b k [] m h = inr h
-block-found b k (x ∷ bs) m h =
-    ⊎-elim (λ q. inl (there (q .0), q .1))
-    (λ q. ⊎-elim (λ e. inl (subst (λ y. In y (x ∷ bs)) (e .1) here, sym (e .0 ∙ ap (λ (y : BasicBlock). y .label) (e .1)))) inr (lookup-cons b (x .label) x k m q))
-    (block-found b k bs ((x .label, x) ∷ m) h)
-
--- ---- labels of blocks
-distinct-nil : Distinct []
-unfolding Distinct cellAt
-distinct-nil i j x p q = none-some x p
-
-distinct-cons : (y : ℕ) (l : List ℕ) → Distinct l → (Stands y l → ⊥) → Distinct (y ∷ l)
-unfolding Distinct cellAt
-distinct-cons y l d n zero zero x p q = refl
-distinct-cons y l d n zero (suc j) x p q = absurd (n (record { place = j; stands = q ∙ sym p }))
-distinct-cons y l d n (suc i) zero x p q = absurd (n (record { place = i; stands = p ∙ sym q }))
-distinct-cons y l d n (suc i) (suc j) x p q = ap suc (d i j x p q)
-
-stands-first : (x : ℕ) → Stands x (x ∷ [])
-unfolding cellAt
-stands-first x = record { place = 0; stands = refl }
-
-unfoldable pub labelsOf : List BasicBlock → List ℕ
-labelsOf [] = []
-labelsOf (k ∷ ks) = (k .label ∷ []) ++ labelsOf ks
-
-label-in : {k : BasicBlock} {bs : List BasicBlock} → In k bs → Stands (k .label) (labelsOf bs)
-unfolding labelsOf
-label-in {bs = k ∷ bs} here = stands-left (k .label ∷ []) (labelsOf bs) (stands-first (k .label))
-label-in {bs = j ∷ bs} (there h) = stands-right (j .label ∷ []) (labelsOf bs) (label-in h)
-
--- where labels are distinct, a block is the first with its label
-find-in : {k : BasicBlock} (bs : List BasicBlock) → Distinct (labelsOf bs) → In k bs → find (λ (x : BasicBlock). x .label) (k .label) bs ≡ some k
-unfolding labelsOf find
-find-in (k ∷ bs) d here = rw (eq-eqb (k .label) (k .label) refl) refl
-find-in {k} (j ∷ bs) d (there h) =
-    let n : eqb (j .label) (k .label) ≡ false = ne-eqb (j .label) (k .label) (λ e. apart (j .label ∷ []) (labelsOf bs) d (rw e (stands-first (k .label))) (label-in h)) in
-    rw n (find-in bs (distinct-right (j .label ∷ []) (labelsOf bs) d) h)
-
--- what is found is one of them
-find-some : (b : ℕ) (k : BasicBlock) (bs : List BasicBlock) → find (λ (x : BasicBlock). x .label) b bs ≡ some k → In k bs × (k .label ≡ b)
-unfolding find
-find-some b k [] h = none-some k h
-find-some b k (x ∷ bs) h = go (eqb (x .label) b) refl (find-some b k bs) h
-  where
-    go : (t : Bool) → eqb (x .label) b ≡ t → (find (λ (y : BasicBlock). y .label) b bs ≡ some k → In k bs × (k .label ≡ b)) → pick t (some x) (find (λ (y : BasicBlock). y .label) b bs) ≡ some k → In k (x ∷ bs) × (k .label ≡ b)
-    go true t ih h = let z : x ≡ k = cc in (subst (λ y. In y (x ∷ bs)) z here, ap (λ (y : BasicBlock). y .label) (sym z) ∙ eqb-true (x .label) b t)
-    go false t ih h = let (i, e) = ih h in (there i, e)
 
 module _ (s : Setup) where
   -- a block's lines behind its label

@@ -24,6 +24,7 @@ pub mod Inst
 pub mod Flow
 pub mod Edge
 pub mod Term
+pub mod Labels
 pub mod Block
 pub mod Frame
 pub mod Start
@@ -31,3 +32,5 @@ pub mod Book
 pub mod Statement
 pub mod TwoRuns
 pub mod Cases
+pub mod Decide
+pub mod Example

@@ -39,7 +39,8 @@ use Rattle.agreement.specs.Relation.{Held}
 use Rattle.agreement.specs.Operand.{okOr-some}
 use Rattle.agreement.specs.Statement.{Naming, SameValue, AtLabel, Agrees}
 use Rattle.agreement.specs.Flow.{Arrives, Goes}
-use Rattle.agreement.specs.Block.{labelsOf, labels-distinct, Split, split-ok, blocks-run}
+use Rattle.agreement.specs.Labels.{labelsOf}
+use Rattle.agreement.specs.Block.{labels-distinct, Split, split-ok, blocks-run}
 use Rattle.agreement.specs.Start.{atStart, atBlock, atEntry, Begins, begins-ok, first-ok, rel-start}
 use Rattle.agreement.specs.Book.{apart-ok, good-inst, good-term, each-in}
 

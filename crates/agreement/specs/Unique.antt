@@ -21,7 +21,7 @@ module _ (names : List (List ℕ)) (f : ℕ) where
   prints-some t none e = absurd (false≢true e)
   prints-some t (some u) e = ap {B = Option (List ℕ)} some (sym (same-iff t u .0 e))
 
-  some-prints : (t : List ℕ) (u : Option (List ℕ)) → u ≡ some t → prints t u ≡ true
+  pub some-prints : (t : List ℕ) (u : Option (List ℕ)) → u ≡ some t → prints t u ≡ true
   unfolding prints
   some-prints t u e = rw e (same-iff t t .1 refl)
 

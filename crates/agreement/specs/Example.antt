@@ -1,0 +1,118 @@
+-- The theorem at work: `i32 @add1(i32 %a)` of "Sheets to check" from its raw book, for every argument, memory and stack pointer.
+use Prim.Native.Nat.{ℕ, _+_, _%_, _^_, _<_}
+use Prim.Native.String.{String}
+use mathlib.Core.Path.{_≡_, refl, sym}
+use mathlib.Core.Bool.{Bool, true, false, false≢true}
+use mathlib.Core.Option.{some}
+use mathlib.Core.List.{List, [], _∷_, map}
+use borrow.Author.Tests.{lt-ltb}
+use Rattle.names.specs.Text.{bytes}
+use Rattle.book.specs.Ast.{Ty, Value, BinOp, InstKind, Inst, Terminator}
+use Rattle.book.specs.Result.{ok}
+use Rattle.book.specs.Shape.{Shape, shape}
+use Rattle.book.specs.Check.{Sound, checked}
+use Rattle.assembly.specs.Line.{Line, Work}
+use Rattle.assembly.specs.Cases.{unlines, slice}
+use Rattle.machine.specs.Memory.{Memory}
+use Rattle.machine.specs.State.{World, Frame}
+use Rattle.machine.specs.Run.{returned}
+use Rattle.lowering.specs.Gen.{Out}
+use Rattle.lowering.specs.Translate.{generated}
+use Rattle.manual.specs.State.{Cell, Source, nothing, assign}
+use Rattle.manual.specs.Term.{Stand}
+use Rattle.manual.specs.Run.{argsFit, sourceRun}
+use Rattle.manual.specs.Open.{openManual}
+use Rattle.agreement.specs.Names.{optional, paramNames, resultNames}
+use Rattle.agreement.specs.Book.{NoSelf, each-in}
+use Rattle.agreement.specs.Decide.{hasLabel, newLabel, labelsOnce, labels-ok, distinct-ok}
+use Rattle.agreement.specs.Statement.{Naming, after, Returned}
+use Rattle.agreement.specs.TwoRuns.{two-runs}
+
+unfoldable pub names : List String
+names = "a" ∷ "add1" ∷ "entry" ∷ "r" ∷ []
+
+unfoldable pub book : List ℕ
+unfolding names
+book =
+    slice ((5, 1) ∷ (11, 32) ∷ (6, 1) ∷ (11, 32) ∷ (0, 0) ∷ (7, 2) ∷ (40, 4) ∷ (11, 32) ∷ (30, 0) ∷ (32, 1) ∷ (90, 0) ∷ (11, 32) ∷ (30, 3) ∷ (0, 0) ∷ []) names
+
+unfoldable pub i32 : Ty
+i32 = Ty.int 32
+
+unfoldable pub add : Inst
+unfolding i32
+add = record { dest = some 3; kind = InstKind.bin BinOp.add i32 (Value.local 0) (Value.int 1) }
+
+unfoldable pub add1 : Sound
+unfolding i32 add names
+add1 =
+    record {
+      names = map bytes names;
+      book =
+          record {
+            marks = [];
+            structs = [];
+            function =
+                record {
+                  name = 1;
+                  retTy = i32;
+                  params = record { ty = i32; name = some 0 } ∷ [];
+                  blocks = record { label = 2; insts = add ∷ []; term = Terminator.ret (some (record { ty = i32; val = Value.local 3 })) } ∷ [];
+                };
+          };
+    }
+
+unfoldable pub out : Out
+out =
+    record {
+      lines =
+          Line.comment 1 ∷ Line.fnLabel 1 ∷ Line.push0n 1 ∷ Line.blockLabel 2 ∷ Line.getArg 0 ∷ Line.push 1 ∷ Line.bin BinOp.add Work.w32 ∷ Line.setLocal 0
+          ∷ Line.getLocal 0 ∷ Line.ret ∷ Line.blank ∷ [];
+      next = 0;
+    }
+
+-- there is no cmpxchg
+isCmpxchg : Shape → Bool
+isCmpxchg Shape.cmpxchg = true
+isCmpxchg (Shape.alloca ty n) = false
+isCmpxchg (Shape.phi ty is) = false
+isCmpxchg (Shape.call v) = false
+isCmpxchg Shape.plain = false
+
+no-self : NoSelf (add ∷ [])
+unfolding NoSelf isCmpxchg shape add
+no-self x ty p c n h e = false≢true (sym (each-in (λ (i : Inst). isCmpxchg (shape (i .kind)) ≡ false) (add ∷ []) (refl, tt) h))
+
+naming : Naming (add1 .names) (add1 .book .function) (out .lines)
+unfolding openManual add1 out add names i32 optional paramNames resultNames hasLabel newLabel labelsOnce
+naming = record { distinct = distinct-ok (0 ∷ 3 ∷ []) refl; labels = labels-ok (add1 .names) 1 (out .lines) refl; self = no-self }
+
+sound : checked book (unlines names) 0 96 ≡ ok add1
+unfolding openManual slice unlines book names add1 add i32
+sound = refl
+
+translated : generated book (unlines names) 0 96 11 ≡ ok out
+unfolding openManual slice unlines book names out
+translated = refl
+
+-- what the source has at the end
+atEnd : ℕ → Memory → ℕ → Source
+atEnd a memory sp =
+    record { env = assign (some 3) (Cell.one 32 ((a + 1) % 2 ^ 32)) (assign (some 0) (Cell.one 32 a) nothing); memory = memory; calls = []; sp = sp }
+
+run-source : (world : World) (a : ℕ) (memory : Memory) (sp : ℕ) → sourceRun (add1 .names) (add1 .book) world (a ∷ []) memory sp 1 ≡ ok (Stand.gave ((a + 1) % 2 ^ 32) (atEnd a memory sp))
+unfolding openManual atEnd add1 add i32
+run-source world a memory sp = refl
+
+fits : (a : ℕ) → a < 2 ^ 32 → argsFit (add1 .book .function .params) (a ∷ []) ≡ true
+unfolding openManual add1 i32
+fits a h = rw (lt-ltb a (2 ^ 32) h) refl
+
+-- the lines return a + 1 modulo 2^32, and leave memory and stack pointer as they were
+pub add1-returns : (world : World) (a : ℕ) (memory : Memory) (sp : ℕ) → a < 2 ^ 32 → sp < 2 ^ 64
+    → (k : ℕ) × (e : Frame) × (after (add1 .names) (add1 .book) (out .lines) world (a ∷ []) memory sp k ≡ returned ((a + 1) % 2 ^ 32) e) × (e .memory ≡ memory) × (e .sp ≡ sp)
+unfolding atEnd
+add1-returns world a memory sp ha hs =
+    let r : Returned (add1 .names) (add1 .book) (out .lines) world (a ∷ []) memory sp ((a + 1) % 2 ^ 32) (atEnd a memory sp) =
+    two-runs book (unlines names) 0 96 11 add1 out sound translated naming world (a ∷ []) memory sp (fits a ha) hs 1 _ (run-source world a memory sp) in
+    (r .number, r .frame, r .returns, r .same-memory, r .stack-restored)
