@@ -1,0 +1,117 @@
+//! Builds the published code generator as an oracle, and random and damaged books to compare with it. See README.md.
+mod book;
+mod cases;
+mod check;
+mod damage;
+mod expect;
+mod features;
+mod hash;
+#[cfg(proved)]
+mod large;
+mod measure;
+#[cfg(proved)]
+mod neighbours;
+mod oracle;
+mod program;
+#[cfg(proved)]
+mod proved;
+mod random;
+mod refusal;
+mod rng;
+mod runs;
+mod show;
+#[cfg(proved)]
+mod soundness;
+mod stats;
+mod vectors;
+mod visit;
+
+use book::{Lent, Slices};
+use expect::{expected, Expected};
+use std::io::{Read, Write};
+use std::process::ExitCode;
+
+const USAGE: &str = "usage:
+  compare oracle [COUNTER] < BOOK    the published Rust's text for a book file, or the refusal's number
+  compare show < BOOK                the entries of a book file
+  compare book SEED INDEX > BOOK     one random book as a file
+  compare stats SEED COUNT           what random books meet
+  compare checks SEED COUNT          what damaged copies meet
+  compare vectors SEED COUNT DIR [MOST]
+                                     random and damaged books of at most MOST entries with their answers
+  compare program SEED COUNT COMMAND..
+                                     whether a program prints what `compare oracle` does
+  compare soundness SEED COUNT       whether the proved check of a book answers as ours does; built in where the
+                                     static library of the crate `exports` stands
+  compare test                       tests of this program";
+
+/// The published Rust goes down into types by plain recursion.
+const STACK: usize = 1 << 29;
+
+fn main() -> ExitCode {
+    oracle::install_hook();
+    let worker = std::thread::Builder::new().stack_size(STACK).spawn(|| {
+        let args: Vec<String> = std::env::args().skip(1).collect();
+        run(&args.iter().map(String::as_str).collect::<Vec<_>>())
+    });
+    match worker.expect("a thread").join() {
+        Ok(Ok(())) => ExitCode::SUCCESS,
+        Ok(Err(message)) => {
+            eprintln!("compare: {message}");
+            ExitCode::FAILURE
+        }
+        Err(_) => ExitCode::FAILURE,
+    }
+}
+
+fn run(args: &[&str]) -> Result<(), String> {
+    match args {
+        ["oracle"] => ask(&read_input()?, 0),
+        ["oracle", counter] => ask(&read_input()?, number(counter)?),
+        ["show"] => {
+            show::show(&read_input()?);
+            Ok(())
+        }
+        ["book", seed, index] => {
+            let lent = runs::book(number(seed)?, number(index)?, true);
+            std::io::stdout().write_all(&lent.slices.to_file()).map_err(|error| error.to_string())
+        }
+        ["stats", seed, count] => stats::books(number(seed)?, number(count)?),
+        ["checks", seed, count] => stats::damaged(number(seed)?, number(count)?),
+        ["vectors", seed, count, folder] => vectors::write(number(seed)?, number(count)?, folder, u64::MAX),
+        ["vectors", seed, count, folder, most] => vectors::write(number(seed)?, number(count)?, folder, number(most)?),
+        ["program", seed, count, command @ ..] if !command.is_empty() => {
+            program::compare(number(seed)?, number(count)?, command)
+        }
+        #[cfg(proved)]
+        ["soundness", seed, count] => soundness::compare(number(seed)?, number(count)?),
+        #[cfg(not(proved))]
+        ["soundness", ..] => Err("built without the static library of the crate `exports`: see README.md".to_string()),
+        ["test"] => cases::test(),
+        _ => Err(USAGE.to_string()),
+    }
+}
+
+fn number(text: &str) -> Result<u64, String> {
+    text.parse().map_err(|_| format!("{text:?} is no number\n{USAGE}"))
+}
+
+fn read_input() -> Result<Vec<u8>, String> {
+    let mut bytes = vec![];
+    std::io::stdin().read_to_end(&mut bytes).map_err(|error| error.to_string())?;
+    Ok(bytes)
+}
+
+/// Prints the text, or the number of the refusal.
+fn ask(file: &[u8], counter: u64) -> Result<(), String> {
+    let Some(slices) = Slices::from_file(file) else {
+        println!("1");
+        return Ok(());
+    };
+    match expected(&Lent { slices, counter, work: usize::MAX })? {
+        Expected::Accepted(accepted) => print!("{}", accepted.text()),
+        Expected::Refused(number) => println!("{number}"),
+        Expected::Open(reason) => return Err(format!("no answer: {reason}")),
+    }
+    Ok(())
+}

@@ -1,0 +1,123 @@
+//! Compares the proved check of a book with `check.rs`: books at the large limits, random books, damaged copies of each,
+//! and all books one change away from some.
+use crate::book::Lent;
+use crate::check::{check, Verdict};
+use crate::large;
+use crate::neighbours::neighbours;
+use crate::proved;
+use crate::runs;
+use std::time::{Duration, Instant};
+
+const COPIES: u64 = 4;
+
+/// One random book in so many has its neighbours asked, if it is small.
+const STRIDE: u64 = 1000;
+const SMALL: u64 = 300;
+
+/// Times and answers of a run, and the smallest book on which the two differ.
+#[derive(Default)]
+struct Run {
+    answers: [u64; 5],
+    proved: Duration,
+    checked: Duration,
+    differences: u64,
+    smallest: Option<(usize, String)>,
+}
+
+impl Run {
+    fn add(&mut self, lent: &Lent, place: impl Fn() -> String) {
+        let start = Instant::now();
+        let found = proved::check(lent);
+        let between = Instant::now();
+        let owed = owed(lent);
+        self.checked += between.elapsed();
+        self.proved += between - start;
+        self.answers[owed as usize] += 1;
+        if found != owed {
+            self.differ(lent, format!("{}: {owed} by check.rs, {found} by the proved check", place()));
+        }
+    }
+
+    fn differ(&mut self, lent: &Lent, what: String) {
+        self.differences += 1;
+        let size = 8 * lent.slices.book.len() + lent.slices.names.len();
+        if self.smallest.as_ref().is_none_or(|(smallest, _)| size < *smallest) {
+            let words = &lent.slices.book;
+            let names = String::from_utf8_lossy(&lent.slices.names);
+            let lengths = format!("counter {}, work {}", lent.counter, lent.work);
+            self.smallest = Some((size, format!("{what}\nbook {words:?}\nnames {names:?}\n{lengths}")));
+        }
+    }
+
+    fn print(&self, what: &str) {
+        let total: u64 = self.answers.iter().sum();
+        let rate = |time: Duration| total as f64 / time.as_secs_f64();
+        println!("{what}: {total}, {} differences", self.differences);
+        println!("    {:.0} books a second proved, {:.0} by check.rs", rate(self.proved), rate(self.checked));
+        for (answer, count) in self.answers.iter().enumerate() {
+            let name = if answer == 0 { "sound".to_string() } else { format!("refused {answer}") };
+            println!("    {name:<12}{count:>9}  {:6.2} %", 100.0 * *count as f64 / total as f64);
+        }
+    }
+
+    fn result(self) -> Result<(), String> {
+        self.smallest.map_or(Ok(()), |(_, what)| Err(format!("the smallest difference: {what}")))
+    }
+}
+
+/// The answer of `check.rs`, 0 for a sound book.
+fn owed(lent: &Lent) -> u64 {
+    match check(lent) {
+        Verdict::Refused(number) => number as u64,
+        Verdict::Sound(_) => 0,
+    }
+}
+
+pub fn compare(seed: u64, count: u64) -> Result<(), String> {
+    large_books()?;
+    let (mut books, mut copies, mut near) = (Run::default(), Run::default(), Run::default());
+    for index in 0..count {
+        let lent = runs::book(seed, index, true);
+        books.add(&lent, || format!("seed {seed}, book {index}"));
+        for number in 0..COPIES {
+            let copy = runs::copy(&lent, seed, index, number);
+            copies.add(&copy, || format!("seed {seed}, book {index}, copy {number}"));
+        }
+        if index % STRIDE == 0 && lent.slices.book[0] <= SMALL {
+            neighbours(&lent, |other, what, place| {
+                near.add(other, || format!("seed {seed}, book {index}, {what} at {place}"));
+            });
+        }
+    }
+    books.print("random books");
+    copies.print("damaged copies");
+    near.print("books one change away");
+    books.result().and(copies.result()).and(near.result())
+}
+
+/// Prints the time of each, the best of three.
+fn large_books() -> Result<(), String> {
+    println!("{:>9} {:>8} {:>6} {:>9} {:>9}", "entries", "names", "answer", "proved", "check.rs");
+    for large in large::books() {
+        let (answer, proved) = timed(|| proved::check(&large.lent));
+        let (owed, checked) = timed(|| owed(&large.lent));
+        let [entries, names] = [large.lent.slices.book[0], large.lent.slices.book[1]];
+        println!("{entries:>9} {names:>8} {answer:>6} {proved:>6.2} ms {checked:>6.1} ms  {}", large.what);
+        if [answer, owed] != [large.answer; 2] {
+            let expected = large.answer;
+            return Err(format!("{}: {expected} expected, {owed} by check.rs, {answer} proved", large.what));
+        }
+    }
+    Ok(())
+}
+
+fn timed(answer: impl Fn() -> u64) -> (u64, f64) {
+    let mut best = f64::MAX;
+    let mut found = 0;
+    for _ in 0..3 {
+        let start = Instant::now();
+        found = answer();
+        best = best.min(start.elapsed().as_secs_f64() * 1000.0);
+    }
+    (found, best)
+}

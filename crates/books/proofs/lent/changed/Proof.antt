@@ -1,0 +1,68 @@
+-- Each turn leaves the slices as long as they were; a turn passes one token, and there are no more than bytes.
+use Prim.Native.Nat.{_-_}
+use mathlib.Core.Path.{_≡_}
+use lib.ListN.{length}
+use borrow.Author.Needs.{needs}
+use Rattle.books.proofs.lent.changed.Statement.{statement}
+use Rattle.books.proofs.lent.changed.Tie as tie
+
+abbrev Inv-loop : tie.InvT-loop
+Inv-loop text from book₀ names₀ after₀ at₀ counter₀ end book names after at counter = (length book ≡ length book₀) × (length names ≡ length names₀)
+
+abbrev μ-loop : tie.MeasureT-loop
+μ-loop text from book₀ names₀ after₀ at₀ counter₀ end book names after at counter = end - counter
+
+loop-holds : tie.Need-loop-holds Inv-loop μ-loop
+loop-holds c = (search needs, search needs)
+
+read-token-requires : tie.Need-read-token-requires Inv-loop μ-loop
+read-token-requires c κs = search needs
+
+with-token-requires : tie.Need-with-token-requires Inv-loop μ-loop
+with-token-requires c κs = search needs
+
+add-counter : tie.Need-add-counter Inv-loop μ-loop
+add-counter c = search needs
+
+loop-less : tie.Need-loop-less Inv-loop μ-loop
+loop-less c = search needs
+
+loop-again : tie.Need-loop-again Inv-loop μ-loop
+loop-again c = (search needs, search needs)
+
+same-length : tie.Need-same-length Inv-loop μ-loop
+same-length c = search needs
+
+same-length-2 : tie.Need-same-length-2 Inv-loop μ-loop
+same-length-2 c = search needs
+
+returns : tie.Need-returns Inv-loop μ-loop
+returns c = search needs
+
+same-length-3 : tie.Need-same-length-3 Inv-loop μ-loop
+same-length-3 c = search needs
+
+same-length-4 : tie.Need-same-length-4 Inv-loop μ-loop
+same-length-4 c = search needs
+
+returns-2 : tie.Need-returns-2 Inv-loop μ-loop
+returns-2 c = search needs
+
+pub changed-spec : {M : Type 1} → statement M
+changed-spec =
+    tie.close
+    (tie.spec
+    Inv-loop
+    μ-loop
+    loop-holds
+    read-token-requires
+    with-token-requires
+    add-counter
+    loop-less
+    loop-again
+    same-length
+    same-length-2
+    returns
+    same-length-3
+    same-length-4
+    returns-2)
