@@ -3,6 +3,7 @@ mod book;
 mod cases;
 mod check;
 mod damage;
+mod definitions;
 mod expect;
 mod features;
 mod hash;
@@ -23,6 +24,7 @@ mod show;
 #[cfg(proved)]
 mod soundness;
 mod stats;
+mod table;
 mod vectors;
 mod visit;
 
@@ -41,6 +43,9 @@ const USAGE: &str = "usage:
                                      random and damaged books of at most MOST entries with their answers
   compare program SEED COUNT COMMAND..
                                      whether a program prints what `compare oracle` does
+  compare definitions SEED COUNT [--damaged]
+                                     whether the definition in crates/lowering answers as the Rust does, by computation
+  compare table SEED COUNT FILE      random books with the Rust's answers as a checked table of crates/lowering
   compare soundness SEED COUNT       whether the proved check of a book answers as ours does; built in where the
                                      static library of the crate `exports` stands
   compare test                       tests of this program";
@@ -83,6 +88,9 @@ fn run(args: &[&str]) -> Result<(), String> {
         ["program", seed, count, command @ ..] if !command.is_empty() => {
             program::compare(number(seed)?, number(count)?, command)
         }
+        ["definitions", seed, count] => definitions::compare(number(seed)?, number(count)?, false),
+        ["definitions", seed, count, "--damaged"] => definitions::compare(number(seed)?, number(count)?, true),
+        ["table", seed, count, file] => table::write(number(seed)?, number(count)?, file),
         #[cfg(proved)]
         ["soundness", seed, count] => soundness::compare(number(seed)?, number(count)?),
         #[cfg(not(proved))]

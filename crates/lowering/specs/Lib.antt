@@ -15,6 +15,13 @@ pub mod Places
 pub mod Takes
 pub mod Quiet
 pub mod Labels
+pub mod Allows
+pub mod Allowed
+pub mod AllowedInsts
+pub mod AllowedBlocks
+pub mod AllowedFunction
+pub mod Printable
+pub mod Bounds
 pub mod Open
 pub mod Sheet
 pub mod Sheets
@@ -23,3 +30,6 @@ pub mod Order
 pub mod Operations
 pub mod Bent
 pub mod Slices
+pub mod Vectors1
+pub mod Vectors2
+pub mod Vectors3

@@ -1,0 +1,90 @@
+-- The lines of a function are allowed: slots stay below 65,536, and operands are within what docs/LINES.md allows.
+use Prim.Native.Nat.{ℕ, _≤_}
+use mathlib.Core.Path.{_≡_, refl, subst}
+use mathlib.Core.Logic.{⊎-elim}
+use mathlib.Core.Bool.{true}
+use mathlib.Core.Option.{some}
+use mathlib.Core.List.{List, [], _∷_}
+use lib.ListN.{length}
+use lib.Dec.{ltb}
+use native.Mathlib.Omega.{arith}
+use borrow.Author.Tests.{eq-eqb, ltb-true, ltb-false, le-leb, lt-ltb}
+use Rattle.book.specs.Ast.{BasicBlock, Book}
+use Rattle.book.specs.Limits.{Each, BlockLimits, Limits}
+use Rattle.book.specs.Shape.{allInsts}
+use Rattle.assembly.specs.Line.{Line}
+use Rattle.assembly.specs.Number.{isName, allowed}
+use Rattle.lowering.specs.Gen.{line, each}
+use Rattle.lowering.specs.Context.{Map, lookup, FnCtx, codegenOf, blockMap}
+use Rattle.lowering.specs.Frame.{Frame}
+use Rattle.lowering.specs.Function.{genBlock, prologue, genLines, slotsOf, contextOf, totalSlots, genFunction}
+use Rattle.lowering.specs.Places.{lookup-cons, all-below}
+use Rattle.lowering.specs.Allows.{Allows, line-allows, bind-allows, then-allows, when-allows, when-true, guard-allows, each-allows, plain}
+use Rattle.lowering.specs.Allowed.{Within, add-allows, set-base}
+use Rattle.lowering.specs.AllowedBlocks.{and-true, block-allows}
+
+-- ---- the blocks of a function
+blocks-within : (n : ℕ) (bs : List BasicBlock) (m : Map BasicBlock) → Each (BlockLimits n) bs → ((x : ℕ) (bb : BasicBlock) → lookup x m ≡ some bb → BlockLimits n bb)
+    → (x : ℕ) (bb : BasicBlock) → lookup x (blockMap bs m) ≡ some bb → BlockLimits n bb
+unfolding blockMap
+blocks-within n [] m l h x bb e = h x bb e
+blocks-within n (a ∷ bs) m l h x bb e =
+    blocks-within n bs ((a .label, a) ∷ m) (l .1) (λ y found f. ⊎-elim (λ q. subst (BlockLimits n) (q .1) (l .0)) (λ g. h y found g) (lookup-cons y (a .label) a found m f)) x bb e
+
+no-block : (n x : ℕ) (bb : BasicBlock) → lookup x [] ≡ some bb → BlockLimits n bb
+unfolding lookup
+no-block n x bb h = absurd (let z : _≡_ {A = ℕ} 0 1 = cc in omega arith)
+
+module _ (names : List (List ℕ)) (b : Book) (l : Limits (length names) b) where
+  abbrev context : Frame → FnCtx
+  context fr = contextOf (codegenOf names b) (b .function) fr
+
+  abbrev total : Frame → ℕ
+  total fr = totalSlots (codegenOf names b) (b .function) fr
+
+  -- ---- the context, where the slots are few enough
+  within : (fr : Frame) → total fr ≤ 65535 → Within (context fr)
+  unfolding contextOf codegenOf totalSlots slotsOf
+  within fr h =
+      record {
+        slots = λ x s e. let q = all-below names (allInsts (b .function .blocks)) x s e in omega arith;
+        base = omega arith;
+        blocks = blocks-within (length names) (b .function .blocks) [] (l .function .1 .1 .1) (no-block (length names));
+      }
+
+  comment-line : Allows names b (line (Line.comment (b .function .name)))
+  unfolding allowed
+  comment-line = line-allows names b _ (eq-eqb (b .function .name) (b .function .name) refl)
+
+  name-line : Allows names b (line (Line.fnLabel (b .function .name)))
+  unfolding allowed isName
+  name-line = line-allows names b _ (lt-ltb _ _ (l .function .0))
+
+  slots-line : (n : ℕ) → n ≤ 65535 → ltb 0 n ≡ true → Allows names b (line (Line.push0n n))
+  unfolding allowed
+  slots-line n h k =
+      let p = ltb-true 0 n k in
+      line-allows names b _ (and-true _ _ (le-leb 1 n (omega arith)) (le-leb n 65535 h))
+
+  prologue-allows : (c : FnCtx) (w : Within c) → Allows (c .codegen .names) b (prologue c)
+  unfolding prologue
+  prologue-allows c w =
+      let base = set-base b c w in
+      search (plain, add-allows) depth 9
+
+  blocks-allow : (c : FnCtx) (w : Within c) (bs : List BasicBlock) → Each (BlockLimits (length (c .codegen .names))) bs → Allows (c .codegen .names) b (each (genBlock c) bs)
+  blocks-allow c w bs h = each-allows _ b (BlockLimits (length (c .codegen .names))) (genBlock c) (block-allows b c w) bs h
+
+  lines-allow : (fr : Frame) → Allows names b (genLines (context fr) (b .function) (total fr))
+  unfolding genLines contextOf codegenOf
+  lines-allow fr =
+      then-allows _ _ _ _ comment-line (then-allows _ _ _ _ name-line (guard-allows _ _ _ _ _ (λ e.
+      let few : total fr ≤ 65535 = ltb-false 65535 (total fr) e in
+      let w = within fr few in
+      then-allows _ _ _ _ (when-true _ _ _ _ (slots-line (total fr) few)) (then-allows _ _ _ _ (when-allows _ _ _ _ (prologue-allows (context fr) w))
+      (then-allows _ _ _ _ (blocks-allow (context fr) w (b .function .blocks) (l .function .1 .1 .1)) (search plain))))))
+
+  -- every line of a function is allowed
+  pub function-allows : Allows names b (genFunction (codegenOf names b) (b .function))
+  unfolding genFunction
+  function-allows = bind-allows _ _ _ _ (λ fr e. lines-allow fr)
