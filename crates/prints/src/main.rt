@@ -8,6 +8,8 @@ use printer::print;
 // 8 entries and 4 names; the kinds, then the words.
 const BOOK: [u64; 18] = [8, 4, 5, 11, 6, 11, 0, 7, 93, 0, 2, 32, 0, 32, 0, 1, 0, 0];
 
+const NAMES: [u8; 17] = *b"__uvm_time\nb\nf\ng\n";
+
 const LINE_KINDS: [u16; 94] = [
     0,
     1,
@@ -224,8 +226,8 @@ fn wide(n: usize) -> u64 {
 }
 
 // Prints the lines into the text and writes the answer, and then the whole text.
-fn show(line_kinds: &[u16], operands: &[u64], text: &mut [u8]) {
-    let answer = print(&BOOK, b"__uvm_time\nb\nf\ng\n", line_kinds, operands, text);
+fn show_lent(book: &[u64], names: &[u8], line_kinds: &[u16], operands: &[u64], text: &mut [u8]) {
+    let answer = print(book, names, line_kinds, operands, text);
     match answer {
         Printed::Accepted(n) => {
             io::write_all(1, b"accepted ");
@@ -238,6 +240,11 @@ fn show(line_kinds: &[u16], operands: &[u64], text: &mut [u8]) {
     }
     io::write_all(1, text);
     io::write_all(1, b"\n");
+}
+
+// The lines of the book above.
+fn show(line_kinds: &[u16], operands: &[u64], text: &mut [u8]) {
+    show_lent(&BOOK, &NAMES, line_kinds, operands, text);
 }
 
 // One line, into a text of 16 bytes.
@@ -298,10 +305,24 @@ fn rooms() {
     show(&[8, 94], &[5], &mut two);
 }
 
+// One line of a text without room, for what may be no book and no names: 1 before 2 before 21 before 20.
+fn show_order(book: &[u64], names: &[u8], kind: u16) {
+    let mut text = [b'!'; 2];
+    show_lent(book, names, &[kind], &[0], &mut text);
+}
+
+fn orders() {
+    show_order(&BOOK[..17], b"b\nf", 94);
+    show_order(&BOOK, b"b\nf", 94);
+    show_order(&BOOK, &NAMES, 94);
+    show_order(&BOOK, &NAMES, 93);
+}
+
 fn main() {
     every_kind();
     names();
     numbers();
     kinds();
     rooms();
+    orders();
 }
