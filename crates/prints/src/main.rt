@@ -315,7 +315,7 @@ fn orders() {
     show_order(&BOOK[..17], b"b\nf", 94);
     show_order(&BOOK, b"b\nf", 94);
     show_order(&BOOK, &NAMES, 94);
-    show_order(&BOOK, &NAMES, 93);
+    show_order(&BOOK, &NAMES, 8);
 }
 
 fn main() {
