@@ -15,6 +15,8 @@ mod neighbours;
 mod oracle;
 mod program;
 #[cfg(proved)]
+mod printing;
+#[cfg(proved)]
 mod proved;
 mod random;
 mod refusal;
@@ -48,6 +50,8 @@ const USAGE: &str = "usage:
   compare table SEED COUNT FILE      random books with the Rust's answers as a checked table of crates/lowering
   compare soundness SEED COUNT       whether the proved check of a book answers as ours does; built in where the
                                      static library of the crate `exports` stands
+  compare printing SEED LINES NAMES  whether the proved printer prints random lines of every kind as docs/LINES.md says, and
+                                     its time; built in as above
   compare test                       tests of this program";
 
 /// The published Rust goes down into types by plain recursion.
@@ -93,8 +97,10 @@ fn run(args: &[&str]) -> Result<(), String> {
         ["table", seed, count, file] => table::write(number(seed)?, number(count)?, file),
         #[cfg(proved)]
         ["soundness", seed, count] => soundness::compare(number(seed)?, number(count)?),
+        #[cfg(proved)]
+        ["printing", seed, count, names] => printing::compare(number(seed)?, number(count)?, number(names)?),
         #[cfg(not(proved))]
-        ["soundness", ..] => Err("built without the static library of the crate `exports`: see README.md".to_string()),
+        ["soundness" | "printing", ..] => Err("built without the static library of the crate `exports`: see README.md".to_string()),
         ["test"] => cases::test(),
         _ => Err(USAGE.to_string()),
     }

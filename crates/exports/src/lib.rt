@@ -1,8 +1,10 @@
 // The boundary for C and Rust: each function lends its slices on and gives document 01's numbers.
+use printer::passes::Printed;
 use soundness::Verdict;
 ghost use mathlib.Core.Path.{_≡_};
 ghost use Rattle.book.specs.Check.{checked, refusalOf};
 ghost use Rattle.soundness.specs.Verdict.{numberOf};
+ghost use Rattle.assembly.specs.Printer.{print, printedNumber, printedBytes};
 
 // Document 01's number of an answer.
 fn number(verdict: Verdict) -> u64
@@ -24,4 +26,31 @@ pub extern "C" fn mivolanjy_check(book: &[u64], names: &[u8], counter: u64, work
     ensures { λ r. ⌜ r ≡ refusalOf (checked (now (book .entry)) (now (names .entry)) counter work) ⌝ }
 {
     number(soundness::check(book, names, counter, work))
+}
+
+// Prints the lines of the lent book into the text. The answer is the refusal's number, 0 where there is none; the count is that of the
+// bytes written.
+#[no_mangle]
+pub extern "C" fn mivolanjy_print(
+    book: &[u64],
+    names: &[u8],
+    line_kinds: &[u16],
+    operands: &[u64],
+    text: &mut [u8],
+    count: &mut u64,
+) -> u64
+    ensures { λ r. ⌜ r ≡ printedNumber (print (now (book .entry)) (now (names .entry)) (now («line_kinds» .entry)) (now (operands .entry)) (now (text .entry)) .reply) ⌝ }
+    ensures { λ r. ⌜ now (count .exit) ≡ printedBytes (print (now (book .entry)) (now (names .entry)) (now («line_kinds» .entry)) (now (operands .entry)) (now (text .entry)) .reply) ⌝ }
+    ensures { λ r. ⌜ now (text .exit) ≡ print (now (book .entry)) (now (names .entry)) (now («line_kinds» .entry)) (now (operands .entry)) (now (text .entry)) .text ⌝ }
+{
+    match printer::print(book, names, line_kinds, operands, text) {
+        Printed::Accepted(n) => {
+            *count = n as u64;
+            0
+        }
+        Printed::Refused(e) => {
+            *count = 0;
+            e
+        }
+    }
 }

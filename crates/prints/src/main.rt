@@ -318,6 +318,19 @@ fn orders() {
     show_order(&BOOK, &NAMES, 8);
 }
 
+// A name of every byte from 32 to 126, and a syscall's: where a name prints by `sanitize` and where as it is.
+fn every_byte() {
+    let book: [u64; 14] = [6, 2, 5, 10, 0, 7, 93, 0, 0, 0, 0, 0, 0, 0];
+    let mut text = [b'!'; 915];
+    show_lent(
+        &book,
+        b" !\"#$%&'()*+,-./0123456789:;<=>?@ABCDEFGHIJKLMNOPQRSTUVWXYZ[\\]^_`abcdefghijklmnopqrstuvwxyz{|}~\n__uvm_ !\"#$%&'()*+,-./0123456789:;<=>?@ABCDEFGHIJKLMNOPQRSTUVWXYZ[\\]^_`abcdefghijklmnopqrstuvwxyz{|}~\n",
+        &[0, 1, 2, 3, 4, 5, 6],
+        &[0, 0, 0, 0, 0, 1, 1],
+        &mut text,
+    );
+}
+
 fn main() {
     every_kind();
     names();
@@ -325,4 +338,5 @@ fn main() {
     kinds();
     rooms();
     orders();
+    every_byte();
 }

@@ -1,0 +1,2 @@
+-- What the boundary's answers say.
+pub mod Printed
