@@ -31,6 +31,8 @@ pub mod Start
 pub mod Book
 pub mod Statement
 pub mod TwoRuns
+pub mod Corollaries
+pub mod Operations
 pub mod Cases
 pub mod Decide
 pub mod Example
