@@ -8,3 +8,4 @@ pub mod Line
 pub mod Run
 pub mod Open
 pub mod Printed
+pub mod Cases

@@ -9,3 +9,4 @@ pub mod Inst
 pub mod Term
 pub mod Run
 pub mod Open
+pub mod Cases
