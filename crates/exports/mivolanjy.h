@@ -1,0 +1,28 @@
+/* The functions of libexports.a, which `rt staticlib exports` writes to target/staticlib.
+
+   A lent slice is a pointer and the number of its elements. The pointer is never null, not even for a
+   slice of length 0, and is aligned for its elements. What is written (text, count) overlaps nothing
+   else that is lent. Nothing is kept after a call. Numbers are those of document 01's table of replies. */
+#ifndef MIVOLANJY_H
+#define MIVOLANJY_H
+
+#include <stddef.h>
+#include <stdint.h>
+
+/* The first of refusals 1 to 4 that applies to a book, its names, a label counter and the length of a
+   work slice; 0 where none does. */
+uint64_t mivolanjy_check(const uint64_t *book, size_t book_length,
+                         const uint8_t *names, size_t names_length,
+                         uint64_t counter, size_t work_length);
+
+/* Prints the lines of a book into the text: 0 with *count bytes written from the start of the text and
+   the rest unchanged, or the refusal's number (1, 2, 21 or 20) with *count 0 and the text unchanged. As many lines
+   are taken as the shorter of the two line slices holds. */
+uint64_t mivolanjy_print(const uint64_t *book, size_t book_length,
+                         const uint8_t *names, size_t names_length,
+                         const uint16_t *line_kinds, size_t line_kinds_length,
+                         const uint64_t *operands, size_t operands_length,
+                         uint8_t *text, size_t text_length,
+                         uint64_t *count);
+
+#endif
