@@ -28,10 +28,9 @@ use Rattle.manual.specs.Run.{runBlock, go, run}
 use Rattle.agreement.specs.Holds.{Holds, H-ok, H-bind, H-eq, H-map}
 use Rattle.agreement.specs.Gives.{Gives, G-put, G-skip, G-then, G-map, Made, G-self, G-use}
 use Rattle.agreement.specs.Lists.{none-some, drop-tail, drop-part, drop-past, In, here, there}
-use Rattle.agreement.specs.Names.{Distinct, Stands}
+use Rattle.agreement.specs.Names.{Stands}
 use Rattle.agreement.specs.Labels.{block-found, distinct-nil, distinct-cons, labelsOf, find-in, find-some}
 use Rattle.agreement.specs.Setup.{Setup, ctx, given}
-use Rattle.agreement.specs.Unique.{LabelsOnce}
 use Rattle.agreement.specs.Reach.{Once, next, once}
 use Rattle.agreement.specs.Relation.{Rel, Apart}
 use Rattle.agreement.specs.Operand.{okOr-some}
@@ -40,6 +39,7 @@ use Rattle.agreement.specs.Inst.{Good, Goods, insts-ok}
 use Rattle.agreement.specs.Flow.{Arrives, Goes, before, Lands, then-lands}
 use Rattle.agreement.specs.Edge.{SoundPhi, PhisSound, LabelsStand, FoundAlike}
 use Rattle.agreement.specs.Term.{GoodTerm, term-ok}
+use Rattle.agreement.specs.Naming.{Distinct, LabelsOnce}
 
 module _ (s : Setup) where
   -- a block's lines behind its label

@@ -5,7 +5,7 @@ use mathlib.Core.Logic.{⊎-elim}
 use mathlib.Core.Option.{Option, none, some}
 use mathlib.Core.List.{List, [], _∷_, _++_}
 use Rattle.numbers.specs.Width.{widthOk}
-use Rattle.book.specs.Ast.{Ty, Value, TypedVal, InstKind, Inst, Terminator, BasicBlock}
+use Rattle.book.specs.Ast.{Ty, TypedVal, InstKind, Inst, Terminator, BasicBlock}
 use Rattle.book.specs.Result.{ok, err-no-ok}
 use Rattle.book.specs.Shape.{Shape, shape, allInsts}
 use Rattle.book.specs.Fields.{instFields, instTagOf, instArgs}
@@ -17,7 +17,7 @@ use Rattle.lowering.specs.Function.{slotsOf}
 use Rattle.agreement.specs.Holds.{ok-same, H-use}
 use Rattle.agreement.specs.Lists.{none-some, In, here, there, in-left, in-right}
 use Rattle.agreement.specs.Setup.{Setup}
-use Rattle.agreement.specs.Names.{paramNames, resultNames, Distinct, apart, distinct-right, param-name, slot-name}
+use Rattle.agreement.specs.Names.{apart, distinct-right, param-name, slot-name}
 use Rattle.agreement.specs.Slots.{second-slot}
 use Rattle.agreement.specs.Relation.{Apart, argOf}
 use Rattle.agreement.specs.Operand.{Sound}
@@ -27,6 +27,7 @@ use Rattle.agreement.specs.Cmpxchg.{TwoSlots}
 use Rattle.agreement.specs.Inst.{Good}
 use Rattle.agreement.specs.Term.{GoodTerm, SoundRet}
 use Rattle.agreement.specs.Frame.{varying-place}
+use Rattle.agreement.specs.Naming.{paramNames, resultNames, Distinct, NoSelf}
 
 -- ---- the book's types
 module _ (m : ℕ) where
@@ -64,10 +65,6 @@ module _ (m : ℕ) where
   good-term (Terminator.br v t f) h = tt
   good-term (Terminator.switch ty v d ks) h = sound-ty ty (h .0)
   good-term Terminator.unreachable h = tt
-
--- "no cmpxchg compares with its own result"
-unfoldable pub NoSelf : List Inst → Type 0
-NoSelf is = (x : ℕ) (ty : Ty) (p c n : Value) → In (record { dest = some x; kind = InstKind.cmpxchg ty p c n }) is → ¬ (c ≡ Value.local x)
 
 -- ---- members of lists
 pub each-in : {A : Type 0} (P : A → Type 0) {a : A} (l : List A) → Each P l → In a l → P a

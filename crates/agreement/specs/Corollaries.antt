@@ -19,9 +19,10 @@ use Rattle.lowering.specs.Translate.{generated}
 use Rattle.manual.specs.State.{Cell, Source}
 use Rattle.manual.specs.Term.{Stand}
 use Rattle.manual.specs.Run.{argsFit, sourceRun}
-use Rattle.agreement.specs.Relation.{readAt}
-use Rattle.agreement.specs.Statement.{Naming, after, argCell, firstSlot, AtLabel, Returned}
+use Rattle.agreement.specs.Statement.{after, AtLabel, Returned}
 use Rattle.agreement.specs.TwoRuns.{two-runs}
+use Rattle.agreement.specs.Where.{readAt, argCell, firstSlot}
+use Rattle.agreement.specs.Naming.{Naming}
 
 -- ---- the machine comes to a block label with n passed at most once
 same-state : {x y : State} → running x ≡ running y → x ≡ y
@@ -116,13 +117,6 @@ module _ (book names : List ℕ) (counter workLen room : ℕ) (b : Sound) (out :
   abbrev pub machine : (k : ℕ) → Outcome
   machine k = after (b .names) (b .book) (out .lines) world args memory sp k
 
-  -- the place of a name: its argument cell, its first slot
-  abbrev pub argument : (name : ℕ) → Option ℕ
-  argument x = argCell (b .names) (b .book) (out .lines) world args memory sp x
-
-  abbrev pub slot : (name : ℕ) → Option ℕ
-  slot x = firstSlot (b .names) (b .book) (out .lines) world args memory sp x
-
   -- where the source run stands at a block with n passed, so does the machine
   pub stands-at-block : (n block : ℕ) (σ : Source) → source n ≡ ok (Stand.at block σ)
       → (k : ℕ) × (p : ℕ) × (e : Frame) × (rest : List Line)
@@ -131,9 +125,9 @@ module _ (book names : List ℕ) (counter workLen room : ℕ) (b : Sound) (out :
       -- this is one moment of the run
       × ((k′ : ℕ) → Stands (b .names) (b .book .function .name) world (out .lines) (machine k′) n → k′ ≡ k)
       -- "Each named value, unsigned, is compared with its argument cell or slot"
-      × ((x w v : ℕ) → σ .env x ≡ ok (Cell.one w v) → readAt (argument x) (slot x) (e .args) (e .slots) ≡ some v)
+      × ((x w v : ℕ) → σ .env x ≡ ok (Cell.one w v) → (readAt (argCell (b .book) x) (firstSlot (b .names) (b .book) x) (e .args) (e .slots) ≡ some v) × (v < 2 ^ w))
       -- "a cmpxchg's two with both"
-      × ((x w found success : ℕ) → σ .env x ≡ ok (Cell.two w found success) → (i : ℕ) × (slot x ≡ some i) × (cellAt (e .slots) i ≡ some found) × (cellAt (e .slots) (suc i) ≡ some success))
+      × ((x w found success : ℕ) → σ .env x ≡ ok (Cell.two w found success) → (i : ℕ) × (firstSlot (b .names) (b .book) x ≡ some i) × (cellAt (e .slots) i ≡ some found) × (cellAt (e .slots) (suc i) ≡ some success) × (found < 2 ^ w) × (success < 2))
       -- the cells of the arguments stay, and memory, stack pointer and listed calls are the same
       × (e .args ≡ args) × (e .memory ≡ σ .memory) × (e .sp ≡ σ .sp) × (e .calls ≡ σ .calls)
   stands-at-block n block σ h =

@@ -12,9 +12,9 @@ use Rattle.assembly.specs.Line.{Line}
 use Rattle.machine.specs.Labels.{prints, labelOf}
 use Rattle.machine.specs.State.{cellAt}
 use Rattle.agreement.specs.Lists.{none-some, some-same}
-use Rattle.agreement.specs.Names.{Distinct}
 use Rattle.agreement.specs.Labels.{distinct-nil, distinct-cons}
-use Rattle.agreement.specs.Unique.{LabelsOnce, some-prints}
+use Rattle.agreement.specs.Unique.{some-prints}
+use Rattle.agreement.specs.Naming.{Distinct, LabelsOnce}
 
 both : (a b : Bool) → (a && b) ≡ true → (a ≡ true) × (b ≡ true)
 both true b h = (refl, h)

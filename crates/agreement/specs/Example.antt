@@ -22,11 +22,11 @@ use Rattle.manual.specs.State.{Cell, Source, nothing, assign}
 use Rattle.manual.specs.Term.{Stand}
 use Rattle.manual.specs.Run.{argsFit, sourceRun}
 use Rattle.manual.specs.Open.{openManual}
-use Rattle.agreement.specs.Names.{optional, paramNames, resultNames}
-use Rattle.agreement.specs.Book.{NoSelf, each-in}
+use Rattle.agreement.specs.Book.{each-in}
 use Rattle.agreement.specs.Decide.{hasLabel, newLabel, labelsOnce, labels-ok, distinct-ok}
-use Rattle.agreement.specs.Statement.{Naming, after, Returned}
+use Rattle.agreement.specs.Statement.{after, Returned}
 use Rattle.agreement.specs.TwoRuns.{two-runs}
+use Rattle.agreement.specs.Naming.{optional, paramNames, resultNames, NoSelf, Naming}
 
 unfoldable pub names : List String
 names = "a" ∷ "add1" ∷ "entry" ∷ "r" ∷ []

@@ -16,8 +16,9 @@ use Rattle.lowering.specs.Frame.{Frame, countOf, withPlace, withDynamic, place,
 use Rattle.lowering.specs.Function.{framed}
 use Rattle.agreement.specs.Holds.{Holds, H-ok, H-bind, H-eq, H-map}
 use Rattle.agreement.specs.Lists.{some-same, In, here, there}
-use Rattle.agreement.specs.Names.{optional, resultNames, Distinct, Stands, stands-left, stands-right, stands-own, stands-in, apart, distinct-right}
+use Rattle.agreement.specs.Names.{Stands, stands-left, stands-right, stands-own, stands-in, apart, distinct-right}
 use Rattle.agreement.specs.Operand.{okOr-some}
+use Rattle.agreement.specs.Naming.{optional, resultNames, Distinct}
 
 module _ (structs : List StructType) where
   -- what a part of the pass keeps of other names

@@ -14,7 +14,8 @@ use Rattle.lowering.specs.Context.{Map, lookup, blockMap}
 use Rattle.lowering.specs.Places.{lookup-cons}
 use Rattle.manual.specs.Run.{go}
 use Rattle.agreement.specs.Lists.{none-some, In, here, there}
-use Rattle.agreement.specs.Names.{Distinct, Stands, stands-left, stands-right, apart, distinct-right}
+use Rattle.agreement.specs.Names.{Stands, stands-left, stands-right, apart, distinct-right}
+use Rattle.agreement.specs.Naming.{Distinct}
 
 -- ---- a block that is found is one of them
 pub block-found : (b : ℕ) (k : BasicBlock) (bs : List BasicBlock) (m : Map BasicBlock) → lookup b (blockMap bs m) ≡ some k → (In k bs × (k .label ≡ b)) ⊎ (lookup b m ≡ some k)

@@ -3,6 +3,9 @@ pub mod Holds
 pub mod Gives
 pub mod Setup
 pub mod Lists
+pub mod Naming
+pub mod Where
+pub mod Statement
 pub mod Unique
 pub mod Reach
 pub mod Signed
@@ -29,7 +32,6 @@ pub mod Block
 pub mod Frame
 pub mod Start
 pub mod Book
-pub mod Statement
 pub mod TwoRuns
 pub mod Corollaries
 pub mod Operations

@@ -12,22 +12,7 @@ use Rattle.machine.specs.State.{cellAt}
 use Rattle.lowering.specs.Context.{Map, lookup, insert, paramMap, Slots, slotStep, slotMap}
 use Rattle.lowering.specs.Places.{lookup-cons}
 use Rattle.agreement.specs.Lists.{none-some, cell-lt, cell-left, cell-right, In, here, there}
-
-unfoldable pub optional : Option ℕ → List ℕ
-optional none = []
-optional (some x) = x ∷ []
-
-unfoldable pub paramNames : List Param → List ℕ
-paramNames [] = []
-paramNames (p ∷ ps) = optional (p .name) ++ paramNames ps
-
-unfoldable pub resultNames : List Inst → List ℕ
-resultNames [] = []
-resultNames (i ∷ is) = optional (i .dest) ++ resultNames is
-
--- no two positions hold one name
-unfoldable pub Distinct : List ℕ → Type 0
-Distinct l = (i j x : ℕ) → cellAt l i ≡ some x → cellAt l j ≡ some x → i ≡ j
+use Rattle.agreement.specs.Naming.{optional, paramNames, resultNames, Distinct}
 
 -- a name stands somewhere in a list
 pub record Stands (x : ℕ) (l : List ℕ) : Type 0 where

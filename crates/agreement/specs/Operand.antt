@@ -26,7 +26,8 @@ use Rattle.agreement.specs.Holds.{ok-same, Holds, H-ok, H-err, H-eq, H-n
 use Rattle.agreement.specs.Gives.{Gives, G-line, G-refuse, G-bind}
 use Rattle.agreement.specs.Setup.{Setup, ctx}
 use Rattle.agreement.specs.Reach.{Runs, run-line, seq, doing}
-use Rattle.agreement.specs.Relation.{readAt, argOf, slotOfName, Held, Rel, Apart, slot-owner, owned-in, rel-put}
+use Rattle.agreement.specs.Relation.{argOf, slotOfName, Held, Rel, Apart, slot-owner, owned-in, rel-put}
+use Rattle.agreement.specs.Where.{readAt}
 
 pub fits-mod : (n w : ℕ) → n % 2 ^ w < 2 ^ w
 fits-mod n w = mod-lt n (pow-pos w)

@@ -15,7 +15,8 @@ use Rattle.machine.specs.Line.{Effect, goes, jumps, does, branch, jump}
 use Rattle.machine.specs.Run.{State, state, Outcome, running, returned, failed, found, follow, stepAt, step, steps}
 use Rattle.agreement.specs.Setup.{Setup}
 use Rattle.agreement.specs.Lists.{drop-tail, drop-part}
-use Rattle.agreement.specs.Unique.{LabelsOnce, found-there}
+use Rattle.agreement.specs.Unique.{found-there}
+use Rattle.agreement.specs.Naming.{LabelsOnce}
 
 module _ (s : Setup) where
   abbrev pub stepOf : State → Outcome

@@ -19,12 +19,7 @@ use Rattle.manual.specs.State.{Cell, Env, Source, setEnv, setWorld, setStack, w
 use Rattle.agreement.specs.Lists.{cell-lt, cell-set-same, cell-set-other}
 use Rattle.agreement.specs.Setup.{Setup, ctx}
 use Rattle.agreement.specs.Slots.{owners, slots-owned, Owned}
-
--- "A local is a parameter first": its argument cell, or its slot
-unfoldable pub readAt : (arg slot : Option ℕ) → (args slots : List ℕ) → Option ℕ
-readAt (some i) j as′ ss = cellAt as′ i
-readAt none (some i) as′ ss = cellAt ss i
-readAt none none as′ ss = none
+use Rattle.agreement.specs.Where.{readAt}
 
 module _ (s : Setup) where
   abbrev pub argOf : ℕ → Option ℕ

@@ -15,7 +15,8 @@ use Rattle.machine.specs.State.{cellAt}
 use Rattle.lowering.specs.Context.{lookup, Slots, callSlots, slotsFor, slotStep, slotMap, noSlots}
 use Rattle.lowering.specs.Places.{lookup-here, lookup-there, lookup-cons}
 use Rattle.agreement.specs.Lists.{some-same, none-some, cell-left, cell-right, In, here, there}
-use Rattle.agreement.specs.Names.{optional, resultNames, Distinct, Stands, stands-left, stands-right, stands-own, apart, distinct-right}
+use Rattle.agreement.specs.Names.{Stands, stands-left, stands-right, stands-own, apart, distinct-right}
+use Rattle.agreement.specs.Naming.{optional, resultNames, Distinct}
 
 module _ (names : List (List ℕ)) where
   one-or-two : (b : Bool) → 1 ≤ cond b 2 1

@@ -28,10 +28,11 @@ use Rattle.agreement.specs.Gives.{Gives, G-line, G-put, G-then, G-when, 
 use Rattle.agreement.specs.Lists.{cell-set-same, cell-right}
 use Rattle.agreement.specs.Setup.{Setup, ctx}
 use Rattle.agreement.specs.Reach.{Runs, runs-nil, run-line, seq, _⊳_}
-use Rattle.agreement.specs.Relation.{readAt, Held, Stack, Rel}
+use Rattle.agreement.specs.Relation.{Held, Stack, Rel}
 use Rattle.agreement.specs.Operand.{fits-mod}
 use Rattle.agreement.specs.Alloca.{add-does}
 use Rattle.agreement.specs.Holds.{ok-same}
+use Rattle.agreement.specs.Where.{readAt}
 
 -- ---- parameters: a readable one's argument cell holds its value
 abbrev ParamsHeld : (args : List ℕ) → Map ℕ → Env → Type 0

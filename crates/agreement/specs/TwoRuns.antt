@@ -1,14 +1,14 @@
 -- Demand 3, "The two runs": one claim about the whole run of a function that the translator accepts.
-use Prim.Native.Nat.{ℕ, _*_, _^_, _<_}
-use mathlib.Core.Path.{_≡_, sym, ap, _∙_, subst}
+use Prim.Native.Nat.{ℕ, _*_, _^_, _<_, min}
+use mathlib.Core.Path.{_≡_, refl, sym, ap, _∙_, subst}
 use mathlib.Core.Bool.{Bool, true, false, not, _&&_}
 use mathlib.Core.Option.{Option, none, some}
-use mathlib.Core.List.{List, [], _∷_, _++_, append-assoc}
+use mathlib.Core.List.{List, [], _∷_, _++_, map, append-assoc}
 use native.Mathlib.Nat.{zero-add}
 use lib.ListN.{length, take, drop}
 use lib.Dec.{eqb, leb}
 use Rattle.book.specs.Ast.{BasicBlock, Book}
-use Rattle.book.specs.Result.{Result, ok, bind, okOr, given, require, bind-ok, given-ok}
+use Rattle.book.specs.Result.{Result, ok, err, bind, okOr, given, require, bind-ok, given-ok}
 use Rattle.book.specs.Rule.{pick}
 use Rattle.book.specs.Entry.{entries}
 use Rattle.book.specs.Decode.{decode}
@@ -19,11 +19,16 @@ use Rattle.book.specs.Shape.{allInsts}
 use Rattle.book.specs.Limits.{Each, BlockLimits, Limits}
 use Rattle.book.specs.Check.{Sound, workFor, checked}
 use Rattle.assembly.specs.Line.{Line}
+use Rattle.assembly.specs.Number.{kindOf, operandOf}
+use Rattle.assembly.specs.Printer.{linesOf}
+use Rattle.assembly.specs.Lists.{lines-of-numbers}
 use Rattle.machine.specs.Memory.{Memory}
 use Rattle.machine.specs.State.{World}
 use Rattle.machine.specs.Run.{state, start}
 use Rattle.lowering.specs.Gen.{Out, _>>=_}
-use Rattle.lowering.specs.Translate.{generated}
+use Rattle.lowering.specs.Translate.{generated, Translation, over, replied, translate}
+use Rattle.lowering.specs.AllowedFunction.{function-allows}
+use Rattle.lowering.specs.Printable.{checked-lent, take-over}
 use Rattle.lowering.specs.Context.{codegenOf}
 use Rattle.lowering.specs.Frame.{Frame as Places, framePass, noFrame}
 use Rattle.lowering.specs.Function.{contextOf, genFunction}
@@ -33,16 +38,16 @@ use Rattle.manual.specs.Run.{argsFit, firstBlock, begin, run, sourceRun}
 use Rattle.agreement.specs.Holds.{ok-same, Holds, H-ok, H-bind, H-eq, H-known, H-map, H-use}
 use Rattle.agreement.specs.Gives.{G-use}
 use Rattle.agreement.specs.Lists.{some-same, none-some, drop-part, In}
-use Rattle.agreement.specs.Names.{Distinct}
 use Rattle.agreement.specs.Setup.{Setup, given as givenTo}
 use Rattle.agreement.specs.Relation.{Held}
 use Rattle.agreement.specs.Operand.{okOr-some}
-use Rattle.agreement.specs.Statement.{Naming, SameValue, AtLabel, Agrees}
+use Rattle.agreement.specs.Statement.{SameValue, AtLabel, Agrees}
 use Rattle.agreement.specs.Flow.{Arrives, Goes}
 use Rattle.agreement.specs.Labels.{labelsOf}
 use Rattle.agreement.specs.Block.{labels-distinct, Split, split-ok, blocks-run}
 use Rattle.agreement.specs.Start.{atStart, atBlock, atEntry, Begins, begins-ok, first-ok, rel-start}
 use Rattle.agreement.specs.Book.{apart-ok, good-inst, good-term, each-in}
+use Rattle.agreement.specs.Naming.{Distinct, Naming}
 
 -- ---- the run of one function, with its frame
 module _ (s : Setup) (m : ℕ) (limits : Each (BlockLimits m) (s .function .blocks)) (naming : Naming (s .codegen .names) (s .function) (s .lines))
@@ -133,9 +138,9 @@ module _ (b : Sound) (out : Out) (counter m : ℕ) (limits : Limits m (b .book))
     same-calls = a .rel .calls-eq;
   }
     where
-      same : (x : ℕ) (c : Cell) → Held (setup fr) (a .frame) x c → SameValue (b .names) (b .book) (out .lines) world args memory sp (a .frame) x c
-      same x (Cell.one w v) h = h .cell
-      same x (Cell.two w v t) h = (h .base, h .slot-eq, h .cell₀, h .cell₁)
+      same : (x : ℕ) (c : Cell) → Held (setup fr) (a .frame) x c → SameValue (b .names) (b .book) (a .frame) x c
+      same x (Cell.one w v) h = (h .cell, h .fits)
+      same x (Cell.two w v t) h = (h .base, h .slot-eq, h .cell₀, h .cell₁, h .fits₀, h .fits₁)
 
   agrees : (fr : Places) (n : ℕ) (t : Stand) → Goes (setup fr) (start args memory sp) n t → Agrees (b .names) (b .book) (out .lines) world args memory sp n t
   unfolding codegenOf
@@ -148,18 +153,57 @@ module _ (b : Sound) (out : Out) (counter m : ℕ) (limits : Limits m (b .book))
       let (fr, pass, made) = bind-ok (framePass (b .book .structs) (allInsts (b .book .function .blocks)) noFrame) _ out makes in
       H-known _ pass (H-map (whole-run (setup fr) m (limits .function .1 .1 .1) naming pass (H-use out made (begins-ok (setup fr) .made counter)) word memory fits n) λ t g. agrees fr n t g)
 
--- For every book that the translator accepts, under the naming conditions, for all arguments that fit their widths, every memory, stack pointer, global addresses,
--- syscall shapes and replies, and for every n: where the source run comes with n blocks, the lines come with the same values.
-pub two-runs : (book names : List ℕ) (counter workLen room : ℕ) (b : Sound) (out : Out) → checked book names counter workLen ≡ ok b → generated book names counter workLen room ≡ ok out
-    → Naming (b .names) (b .book .function) (out .lines)
-    → (world : World) (args : List ℕ) (memory : Memory) (sp : ℕ) → argsFit (b .book .function .params) args ≡ true → sp < 2 ^ 64
-    → (n : ℕ) (t : Stand) → sourceRun (b .names) (b .book) world args memory sp n ≡ ok t → Agrees (b .names) (b .book) (out .lines) world args memory sp n t
+-- what `generated` has made, of the sound book
+made-by : (book names : List ℕ) (counter workLen room : ℕ) (b : Sound) (out : Out) → checked book names counter workLen ≡ ok b → generated book names counter workLen room ≡ ok out
+    → genFunction (codegenOf (b .names) (b .book)) (b .book .function) counter ≡ ok out
 unfolding generated
-two-runs book names counter workLen room b out checks makes naming world args memory sp fits word n t h =
-    let (m, limits) = sound-limits book names counter workLen b checks in
+made-by book names counter workLen room b out checks makes =
     let (b′, hb, h₁) = bind-ok (checked book names counter workLen) _ out makes in
     let (out′, ho, h₂) = bind-ok (genFunction (codegenOf (b′ .names) (b′ .book)) (b′ .book .function) counter) _ out h₁ in
     let same : b′ ≡ b = ok-same (sym hb ∙ checks) in
     let made : out′ ≡ out = given-ok (leb (length (out′ .lines)) room) 20 out′ out h₂ .1 in
-    let gen : genFunction (codegenOf (b .names) (b .book)) (b .book .function) counter ≡ ok out = subst (λ (z : Sound). genFunction (codegenOf (z .names) (z .book)) (z .book .function) counter ≡ ok out) same (ho ∙ ap {B = Result Out} ok made) in
-    H-use t h (book-runs b out counter m limits gen naming world args memory sp fits word n)
+    subst (λ (z : Sound). genFunction (codegenOf (z .names) (z .book)) (z .book .function) counter ≡ ok out) same (ho ∙ ap {B = Result Out} ok made)
+
+-- For every book that the translator accepts, under the naming conditions, for all arguments that fit their widths, every memory, stack pointer, global addresses,
+-- syscall shapes and replies, and for every n: where the source run comes with n blocks, the lines come with the same values. (A reply that does not fit its
+-- call's width breaks document 01's premise; the source run then comes nowhere.)
+pub two-runs : (book names : List ℕ) (counter workLen room : ℕ) (b : Sound) (out : Out) → checked book names counter workLen ≡ ok b → generated book names counter workLen room ≡ ok out
+    → Naming (b .names) (b .book .function) (out .lines)
+    → (world : World) (args : List ℕ) (memory : Memory) (sp : ℕ) → argsFit (b .book .function .params) args ≡ true → sp < 2 ^ 64
+    → (n : ℕ) (t : Stand) → sourceRun (b .names) (b .book) world args memory sp n ≡ ok t → Agrees (b .names) (b .book) (out .lines) world args memory sp n t
+two-runs book names counter workLen room b out checks makes naming world args memory sp fits word n t h =
+    let (m, limits) = sound-limits book names counter workLen b checks in
+    H-use t h (book-runs b out counter m limits (made-by book names counter workLen room b out checks makes) naming world args memory sp fits word n)
+
+-- ---- the same of a call of the translator: the lines are those that its two line slices hold afterwards
+count-of : Translation → Option ℕ
+count-of (Translation.accepted n next) = some n
+count-of (Translation.refused e) = none
+
+pub lent-runs : (book names : List ℕ) (counter : ℕ) (work kinds operands : List ℕ) → let call = translate book names counter work kinds operands in
+    (lines next : ℕ) → call .reply ≡ Translation.accepted lines next
+    → (b : Sound) → checked book names counter (length work) ≡ ok b
+    → (prog : List Line) → linesOf (b .names) (b .book) (take lines (call .kinds)) (take lines (call .operands)) ≡ some prog
+    → Naming (b .names) (b .book .function) prog
+    → (world : World) (args : List ℕ) (memory : Memory) (sp : ℕ) → argsFit (b .book .function .params) args ≡ true → sp < 2 ^ 64
+    → (n : ℕ) (t : Stand) → sourceRun (b .names) (b .book) world args memory sp n ≡ ok t → Agrees (b .names) (b .book) prog world args memory sp n t
+unfolding translate replied count-of
+lent-runs book names counter work kinds operands lines next reply b checks prog read naming world args memory sp fits word n t h = go (generated book names counter (length work) room) refl reply read
+  where
+    room : ℕ
+    room = min (length kinds) (length operands)
+
+    go : (r : Result Out) → generated book names counter (length work) room ≡ r → replied r work kinds operands .reply ≡ Translation.accepted lines next
+        → linesOf (b .names) (b .book) (take lines (replied r work kinds operands .kinds)) (take lines (replied r work kinds operands .operands)) ≡ some prog
+        → Agrees (b .names) (b .book) prog world args memory sp n t
+    go (err e) makes k i = none-some lines (ap count-of k)
+    go (ok out) makes k i =
+        let gen = made-by book names counter (length work) room b out checks makes in
+        let l = checked-lent book names counter (length work) b checks in
+        let many : length (out .lines) ≡ lines = some-same (ap count-of k) in
+        let allowed = function-allows (b .names) (b .book) (l .limits) .allows counter out gen in
+        let back : linesOf (b .names) (b .book) (take lines (over (map kindOf (out .lines)) kinds)) (take lines (over (map operandOf (out .lines)) operands)) ≡ some (out .lines) =
+        rw (← many, take-over kindOf (out .lines) kinds, take-over operandOf (out .lines) operands) (lines-of-numbers (b .names) (b .book) (out .lines) allowed) in
+        let same : out .lines ≡ prog = some-same (sym back ∙ i) in
+        subst (λ (p : List Line). Agrees (b .names) (b .book) p world args memory sp n t) same
+        (two-runs book names counter (length work) room b out checks makes (subst (λ (p : List Line). Naming (b .names) (b .book .function) p) (sym same) naming) world args memory sp fits word n t h)

@@ -9,13 +9,9 @@ use Rattle.names.specs.Texts.{same-iff}
 use Rattle.assembly.specs.Line.{Line}
 use Rattle.machine.specs.Labels.{moved, prints, labelOf, find}
 use Rattle.agreement.specs.Lists.{none-some}
+use Rattle.agreement.specs.Naming.{LabelsOnce}
 
 module _ (names : List (List ℕ)) (f : ℕ) where
-  -- two lines that print one label are one line
-  unfoldable pub LabelsOnce : List Line → Type 0
-  LabelsOnce prog =
-      (p q : ℕ) (l k : Line) (j i : List Line) (t : List ℕ) → drop p prog ≡ l ∷ j → drop q prog ≡ k ∷ i → labelOf names f l ≡ some t → labelOf names f k ≡ some t → p ≡ q
-
   prints-some : (t : List ℕ) (u : Option (List ℕ)) → prints t u ≡ true → u ≡ some t
   unfolding prints
   prints-some t none e = absurd (false≢true e)
@@ -57,7 +53,7 @@ module _ (names : List (List ℕ)) (f : ℕ) where
           record { place = suc (r .place); line = r .line; rest = r .rest; finds = rw (b, r .finds) refl; stands = r .stands; prints-it = r .prints-it }
 
   -- the one line with a label is found
-  pub found-there : (prog : List Line) → LabelsOnce prog → (t : List ℕ) (p : ℕ) (l : Line) (k : List Line) → drop p prog ≡ l ∷ k → labelOf names f l ≡ some t → find names f t prog ≡ some p
+  pub found-there : (prog : List Line) → LabelsOnce names f prog → (t : List ℕ) (p : ℕ) (l : Line) (k : List Line) → drop p prog ≡ l ∷ k → labelOf names f l ≡ some t → find names f t prog ≡ some p
   unfolding LabelsOnce
   found-there prog u t p l k e h =
       let r = found t prog p l k e h in

@@ -83,7 +83,7 @@ generated-allowed book names counter work room o h =
     subst (λ (q : Out). Accepted book names counter q × (length (q .lines) ≤ room)) (d .1) (record { sound = a .0; lent = l; allowed = f; labels = k }, leb-true _ _ (d .0))
 
 -- ---- the printer
-take-over : (f : Line → ℕ) (ls : List Line) (slice : List ℕ) → take (length ls) (over (map f ls) slice) ≡ map f ls
+pub take-over : (f : Line → ℕ) (ls : List Line) (slice : List ℕ) → take (length ls) (over (map f ls) slice) ≡ map f ls
 unfolding over
 take-over f ls slice = go ls (drop (length (map f ls)) slice)
   where
