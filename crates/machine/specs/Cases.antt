@@ -2,7 +2,7 @@
 use Prim.Native.Nat.{ℕ, _+_, _-_, _^_}
 use mathlib.Core.Path.{_≡_, refl}
 use mathlib.Core.Bool.{true, false, cond}
-use mathlib.Core.Option.{Option, none, some}
+use mathlib.Core.Option.{none, some}
 use mathlib.Core.List.{List, [], _∷_, map}
 use lib.Dec.{eqb}
 use Rattle.names.specs.Text.{bytes, same}
@@ -19,10 +19,14 @@ pub record Summary : Type 0 where
   pub calls : List Call
   pub bytes : ℕ
 
--- its lines, and its summary, or none where it fails
+-- it returns, fails, or is still running
+pub data End : Type 0 where
+  returns : Summary → End
+  fails goesOn : End
+
 pub record Program : Type 0 where
   pub lines : List Line
-  pub says : Option Summary
+  pub says : End
 
 -- name 0 is the function, name 1 a block of it, name 2 a function, names 3 and 4 syscalls: one of two arguments with a reply, one of one without
 names : List (List ℕ)
@@ -41,30 +45,30 @@ world = record {
   replies = λ n. record { cell = n + 40; memory = holding 4096 (n + 50) };
 }
 
-ended : Outcome → Option Summary
-ended (running x) = none
-ended (returned v e) = some (record { value = v; calls = e .calls; bytes = peek 8 (e .memory) 4096 })
-ended failed = none
+ended : Outcome → End
+ended (running x) = End.goesOn
+ended (returned v e) = End.returns (record { value = v; calls = e .calls; bytes = peek 8 (e .memory) 4096 })
+ended failed = End.fails
 
 -- 24 steps from the first line, with the arguments 11 and 12, the byte 7 at address 4096 and the stack pointer 1000
-unfoldable pub runs : Program → Option Summary
+unfoldable pub runs : Program → End
 unfolding names world holding ended
 runs p = ended (steps names 0 world (p .lines) 24 (running (start (11 ∷ 12 ∷ []) (holding 4096 7) 1000)))
 
-abbrev pub expected : Program → Option Summary
+abbrev pub expected : Program → End
 expected p = p .says
 
 -- ---- short ways to write a program
-fails : List Line → Program
-fails ls = record { lines = ls; says = none }
+failing : List Line → Program
+failing ls = record { lines = ls; says = End.fails }
 
 -- a value, no call, memory as it was
 gives : ℕ → List Line → Program
-gives v ls = record { lines = ls; says = some (record { value = v; calls = []; bytes = 7 }) }
+gives v ls = record { lines = ls; says = End.returns (record { value = v; calls = []; bytes = 7 }) }
 
 -- a value, and what stands at address 4096
 stores : (value bytes : ℕ) → List Line → Program
-stores v n ls = record { lines = ls; says = some (record { value = v; calls = []; bytes = n }) }
+stores v n ls = record { lines = ls; says = End.returns (record { value = v; calls = []; bytes = n }) }
 
 -- two cells pushed, a line, the end
 two : (a b : ℕ) → Line → List Line
@@ -82,7 +86,7 @@ asked : Target → List ℕ → Call
 asked t xs = record { target = t; args = xs }
 
 unfoldable pub programs : List Program
-unfolding fails gives stores two one either asked
+unfolding failing gives stores two one either asked
 programs =
     -- "operations pop what the Rust pushed": the right side was pushed last
     gives (2 ^ 64 - 7) (two 3 10 (Line.bin BinOp.sub Work.w64)) ∷
@@ -99,18 +103,18 @@ programs =
     gives 1 (two (2 ^ 32 - 1) 1 (Line.icmp ICmpPred.slt Work.w32)) ∷
     gives 0 (two (2 ^ 32 - 1) 1 (Line.icmp ICmpPred.ult Work.w32)) ∷
     -- "A zero divisor, an overflowing signed division or remainder, a shift by the width or more, `panic` or anything missing fails"
-    fails (two 3 (2 ^ 32) (Line.bin BinOp.udiv Work.w32)) ∷
-    fails (two (2 ^ 31) (2 ^ 32 - 1) (Line.bin BinOp.sdiv Work.w32)) ∷
-    fails (two (2 ^ 63) (2 ^ 64 - 1) (Line.bin BinOp.srem Work.w64)) ∷
-    fails (two 1 32 (Line.bin BinOp.lshr Work.w32)) ∷
+    failing (two 3 (2 ^ 32) (Line.bin BinOp.udiv Work.w32)) ∷
+    failing (two (2 ^ 31) (2 ^ 32 - 1) (Line.bin BinOp.sdiv Work.w32)) ∷
+    failing (two (2 ^ 63) (2 ^ 64 - 1) (Line.bin BinOp.srem Work.w64)) ∷
+    failing (two 1 32 (Line.bin BinOp.lshr Work.w32)) ∷
     gives 1 (two (2 ^ 32) 32 (Line.bin BinOp.lshr Work.w64)) ∷
-    fails (Line.push 1 ∷ Line.panic ∷ Line.ret ∷ []) ∷
-    fails (Line.ret ∷ []) ∷
-    fails (Line.push 1 ∷ []) ∷
-    fails (Line.push 1 ∷ Line.bin BinOp.add Work.w64 ∷ Line.ret ∷ []) ∷
-    fails (Line.getArg 2 ∷ Line.ret ∷ []) ∷
-    fails (Line.push0n 1 ∷ Line.getLocal 1 ∷ Line.ret ∷ []) ∷
-    fails (Line.jmpBlock 1 ∷ []) ∷
+    failing (Line.push 1 ∷ Line.panic ∷ Line.ret ∷ []) ∷
+    failing (Line.ret ∷ []) ∷
+    failing (Line.push 1 ∷ []) ∷
+    failing (Line.push 1 ∷ Line.bin BinOp.add Work.w64 ∷ Line.ret ∷ []) ∷
+    failing (Line.getArg 2 ∷ Line.ret ∷ []) ∷
+    failing (Line.push0n 1 ∷ Line.getLocal 1 ∷ Line.ret ∷ []) ∷
+    failing (Line.jmpBlock 1 ∷ []) ∷
     -- widths
     gives 255 (one 511 (Line.trunc Narrow.n8)) ∷
     gives (2 ^ 32 - 56) (one 456 (Line.sx8 Work.w32)) ∷
@@ -140,19 +144,21 @@ programs =
     -- "A call pops its arguments and any address called, is listed, takes its reply's memory and pushes its cell"
     record {
       lines = Line.push 1 ∷ Line.push 2 ∷ Line.call 2 2 ∷ Line.push 3 ∷ Line.push 600 ∷ Line.callFp 2 ∷ Line.ret ∷ [];
-      says = some (record { value = 41; calls = asked (Target.address 600) (40 ∷ 3 ∷ []) ∷ asked (Target.function 2) (1 ∷ 2 ∷ []) ∷ []; bytes = 51 });
+      says = End.returns (record { value = 41; calls = asked (Target.address 600) (40 ∷ 3 ∷ []) ∷ asked (Target.function 2) (1 ∷ 2 ∷ []) ∷ []; bytes = 51 });
     } ∷
     -- "Syscall names have a fixed argument count and a reply or none: one without takes the memory of its position all the same and pushes no cell"
     record {
       lines = Line.push 1 ∷ Line.push 2 ∷ Line.push 3 ∷ Line.syscall 4 ∷ Line.syscall 3 ∷ Line.ret ∷ [];
-      says = some (record { value = 41; calls = asked (Target.syscall (bytes "ask")) (1 ∷ 2 ∷ []) ∷ asked (Target.syscall (bytes "put")) (3 ∷ []) ∷ []; bytes = 51 });
+      says = End.returns (record { value = 41; calls = asked (Target.syscall (bytes "ask")) (1 ∷ 2 ∷ []) ∷ asked (Target.syscall (bytes "put")) (3 ∷ []) ∷ []; bytes = 51 });
     } ∷
     -- "memcmp has 3 and a reply"
     record {
       lines = Line.push 1 ∷ Line.push 2 ∷ Line.push 3 ∷ Line.sysMemcmp ∷ Line.ret ∷ [];
-      says = some (record { value = 40; calls = asked (Target.syscall (bytes "memcmp")) (1 ∷ 2 ∷ 3 ∷ []) ∷ []; bytes = 50 });
+      says = End.returns (record { value = 40; calls = asked (Target.syscall (bytes "memcmp")) (1 ∷ 2 ∷ 3 ∷ []) ∷ []; bytes = 50 });
     } ∷
-    fails (Line.push 1 ∷ Line.push 2 ∷ Line.sysMemcmp ∷ Line.ret ∷ []) ∷
+    failing (Line.push 1 ∷ Line.push 2 ∷ Line.sysMemcmp ∷ Line.ret ∷ []) ∷
+    -- a block that jumps to itself
+    record { lines = Line.blockLabel 1 ∷ Line.jmpBlock 1 ∷ []; says = End.goesOn } ∷
     []
 
 pub programs-hold : map runs programs ≡ map expected programs

@@ -49,13 +49,14 @@ unfoldable pub fitting : Bool → Source → Result Source
 fitting true σ = ok σ
 fitting false σ = unfit
 
--- "replies .. fit their widths"; a void call sets no name
+-- "replies .. fit their widths". "'call' Instruction": a void call has no value, so one with a name is ill-formed
 unfoldable pub receive : (result : Option ℕ) → (dest : Option ℕ) → (cell : ℕ) → Source → Result Source
 receive none none cell σ = ok σ
 receive none (some x) cell σ = stops Stop.illFormed
 receive (some w) dest cell σ = fitting (ltb cell (2 ^ w)) (put dest w cell σ)
 
 module _ (g : Given) where
+  -- "the callee .. is a pointer": a global, or a local's address; other constants are ill-formed as callees
   unfoldable pub targetOf : Env → Value → Result Target
   targetOf ρ (Value.global x) = ok (listedAs (nameAt (g .names) x) x)
   targetOf ρ (Value.local x) = do

@@ -161,13 +161,13 @@ switch-holds = refl
 abbrev pub triple : Ty
 triple = Ty.struct false (Tys.cons (Ty.int 8) (Tys.cons (Ty.int 32) (Tys.cons (Ty.int 8) Tys.nil)))
 
-abbrev pub i64 : ℕ → TypedVal
-i64 n = record { ty = Ty.int 64; val = Value.int n }
+abbrev pub i32 : ℕ → TypedVal
+i32 n = record { ty = Ty.int 32; val = Value.int n }
 
 -- %0 of 8 bits, 250, is -6; constant indices; a field that is not constant; an index outside its type's signed range
 pub gep-holds :
     map (λ (is : List TypedVal). offset world [] (with 0 (Cell.one 8 250) nothing) triple is)
-    ((i64 1 ∷ i64 2 ∷ []) ∷ (i64 (2 ^ 64 - 1) ∷ i64 0 ∷ []) ∷ (record { ty = Ty.int 8; val = Value.local 0 } ∷ i64 1 ∷ []) ∷ (i64 0 ∷ record { ty = Ty.int 8; val = Value.local 0 } ∷ []) ∷ (record { ty = Ty.int 8; val = Value.int 128 } ∷ []) ∷ [])
+    ((i32 1 ∷ i32 2 ∷ []) ∷ (i32 (2 ^ 64 - 1) ∷ i32 0 ∷ []) ∷ (record { ty = Ty.int 8; val = Value.local 0 } ∷ i32 1 ∷ []) ∷ (i32 0 ∷ record { ty = Ty.int 8; val = Value.local 0 } ∷ []) ∷ (record { ty = Ty.int 8; val = Value.int 128 } ∷ []) ∷ [])
     ≡ ok 20 ∷ ok (2 ^ 64 - 12) ∷ ok (2 ^ 64 - 68) ∷ stops Stop.illFormed ∷ stops Stop.indexRange ∷ []
 unfolding openManual
 gep-holds = refl

@@ -35,7 +35,7 @@ module _ (world : World) (structs : List StructType) (ρ : Env) where
     n ← index i
     ok (n * size % 2 ^ 64)
 
-  -- "when indexing into a (optionally packed) structure, only .. integer constants are allowed"
+  -- "When indexing into a (optionally packed) structure, only i32 integer constants are allowed": here those of any width, and within the fields
   unfoldable pub overFields : StructBody → TypedVal → Result (ℕ × Ty)
   overFields body i = do
     n ← index i

@@ -19,7 +19,7 @@ use Rattle.manual.specs.Operand.{widthOf, integerWidth, value, typed}
 use Rattle.manual.specs.Gep.{offset}
 use Rattle.manual.specs.Call.{runCall}
 
--- the parts of a cmpxchg's result
+-- the parts of a cmpxchg's result. "'extractvalue' Instruction": the operand is "of struct or array type", and "all indices must be in bounds"
 unfoldable pub part : (index : ℕ) → Cell → Result Cell
 part k (Cell.one w n) = stops Stop.illFormed
 part zero (Cell.two w a b) = ok (Cell.one w a)
@@ -165,7 +165,8 @@ module _ (g : Given) where
     a ← evalGep σ ty p is
     ok (put dest 64 a σ)
   runKind dest (InstKind.call ty callee args) σ = runCall g dest ty callee args σ
-  -- "A phi after another instruction is ill-formed": the leading ones are taken on the edge
+  -- "There must be no non-phi instructions between the start of a basic block and the PHI instructions": the leading ones are taken on the edge, and one that
+  -- is met here is ill-formed
   runKind dest (InstKind.phi ty incoming) σ = stops Stop.illFormed
   -- undef and poison are 0 as operands, so what is frozen is what is read
   runKind dest (InstKind.freeze ty v) σ = do

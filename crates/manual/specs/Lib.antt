@@ -10,3 +10,4 @@ pub mod Term
 pub mod Run
 pub mod Open
 pub mod Cases
+pub mod Functions

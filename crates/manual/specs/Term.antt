@@ -50,7 +50,7 @@ unfoldable pub body : List Inst → List Inst
 body [] = []
 body (i ∷ is) = let rest = body is in bodyStep (shape (i .kind)) (i ∷ is) rest
 
--- the value for the predecessor that the run comes from: "There must be .. one pair for each predecessor"
+-- the value for the predecessor that the run comes from: "'phi' Instruction", "with one pair for each predecessor basic block"; without one it is ill-formed
 unfoldable pub incomingFor : (pred : ℕ) → List Incoming → Result Value
 incomingFor p [] = stops Stop.illFormed
 incomingFor p (i ∷ is) = cond (eqb (i .label) p) (ok (i .val)) (incomingFor p is)

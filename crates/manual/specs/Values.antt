@@ -11,7 +11,7 @@ use Rattle.manual.specs.Stop.{Stop, need}
 
 -- "Binary Operations", "Bitwise Binary Operations"
 unfoldable pub binValue : BinOp → (w : ℕ) → (x y : ℕ) → Result ℕ
--- "If the result has unsigned overflow, the result returned is the mathematical result modulo 2^n"
+-- "the result returned is the mathematical result modulo 2^n, where n is the bit width of the result"
 binValue BinOp.add w x y = ok ((x + y) % 2 ^ w)
 binValue BinOp.sub w x y = ok ((x + 2 ^ w - y) % 2 ^ w)
 binValue BinOp.mul w x y = ok (x * y % 2 ^ w)
@@ -68,10 +68,10 @@ unfoldable pub convValue : ConvOp → (fw tw : ℕ) → ℕ → ℕ
 convValue ConvOp.trunc fw tw x = x % 2 ^ tw
 convValue ConvOp.zext fw tw x = x
 convValue ConvOp.sext fw tw x = unsigned tw (signed fw x)
--- "by either zero extending or truncating that value to the size of the integer type"
+-- "either truncating or zero extending that value to the size of the integer type"
 convValue ConvOp.ptrToInt fw tw x = x % 2 ^ tw
 convValue ConvOp.intToPtr fw tw x = x % 2 ^ tw
--- "No bits are changed"
+-- "no bits change with this conversion"
 convValue ConvOp.bitCast fw tw x = x
 
 -- the widths that a conversion may have: "The bit size of the value must be larger than the bit size of the destination type", smaller for the extensions;
