@@ -2,7 +2,7 @@
 use Prim.Native.Nat.{ℕ, zero, suc, _+_, _^_, _<_}
 use mathlib.Core.Path.{_≡_, refl, sym, ap, _∙_, subst}
 use mathlib.Core.Bool.{Bool, true, false, cond}
-use mathlib.Core.Option.{Option, some}
+use mathlib.Core.Option.{Option, none, some}
 use mathlib.Core.List.{List, [], _∷_, _++_}
 use native.Mathlib.Omega.{arith}
 use native.Mathlib.Nat.{mod-eq-of-lt, add-zero}
@@ -11,7 +11,7 @@ use lib.Dec.{eqb, ltb}
 use lib.ListN.{length, set}
 use borrow.Author.Tests.{eqb-true, lt-ltb}
 use Rattle.book.specs.Ast.{Ty, Value, ICmpPred}
-use Rattle.book.specs.Result.{Result, ok, bind}
+use Rattle.book.specs.Result.{Result, ok, bind, okOr}
 use Rattle.layout.specs.Layout.{sizeOf}
 use Rattle.assembly.specs.Line.{Line, Work}
 use Rattle.machine.specs.Memory.{Memory, peek, poke}
@@ -21,7 +21,7 @@ use Rattle.machine.specs.Line.{does, swapped}
 use Rattle.lowering.specs.Gen.{_>>_}
 use Rattle.lowering.specs.Operand.{intWidth}
 use Rattle.lowering.specs.Memory.{requireAtomicWidth, genCmpxchg, aggSlot, genExtractValue}
-use Rattle.manual.specs.Stop.{Stop, stops}
+use Rattle.manual.specs.Stop.{Stop, stopNumber}
 use Rattle.manual.specs.State.{Cell, Env, Source, setEnv, setWorld, without, assign}
 use Rattle.manual.specs.Operand.{scalar, value}
 use Rattle.manual.specs.Inst.{part, runCmpxchg, runExtract}
@@ -42,7 +42,7 @@ module _ (s : Setup) where
   unfolding value without
   value-without world ρ x w (Value.local y) h = go (eqb y x) refl
     where
-      go : (t : Bool) → eqb y x ≡ t → bind (cond t (stops Stop.unset) (ρ y)) (λ c. scalar w c) ≡ bind (ρ y) (λ c. scalar w c)
+      go : (t : Bool) → eqb y x ≡ t → bind (okOr (stopNumber Stop.unset) (cond t none (ρ y))) (λ c. scalar w c) ≡ bind (okOr (stopNumber Stop.unset) (ρ y)) (λ c. scalar w c)
       go true t = absurd (h (ap Value.local (eqb-true y x t)))
       go false t = refl
   value-without world ρ x w (Value.int v) h = refl
@@ -111,7 +111,7 @@ module _ (s : Setup) where
   extract-local : Apart s → (dest : Option ℕ) (a k i : ℕ) → slotOfName s a ≡ some i → ltb 1 k ≡ false → (B : List Line) → DestOk s dest B
       → StepOk s (runExtract (given s) dest (Value.local a) k) (Line.getLocal (i + k) ∷ B)
   unfolding runExtract does
-  extract-local ap′ dest a k i h t B d σ e o r = H-eq (σ .env a) _ λ c hc. H-bind _ (part-ok k i a c e t h (r .held a c hc)) λ m (w, n, em, en, lt).
+  extract-local ap′ dest a k i h t B d σ e o r = H-eq (okOr _ (σ .env a)) _ λ c hc. H-bind _ (part-ok k i a c e t h (r .held a c (okOr-some _ (σ .env a) c hc))) λ m (w, n, em, en, lt).
       rw em (H-ok _ (then-ends s {L = Line.getLocal (i + k) ∷ []} (run-line s {e′ = e} {o′ = n ∷ o} (rw en refl)) (d σ e r w n o lt)))
 
   agg-ok : Apart s → (dest : Option ℕ) (v : Value) (k i : ℕ) → aggSlot (ctx s) v ≡ some i → ltb 1 k ≡ false → (B : List Line) → DestOk s dest B

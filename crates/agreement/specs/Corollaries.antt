@@ -125,9 +125,9 @@ module _ (book names : List ℕ) (counter workLen room : ℕ) (b : Sound) (out :
       -- this is one moment of the run
       × ((k′ : ℕ) → Stands (b .names) (b .book .function .name) world (out .lines) (machine k′) n → k′ ≡ k)
       -- "Each named value, unsigned, is compared with its argument cell or slot"
-      × ((x w v : ℕ) → σ .env x ≡ ok (Cell.one w v) → (readAt (argCell (b .book) x) (firstSlot (b .names) (b .book) x) (e .args) (e .slots) ≡ some v) × (v < 2 ^ w))
+      × ((x w v : ℕ) → σ .env x ≡ some (Cell.one w v) → (readAt (argCell (b .book) x) (firstSlot (b .names) (b .book) x) (e .args) (e .slots) ≡ some v) × (v < 2 ^ w))
       -- "a cmpxchg's two with both"
-      × ((x w found success : ℕ) → σ .env x ≡ ok (Cell.two w found success) → (i : ℕ) × (firstSlot (b .names) (b .book) x ≡ some i) × (cellAt (e .slots) i ≡ some found) × (cellAt (e .slots) (suc i) ≡ some success) × (found < 2 ^ w) × (success < 2))
+      × ((x w found success : ℕ) → σ .env x ≡ some (Cell.two w found success) → (i : ℕ) × (firstSlot (b .names) (b .book) x ≡ some i) × (cellAt (e .slots) i ≡ some found) × (cellAt (e .slots) (suc i) ≡ some success) × (found < 2 ^ w) × (success < 2))
       -- the cells of the arguments stay, and memory, stack pointer and listed calls are the same
       × (e .args ≡ args) × (e .memory ≡ σ .memory) × (e .sp ≡ σ .sp) × (e .calls ≡ σ .calls)
   stands-at-block n block σ h =

@@ -92,7 +92,7 @@ module _ (s : Setup) where
   -- `push_value`
   pub value-ok : (w : ℕ) (v : Value) → w ≤ 64 → Gives (pushValue (ctx s) v w) (ValueOk w v)
   unfolding pushValue pushInt value constant does globalAt
-  value-ok w (Value.local x) h = G-bind _ _ λ l hl. G-line l λ σ e r. H-eq (σ .env x) _ λ c hc. scalar-ok w c e x l hl (r .held x c hc)
+  value-ok w (Value.local x) h = G-bind _ _ λ l hl. G-line l λ σ e r. H-eq (okOr _ (σ .env x)) _ λ c hc. scalar-ok w c e x l hl (r .held x c (okOr-some _ (σ .env x) c hc))
   value-ok w (Value.int v) h = G-line _ λ σ e r. H-need (inRange w v) Stop.integerRange _ λ t.
       H-ok _ (record { pushes = λ o. run-line s (rw (mask-low v w h) refl); fits = fits-mod v w })
   value-ok w (Value.zero z) h = G-line _ λ σ e r. H-ok _ (record { pushes = λ o. run-line s refl; fits = pow-pos w })

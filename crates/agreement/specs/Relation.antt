@@ -8,15 +8,14 @@ use native.Mathlib.Omega.{arith}
 use lib.Dec.{eqb}
 use lib.ListN.{length, set, length-set}
 use borrow.Author.Tests.{eqb-true, eqb-false}
-use Rattle.book.specs.Result.{ok, err-no-ok}
+use Rattle.book.specs.Result.{ok}
 use Rattle.book.specs.Shape.{allInsts}
 use Rattle.machine.specs.Memory.{Memory}
 use Rattle.machine.specs.State.{Call, Frame, setSlots, setMemory, setSp, cellAt}
 use Rattle.lowering.specs.Context.{lookup}
 use Rattle.lowering.specs.Function.{framed, slotsOf, totalSlots}
-use Rattle.manual.specs.Stop.{Stop, stops}
 use Rattle.manual.specs.State.{Cell, Env, Source, setEnv, setWorld, setStack, with, without, assign, put}
-use Rattle.agreement.specs.Lists.{cell-lt, cell-set-same, cell-set-other}
+use Rattle.agreement.specs.Lists.{none-some, cell-lt, cell-set-same, cell-set-other}
 use Rattle.agreement.specs.Setup.{Setup, ctx}
 use Rattle.agreement.specs.Slots.{owners, slots-owned, Owned}
 use Rattle.agreement.specs.Where.{readAt}
@@ -66,7 +65,7 @@ module _ (s : Setup) where
     pub memory-eq : e .memory ≡ σ .memory
     pub calls-eq : e .calls ≡ σ .calls
     pub stack : Stack (σ .sp) (e .sp) (e .slots)
-    pub held : (x : ℕ) (c : Cell) → σ .env x ≡ ok c → Held e x c
+    pub held : (x : ℕ) (c : Cell) → σ .env x ≡ some c → Held e x c
 
   -- names of results are no names of parameters
   unfoldable pub Apart : Type 0
@@ -125,11 +124,11 @@ module _ (s : Setup) where
   }
 
   -- one name anew: what the others hold, and what it holds
-  pub held-with : (ρ : Env) (e : Frame) (x : ℕ) (c : Cell) → ((y : ℕ) (d : Cell) → ¬ (y ≡ x) → ρ y ≡ ok d → Held e y d) → Held e x c → (y : ℕ) (d : Cell) → with x c ρ y ≡ ok d → Held e y d
+  pub held-with : (ρ : Env) (e : Frame) (x : ℕ) (c : Cell) → ((y : ℕ) (d : Cell) → ¬ (y ≡ x) → ρ y ≡ some d → Held e y d) → Held e x c → (y : ℕ) (d : Cell) → with x c ρ y ≡ some d → Held e y d
   unfolding with
   held-with ρ e x c k h y d z = go (eqb y x) refl z
     where
-      go : (t : Bool) → eqb y x ≡ t → cond t (ok c) (ρ y) ≡ ok d → Held e y d
+      go : (t : Bool) → eqb y x ≡ t → cond t (some c) (ρ y) ≡ some d → Held e y d
       go true t z = let i : c ≡ d = cc in let j : y ≡ x = eqb-true y x t in rw (j, ← i) h
       go false t z = k y d (eqb-false y x t) z
 
@@ -170,12 +169,12 @@ module _ (s : Setup) where
   }
 
   -- ---- a cmpxchg: its first slot is set, then its second
-  held-without : (ρ : Env) (e : Frame) (x : ℕ) → ((y : ℕ) (d : Cell) → ¬ (y ≡ x) → ρ y ≡ ok d → Held e y d) → (y : ℕ) (d : Cell) → without x ρ y ≡ ok d → Held e y d
+  held-without : (ρ : Env) (e : Frame) (x : ℕ) → ((y : ℕ) (d : Cell) → ¬ (y ≡ x) → ρ y ≡ some d → Held e y d) → (y : ℕ) (d : Cell) → without x ρ y ≡ some d → Held e y d
   unfolding without
   held-without ρ e x k y d z = go (eqb y x) refl z
     where
-      go : (t : Bool) → eqb y x ≡ t → cond t (stops Stop.unset) (ρ y) ≡ ok d → Held e y d
-      go true t z = err-no-ok _ d z
+      go : (t : Bool) → eqb y x ≡ t → cond t none (ρ y) ≡ some d → Held e y d
+      go true t z = none-some d z
       go false t z = k y d (eqb-false y x t) z
 
   pub rel-first : {σ : Source} {e : Frame} (x i n : ℕ) (m m′ : Memory) → m ≡ m′ → Rel σ e → cellAt own i ≡ some x

@@ -20,12 +20,11 @@ use Rattle.lowering.specs.Context.{Map, lookup, insert, paramMap}
 use Rattle.lowering.specs.Places.{lookup-here, lookup-there}
 use Rattle.lowering.specs.Operand.{add64}
 use Rattle.lowering.specs.Function.{genBlock, prologue, genLines, framed, totalSlots}
-use Rattle.manual.specs.Stop.{Stop, stops}
 use Rattle.manual.specs.State.{Cell, Env, Source, nothing, with, without, assign, unassign}
 use Rattle.manual.specs.Operand.{widthOf}
 use Rattle.manual.specs.Run.{valued, paramEnv, fitsIn, argsFit, entered, firstBlock}
 use Rattle.agreement.specs.Gives.{Gives, G-line, G-put, G-then, G-when, G-unless, G-map, Made, G-self}
-use Rattle.agreement.specs.Lists.{cell-set-same, cell-right}
+use Rattle.agreement.specs.Lists.{none-some, cell-set-same, cell-right}
 use Rattle.agreement.specs.Setup.{Setup, ctx}
 use Rattle.agreement.specs.Reach.{Runs, runs-nil, run-line, seq, _⊳_}
 use Rattle.agreement.specs.Relation.{Held, Stack, Rel}
@@ -36,13 +35,13 @@ use Rattle.agreement.specs.Where.{readAt}
 
 -- ---- parameters: a readable one's argument cell holds its value
 abbrev ParamsHeld : (args : List ℕ) → Map ℕ → Env → Type 0
-ParamsHeld args m ρ = (x : ℕ) (c : Cell) → ρ x ≡ ok c → (i w v : ℕ) × (c ≡ Cell.one w v) × (lookup x m ≡ some i) × (cellAt args i ≡ some v) × (v < 2 ^ w)
+ParamsHeld args m ρ = (x : ℕ) (c : Cell) → ρ x ≡ some c → (i w v : ℕ) × (c ≡ Cell.one w v) × (lookup x m ≡ some i) × (cellAt args i ≡ some v) × (v < 2 ^ w)
 
 with-held : (args : List ℕ) (m : Map ℕ) (ρ : Env) (y k w v : ℕ) → cellAt args k ≡ some v → v < 2 ^ w → ParamsHeld args m ρ → ParamsHeld args ((y, k) ∷ m) (with y (Cell.one w v) ρ)
 unfolding with
 with-held args m ρ y k w v hv l h x c e = go (eqb x y) refl e
   where
-    go : (t : Bool) → eqb x y ≡ t → cond t (ok (Cell.one w v)) (ρ x) ≡ ok c → (i w v : ℕ) × (c ≡ Cell.one w v) × (lookup x ((y, k) ∷ m) ≡ some i) × (cellAt args i ≡ some v) × (v < 2 ^ w)
+    go : (t : Bool) → eqb x y ≡ t → cond t (some (Cell.one w v)) (ρ x) ≡ some c → (i w v : ℕ) × (c ≡ Cell.one w v) × (lookup x ((y, k) ∷ m) ≡ some i) × (cellAt args i ≡ some v) × (v < 2 ^ w)
     go true t e = let z : Cell.one w v ≡ c = cc in (k, w, v, sym z, (rw (eqb-true x y t) (lookup-here y k m)), hv, l)
     go false t e = let (i, w′, v′, ec, hl, ha, lt) = h x c e in (i, w′, v′, ec, lookup-there x y k m (eqb-false x y t) ∙ hl, ha, lt)
 
@@ -50,8 +49,8 @@ without-held : (args : List ℕ) (m : Map ℕ) (ρ : Env) (y k : ℕ) → Params
 unfolding without
 without-held args m ρ y k h x c e = go (eqb x y) refl e
   where
-    go : (t : Bool) → eqb x y ≡ t → cond t (stops Stop.unset) (ρ x) ≡ ok c → (i w v : ℕ) × (c ≡ Cell.one w v) × (lookup x ((y, k) ∷ m) ≡ some i) × (cellAt args i ≡ some v) × (v < 2 ^ w)
-    go true t e = err-no-ok _ c e
+    go : (t : Bool) → eqb x y ≡ t → cond t none (ρ x) ≡ some c → (i w v : ℕ) × (c ≡ Cell.one w v) × (lookup x ((y, k) ∷ m) ≡ some i) × (cellAt args i ≡ some v) × (v < 2 ^ w)
+    go true t e = none-some c e
     go false t e = let (i, w′, v′, ec, hl, ha, lt) = h x c e in (i, w′, v′, ec, lookup-there x y k m (eqb-false x y t) ∙ hl, ha, lt)
 
 one-held : (args : List ℕ) (m : Map ℕ) (ρ : Env) (y : Option ℕ) (k v : ℕ) (r : Result ℕ) → cellAt args k ≡ some v → fitsIn r v ≡ true → ParamsHeld args m ρ → ParamsHeld args (insert y k m) (valued r y v ρ)
@@ -175,9 +174,9 @@ module _ (s : Setup) where
 
   nothing-held : (args : List ℕ) → ParamsHeld args [] nothing
   unfolding nothing
-  nothing-held args x c e = err-no-ok _ c e
+  nothing-held args x c e = none-some c e
 
-  args-held : (m : Memory) → argsFit (s .function .params) (s .args) ≡ true → (x : ℕ) (c : Cell) → paramEnv (s .function .params) (s .args) nothing x ≡ ok c → Held s (atBlock m) x c
+  args-held : (m : Memory) → argsFit (s .function .params) (s .args) ≡ true → (x : ℕ) (c : Cell) → paramEnv (s .function .params) (s .args) nothing x ≡ some c → Held s (atBlock m) x c
   unfolding atBlock readAt
   args-held m t x c e =
       let (i, w, v, ec, hl, ha, lt) = params-held (s .function .params) [] (s .args) 0 [] nothing refl t (nothing-held (s .args)) x c e in

@@ -36,7 +36,7 @@ module _ (names : List (List ℕ)) (b : Book) (lines : List Line) (world : World
     pub stands : after number ≡ running (state position frame [] n)
     pub label : drop position lines ≡ Line.blockLabel block ∷ rest
     pub same-args : frame .args ≡ args
-    pub same-values : (x : ℕ) (c : Cell) → σ .env x ≡ ok c → SameValue names b frame x c
+    pub same-values : (x : ℕ) (c : Cell) → σ .env x ≡ some c → SameValue names b frame x c
     pub same-memory : frame .memory ≡ σ .memory
     pub same-stack : frame .sp ≡ σ .sp
     pub same-calls : frame .calls ≡ σ .calls

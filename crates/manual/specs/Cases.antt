@@ -2,7 +2,7 @@
 use Prim.Native.Nat.{ℕ, _+_, _-_, _^_}
 use mathlib.Core.Path.{_≡_, refl}
 use mathlib.Core.Bool.{Bool, true, false}
-use mathlib.Core.Option.{none, some}
+use mathlib.Core.Option.{Option, none, some}
 use mathlib.Core.List.{List, [], _∷_, map}
 use Rattle.book.specs.Ast.{Ty, Tys, Value, Zero, TypedVal, BinOp, ConvOp, ICmpPred, Case}
 use Rattle.book.specs.Result.{Result, ok, bind}
@@ -142,10 +142,10 @@ swapping =
     record { dest = some 1; ty = Ty.int 8; incoming = record { val = Value.local 0; label = 7 } ∷ [] } ∷
     []
 
-abbrev pub after : ℕ → Result Cell
-after x = bind (takePhis world 7 swapping env) λ ρ. ρ x
+abbrev pub after : ℕ → Result (Option Cell)
+after x = bind (takePhis world 7 swapping env) λ ρ. ok (ρ x)
 
-pub edge-holds : map after (0 ∷ 1 ∷ []) ≡ ok (Cell.one 8 11) ∷ ok (Cell.one 8 10) ∷ []
+pub edge-holds : map after (0 ∷ 1 ∷ []) ≡ ok (some (Cell.one 8 11)) ∷ ok (some (Cell.one 8 10)) ∷ []
 unfolding openManual
 edge-holds = refl
 

@@ -100,7 +100,7 @@ module _ (g : Given) where
 
   unfoldable pub runExtract : Option ℕ → Value → (index : ℕ) → Source → Result Source
   runExtract dest (Value.local x) k σ = do
-    c ← σ .env x
+    c ← okOr (stopNumber Stop.unset) (σ .env x)
     d ← part k c
     ok (setEnv σ (assign dest d (σ .env)))
   runExtract dest (Value.global x) k σ = stops Stop.illFormed

@@ -3,9 +3,9 @@ use Prim.Native.Nat.{ℕ}
 use mathlib.Core.List.{List, [], _∷_}
 use lib.Dec.{eqb}
 use Rattle.book.specs.Ast.{Ty, Value, TypedVal}
-use Rattle.book.specs.Result.{Result, ok, bind as _>>=_}
+use Rattle.book.specs.Result.{Result, ok, bind as _>>=_, okOr}
 use Rattle.machine.specs.State.{World, globalAt}
-use Rattle.manual.specs.Stop.{Stop, stops, need}
+use Rattle.manual.specs.Stop.{Stop, stops, stopNumber, need}
 use Rattle.manual.specs.Values.{constant}
 use Rattle.manual.specs.State.{Cell, Env}
 
@@ -40,7 +40,7 @@ module _ (world : World) (ρ : Env) where
   -- "undef, poison and zeroinitializer as operands are 0"; a global is its address, a pointer
   unfoldable pub value : (w : ℕ) → Value → Result ℕ
   value w (Value.local x) = do
-    c ← ρ x
+    c ← okOr (stopNumber Stop.unset) (ρ x)
     scalar w c
   value w (Value.int v) = constant w v
   value w (Value.zero z) = ok 0

@@ -5,11 +5,9 @@ use mathlib.Core.Option.{Option, none, some}
 use mathlib.Core.List.{List}
 use lib.Dec.{eqb}
 use Rattle.book.specs.Ast.{Function, StructType}
-use Rattle.book.specs.Result.{Result, ok, err}
 use Rattle.machine.specs.Memory.{Memory}
 use Rattle.machine.specs.State.{Call, World}
 use Rattle.lowering.specs.Frame.{Frame}
-use Rattle.manual.specs.Stop.{Stop, stops}
 
 -- a value of a width; or a cmpxchg's two, the value found with its width and whether it was the one compared with
 pub data Cell : Type 0 where
@@ -18,7 +16,7 @@ pub data Cell : Type 0 where
 
 -- the value of each local that is set
 abbrev pub Env : Type 0
-Env = (name : ℕ) → Result Cell
+Env = (name : ℕ) → Option Cell
 
 -- the function, with its frame by the Rust's formula, and the stack pointer found at entry
 pub record Given : Type 0 where
@@ -45,14 +43,14 @@ abbrev pub setStack : Source → ℕ → Source
 setStack σ n = record { env = σ .env; memory = σ .memory; calls = σ .calls; sp = n }
 
 unfoldable pub nothing : Env
-nothing x = stops Stop.unset
+nothing x = none
 
 unfoldable pub with : ℕ → Cell → Env → Env
-with x c ρ y = cond (eqb y x) (ok c) (ρ y)
+with x c ρ y = cond (eqb y x) (some c) (ρ y)
 
 -- a name without a value
 unfoldable pub without : ℕ → Env → Env
-without x ρ y = cond (eqb y x) (stops Stop.unset) (ρ y)
+without x ρ y = cond (eqb y x) none (ρ y)
 
 -- the result of an instruction, where it has a name
 unfoldable pub assign : Option ℕ → Cell → Env → Env
@@ -66,9 +64,9 @@ unassign (some x) ρ = without x ρ
 abbrev pub put : Option ℕ → (width value : ℕ) → Source → Source
 put dest w v σ = setEnv σ (assign dest (Cell.one w v) (σ .env))
 
-unfoldable pub isSet : Result Cell → Bool
-isSet (ok c) = true
-isSet (err e) = false
+unfoldable pub isSet : Option Cell → Bool
+isSet (some c) = true
+isSet none = false
 
 -- opens every definition of this file, for an example that computes
 unfoldable pub openState : Unit {0}
