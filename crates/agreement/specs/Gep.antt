@@ -58,7 +58,7 @@ module _ (s : Setup) where
         (x, r + k, w, v, terms-append ts us r k h g, (rw e (add-assoc (unsigned 64 (signed (t .width) x) * t .stride) r k)))
 
     -- a part of the walk adds a constant and terms that come to the source's offset
-    record Walked (w w′ : Walk) (off : ℕ) : Type 0 where
+    pub record Walked (w w′ : Walk) (off : ℕ) : Type 0 where
       more : List VarTerm
       const : ℕ
       sum : ℕ
@@ -136,7 +136,7 @@ module _ (s : Setup) where
         known : {A : Type 0} (r : Option A) (a : A) → okOr 14 r ≡ ok a → okOr (stopNumber Stop.illFormed) r ≡ ok a
         known r a e = rw (okOr-some 14 r a e) refl
 
-    into-ok : (ty : Ty) (i : TypedVal) (w w′ : Walk) (st : Step) → Sound (i .ty) → gepStep structsOf ty (i .val) ≡ ok st → took st i w ≡ ok w′
+    pub into-ok : (ty : Ty) (i : TypedVal) (w w′ : Walk) (st : Step) → Sound (i .ty) → gepStep structsOf ty (i .val) ≡ ok st → took st i w ≡ ok w′
         → Holds (into (s .world) structsOf ρ ty i) (λ p. Walked w w′ (p .0) × (p .1 ≡ w′ .curTy))
     unfolding into gepStep
     into-ok (Ty.struct p ts) i w w′ st sound h k = fields-ok w w′ (record { packed = p; fields = ts }) i st h k

@@ -32,6 +32,8 @@ pub mod Block
 pub mod Frame
 pub mod Start
 pub mod Book
+pub mod Only
+pub mod OnlyStops
 pub mod TwoRuns
 pub mod Corollaries
 pub mod Operations

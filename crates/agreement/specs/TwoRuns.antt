@@ -46,6 +46,8 @@ use Rattle.agreement.specs.Flow.{Arrives, Goes}
 use Rattle.agreement.specs.Labels.{labelsOf}
 use Rattle.agreement.specs.Block.{labels-distinct, Split, split-ok, blocks-run}
 use Rattle.agreement.specs.Start.{atStart, atBlock, atEntry, Begins, begins-ok, first-ok, rel-start}
+use Rattle.agreement.specs.Only.{Reason, Only, O-then, O-known}
+use Rattle.agreement.specs.OnlyStops.{blocks-only, begin-only, run-only}
 use Rattle.agreement.specs.Book.{apart-ok, good-inst, good-term, each-in}
 use Rattle.agreement.specs.Naming.{Distinct, Naming}
 
@@ -86,6 +88,12 @@ module _ (s : Setup) (m : ℕ) (limits : Each (BlockLimits m) (s .function .bloc
       subst (λ k. Holds (run (givenTo s) n x) (Goes s (state 0 (atStart s memory) [] 0) k)) (zero-add n)
       (blocks-run s (naming .labels) (apart-ok s (naming .distinct)) (λ k q i p. good-inst s (naming .distinct) pass (naming .self) m limits k q i p)
       (λ k q. good-term m (k .term) (each-in (BlockLimits m) (s .function .blocks) limits q .1 .1)) splits distinct n 0 (state 0 (atStart s memory) [] 0) x g)
+
+  -- it stops for document 01's reasons alone
+  whole-only : (memory : Memory) (n : ℕ) → Only (bind (begin (givenTo s) (s .args) memory) (λ t. run (givenTo s) n t))
+  whole-only memory n =
+      O-then _ (begin-only s (s .args) memory) λ t.
+      run-only s (G-use (begins .code) (begins .made) (blocks-only s (s .function .blocks) (λ k q i p. good-inst s (naming .distinct) pass (naming .self) m limits k q i p))) n t
 
 -- ---- the book
 counted-some : (m : ℕ) (r : Option Book) (c : Counted) → counted m r ≡ some c → r ≡ some (c .book) × (m ≡ c .count)
@@ -153,6 +161,12 @@ module _ (b : Sound) (out : Out) (counter m : ℕ) (limits : Limits m (b .book))
       let (fr, pass, made) = bind-ok (framePass (b .book .structs) (allInsts (b .book .function .blocks)) noFrame) _ out makes in
       H-known _ pass (H-map (whole-run (setup fr) m (limits .function .1 .1 .1) naming pass (H-use out made (begins-ok (setup fr) .made counter)) word memory fits n) λ t g. agrees fr n t g)
 
+  book-only : (n : ℕ) → Only (sourceRun (b .names) (b .book) world args memory sp n)
+  unfolding sourceRun genFunction contextOf codegenOf _>>=_
+  book-only n =
+      let (fr, pass, made) = bind-ok (framePass (b .book .structs) (allInsts (b .book .function .blocks)) noFrame) _ out makes in
+      O-known _ pass (whole-only (setup fr) m (limits .function .1 .1 .1) naming pass (H-use out made (begins-ok (setup fr) .made counter)) memory n)
+
 -- what `generated` has made, of the sound book
 made-by : (book names : List ℕ) (counter workLen room : ℕ) (b : Sound) (out : Out) → checked book names counter workLen ≡ ok b → generated book names counter workLen room ≡ ok out
     → genFunction (codegenOf (b .names) (b .book)) (b .book .function) counter ≡ ok out
@@ -174,6 +188,15 @@ pub two-runs : (book names : List ℕ) (counter workLen room : ℕ) (b : Sound) 
 two-runs book names counter workLen room b out checks makes naming world args memory sp fits word n t h =
     let (m, limits) = sound-limits book names counter workLen b checks in
     H-use t h (book-runs b out counter m limits (made-by book names counter workLen room b out checks makes) naming world args memory sp fits word n)
+
+-- Where the source run of such a function has no state, it stopped for a reason of document 01, or a reply did not fit its call's width.
+pub only-stops : (book names : List ℕ) (counter workLen room : ℕ) (b : Sound) (out : Out) → checked book names counter workLen ≡ ok b → generated book names counter workLen room ≡ ok out
+    → Naming (b .names) (b .book .function) (out .lines)
+    → (world : World) (args : List ℕ) (memory : Memory) (sp : ℕ) → argsFit (b .book .function .params) args ≡ true → sp < 2 ^ 64
+    → (n e : ℕ) → sourceRun (b .names) (b .book) world args memory sp n ≡ err e → Reason e
+only-stops book names counter workLen room b out checks makes naming world args memory sp fits word n e h =
+    let (m, limits) = sound-limits book names counter workLen b checks in
+    book-only b out counter m limits (made-by book names counter workLen room b out checks makes) naming world args memory sp fits word n .only e h
 
 -- ---- the same of a call of the translator: the lines are those that its two line slices hold afterwards
 count-of : Translation → Option ℕ
