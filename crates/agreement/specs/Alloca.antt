@@ -20,9 +20,6 @@ use Rattle.machine.specs.State.{Frame, setSp}
 use Rattle.machine.specs.Values.{wordOp}
 use Rattle.machine.specs.Line.{goes, does}
 use Rattle.lowering.specs.Gen.{_>>=_, _>>_, when}
-use Rattle.lowering.specs.Context.{lookup}
-use Rattle.lowering.specs.Frame.{countOf}
-use Rattle.lowering.specs.Function.{framed}
 use Rattle.lowering.specs.Operand.{pushInt, pushValue, add64, mul64, storeDest}
 use Rattle.lowering.specs.Memory.{alignOr, pushCount, genDynamicAlloca, fixedPlace, placeOf, genAlloca}
 use Rattle.manual.specs.Stop.{Stop}
@@ -38,6 +35,8 @@ use Rattle.agreement.specs.Relation.{Rel, Apart, rel-stack}
 use Rattle.agreement.specs.Operand.{Sound, fits-mod, Pushes, ValueOk, value-ok, then-ends, dest-ok}
 use Rattle.agreement.specs.Extend.{Leaves}
 use Rattle.agreement.specs.Instr.{H-typed, StepOk}
+use Rattle.book.specs.Map.{lookup}
+use Rattle.layout.specs.Frame.{countOf, framed}
 
 -- a count's type is one of the book
 abbrev pub SoundCount : Option TypedVal → Type 0

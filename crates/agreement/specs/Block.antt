@@ -17,7 +17,6 @@ use Rattle.machine.specs.Labels.{labelOf}
 use Rattle.machine.specs.Line.{does}
 use Rattle.machine.specs.Run.{State, follow, stepAt, step}
 use Rattle.lowering.specs.Gen.{Gen, _>>_, each}
-use Rattle.lowering.specs.Context.{lookup}
 use Rattle.lowering.specs.Inst.{genKind, genInst}
 use Rattle.lowering.specs.Term.{genTerm}
 use Rattle.lowering.specs.Function.{genBlock}
@@ -40,6 +39,7 @@ use Rattle.agreement.specs.Flow.{Arrives, Goes, before, Lands, then-land
 use Rattle.agreement.specs.Edge.{SoundPhi, PhisSound, LabelsStand, FoundAlike}
 use Rattle.agreement.specs.Term.{GoodTerm, term-ok}
 use Rattle.agreement.specs.Naming.{Distinct, LabelsOnce}
+use Rattle.book.specs.Map.{lookup}
 
 module _ (s : Setup) where
   -- a block's lines behind its label

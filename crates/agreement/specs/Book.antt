@@ -11,8 +11,8 @@ use Rattle.book.specs.Shape.{Shape, shape, allInsts}
 use Rattle.book.specs.Fields.{instFields, instTagOf, instArgs}
 use Rattle.book.specs.Limits.{Each, Maybe, Parts, TyLimits, TypedLimits, IndexLimits, FieldsLimits, InstLimits, TermLimits, BlockLimits}
 use Rattle.lowering.specs.Operand.{intWidth}
-use Rattle.lowering.specs.Context.{lookup, slotsFor, noSlots}
-use Rattle.lowering.specs.Frame.{framePass, noFrame}
+use Rattle.lowering.specs.Context.{slotsFor, noSlots}
+use Rattle.layout.specs.Frame.{framePass, noFrame}
 use Rattle.lowering.specs.Function.{slotsOf}
 use Rattle.agreement.specs.Holds.{ok-same, H-use}
 use Rattle.agreement.specs.Lists.{none-some, In, here, there, in-left, in-right}
@@ -28,6 +28,7 @@ use Rattle.agreement.specs.Inst.{Good}
 use Rattle.agreement.specs.Term.{GoodTerm, SoundRet}
 use Rattle.agreement.specs.Frame.{varying-place}
 use Rattle.agreement.specs.Naming.{paramNames, resultNames, Distinct, NoSelf}
+use Rattle.book.specs.Map.{lookup}
 
 -- ---- the book's types
 module _ (m : ℕ) where

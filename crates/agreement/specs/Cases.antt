@@ -7,6 +7,7 @@ use Rattle.machine.specs.Run.{Outcome, running, returned, failed, steps, start}
 use Rattle.lowering.specs.Context.{codegenOf}
 use Rattle.lowering.specs.Function.{genFunction}
 use Rattle.manual.specs.Open.{openManual}
+use Rattle.lowering.specs.Open.{openLowering}
 use Rattle.manual.specs.Functions.{Summary, Try, names, holding, world, orNone, bySource, expected, tries, functions-run}
 
 summary : Outcome → Option Summary
@@ -21,5 +22,5 @@ byMachine t = orNone (genFunction (codegenOf names (t .book)) (t .book .function
     summary (steps names 0 world (out .lines) 120 (running (start (t .args) (holding 4096 7) 65536)))
 
 pub cases-hold : (map bySource tries ≡ map expected tries) × (map byMachine tries ≡ map expected tries)
-unfolding openManual byMachine tries
+unfolding openManual openLowering byMachine tries
 cases-hold = (functions-run, refl)

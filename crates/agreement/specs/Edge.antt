@@ -16,7 +16,7 @@ use Rattle.machine.specs.State.{Frame}
 use Rattle.machine.specs.Labels.{labelOf}
 use Rattle.machine.specs.Line.{does}
 use Rattle.lowering.specs.Gen.{each}
-use Rattle.lowering.specs.Context.{lookup, slotOf}
+use Rattle.lowering.specs.Context.{slotOf}
 use Rattle.lowering.specs.Operand.{intWidth, pushTyped}
 use Rattle.lowering.specs.Edge.{Copy, incomingFrom, copyOf, copyStep, copies, pushCopy, setCopy, emitEdgeCopies, edge}
 use Rattle.manual.specs.State.{Source, setEnv}
@@ -31,6 +31,7 @@ use Rattle.agreement.specs.Relation.{Rel, Apart}
 use Rattle.agreement.specs.Operand.{H-width, Sound, at-most, okOr-some, ValueOk, value-ok, Ends, then-ends, DestOk, set-ok, slot-known}
 use Rattle.agreement.specs.Call.{onto}
 use Rattle.agreement.specs.Flow.{Lands, then-lands}
+use Rattle.book.specs.Map.{lookup}
 
 -- the first value for a predecessor, by both
 incoming-alike : (p : ℕ) (is : List Incoming) (v : Value) → incomingFrom p is ≡ some v → incomingFor p is ≡ ok v

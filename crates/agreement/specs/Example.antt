@@ -22,6 +22,7 @@ use Rattle.manual.specs.State.{Cell, Source, nothing, assign}
 use Rattle.manual.specs.Term.{Stand}
 use Rattle.manual.specs.Run.{argsFit, sourceRun}
 use Rattle.manual.specs.Open.{openManual}
+use Rattle.lowering.specs.Open.{openLowering}
 use Rattle.agreement.specs.Book.{each-in}
 use Rattle.agreement.specs.Decide.{hasLabel, newLabel, labelsOnce, labels-ok, distinct-ok}
 use Rattle.agreement.specs.Statement.{after, Returned}
@@ -84,15 +85,15 @@ unfolding NoSelf isCmpxchg shape add
 no-self x ty p c n h e = false≢true (sym (each-in (λ (i : Inst). isCmpxchg (shape (i .kind)) ≡ false) (add ∷ []) (refl, tt) h))
 
 naming : Naming (add1 .names) (add1 .book .function) (out .lines)
-unfolding openManual add1 out add names i32 optional paramNames resultNames hasLabel newLabel labelsOnce
+unfolding openManual openLowering add1 out add names i32 optional paramNames resultNames hasLabel newLabel labelsOnce
 naming = record { distinct = distinct-ok (0 ∷ 3 ∷ []) refl; labels = labels-ok (add1 .names) 1 (out .lines) refl; self = no-self }
 
 sound : checked book (unlines names) 0 96 ≡ ok add1
-unfolding openManual slice unlines book names add1 add i32
+unfolding openManual openLowering slice unlines book names add1 add i32
 sound = refl
 
 translated : generated book (unlines names) 0 96 11 ≡ ok out
-unfolding openManual slice unlines book names out
+unfolding openManual openLowering slice unlines book names out
 translated = refl
 
 -- what the source has at the end
@@ -101,11 +102,11 @@ atEnd a memory sp =
     record { env = assign (some 3) (Cell.one 32 ((a + 1) % 2 ^ 32)) (assign (some 0) (Cell.one 32 a) nothing); memory = memory; calls = []; sp = sp }
 
 run-source : (world : World) (a : ℕ) (memory : Memory) (sp : ℕ) → sourceRun (add1 .names) (add1 .book) world (a ∷ []) memory sp 1 ≡ ok (Stand.gave ((a + 1) % 2 ^ 32) (atEnd a memory sp))
-unfolding openManual atEnd add1 add i32
+unfolding openManual openLowering atEnd add1 add i32
 run-source world a memory sp = refl
 
 fits : (a : ℕ) → a < 2 ^ 32 → argsFit (add1 .book .function .params) (a ∷ []) ≡ true
-unfolding openManual add1 i32
+unfolding openManual openLowering add1 i32
 fits a h = rw (lt-ltb a (2 ^ 32) h) refl
 
 -- the lines return a + 1 modulo 2^32, and leave memory and stack pointer as they were

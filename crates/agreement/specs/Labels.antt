@@ -10,12 +10,13 @@ use borrow.Author.Tests.{eqb-true, eq-eqb, ne-eqb}
 use Rattle.book.specs.Ast.{BasicBlock}
 use Rattle.book.specs.Rule.{find, pick}
 use Rattle.machine.specs.State.{cellAt}
-use Rattle.lowering.specs.Context.{Map, lookup, blockMap}
+use Rattle.lowering.specs.Context.{blockMap}
 use Rattle.lowering.specs.Places.{lookup-cons}
 use Rattle.manual.specs.Run.{go}
 use Rattle.agreement.specs.Lists.{none-some, In, here, there}
 use Rattle.agreement.specs.Names.{Stands, stands-left, stands-right, apart, distinct-right}
 use Rattle.agreement.specs.Naming.{Distinct}
+use Rattle.book.specs.Map.{Map, lookup}
 
 -- ---- a block that is found is one of them
 pub block-found : (b : ℕ) (k : BasicBlock) (bs : List BasicBlock) (m : Map BasicBlock) → lookup b (blockMap bs m) ≡ some k → (In k bs × (k .label ≡ b)) ⊎ (lookup b m ≡ some k)

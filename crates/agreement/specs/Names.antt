@@ -9,10 +9,11 @@ use lib.ListN.{length}
 use Rattle.book.specs.Ast.{Inst, Param}
 use Rattle.book.specs.Shape.{Shape, shape}
 use Rattle.machine.specs.State.{cellAt}
-use Rattle.lowering.specs.Context.{Map, lookup, insert, paramMap, Slots, slotStep, slotMap}
+use Rattle.lowering.specs.Context.{paramMap, Slots, slotStep, slotMap}
 use Rattle.lowering.specs.Places.{lookup-cons}
 use Rattle.agreement.specs.Lists.{none-some, cell-lt, cell-left, cell-right, In, here, there}
 use Rattle.agreement.specs.Naming.{optional, paramNames, resultNames, Distinct}
+use Rattle.book.specs.Map.{Map, lookup, insert}
 
 -- a name stands somewhere in a list
 pub record Stands (x : ℕ) (l : List ℕ) : Type 0 where

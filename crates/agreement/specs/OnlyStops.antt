@@ -12,9 +12,8 @@ use Rattle.layout.specs.Layout.{resolve, sizeOf, fieldOffset}
 use Rattle.layout.specs.Step.{Step, constInt, fieldAt, stride, structStep, gepStep}
 use Rattle.machine.specs.Memory.{Memory}
 use Rattle.lowering.specs.Gen.{Gen, _>>=_, _>>_, each}
-use Rattle.lowering.specs.Context.{lookup}
 use Rattle.lowering.specs.Operand.{intWidth}
-use Rattle.lowering.specs.Frame.{countOf}
+use Rattle.layout.specs.Frame.{countOf}
 use Rattle.lowering.specs.Gep.{Walk, start, took, firstStep, walkRest, walk, genGep}
 use Rattle.lowering.specs.Memory.{genLoad, genStore, alignOr, genDynamicAlloca, placeOf, genAlloca, requireAtomicWidth, genAtomicLoad, genAtomicStore}
 use Rattle.lowering.specs.Inst.{genKind, genInst}
@@ -37,6 +36,7 @@ use Rattle.agreement.specs.Gep.{SoundIndices, into-ok}
 use Rattle.agreement.specs.Inst.{Good}
 use Rattle.agreement.specs.Book.{each-in}
 use Rattle.agreement.specs.Only.{Only, O-ok, O-stop, O-bind, O-then, O-known, O-need, width-only, integer-only, value-only, typed-only, eval-bin-only, eval-icmp-only, eval-conv-only, eval-select-only, eval-load-only, extract-only, fixed-only, call-only, block-only, term-only}
+use Rattle.book.specs.Map.{lookup}
 
 module _ (s : Setup) where
   abbrev structsOf : List StructType

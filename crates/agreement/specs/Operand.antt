@@ -16,7 +16,7 @@ use Rattle.assembly.specs.Line.{Line}
 use Rattle.machine.specs.State.{Frame, setSlots, globalAt}
 use Rattle.machine.specs.Line.{goes, does}
 use Rattle.lowering.specs.Gen.{_>>=_}
-use Rattle.lowering.specs.Context.{lookup, named, slotOf}
+use Rattle.lowering.specs.Context.{named, slotOf}
 use Rattle.lowering.specs.Operand.{intWidth, pushInt, localLine, pushValue, storeDest}
 use Rattle.manual.specs.Stop.{Stop}
 use Rattle.manual.specs.Values.{inRange, constant}
@@ -28,6 +28,7 @@ use Rattle.agreement.specs.Setup.{Setup, ctx}
 use Rattle.agreement.specs.Reach.{Runs, run-line, seq, doing}
 use Rattle.agreement.specs.Relation.{argOf, slotOfName, Held, Rel, Apart, slot-owner, owned-in, rel-put}
 use Rattle.agreement.specs.Where.{readAt}
+use Rattle.book.specs.Map.{lookup}
 
 pub fits-mod : (n w : ℕ) → n % 2 ^ w < 2 ^ w
 fits-mod n w = mod-lt n (pow-pos w)

@@ -12,13 +12,14 @@ use Rattle.book.specs.Result.{ok}
 use Rattle.book.specs.Shape.{allInsts}
 use Rattle.machine.specs.Memory.{Memory}
 use Rattle.machine.specs.State.{Call, Frame, setSlots, setMemory, setSp, cellAt}
-use Rattle.lowering.specs.Context.{lookup}
-use Rattle.lowering.specs.Function.{framed, slotsOf, totalSlots}
+use Rattle.lowering.specs.Function.{slotsOf, totalSlots}
 use Rattle.manual.specs.State.{Cell, Env, Source, setEnv, setWorld, setStack, with, without, assign, put}
 use Rattle.agreement.specs.Lists.{none-some, cell-lt, cell-set-same, cell-set-other}
 use Rattle.agreement.specs.Setup.{Setup, ctx}
 use Rattle.agreement.specs.Slots.{owners, slots-owned, Owned}
 use Rattle.agreement.specs.Where.{readAt}
+use Rattle.book.specs.Map.{lookup}
+use Rattle.layout.specs.Frame.{framed}
 
 module _ (s : Setup) where
   abbrev pub argOf : ℕ → Option ℕ

@@ -6,14 +6,14 @@ use Rattle.book.specs.Ast.{Function}
 use Rattle.assembly.specs.Line.{Line}
 use Rattle.machine.specs.State.{World}
 use Rattle.lowering.specs.Context.{Codegen, FnCtx, paramMap, blockMap}
-use Rattle.lowering.specs.Frame.{Frame}
-use Rattle.lowering.specs.Function.{framed, slotsOf}
+use Rattle.lowering.specs.Function.{slotsOf}
 use Rattle.manual.specs.State.{Given}
+use Rattle.layout.specs.Frame.{Places, framed}
 
 pub record Setup : Type 0 where
   pub codegen : Codegen
   pub function : Function
-  pub frame : Frame
+  pub frame : Places
   pub world : World
   -- the argument cells, and the stack pointer found at entry
   pub args : List ℕ

@@ -12,11 +12,12 @@ use Rattle.names.specs.Spelling.{hasOverflow}
 use Rattle.book.specs.Ast.{Value, Inst}
 use Rattle.book.specs.Shape.{Shape, shape}
 use Rattle.machine.specs.State.{cellAt}
-use Rattle.lowering.specs.Context.{lookup, Slots, callSlots, slotsFor, slotStep, slotMap, noSlots}
+use Rattle.lowering.specs.Context.{Slots, callSlots, slotsFor, slotStep, slotMap, noSlots}
 use Rattle.lowering.specs.Places.{lookup-here, lookup-there, lookup-cons}
 use Rattle.agreement.specs.Lists.{some-same, none-some, cell-left, cell-right, In, here, there}
 use Rattle.agreement.specs.Names.{Stands, stands-left, stands-right, stands-own, apart, distinct-right}
 use Rattle.agreement.specs.Naming.{optional, resultNames, Distinct}
+use Rattle.book.specs.Map.{lookup}
 
 module _ (names : List (List ℕ)) where
   one-or-two : (b : Bool) → 1 ≤ cond b 2 1

@@ -16,10 +16,10 @@ use Rattle.machine.specs.Memory.{Memory}
 use Rattle.machine.specs.State.{Frame, setSlots, cellAt}
 use Rattle.machine.specs.Line.{does}
 use Rattle.lowering.specs.Gen.{line, when, each}
-use Rattle.lowering.specs.Context.{Map, lookup, insert, paramMap}
+use Rattle.lowering.specs.Context.{paramMap}
 use Rattle.lowering.specs.Places.{lookup-here, lookup-there}
 use Rattle.lowering.specs.Operand.{add64}
-use Rattle.lowering.specs.Function.{genBlock, prologue, genLines, framed, totalSlots}
+use Rattle.lowering.specs.Function.{genBlock, prologue, genLines, totalSlots}
 use Rattle.manual.specs.State.{Cell, Env, Source, nothing, with, without, assign, unassign}
 use Rattle.manual.specs.Operand.{widthOf}
 use Rattle.manual.specs.Run.{valued, paramEnv, fitsIn, argsFit, entered, firstBlock}
@@ -32,6 +32,8 @@ use Rattle.agreement.specs.Operand.{fits-mod}
 use Rattle.agreement.specs.Alloca.{add-does}
 use Rattle.agreement.specs.Holds.{ok-same}
 use Rattle.agreement.specs.Where.{readAt}
+use Rattle.book.specs.Map.{Map, lookup, insert}
+use Rattle.layout.specs.Frame.{framed}
 
 -- ---- parameters: a readable one's argument cell holds its value
 abbrev ParamsHeld : (args : List ℕ) → Map ℕ → Env → Type 0

@@ -18,8 +18,6 @@ use Rattle.machine.specs.Values.{wordTest, flag}
 use Rattle.machine.specs.State.{Frame, setSp}
 use Rattle.machine.specs.Run.{State, state, running, follow, stepAt, step}
 use Rattle.machine.specs.Line.{does, jump, branch}
-use Rattle.lowering.specs.Context.{lookup}
-use Rattle.lowering.specs.Function.{framed}
 use Rattle.lowering.specs.Operand.{workBits, workOf, pushInt, pushTyped}
 use Rattle.lowering.specs.Edge.{edge}
 use Rattle.lowering.specs.Term.{emitFrameLeave, retValue, genRet, genCondBr, genBr, caseTests, caseEdges, genSwitch, genTerm}
@@ -41,6 +39,8 @@ use Rattle.agreement.specs.Extend.{work-width, work-above}
 use Rattle.agreement.specs.Instr.{H-no-integer, G-width}
 use Rattle.agreement.specs.Flow.{Goes, before, Lands}
 use Rattle.agreement.specs.Edge.{LabelsStand, FoundAlike, PhisSound, EdgeOk, edge-ok}
+use Rattle.book.specs.Map.{lookup}
+use Rattle.layout.specs.Frame.{framed}
 
 -- a returned value's type is the book's
 abbrev pub SoundRet : Option TypedVal → Type 0

@@ -30,7 +30,7 @@ use Rattle.lowering.specs.Translate.{generated, Translation, over, replied, tra
 use Rattle.lowering.specs.AllowedFunction.{function-allows}
 use Rattle.lowering.specs.Printable.{checked-lent, take-over}
 use Rattle.lowering.specs.Context.{codegenOf}
-use Rattle.lowering.specs.Frame.{Frame as Places, framePass, noFrame}
+use Rattle.layout.specs.Frame.{Places, framePass, noFrame}
 use Rattle.lowering.specs.Function.{contextOf, genFunction}
 use Rattle.manual.specs.State.{Cell, Source}
 use Rattle.manual.specs.Term.{Stand}

@@ -4,8 +4,9 @@ use mathlib.Core.Option.{Option, none, some}
 use mathlib.Core.List.{List, []}
 use Rattle.book.specs.Ast.{Book}
 use Rattle.machine.specs.State.{cellAt}
-use Rattle.lowering.specs.Context.{codegenOf, lookup, paramMap}
+use Rattle.lowering.specs.Context.{codegenOf, paramMap}
 use Rattle.lowering.specs.Function.{slotsOf}
+use Rattle.book.specs.Map.{lookup}
 
 -- "A local is a parameter first": its argument cell, or its slot
 unfoldable pub readAt : (arg slot : Option ℕ) → (args slots : List ℕ) → Option ℕ

@@ -19,3 +19,4 @@ pub mod Forbidden
 pub mod Check
 pub mod Open
 pub mod Cases
+pub mod Map

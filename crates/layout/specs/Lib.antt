@@ -1,5 +1,6 @@
 pub mod Layout
 pub mod Step
+pub mod Frame
 pub mod Cases
 pub mod Natural
 pub mod Multiple

@@ -16,9 +16,10 @@ use Rattle.assembly.specs.Line.{Line, Work}
 use Rattle.assembly.specs.Number.{isName, allowed}
 use Rattle.assembly.specs.Lists.{AllAllowed}
 use Rattle.lowering.specs.Gen.{Gen, line}
-use Rattle.lowering.specs.Context.{FnCtx, lookup, named, slotOf}
+use Rattle.lowering.specs.Context.{FnCtx, named, slotOf}
 use Rattle.lowering.specs.Operand.{truncLines, emitTruncTo, sextBit, sx32To, sxLine, sextMore, emitSext, pushInt, localLine, add64, mul64, pushValue, pushTyped, storeDest, storeOrPop, workOf}
 use Rattle.lowering.specs.Allows.{Allows, lines-allows, line-allows, bind-allows, any-allows, then-allows, when-allows, choose-allows, plain}
+use Rattle.book.specs.Map.{lookup}
 
 -- how many names a context has
 abbrev pub count : FnCtx → ℕ

@@ -15,13 +15,14 @@ use Rattle.book.specs.Shape.{allInsts}
 use Rattle.assembly.specs.Line.{Line}
 use Rattle.assembly.specs.Number.{isName, allowed}
 use Rattle.lowering.specs.Gen.{line, each}
-use Rattle.lowering.specs.Context.{Map, lookup, FnCtx, codegenOf, blockMap}
-use Rattle.lowering.specs.Frame.{Frame}
+use Rattle.lowering.specs.Context.{FnCtx, codegenOf, blockMap}
+use Rattle.layout.specs.Frame.{Places}
 use Rattle.lowering.specs.Function.{genBlock, prologue, genLines, slotsOf, contextOf, totalSlots, genFunction}
 use Rattle.lowering.specs.Places.{lookup-cons, all-below}
 use Rattle.lowering.specs.Allows.{Allows, line-allows, bind-allows, then-allows, when-allows, when-true, guard-allows, each-allows, plain}
 use Rattle.lowering.specs.Allowed.{Within, add-allows, set-base}
 use Rattle.lowering.specs.AllowedBlocks.{and-true, block-allows}
+use Rattle.book.specs.Map.{Map, lookup}
 
 -- ---- the blocks of a function
 blocks-within : (n : ℕ) (bs : List BasicBlock) (m : Map BasicBlock) → Each (BlockLimits n) bs → ((x : ℕ) (bb : BasicBlock) → lookup x m ≡ some bb → BlockLimits n bb)
@@ -36,14 +37,14 @@ unfolding lookup
 no-block n x bb h = absurd (let z : _≡_ {A = ℕ} 0 1 = cc in omega arith)
 
 module _ (names : List (List ℕ)) (b : Book) (l : Limits (length names) b) where
-  abbrev context : Frame → FnCtx
+  abbrev context : Places → FnCtx
   context fr = contextOf (codegenOf names b) (b .function) fr
 
-  abbrev total : Frame → ℕ
+  abbrev total : Places → ℕ
   total fr = totalSlots (codegenOf names b) (b .function) fr
 
   -- ---- the context, where the slots are few enough
-  within : (fr : Frame) → total fr ≤ 65535 → Within (context fr)
+  within : (fr : Places) → total fr ≤ 65535 → Within (context fr)
   unfolding contextOf codegenOf totalSlots slotsOf
   within fr h =
       record {
@@ -75,7 +76,7 @@ module _ (names : List (List ℕ)) (b : Book) (l : Limits (length names) b) wher
   blocks-allow : (c : FnCtx) (w : Within c) (bs : List BasicBlock) → Each (BlockLimits (length (c .codegen .names))) bs → Allows (c .codegen .names) b (each (genBlock c) bs)
   blocks-allow c w bs h = each-allows _ b (BlockLimits (length (c .codegen .names))) (genBlock c) (block-allows b c w) bs h
 
-  lines-allow : (fr : Frame) → Allows names b (genLines (context fr) (b .function) (total fr))
+  lines-allow : (fr : Places) → Allows names b (genLines (context fr) (b .function) (total fr))
   unfolding genLines contextOf codegenOf
   lines-allow fr =
       then-allows _ _ _ _ comment-line (then-allows _ _ _ _ name-line (guard-allows _ _ _ _ _ (λ e.

@@ -1,27 +1,14 @@
--- `FnCtx`, and the maps that `gen_function` fills: "In each map later duplicates win". A map is a list of its entries, the latest first.
+-- `FnCtx`, and the maps that `gen_function` fills: "In each map later duplicates win".
 use Prim.Native.Nat.{ℕ, _+_}
 use mathlib.Core.Bool.{Bool, cond}
 use mathlib.Core.Option.{Option, none, some}
 use mathlib.Core.List.{List, [], _∷_}
-use lib.Dec.{eqb}
 use Rattle.names.specs.Name.{nameAt}
 use Rattle.names.specs.Spelling.{hasOverflow}
 use Rattle.book.specs.Ast.{Value, Inst, BasicBlock, Param, StructType, Mark, Book}
-use Rattle.book.specs.Rule.{pick}
 use Rattle.book.specs.Result.{Result, okOr}
 use Rattle.book.specs.Shape.{Shape, shape}
-
--- ---- maps by name
-abbrev pub Map : Type 0 → Type 0
-Map A = List (ℕ × A)
-
-unfoldable pub lookup : {A : Type 0} → ℕ → Map A → Option A
-lookup x [] = none
-lookup x (p ∷ ps) = let rest = lookup x ps in pick (eqb x (p .0)) (some (p .1)) rest
-
-unfoldable pub insert : {A : Type 0} → Option ℕ → A → Map A → Map A
-insert none a m = m
-insert (some x) a m = (x, a) ∷ m
+use Rattle.book.specs.Map.{Map, lookup, insert, openMap}
 
 -- ---- `Codegen`: what a book's functions share
 pub record Codegen : Type 0 where
@@ -100,5 +87,5 @@ slotOf c dest = okOr 5 (named dest (c .slots))
 
 -- opens every definition of this file, for an example that computes
 unfoldable pub openContext : Unit {0}
-unfolding lookup insert definedBy codegenOf paramMap blockMap callSlots slotsFor slotStep slotMap noSlots named slotOf
+unfolding openMap definedBy codegenOf paramMap blockMap callSlots slotsFor slotStep slotMap noSlots named slotOf
 openContext = tt

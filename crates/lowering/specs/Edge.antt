@@ -10,8 +10,9 @@ use Rattle.book.specs.Result.{Result, ok, bind, okOr}
 use Rattle.assembly.specs.Line.{Line}
 use Rattle.lowering.specs.Gen.{Gen, line, _>>=_, _>>_, each}
 use Rattle.book.specs.Shape.{Shape, shape}
-use Rattle.lowering.specs.Context.{FnCtx, lookup, slotOf}
+use Rattle.lowering.specs.Context.{FnCtx, slotOf}
 use Rattle.lowering.specs.Operand.{pushTyped}
+use Rattle.book.specs.Map.{lookup}
 
 pub record Copy : Type 0 where
   pub slot : ℕ

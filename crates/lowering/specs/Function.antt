@@ -1,6 +1,6 @@
 -- codegen.rs: `gen_function`.
 use Prim.Native.Nat.{ℕ, _+_}
-use mathlib.Core.Bool.{Bool, _||_, cond}
+use mathlib.Core.Bool.{cond}
 use mathlib.Core.List.{[]}
 use lib.Dec.{ltb}
 use Rattle.numbers.specs.Align.{alignUp}
@@ -10,7 +10,7 @@ use Rattle.lowering.specs.Gen.{Gen, line, refuse, _>>=_, _>>_, when, eac
 use Rattle.book.specs.Shape.{allInsts}
 use Rattle.lowering.specs.Context.{Codegen, FnCtx, Slots, paramMap, blockMap, slotMap, noSlots}
 use Rattle.lowering.specs.Operand.{add64}
-use Rattle.lowering.specs.Frame.{Frame, framePass, noFrame}
+use Rattle.layout.specs.Frame.{Places, framePass, noFrame, framed}
 use Rattle.lowering.specs.Inst.{genInst}
 use Rattle.lowering.specs.Term.{genTerm}
 
@@ -42,15 +42,11 @@ module _ (c : FnCtx) where
     each genBlock (f .blocks)
     line Line.blank
 
--- `has_frame`: some bytes of fixed places, or a varying one
-unfoldable pub framed : Frame → Bool
-framed fr = ltb 0 (alignUp (fr .off) 8) || fr .dynamic
-
 module _ (m : Codegen) (f : Function) where
   unfoldable pub slotsOf : Slots
   slotsOf = slotMap (m .names) (allInsts (f .blocks)) noSlots
 
-  unfoldable pub contextOf : Frame → FnCtx
+  unfoldable pub contextOf : Places → FnCtx
   contextOf fr =
       record {
         codegen = m;
@@ -63,7 +59,7 @@ module _ (m : Codegen) (f : Function) where
         bpSlot = slotsOf .num;
       }
 
-  unfoldable pub totalSlots : Frame → ℕ
+  unfoldable pub totalSlots : Places → ℕ
   totalSlots fr = slotsOf .num + cond (framed fr) 1 0
 
   unfoldable pub genFunction : Gen
@@ -73,5 +69,5 @@ module _ (m : Codegen) (f : Function) where
 
 -- opens every definition of this file, for an example that computes
 unfoldable pub openFunction : Unit {0}
-unfolding genBlock prologue genLines framed slotsOf contextOf totalSlots genFunction
+unfolding genBlock prologue genLines slotsOf contextOf totalSlots genFunction
 openFunction = tt

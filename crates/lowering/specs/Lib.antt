@@ -8,7 +8,6 @@ pub mod Call
 pub mod Inst
 pub mod Edge
 pub mod Term
-pub mod Frame
 pub mod Function
 pub mod Translate
 pub mod Places

@@ -9,8 +9,9 @@ use Rattle.book.specs.Result.{Result, ok, okOr}
 use Rattle.layout.specs.Layout.{sizeOf, alignOf}
 use Rattle.assembly.specs.Line.{Line, Work, Mem}
 use Rattle.lowering.specs.Gen.{Gen, line, refuse, _>>=_, _>>_, when}
-use Rattle.lowering.specs.Context.{FnCtx, lookup, slotOf}
+use Rattle.lowering.specs.Context.{FnCtx, slotOf}
 use Rattle.lowering.specs.Operand.{pushInt, pushValue, pushTyped, storeDest, add64, mul64}
+use Rattle.book.specs.Map.{lookup}
 
 -- the width of a load or store of so many bytes
 unfoldable pub memOf : ℕ → Option Mem

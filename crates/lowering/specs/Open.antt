@@ -12,7 +12,7 @@ use Rattle.lowering.specs.Call.{openCall}
 use Rattle.lowering.specs.Inst.{openInst}
 use Rattle.lowering.specs.Edge.{openEdge}
 use Rattle.lowering.specs.Term.{openTerm}
-use Rattle.lowering.specs.Frame.{openFrame}
+use Rattle.layout.specs.Frame.{openFrame}
 use Rattle.lowering.specs.Function.{openFunction}
 use Rattle.lowering.specs.Translate.{openTranslate}
 

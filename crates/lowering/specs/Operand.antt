@@ -10,7 +10,8 @@ use Rattle.book.specs.Rule.{pick}
 use Rattle.book.specs.Result.{Result, ok, err, okOr}
 use Rattle.assembly.specs.Line.{Line, Work, Narrow}
 use Rattle.lowering.specs.Gen.{Gen, lines, line, refuse, _>>=_, _>>_, when, choose}
-use Rattle.lowering.specs.Context.{FnCtx, lookup, slotOf}
+use Rattle.lowering.specs.Context.{FnCtx, slotOf}
+use Rattle.book.specs.Map.{lookup}
 
 -- ---- widths
 -- `int_width`; without floats `scalar_width` is the same

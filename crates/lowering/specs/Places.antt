@@ -16,8 +16,9 @@ use Rattle.book.specs.Rule.{pick}
 use Rattle.book.specs.Result.{ok, bind, okOr, bind-ok, given-ok}
 use Rattle.layout.specs.Layout.{alignOf, sizeOf, frameLimit}
 use Rattle.book.specs.Shape.{Shape, shape}
-use Rattle.lowering.specs.Context.{Map, lookup, Slots, callSlots, slotsFor, slotStep, slotMap, noSlots}
-use Rattle.lowering.specs.Frame.{Frame, countOf, withPlace, withDynamic, place, frameStep, framePass, noFrame}
+use Rattle.lowering.specs.Context.{Slots, callSlots, slotsFor, slotStep, slotMap, noSlots}
+use Rattle.layout.specs.Frame.{Places, countOf, withPlace, withDynamic, place, frameStep, framePass, noFrame}
+use Rattle.book.specs.Map.{Map, lookup}
 
 no-entry : {A X : Type 0} (a : A) → none ≡ some a → X
 no-entry a h = absurd (let z : _≡_ {A = ℕ} 0 1 = cc in omega arith)
@@ -123,7 +124,7 @@ module _ (names : List (List ℕ)) where
 
 -- ---- fixed places
 -- the frame ends at 2^31 at most, and every place starts within it
-pub record Framed (f : Frame) : Type 0 where
+pub record Framed (f : Places) : Type 0 where
   pub small : f .off ≤ 2 ^ 31
   pub starts : (x o : ℕ) → lookup x (f .offsets) ≡ some o → o ≤ f .off
 
@@ -135,21 +136,21 @@ frame-limit-ok n {e} h =
     let q = g .1 in
     (q, omega arith)
 
-same-frame : {f g : Frame} → ok f ≡ ok g → f ≡ g
+same-frame : {f g : Places} → ok f ≡ ok g → f ≡ g
 same-frame h = cc
 
-with-place : (name start end : ℕ) (f : Frame) → start ≤ end → f .off ≤ start → end ≤ 2 ^ 31 → Framed f → Framed (withPlace name start end f)
+with-place : (name start end : ℕ) (f : Places) → start ≤ end → f .off ≤ start → end ≤ 2 ^ 31 → Framed f → Framed (withPlace name start end f)
 unfolding withPlace
 with-place name start end f l m n w = record { small = n; starts = within }
   where
     within : (x o : ℕ) → lookup x ((name, start) ∷ f .offsets) ≡ some o → o ≤ end
     within x o h = ⊎-elim (λ e. let q = e .1 in omega arith) (λ e. let q = w .starts x o e in omega arith) (lookup-cons x name start o (f .offsets) h)
 
-with-dynamic : (f : Frame) → Framed f → Framed (withDynamic f)
+with-dynamic : (f : Places) → Framed f → Framed (withDynamic f)
 unfolding withDynamic
 with-dynamic f w = record { small = w .small; starts = w .starts }
 
-end-framed : (name a bytes end : ℕ) (f g : Frame) → Framed f → frameLimit (alignUp (f .off) a + bytes) ≡ ok end
+end-framed : (name a bytes end : ℕ) (f g : Places) → Framed f → frameLimit (alignUp (f .off) a + bytes) ≡ ok end
     → ok (withPlace name (alignUp (f .off) a) end f) ≡ ok g → Framed g
 end-framed name a bytes end f g w h k =
     let l = frame-limit-ok (alignUp (f .off) a + bytes) h in
@@ -157,7 +158,7 @@ end-framed name a bytes end f g w h k =
     subst Framed (same-frame k) (with-place name (alignUp (f .off) a) end f (omega arith) (align-le (f .off) a) (l .1) w)
 
 module _ (structs : List StructType) where
-  place-framed : (name : ℕ) (ty : Ty) (n : Option ℕ) (f g : Frame) → Framed f → place structs name ty n f ≡ ok g → Framed g
+  place-framed : (name : ℕ) (ty : Ty) (n : Option ℕ) (f g : Places) → Framed f → place structs name ty n f ≡ ok g → Framed g
   unfolding place
   place-framed name ty none f g w h = subst Framed (same-frame h) (with-dynamic f w)
   place-framed name ty (some n) f g w h =
@@ -166,7 +167,7 @@ module _ (structs : List StructType) where
       let z = bind-ok (frameLimit (alignUp (f .off) (x .0) + y .0 * n)) (λ end. ok (withPlace name (alignUp (f .off) (x .0)) end f)) g (y .2) in
       end-framed name (x .0) (y .0 * n) (z .0) f g w (z .1) (z .2)
 
-  step-framed : (dest : Option ℕ) (sh : Shape) (f g : Frame) → Framed f → frameStep structs dest sh f ≡ ok g → Framed g
+  step-framed : (dest : Option ℕ) (sh : Shape) (f g : Places) → Framed f → frameStep structs dest sh f ≡ ok g → Framed g
   unfolding frameStep
   step-framed dest (Shape.alloca ty count) f g w h =
       let x = bind-ok (okOr 5 dest) (λ name. place structs name ty (countOf count) f) g h in
@@ -176,7 +177,7 @@ module _ (structs : List StructType) where
   step-framed dest Shape.cmpxchg f g w h = subst Framed (same-frame h) w
   step-framed dest Shape.plain f g w h = subst Framed (same-frame h) w
 
-  frame-framed : (is : List Inst) (f g : Frame) → Framed f → framePass structs is f ≡ ok g → Framed g
+  frame-framed : (is : List Inst) (f g : Places) → Framed f → framePass structs is f ≡ ok g → Framed g
   unfolding framePass
   frame-framed [] f g w h = subst Framed (same-frame h) w
   frame-framed (i ∷ is) f g w h =
@@ -184,6 +185,6 @@ module _ (structs : List StructType) where
       frame-framed is (x .0) g (step-framed (i .dest) (shape (i .kind)) f (x .0) w (x .1)) (x .2)
 
   -- a frame ends at 2^31 at most, and every fixed place starts within it
-  pub frame-within : (is : List Inst) (g : Frame) → framePass structs is noFrame ≡ ok g → Framed g
+  pub frame-within : (is : List Inst) (g : Places) → framePass structs is noFrame ≡ ok g → Framed g
   unfolding noFrame lookup
   frame-within is g h = frame-framed is noFrame g (record { small = omega arith; starts = λ x o e. no-entry o e }) h

@@ -9,15 +9,14 @@ use Rattle.book.specs.Ast.{Ty, Value, TypedVal, BinOp, ConvOp, ICmpPred, InstKi
 use Rattle.book.specs.Result.{Result, ok, bind as _>>=_, okOr}
 use Rattle.layout.specs.Layout.{alignOf, sizeOf}
 use Rattle.machine.specs.Memory.{peek, poke}
-use Rattle.lowering.specs.Context.{lookup}
-use Rattle.lowering.specs.Frame.{countOf}
-use Rattle.lowering.specs.Function.{framed}
 use Rattle.manual.specs.Stop.{Stop, stops, stopNumber, need}
 use Rattle.manual.specs.Values.{binValue, icmpValue, convValue, convWidths}
 use Rattle.manual.specs.State.{Cell, Given, Source, setEnv, setWorld, setStack, assign, put, isSet}
 use Rattle.manual.specs.Operand.{widthOf, integerWidth, value, typed}
 use Rattle.manual.specs.Gep.{offset}
 use Rattle.manual.specs.Call.{runCall}
+use Rattle.book.specs.Map.{lookup}
+use Rattle.layout.specs.Frame.{countOf, framed}
 
 -- the parts of a cmpxchg's result. "'extractvalue' Instruction": the operand is "of struct or array type", and "all indices must be in bounds"
 unfoldable pub part : (index : ℕ) → Cell → Result Cell

@@ -1,5 +1,8 @@
 -- opens every definition that a source run is computed by: an example says `unfolding openManual`
-use Rattle.lowering.specs.Open.{openLowering}
+use Rattle.book.specs.Map.{openMap}
+use Rattle.layout.specs.Layout.{openLayout}
+use Rattle.layout.specs.Step.{openStep}
+use Rattle.layout.specs.Frame.{openFrame}
 use Rattle.machine.specs.Open.{openMachine}
 use Rattle.manual.specs.Stop.{openStop}
 use Rattle.manual.specs.Values.{openValues}
@@ -12,5 +15,5 @@ use Rattle.manual.specs.Term.{openTerm}
 use Rattle.manual.specs.Run.{openRun}
 
 unfoldable pub openManual : Unit {0}
-unfolding openLowering openMachine openStop openValues openState openOperand openGep openCall openInst openTerm openRun
+unfolding openMap openLayout openStep openFrame openMachine openStop openValues openState openOperand openGep openCall openInst openTerm openRun
 openManual = tt

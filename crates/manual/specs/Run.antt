@@ -10,13 +10,12 @@ use Rattle.book.specs.Result.{Result, ok, err, bind as _>>=_}
 use Rattle.book.specs.Shape.{allInsts}
 use Rattle.machine.specs.Memory.{Memory}
 use Rattle.machine.specs.State.{World}
-use Rattle.lowering.specs.Frame.{Frame, framePass, noFrame}
-use Rattle.lowering.specs.Function.{framed}
 use Rattle.manual.specs.Stop.{Stop, stops}
 use Rattle.manual.specs.State.{Cell, Env, Given, Source, nothing, assign, unassign}
 use Rattle.manual.specs.Operand.{widthOf}
 use Rattle.manual.specs.Inst.{runInsts}
 use Rattle.manual.specs.Term.{Stand, body, blockNamed, runTerm}
+use Rattle.layout.specs.Frame.{Places, framePass, noFrame, framed}
 
 module _ (g : Given) where
   -- a block, from its label to the next block's or the return
@@ -61,7 +60,7 @@ argsFit (p ∷ ps) (v ∷ vs) = fitsIn (widthOf (p .ty)) v && argsFit ps vs
 
 -- ---- the beginning
 -- "the stack pointer moved at entry .. as the Rust moves it"
-unfoldable pub entered : Frame → (sp : ℕ) → ℕ
+unfoldable pub entered : Places → (sp : ℕ) → ℕ
 entered fr sp = cond (framed fr) ((sp + alignUp (fr .off) 8) % 2 ^ 64) sp
 
 unfoldable pub firstBlock : List BasicBlock → Result ℕ

@@ -7,7 +7,7 @@ use lib.Dec.{eqb}
 use Rattle.book.specs.Ast.{Function, StructType}
 use Rattle.machine.specs.Memory.{Memory}
 use Rattle.machine.specs.State.{Call, World}
-use Rattle.lowering.specs.Frame.{Frame}
+use Rattle.layout.specs.Frame.{Places}
 
 -- a value of a width; or a cmpxchg's two, the value found with its width and whether it was the one compared with
 pub data Cell : Type 0 where
@@ -23,7 +23,7 @@ pub record Given : Type 0 where
   pub names : List (List ℕ)
   pub structs : List StructType
   pub function : Function
-  pub frame : Frame
+  pub frame : Places
   pub world : World
   pub base : ℕ
 
