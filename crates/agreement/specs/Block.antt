@@ -35,7 +35,7 @@ use Rattle.agreement.specs.Relation.{Rel, Apart}
 use Rattle.agreement.specs.Operand.{okOr-some}
 use Rattle.agreement.specs.Instr.{StepOk}
 use Rattle.agreement.specs.Inst.{Good, Goods, insts-ok}
-use Rattle.agreement.specs.Flow.{Arrives, Goes, before, Lands, then-lands}
+use Rattle.agreement.specs.Flow.{Arrives, Goes, later, before, Lands, then-lands}
 use Rattle.agreement.specs.Edge.{SoundPhi, PhisSound, LabelsStand, FoundAlike}
 use Rattle.agreement.specs.Term.{GoodTerm, term-ok}
 use Rattle.agreement.specs.Naming.{Distinct, LabelsOnce}
@@ -202,7 +202,7 @@ module _ (s : Setup) where
     go-ok : (x : State) (m : ℕ) (t : Stand) → Goes s x m t → Holds (go (given s) t) (Goes s x (suc m))
     unfolding go
     go-ok x m (Stand.at b σ) g = block-step x m b σ g
-    go-ok x m (Stand.gave v σ) g = H-ok _ g
+    go-ok x m (Stand.gave v σ) g = H-ok _ (later s g)
 
     -- any number of blocks
     pub blocks-run : (n m : ℕ) (x : State) (t : Stand) → Goes s x m t → Holds (run (given s) n t) (Goes s x (m + n))

@@ -12,7 +12,7 @@ use Rattle.manual.specs.Functions.{Summary, Try, names, holding, world, orNone,
 
 summary : Outcome → Option Summary
 summary (running x) = none
-summary (returned v e) = some (record { value = v; calls = e .calls; bytes = peek 8 (e .memory) 4096 })
+summary (returned v e n) = some (record { value = v; calls = e .calls; bytes = peek 8 (e .memory) 4096 })
 summary failed = none
 
 -- 120 steps

@@ -28,7 +28,7 @@ use Rattle.agreement.specs.Naming.{Naming}
 same-state : {x y : State} → running x ≡ running y → x ≡ y
 same-state h = cc
 
-not-returned : {X : Type 0} {v : ℕ} {e : Frame} {x : State} → returned v e ≡ running x → X
+not-returned : {X : Type 0} {v : ℕ} {e : Frame} {n : ℕ} {x : State} → returned v e n ≡ running x → X
 not-returned h = absurd (let z : _≡_ {A = ℕ} 0 1 = cc in omega arith)
 
 not-failed : {X : Type 0} {x : State} → failed ≡ running x → X
@@ -66,7 +66,7 @@ module _ (names : List (List ℕ)) (f : ℕ) (world : World) (lines : List Line)
   unfolding steps
   steps-keep zero n x y a h = a y h
   steps-keep (suc k) n (running z) y a h = steps-keep k n (next z) y (λ t e. let i = a z refl in let j = step-keeps z t e in omega arith) h
-  steps-keep (suc k) n (returned v e) y a h = not-returned h
+  steps-keep (suc k) n (returned v e i) y a h = not-returned h
   steps-keep (suc k) n failed y a h = not-failed h
 
   -- the machine stands at a block's label line, n block labels passed
@@ -101,7 +101,7 @@ module _ (names : List (List ℕ)) (f : ℕ) (world : World) (lines : List Line)
   stands-once zero (suc k′) n x a c = no-more k′ n x a c
   stands-once (suc k) zero n x a c = no-more k n x c a
   stands-once (suc k) (suc k′) n (running z) a c = ap suc (stands-once k k′ n (next z) a c)
-  stands-once (suc k) (suc k′) n (returned v e) a c = not-returned (a .here)
+  stands-once (suc k) (suc k′) n (returned v e i) a c = not-returned (a .here)
   stands-once (suc k) (suc k′) n failed a c = not-failed (a .here)
 
 -- ---- the corollaries
@@ -149,9 +149,10 @@ module _ (book names : List ℕ) (counter workLen room : ℕ) (b : Sound) (out :
         a .same-calls,
       )
 
-  -- "if the first returns, so does the second": the same value, memory and calls, "void returns 0", and the stack pointer found at entry
+  -- where it has returned, so has the machine: the same value ("void returns 0"), memory and calls, the stack pointer found at entry, and no more block labels passed
+  -- than the source has passed blocks
   pub returns : (n value : ℕ) (σ : Source) → source n ≡ ok (Stand.gave value σ)
-      → (k : ℕ) × (e : Frame) × (machine k ≡ returned value e) × (e .memory ≡ σ .memory) × (e .calls ≡ σ .calls) × (e .sp ≡ sp)
+      → (k : ℕ) × (e : Frame) × (labels : ℕ) × (machine k ≡ returned value e labels) × (labels ≤ n) × (e .memory ≡ σ .memory) × (e .calls ≡ σ .calls) × (e .sp ≡ sp)
   returns n value σ h =
-      let r : Returned (b .names) (b .book) (out .lines) world args memory sp value σ = two-runs book names counter workLen room b out sound accepted naming world args memory sp fits word n _ h in
-      (r .number, r .frame, r .returns, r .same-memory, r .same-calls, r .stack-restored)
+      let r : Returned (b .names) (b .book) (out .lines) world args memory sp n value σ = two-runs book names counter workLen room b out sound accepted naming world args memory sp fits word n _ h in
+      (r .number, r .frame, r .labels, r .returns, r .within, r .same-memory, r .same-calls, r .stack-restored)

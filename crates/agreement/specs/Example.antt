@@ -1,5 +1,5 @@
 -- The theorem at work: `i32 @add1(i32 %a)` of "Sheets to check" from its raw book, for every argument, memory and stack pointer.
-use Prim.Native.Nat.{ℕ, _+_, _%_, _^_, _<_}
+use Prim.Native.Nat.{ℕ, _+_, _%_, _^_, _<_, _≤_}
 use Prim.Native.String.{String}
 use mathlib.Core.Path.{_≡_, refl, sym}
 use mathlib.Core.Bool.{Bool, true, false, false≢true}
@@ -109,11 +109,11 @@ fits : (a : ℕ) → a < 2 ^ 32 → argsFit (add1 .book .function .params) (a �
 unfolding openManual openLowering add1 i32
 fits a h = rw (lt-ltb a (2 ^ 32) h) refl
 
--- the lines return a + 1 modulo 2^32, and leave memory and stack pointer as they were
+-- the lines return a + 1 modulo 2^32 within one block, and leave memory and stack pointer as they were
 pub add1-returns : (world : World) (a : ℕ) (memory : Memory) (sp : ℕ) → a < 2 ^ 32 → sp < 2 ^ 64
-    → (k : ℕ) × (e : Frame) × (after (add1 .names) (add1 .book) (out .lines) world (a ∷ []) memory sp k ≡ returned ((a + 1) % 2 ^ 32) e) × (e .memory ≡ memory) × (e .sp ≡ sp)
+    → (k : ℕ) × (e : Frame) × (labels : ℕ) × (after (add1 .names) (add1 .book) (out .lines) world (a ∷ []) memory sp k ≡ returned ((a + 1) % 2 ^ 32) e labels) × (labels ≤ 1) × (e .memory ≡ memory) × (e .sp ≡ sp)
 unfolding atEnd
 add1-returns world a memory sp ha hs =
-    let r : Returned (add1 .names) (add1 .book) (out .lines) world (a ∷ []) memory sp ((a + 1) % 2 ^ 32) (atEnd a memory sp) =
+    let r : Returned (add1 .names) (add1 .book) (out .lines) world (a ∷ []) memory sp 1 ((a + 1) % 2 ^ 32) (atEnd a memory sp) =
     two-runs book (unlines names) 0 96 11 add1 out sound translated naming world (a ∷ []) memory sp (fits a ha) hs 1 _ (run-source world a memory sp) in
-    (r .number, r .frame, r .returns, r .same-memory, r .stack-restored)
+    (r .number, r .frame, r .labels, r .returns, r .within, r .same-memory, r .stack-restored)

@@ -48,7 +48,7 @@ module _ (s : Setup) where
   unfolding steps
   steps-then zero x e h = (h .number, (rw e (h .reach)))
   steps-then (suc m) (running t) e h = let r = steps-then m (stepOf t) e h in (suc (r .0), r .1)
-  steps-then (suc m) (returned v f) e h = absurd (let z : _≡_ {A = ℕ} 0 1 = cc in omega arith)
+  steps-then (suc m) (returned v f n) e h = absurd (let z : _≡_ {A = ℕ} 0 1 = cc in omega arith)
   steps-then (suc m) failed e h = absurd (let z : _≡_ {A = ℕ} 0 1 = cc in omega arith)
 
   pub next : {x t : State} {y : Outcome} → Reaches x (running t) → Reaches t y → Reaches x y

@@ -1,6 +1,6 @@
 -- Demand 3 written out: what the two runs have in common when the source has passed n blocks. With `Naming`, `Where` and the definitions of the two runs this is
 -- all that a reader of the theorem has to believe.
-use Prim.Native.Nat.{ℕ, suc, _^_, _<_}
+use Prim.Native.Nat.{ℕ, suc, _^_, _<_, _≤_}
 use mathlib.Core.Path.{_≡_}
 use mathlib.Core.Option.{some}
 use mathlib.Core.List.{List, [], _∷_}
@@ -41,10 +41,13 @@ module _ (names : List (List ℕ)) (b : Book) (lines : List Line) (world : World
     pub same-stack : frame .sp ≡ σ .sp
     pub same-calls : frame .calls ≡ σ .calls
 
-  pub record Returned (value : ℕ) (σ : Source) : Type 0 where
+  pub record Returned (n value : ℕ) (σ : Source) : Type 0 where
     pub number : ℕ
     pub frame : Frame
-    pub returns : after number ≡ returned value frame
+    -- with no more block labels passed than blocks
+    pub labels : ℕ
+    pub within : labels ≤ n
+    pub returns : after number ≡ returned value frame labels
     pub same-memory : frame .memory ≡ σ .memory
     pub same-calls : frame .calls ≡ σ .calls
     -- the stack pointer is the one found at entry
@@ -52,4 +55,4 @@ module _ (names : List (List ℕ)) (b : Book) (lines : List Line) (world : World
 
   abbrev pub Agrees : (n : ℕ) → Stand → Type 0
   Agrees n (Stand.at block σ) = AtLabel n block σ
-  Agrees n (Stand.gave value σ) = Returned value σ
+  Agrees n (Stand.gave value σ) = Returned n value σ

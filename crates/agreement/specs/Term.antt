@@ -89,7 +89,7 @@ module _ (s : Setup) where
         lands = λ i m k h.
             let l = pb σ e (n ∷ []) r in
             let c = seq s (q []) (l .runs) .from i m (Line.ret ∷ k) (h ∙ append-assoc A _ k ∙ ap (λ x. A ++ x) (append-assoc B _ k) ∙ sym (append-assoc A B _)) in
-            record { frame = l .frame; way = next s (c .way) (once s (rw (c .here) refl)); memory-eq = l .memory-eq; calls-eq = l .calls-eq; sp-eq = l .sp-eq };
+            record { frame = l .frame; labels = m; within = omega arith; way = next s (c .way) (once s (rw (c .here) refl)); memory-eq = l .memory-eq; calls-eq = l .calls-eq; sp-eq = l .sp-eq };
       })
 
   -- a constant compared with what is on top

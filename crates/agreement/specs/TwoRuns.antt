@@ -153,7 +153,7 @@ module _ (b : Sound) (out : Out) (counter m : ℕ) (limits : Limits m (b .book))
   agrees : (fr : Places) (n : ℕ) (t : Stand) → Goes (setup fr) (start args memory sp) n t → Agrees (b .names) (b .book) (out .lines) world args memory sp n t
   unfolding codegenOf
   agrees fr n (Stand.at block σ) a = arrived fr n block σ a
-  agrees fr n (Stand.gave v σ) a = record { number = a .way .number; frame = a .frame; returns = a .way .reach; same-memory = a .memory-eq; same-calls = a .calls-eq; stack-restored = a .sp-eq }
+  agrees fr n (Stand.gave v σ) a = record { number = a .way .number; frame = a .frame; labels = a .labels; within = a .within; returns = a .way .reach; same-memory = a .memory-eq; same-calls = a .calls-eq; stack-restored = a .sp-eq }
 
   book-runs : (n : ℕ) → Holds (sourceRun (b .names) (b .book) world args memory sp n) (Agrees (b .names) (b .book) (out .lines) world args memory sp n)
   unfolding sourceRun genFunction contextOf codegenOf _>>=_

@@ -47,7 +47,7 @@ world = record {
 
 ended : Outcome → End
 ended (running x) = End.goesOn
-ended (returned v e) = End.returns (record { value = v; calls = e .calls; bytes = peek 8 (e .memory) 4096 })
+ended (returned v e n) = End.returns (record { value = v; calls = e .calls; bytes = peek 8 (e .memory) 4096 })
 ended failed = End.fails
 
 -- 24 steps from the first line, with the arguments 11 and 12, the byte 7 at address 4096 and the stack pointer 1000

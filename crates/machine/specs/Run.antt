@@ -21,7 +21,7 @@ state p e o n = record { pos = p; frame = e; operands = o; passed = n }
 
 pub data Outcome : Type 0 where
   running : State → Outcome
-  returned : (value : ℕ) → Frame → Outcome
+  returned : (value : ℕ) → Frame → (passed : ℕ) → Outcome
   failed : Outcome
 
 -- f: the name of the function whose lines these are
@@ -35,7 +35,7 @@ module _ (names : List (List ℕ)) (f : ℕ) (world : World) (lines : List Line)
   follow p n (Effect.goes e o) = running (state (suc p) e o n)
   follow p n (Effect.passes e o) = running (state (suc p) e o (suc n))
   follow p n (Effect.jumps t e o) = found (find names f t lines) e o n
-  follow p n (Effect.ends v e) = returned v e
+  follow p n (Effect.ends v e) = returned v e n
   follow p n Effect.fails = failed
 
   -- the lines from the position on are the ones given
@@ -49,7 +49,7 @@ module _ (names : List (List ℕ)) (f : ℕ) (world : World) (lines : List Line)
   unfoldable pub steps : ℕ → Outcome → Outcome
   steps zero x = x
   steps (suc k) (running s) = steps k (step s)
-  steps (suc k) (returned v e) = returned v e
+  steps (suc k) (returned v e n) = returned v e n
   steps (suc k) failed = failed
 
 -- "it begins at the function's first line without slots, operands or listed calls"
