@@ -22,11 +22,13 @@ mod random;
 mod refusal;
 mod rng;
 mod runs;
+mod scratch;
 mod show;
 #[cfg(proved)]
 mod soundness;
 mod stats;
 mod table;
+mod two_runs;
 mod vectors;
 mod visit;
 
@@ -94,6 +96,7 @@ fn run(args: &[&str]) -> Result<(), String> {
         }
         ["definitions", seed, count] => definitions::compare(number(seed)?, number(count)?, false),
         ["definitions", seed, count, "--damaged"] => definitions::compare(number(seed)?, number(count)?, true),
+        ["runs", seed, count] => two_runs::compare(number(seed)?, number(count)?),
         ["table", seed, count, file] => table::write(number(seed)?, number(count)?, file),
         #[cfg(proved)]
         ["soundness", seed, count] => soundness::compare(number(seed)?, number(count)?),
