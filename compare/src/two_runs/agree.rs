@@ -3,7 +3,7 @@ use super::machine::{Comes, Machine};
 use super::program::Program;
 use super::source::{Halt, Named, Source, Stand, Stop};
 use super::world::{Call, Input, Memory};
-use std::collections::BTreeSet;
+use std::collections::{BTreeMap, BTreeSet};
 
 /// The source run with so many blocks passed.
 pub enum Seen {
@@ -23,12 +23,13 @@ pub struct Held {
     /// Calls made, those of the last block too.
     pub calls: usize,
     pub executed: Vec<u64>,
+    pub met: BTreeMap<&'static str, u64>,
     pub touched: BTreeSet<u64>,
 }
 
 /// Runs both for at most so many blocks. An error is a difference.
 pub fn hold(program: &Program, input: &Input, bound: usize) -> Result<Held, String> {
-    let mut held = Held { seen: vec![], steps: vec![], end: Ok(()), calls: 0, executed: vec![], touched: BTreeSet::new() };
+    let mut held = Held::default();
     let mut source = match Source::begin(&program.book, program.layout(), input) {
         Ok(source) => source,
         Err(halt) => {
@@ -53,8 +54,23 @@ pub fn hold(program: &Program, input: &Input, bound: usize) -> Result<Held, Stri
     }
     held.calls = source.calls.len();
     held.executed = source.executed;
+    held.met = source.met;
     held.touched = source.touched;
     Ok(held)
+}
+
+impl Default for Held {
+    fn default() -> Held {
+        Held {
+            seen: vec![],
+            steps: vec![],
+            end: Ok(()),
+            calls: 0,
+            executed: vec![],
+            met: BTreeMap::new(),
+            touched: BTreeSet::new(),
+        }
+    }
 }
 
 impl Held {

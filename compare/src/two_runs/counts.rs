@@ -7,6 +7,15 @@ use std::collections::BTreeMap;
 /// Runs that passed more blocks than this went far.
 const FAR: usize = 3;
 
+/// What is easily missed; source.rs and inst.rs count it.
+const CORNERS: [&str; 25] = [
+    "arithmetic at 1", "arithmetic at 8", "arithmetic at 16", "arithmetic at 32", "arithmetic at 64", "phis that swap",
+    "switch to a case", "switch to a negative case", "constant index", "varying index", "negative varying index", "field",
+    "fixed place", "varying place", "stack pointer that wraps", "access that wraps", "cmpxchg that stores",
+    "cmpxchg that does not", "call of a function", "void call of a function", "call through a pointer",
+    "void call through a pointer", "memcmp", "syscall with a reply", "syscall without a reply",
+];
+
 #[derive(Default)]
 pub struct Counts {
     pub functions: u64,
@@ -17,6 +26,7 @@ pub struct Counts {
     stops: BTreeMap<Stop, u64>,
     blocks: u64,
     executed: Vec<u64>,
+    met: BTreeMap<&'static str, u64>,
 }
 
 impl Counts {
@@ -33,6 +43,9 @@ impl Counts {
         for (sum, number) in self.executed.iter_mut().zip(&held.executed) {
             *sum += number;
         }
+        for (what, number) in &held.met {
+            *self.met.entry(what).or_default() += number;
+        }
     }
 
     /// Prints the counts, and the kinds that were never run, which are a loss of the maker.
@@ -47,27 +60,29 @@ impl Counts {
         for (stop, number) in &self.stops {
             println!("  {:14}{number:8}", format!("{stop:?}"));
         }
-        println!("instructions run:");
+        println!("run:");
         let mut row = String::new();
-        for (kind, name) in kinds() {
-            row += &format!("  {name} {}", self.run(kind));
+        for (name, number) in self.reached() {
+            row += &format!("  {name} {number}");
             if row.len() > 100 {
                 println!("{}", std::mem::take(&mut row));
             }
         }
         println!("{row}");
-        for (kind, name) in kinds().filter(|(kind, _)| self.run(*kind) == 0) {
-            println!("NEVER RUN: {name} (kind {kind})");
+        for (name, _) in self.reached().filter(|(_, number)| *number == 0) {
+            println!("NEVER RUN: {name}");
         }
     }
 
-    fn run(&self, kind: u64) -> u64 {
-        self.executed.get(kind as usize).copied().unwrap_or(0)
+    /// How often each kind of instruction and each corner was run.
+    fn reached(&self) -> impl Iterator<Item = (String, u64)> + '_ {
+        let kinds = kinds().map(|(kind, name)| (name, self.executed.get(kind as usize).copied().unwrap_or(0)));
+        kinds.chain(CORNERS.iter().map(|what| (what.to_string(), self.met.get(what).copied().unwrap_or(0))))
     }
 
-    /// Whether there is a kind that no run reached.
+    /// Whether there is a kind or a corner that no run reached.
     pub fn lacks_a_kind(&self) -> bool {
-        kinds().any(|(kind, _)| self.run(kind) == 0)
+        self.reached().any(|(_, number)| number == 0)
     }
 }
 

@@ -79,8 +79,7 @@ impl Maker {
     pub fn term(&mut self, flow: &Flow, labels: &[String], ret_ty: &Type, counters: &Counters, insts: &mut Vec<Inst>) -> Terminator {
         let label = |block: &usize| labels[*block].clone();
         match &flow.endings[self.block] {
-            Ending::Ret if *ret_ty == Type::Void => Terminator::Ret { val: None },
-            Ending::Ret => Terminator::Ret { val: Some(self.typed(ret_ty.clone())) },
+            Ending::Ret => self.ret(ret_ty),
             Ending::Br(to) => Terminator::Br { cond: None, if_true: label(to), if_false: None },
             Ending::CondBr(yes, no) => {
                 let counter = [yes, no].into_iter().find_map(|to| Some((to == yes, counters.get(to)?)));
@@ -98,6 +97,15 @@ impl Maker {
                 Terminator::Switch { ty, val, default: label(default), cases }
             }
             Ending::Unreachable => Terminator::Unreachable,
+        }
+    }
+
+    /// Of the function's type, but for a few.
+    fn ret(&mut self, ret_ty: &Type) -> Terminator {
+        match ret_ty {
+            _ if self.rng.below(1000) < self.risk => Terminator::Ret { val: Some(self.typed(Type::Int(8))) },
+            Type::Int(_) | Type::Ptr => Terminator::Ret { val: Some(self.typed(ret_ty.clone())) },
+            _ => Terminator::Ret { val: None },
         }
     }
 

@@ -21,7 +21,9 @@ impl Flow {
     pub fn new(rng: &mut Rng, count: usize) -> Flow {
         let endings = (0..count).map(|block| ending(rng, block, count)).collect();
         let mut flow = Flow { endings, before: vec![] };
-        flow.find_dominators();
+        if count > 0 {
+            flow.find_dominators();
+        }
         flow
     }
 

@@ -28,7 +28,9 @@ impl<'a> Source<'a> {
             InstKind::Bin { op, ty, lhs, rhs } => {
                 let width = integer_width(ty)?;
                 let (x, y) = (self.operand(width, lhs)?, self.operand(width, rhs)?);
-                Ok((width, values::bin(*op, width, x, y)?))
+                let value = values::bin(*op, width, x, y)?;
+                self.meet(arithmetic(width));
+                Ok((width, value))
             }
             InstKind::ICmp { pred, ty, lhs, rhs } => {
                 let width = width_of(ty)?;
@@ -57,6 +59,9 @@ impl<'a> Source<'a> {
     }
 
     fn touch(&mut self, address: u64, bytes: u64) {
+        if address.checked_add(bytes).is_none() {
+            self.meet("access that wraps");
+        }
         self.touched.extend((0..bytes).map(|place| address.wrapping_add(place)));
     }
 
@@ -91,6 +96,7 @@ impl<'a> Source<'a> {
         if found == cmp {
             self.memory.write(address, bytes, new);
         }
+        self.meet(if found == cmp { "cmpxchg that stores" } else { "cmpxchg that does not" });
         self.put(dest, Named::Two { width, found, success: found == cmp });
         Ok(())
     }
@@ -115,8 +121,10 @@ impl<'a> Source<'a> {
             if self.env.contains_key(name) {
                 return Err(Stop::PlaceTwice.into());
             }
+            self.meet("fixed place");
             self.input.sp.wrapping_add(*self.places.get(name).ok_or(Stop::IllFormed)?)
         } else {
+            self.meet("varying place");
             self.varying_place(ty, count, align)?
         };
         self.put(dest, Named::One { width: 64, value: address });
@@ -153,6 +161,11 @@ impl<'a> Source<'a> {
             Value::Int(number) => values::index(width, *number)?,
             value => values::signed(width, self.operand(width, value)?),
         };
+        self.meet(match (&index.val, number < 0) {
+            (Value::Int(_), _) => "constant index",
+            (_, false) => "varying index",
+            (_, true) => "negative varying index",
+        });
         Ok((number as u64).wrapping_mul(self.layout.size_of(ty)))
     }
 
@@ -166,6 +179,7 @@ impl<'a> Source<'a> {
         let Value::Int(number) = &index.val else { return Err(Stop::IllFormed.into()) };
         let field = values::index(integer_width(&index.ty)?, *number)? as usize;
         let part = body.fields.get(field).ok_or(Stop::IllFormed)?;
+        self.meet("field");
         Ok((self.layout.field_offset(body, field), part.clone()))
     }
 
@@ -186,6 +200,7 @@ impl<'a> Source<'a> {
                 return Err(Stop::SyscallShape.into());
             }
         }
+        self.meet(sort_of_call(&target, result.is_some()));
         let position = self.calls.len();
         let (cell, memory) = self.input.reply(position);
         self.memory = memory.clone();
@@ -208,5 +223,27 @@ fn listed_as(name: &str) -> Target {
         Some(printed) => Target::Syscall(printed.to_string()),
         None if name == "bcmp" || name == "memcmp" => Target::Syscall("memcmp".to_string()),
         None => Target::Function(name.to_string()),
+    }
+}
+
+fn sort_of_call(target: &Target, replies: bool) -> &'static str {
+    match (target, replies) {
+        (Target::Function(_), true) => "call of a function",
+        (Target::Function(_), false) => "void call of a function",
+        (Target::Address(_), true) => "call through a pointer",
+        (Target::Address(_), false) => "void call through a pointer",
+        (Target::Syscall(printed), _) if printed == "memcmp" => "memcmp",
+        (Target::Syscall(_), true) => "syscall with a reply",
+        (Target::Syscall(_), false) => "syscall without a reply",
+    }
+}
+
+fn arithmetic(width: u32) -> &'static str {
+    match width {
+        1 => "arithmetic at 1",
+        8 => "arithmetic at 8",
+        16 => "arithmetic at 16",
+        32 => "arithmetic at 32",
+        _ => "arithmetic at 64",
     }
 }

@@ -99,9 +99,9 @@ impl Maker {
     }
 
     fn function(&mut self) -> Function {
-        let ret_ty = if self.rng.chance(150) { Type::Void } else { self.scalar() };
+        let ret_ty = self.result_type();
         let params = (0..self.rng.range(1, 4)).map(|_| self.param()).collect();
-        let count = self.rng.range(2, 8);
+        let count = if self.rng.below(5000) < self.risk { 0 } else { self.rng.range(2, 8) };
         let labels: Vec<String> = (0..count).map(|_| self.name(&["b", "for.", "if-"])).collect();
         let flow = Flow::new(&mut self.rng, count);
 
@@ -118,6 +118,9 @@ impl Maker {
             for _ in 0..self.rng.below(5) {
                 self.inst(&mut insts);
             }
+            if self.rng.below(1000) < self.risk {
+                insts.push(self.fault());
+            }
             let term = self.term(&flow, &labels, &ret_ty, &counters, &mut insts);
             blocks[block] = Some(BasicBlock { label: labels[block].clone(), insts, term });
         }
@@ -127,7 +130,10 @@ impl Maker {
     }
 
     fn param(&mut self) -> Param {
-        let ty = if self.rng.chance(300) { Type::Ptr } else { self.scalar() };
+        let ty = self.param_type();
+        if self.rng.chance(30) {
+            return Param { ty, name: None };
+        }
         let name = self.name(&["p", "p."]);
         self.locals.push(Local { name: name.clone(), ty: ty.clone(), block: None });
         Param { ty, name: Some(name) }

@@ -70,6 +70,7 @@ impl Maker {
         match self.rng.below(6) {
             0 if !self.pairs.is_empty() => Value::Local(self.rng.pick(&self.pairs).name.clone()),
             1 if *ty != Type::Int(64) => Value::Int(1 << 62 | 5),
+            _ if self.locals.is_empty() => Value::Poison,
             _ => Value::Local(self.rng.pick(&self.locals).name.clone()),
         }
     }

@@ -1,13 +1,13 @@
 -- What the two runs of a function show at each block, by the definitions: the source run (crates/manual), and the steps of the machine (crates/machine) on the
--- lines of the translation (crates/lowering). What is compared is that of `AtLabel` and `Returned` (crates/agreement, Statement).
+-- lines of the translation (crates/lowering). What is looked at is that of `AtLabel` and `Returned` (crates/agreement, Statement), on which nothing here rests.
 use Prim.Native.Nat.{ℕ, zero, suc}
-use mathlib.Core.Bool.{Bool, true, false, cond, _&&_}
+use mathlib.Core.Bool.{Bool, true, false, not, cond, _&&_, _||_}
 use mathlib.Core.Option.{Option, none, some}
 use mathlib.Core.List.{List, [], _∷_, _++_, map}
 use lib.Dec.{eqb}
 use lib.ListN.{drop}
 use Rattle.names.specs.Text.{same}
-use Rattle.book.specs.Ast.{Book}
+use Rattle.book.specs.Ast.{Inst, Param}
 use Rattle.book.specs.Result.{Result, ok, err, bind as _>>=_}
 use Rattle.book.specs.Decode.{distinct}
 use Rattle.book.specs.Shape.{allInsts}
@@ -15,18 +15,17 @@ use Rattle.book.specs.Check.{Sound, checked}
 use Rattle.assembly.specs.Line.{Line}
 use Rattle.assembly.specs.Number.{kindOf, operandOf}
 use Rattle.machine.specs.Memory.{Memory, peek}
+use Rattle.machine.specs.Labels.{prints, labelOf}
 use Rattle.machine.specs.State.{Target, Call, Shape, World, Frame, cellAt}
 use Rattle.machine.specs.Run.{State, Outcome, running, returned, failed, steps, start}
 use Rattle.lowering.specs.Gen.{Out}
+use Rattle.lowering.specs.Context.{codegenOf, lookup, paramMap}
+use Rattle.lowering.specs.Function.{slotsOf}
 use Rattle.lowering.specs.Translate.{generated}
 use Rattle.manual.specs.State.{Cell, Env, Source}
 use Rattle.manual.specs.Term.{Stand}
 use Rattle.manual.specs.Run.{argsFit, sourceRun}
 use Rattle.manual.specs.Open.{openManual}
-use Rattle.agreement.specs.Names.{optional, paramNames, resultNames}
-use Rattle.agreement.specs.Relation.{readAt}
-use Rattle.agreement.specs.Decide.{hasLabel, newLabel, labelsOnce}
-use Rattle.agreement.specs.Statement.{argCell, firstSlot}
 
 -- bytes over a default
 pub record Bytes : Type 0 where
@@ -82,6 +81,19 @@ called t xs = record { target = t; args = xs }
 unfoldable pub bytesAt : Memory → List ℕ → List ℕ
 bytesAt m as′ = map (λ a. peek 1 m a) as′
 
+-- ---- names
+unfoldable pub here : {A : Type 0} → Option A → List A
+here none = []
+here (some v) = v ∷ []
+
+unfoldable pub paramNames : List Param → List ℕ
+paramNames [] = []
+paramNames (p ∷ ps) = here (p .name) ++ paramNames ps
+
+unfoldable pub resultNames : List Inst → List ℕ
+resultNames [] = []
+resultNames (j ∷ js) = here (j .dest) ++ resultNames js
+
 -- ---- the source
 unfoldable pub cells : Result Cell → List ℕ
 cells (ok (Cell.one w v)) = v ∷ []
@@ -94,23 +106,28 @@ sourceSeen xs as′ sp (ok (Stand.at b σ)) = at b (map (λ x. cells (σ .env x)
 sourceSeen xs as′ sp (ok (Stand.gave v σ)) = gave v (bytesAt (σ .memory) as′) sp (σ .calls)
 
 -- ---- the machine
-unfoldable pub here : Option ℕ → List ℕ
-here none = []
-here (some v) = v ∷ []
+-- a local is a parameter first
+unfoldable pub cellOf : (arg slot : Option ℕ) → (args slots : List ℕ) → List ℕ
+cellOf (some k) j as′ ss = here (cellAt as′ k)
+cellOf none (some j) as′ ss = here (cellAt ss j)
+cellOf none none as′ ss = []
 
-unfoldable pub pair : List ℕ → Option ℕ → List ℕ
+unfoldable pub pair : List ℕ → (slot : Option ℕ) → List ℕ
 pair ss none = []
-pair ss (some i) = here (cellAt ss i) ++ here (cellAt ss (suc i))
+pair ss (some j) = here (cellAt ss j) ++ here (cellAt ss (suc j))
 
 -- a function's lines, and what they are given
 module _ (s : Sound) (lines : List Line) (i : Input) where
   abbrev pub memory : Memory
   memory = memoryOf (i .memory)
 
+  abbrev pub slotOf : ℕ → Option ℕ
+  slotOf x = lookup x (slotsOf (codegenOf (s .names) (s .book)) (s .book .function) .slots)
+
   -- the cells of a name that the source has set
   unfoldable pub held : Frame → ℕ → Result Cell → List ℕ
-  held e x (ok (Cell.one w v)) = here (readAt (argCell (s .names) (s .book) lines (worldOf i) (i .args) memory (i .sp) x) (firstSlot (s .names) (s .book) lines (worldOf i) (i .args) memory (i .sp) x) (e .args) (e .slots))
-  held e x (ok (Cell.two w v t)) = pair (e .slots) (firstSlot (s .names) (s .book) lines (worldOf i) (i .args) memory (i .sp) x)
+  held e x (ok (Cell.one w v)) = cellOf (lookup x (paramMap 0 (s .book .function .params) [])) (slotOf x) (e .args) (e .slots)
+  held e x (ok (Cell.two w v t)) = pair (e .slots) (slotOf x)
   held e x (err r) = []
 
   -- kind 2 is a block's label
@@ -150,9 +167,21 @@ module _ (s : Sound) (lines : List Line) (i : Input) where
   unfoldable pub namesOf : List ℕ
   namesOf = paramNames (s .book .function .params) ++ resultNames (allInsts (s .book .function .blocks))
 
+  unfoldable pub hasLabel : List ℕ → List Line → Bool
+  hasLabel t [] = false
+  hasLabel t (l ∷ ls) = prints t (labelOf (s .names) (s .book .function .name) l) || hasLabel t ls
+
+  unfoldable pub newLabel : Option (List ℕ) → List Line → Bool
+  newLabel none ls = true
+  newLabel (some t) ls = not (hasLabel t ls)
+
+  unfoldable pub labelsOnce : List Line → Bool
+  labelsOnce [] = true
+  labelsOnce (l ∷ ls) = newLabel (labelOf (s .names) (s .book .function .name) l) ls && labelsOnce ls
+
   -- names are distinct, no label line occurs twice, the arguments fit
   unfoldable pub premises : Bool
-  premises = distinct namesOf && labelsOnce (s .names) (s .book .function .name) lines && argsFit (s .book .function .params) (i .args)
+  premises = distinct namesOf && labelsOnce lines && argsFit (s .book .function .params) (i .args)
 
 -- what is shown of a book's runs
 pub data Shown : Type 0 where
@@ -177,5 +206,6 @@ agreed ss = runs true (map twice ss)
 
 -- opens every definition that an equation is computed by
 unfoldable pub openShow : Unit {0}
-unfolding openManual optional paramNames resultNames readAt hasLabel newLabel labelsOnce byteIn memoryOf nth shapeIn worldOf bytesAt cells sourceSeen here pair held atLine empty seenAt seenGave machineSeen goesOn namesOf premises shownOf show twice
+unfolding openManual byteIn memoryOf nth shapeIn worldOf bytesAt here paramNames resultNames cells sourceSeen cellOf pair held atLine empty seenAt seenGave machineSeen goesOn
+    namesOf hasLabel newLabel labelsOnce premises shownOf show twice
 openShow = tt

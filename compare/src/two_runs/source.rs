@@ -66,6 +66,8 @@ pub struct Source<'a> {
     pub sp: u64,
     /// How often each entry kind was run.
     pub executed: Vec<u64>,
+    /// How often what counts.rs looks for was met.
+    pub met: BTreeMap<&'static str, u64>,
     /// Addresses read or written.
     pub touched: BTreeSet<u64>,
 }
@@ -87,6 +89,7 @@ impl<'a> Source<'a> {
             calls: vec![],
             sp: input.sp,
             executed: vec![0; KINDS],
+            met: BTreeMap::new(),
             touched: BTreeSet::new(),
         };
         source.enter_frame();
@@ -115,7 +118,14 @@ impl<'a> Source<'a> {
         }
         let size = end.next_multiple_of(8);
         self.framed = size > 0 || varying;
+        if self.sp.checked_add(size).is_none() {
+            self.meet("stack pointer that wraps");
+        }
         self.sp = self.sp.wrapping_add(size);
+    }
+
+    pub(super) fn meet(&mut self, what: &'static str) {
+        *self.met.entry(what).or_default() += 1;
     }
 
     fn block_named(&self, label: &str) -> Result<&'a BasicBlock, Stop> {
@@ -149,6 +159,7 @@ impl<'a> Source<'a> {
                 let value = self.operand(width, val)?;
                 for (number, target) in cases {
                     if values::constant(width, *number)? == value {
+                        self.meet(if *number < 0 { "switch to a negative case" } else { "switch to a case" });
                         return self.edge(&block.label, target);
                     }
                 }
@@ -178,6 +189,9 @@ impl<'a> Source<'a> {
             taken.push((&inst.dest, Named::One { width, value: self.operand(width, value)? }));
         }
         self.executed[kind::PHI as usize] += taken.len() as u64;
+        if phis_swap(block, from) {
+            self.meet("phis that swap");
+        }
         for (dest, named) in taken {
             self.put(dest, named);
         }
@@ -205,6 +219,19 @@ impl<'a> Source<'a> {
             _ => Err(Stop::IllFormed),
         }
     }
+}
+
+/// Whether a phi takes the value of a phi that stands before it, which the same edge sets.
+fn phis_swap(block: &BasicBlock, from: &str) -> bool {
+    let mut before: Vec<&str> = vec![];
+    for inst in &block.insts {
+        let InstKind::Phi { incoming, .. } = &inst.kind else { break };
+        match incoming.iter().find(|(_, label)| label == from) {
+            Some((Value::Local(name), _)) if before.contains(&name.as_str()) => return true,
+            _ => before.extend(inst.dest.as_deref()),
+        }
+    }
+    false
 }
 
 /// A place is fixed where its count is absent or an integer.
