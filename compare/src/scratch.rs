@@ -44,7 +44,8 @@ impl Scratch<'_> {
         for name in &needed {
             copy_folder(&root.join("crates").join(name), &crates.join(name))?;
         }
-        let mut listed: String = listed(&all).filter(|(name, _)| needed.contains(name)).map(|(_, line)| format!("{line}\n")).collect();
+        let mut listed: String =
+            listed(&all).filter(|(name, _)| needed.contains(name)).map(|(_, line)| format!("{line}\n")).collect();
         let _ = writeln!(listed, "equations: {}", self.crates.join(" "));
         fs::write(folder.join("crates.txt"), listed)?;
 

@@ -1,22 +1,14 @@
 //! Holds a function's run by the manual against the run of its lines on the stack machine, on random functions and inputs:
 //! first by two interpreters written here from document 01, then by the definitions in crates/manual and crates/machine.
 mod agree;
-mod calls;
+mod cases;
 mod counts;
-mod edges;
 mod equations;
-mod faults;
-mod flow;
 mod inputs;
-mod inst;
-mod insts;
-mod lines;
 mod machine;
-mod maker;
-mod operands;
+mod make;
 mod program;
 mod source;
-mod values;
 mod world;
 
 use crate::scratch::Scratch;
@@ -24,6 +16,8 @@ use agree::hold;
 use counts::Counts;
 use equations::Case;
 use program::Program;
+
+pub use cases::tests;
 
 /// Blocks of a run at most: of one that is computed, and of one that is only run here.
 const BOUND: usize = 12;
@@ -72,7 +66,7 @@ pub fn compare(seed: u64, count: u64) -> Result<(), String> {
 fn run(seed: u64, index: u64, bound: usize, counts: &mut Counts, mut cases: Option<&mut Vec<Case>>) -> Result<(), String> {
     let named = |error: String| format!("seed {seed}, function {index}: {error}");
     let counter = COUNTERS[index as usize % COUNTERS.len()];
-    let program = Program::new(maker::make(seed, index), counter).map_err(named)?;
+    let program = Program::new(make::make(seed, index), counter).map_err(named)?;
     let program = program.ok_or_else(|| named("refused".to_string()))?;
     counts.functions += 1;
     for number in 0..INPUTS {

@@ -106,7 +106,7 @@ fn same(program: &Program, source: &Source, machine: &Machine, comes: Comes, pas
     let (expected, sp) = match &source.stand {
         Stand::At(block) => (Comes::At(program.printed_label(block)), source.sp),
         // The stack pointer found at entry is back.
-        Stand::Gave(value) => (Comes::Gave(*value), machine_entry(source)),
+        Stand::Gave(value) => (Comes::Gave(*value), source.input.sp),
     };
     if comes != expected {
         return differ("place", &expected, &comes);
@@ -133,10 +133,6 @@ fn same(program: &Program, source: &Source, machine: &Machine, comes: Comes, pas
         }
     }
     Ok(())
-}
-
-fn machine_entry(source: &Source) -> u64 {
-    source.input.sp
 }
 
 /// A value's number, or the two of a cmpxchg.

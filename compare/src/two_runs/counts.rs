@@ -80,6 +80,11 @@ impl Counts {
         kinds.chain(CORNERS.iter().map(|what| (what.to_string(), self.met.get(what).copied().unwrap_or(0))))
     }
 
+    /// Whether a good part of the runs returned or went beyond a few blocks.
+    pub fn goes_far(&self) -> bool {
+        self.returned > self.runs / 3 && self.far > self.runs / 3
+    }
+
     /// Whether there is a kind or a corner that no run reached.
     pub fn lacks_a_kind(&self) -> bool {
         self.reached().any(|(_, number)| number == 0)

@@ -81,12 +81,12 @@ fn given(equation: &mut String, program: &Program, input: &Input, held: &Held, l
     }
     let _ = write!(
         equation,
-        "record {{ args = {}; memory = {}; sp = {};\n    globals = {}; shapes = {};\n    replies = {replies};\n    looked = {}; counts = {} }}",
+        "record {{ args = {}; memory = {}; sp = {};\n    globals = {}; shapes = {shapes};
+    replies = {replies};\n    looked = {}; counts = {} }}",
         numbers(&input.args),
         stored(&input.memory),
         input.sp,
         numbers(&globals),
-        shapes,
         numbers(looked),
         numbers(&counts)
     );

@@ -2,7 +2,7 @@
 use super::agree::hold;
 use super::program::Program;
 use super::source::{width_of, Halt};
-use super::values::low;
+use super::source::values::low;
 use super::world::{Input, Memory, Reply};
 use crate::rng::Rng;
 use std::collections::BTreeMap;

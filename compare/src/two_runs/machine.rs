@@ -1,9 +1,12 @@
 //! The stack machine of document 01, "The two runs", on the published Rust's lines.
-use super::lines::{read, Line, Two, When};
+use self::lines::{read, Line, Two, When};
 use super::world::{Call, Input, Memory, Target};
 use std::collections::{BTreeMap, BTreeSet};
 
+mod lines;
+
 /// A function's lines with the places of their labels.
+#[derive(Default)]
 pub struct Code {
     lines: Vec<Line>,
     labels: BTreeMap<String, usize>,

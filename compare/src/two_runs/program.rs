@@ -1,6 +1,6 @@
 //! A function with its lines, ready to be run both ways.
 use super::machine::Code;
-use super::maker::Made;
+use super::make::Made;
 use super::world::Shape;
 use crate::book::*;
 use crate::check::work_needed;
@@ -27,16 +27,22 @@ impl Program {
         let Made { book, shapes } = made;
         let lent = Lent { slices: encode(&book), counter, work: work_needed(book.names.len()) };
         let Expected::Accepted(accepted) = expected(&lent)? else { return Ok(None) };
-        let own = printed(&book.function.name);
-        let blocks: BTreeSet<String> =
-            book.function.blocks.iter().map(|block| format!("{own}__{}", printed(&block.label))).collect();
-        let symbols: BTreeMap<String, String> = book.names.iter().map(|name| (printed(name), name.clone())).collect();
+        let symbols: BTreeSet<String> = book.names.iter().map(|name| printed(name)).collect();
         if symbols.len() < book.names.len() {
             return Err("two names print alike".to_string());
         }
-        let code = Code::new(&accepted.lines, blocks, symbols)?;
         let (module, slots) = (oracle::module(&book), slots(&book));
-        Ok(Some(Program { book, lent, shapes, lines: accepted.lines, code, module, slots }))
+        let mut program = Program { book, lent, shapes, lines: accepted.lines, code: Code::default(), module, slots };
+        program.read_lines()?;
+        Ok(Some(program))
+    }
+
+    /// Makes the code of the lines.
+    pub fn read_lines(&mut self) -> Result<(), String> {
+        let blocks = self.book.function.blocks.iter().map(|block| self.printed_label(&block.label)).collect();
+        let symbols = self.book.names.iter().map(|name| (printed(name), name.clone())).collect();
+        self.code = Code::new(&self.lines, blocks, symbols)?;
+        Ok(())
     }
 
     pub fn layout(&self) -> Layout<'_> {

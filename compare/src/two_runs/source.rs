@@ -1,9 +1,11 @@
 //! The source run of document 01, "The two runs": what a function does by the LLVM manual, block after block.
-use super::values;
 use super::world::{Call, Input, Memory};
 use crate::book::*;
 use std::collections::{BTreeMap, BTreeSet};
 use uvclang::layout::Layout;
+
+mod insts;
+pub mod values;
 
 /// The reasons of document 01, "Stops".
 #[derive(Clone, Copy, PartialEq, Eq, PartialOrd, Ord, Debug)]

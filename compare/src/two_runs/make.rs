@@ -1,10 +1,17 @@
 //! Random functions that run: well typed, every operand set before it is read, loops that end or not. A small share of
 //! operands and instructions is wrong on purpose, so that runs stop too.
-use super::flow::Flow;
 use super::world::Shape;
 use crate::book::*;
 use crate::rng::Rng;
+use flow::Flow;
 use std::collections::BTreeMap;
+
+mod calls;
+mod edges;
+mod faults;
+mod flow;
+mod insts;
+mod operands;
 
 /// A book, and the shapes of the syscalls that it calls, by printed name.
 pub struct Made {

@@ -1,5 +1,5 @@
 //! Instructions of random functions, one maker for each sort.
-use super::maker::Maker;
+use super::Maker;
 use crate::book::*;
 
 impl Maker {

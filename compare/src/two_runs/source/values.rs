@@ -1,5 +1,5 @@
 //! The manual's values of operations on integers of w bits. A value is the unsigned number of its bits.
-use super::source::Stop;
+use super::Stop;
 use crate::book::{BinOp, ConvOp, ICmpPred};
 
 /// The low bits of a number.

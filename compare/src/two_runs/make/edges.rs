@@ -1,6 +1,6 @@
 //! Phis and terminators of random functions.
 use super::flow::{Ending, Flow};
-use super::maker::Maker;
+use super::Maker;
 use crate::book::*;
 use std::collections::BTreeMap;
 
@@ -22,12 +22,13 @@ impl Maker {
             return insts;
         }
         let ty = self.scalar();
-        for place in 0..self.rng.below(4) {
+        let loops = block > 0 && from.iter().any(|from| flow.leads_back(*from, block));
+        for place in 0..self.rng.below(3) + loops as usize {
             // Phis of one type may take each other's values.
-            let ty = if place == 0 || self.rng.chance(600) { ty.clone() } else { self.scalar() };
+            let ty = if place == 0 || self.rng.chance(700) { ty.clone() } else { self.scalar() };
             insts.push(self.phi(ty));
         }
-        if block > 0 && from.iter().any(|from| flow.leads_back(*from, block)) && self.rng.chance(750) {
+        if loops && self.rng.chance(750) {
             let ty = Type::Int(*self.rng.pick(&WIDTHS[1..]));
             insts.push(self.phi(ty.clone()));
             let phi = insts[insts.len() - 1].dest.clone().unwrap_or_default();
@@ -56,7 +57,7 @@ impl Maker {
                     let value = match counter {
                         Some(counter) if flow.leads_back(from, block) => Value::Local(counter.next.clone()),
                         Some(_) => Value::Int(self.rng.below(3) as i128),
-                        None if flow.leads_back(from, block) && self.rng.chance(500) => self.other_phi(&phis, ty),
+                        None if flow.leads_back(from, block) && self.rng.chance(700) => self.other_phi(&phis, ty),
                         None => self.value(ty),
                     };
                     incoming.push((value, labels[from].clone()));
@@ -76,7 +77,14 @@ impl Maker {
         Value::Local((*self.rng.pick(&same)).clone())
     }
 
-    pub fn term(&mut self, flow: &Flow, labels: &[String], ret_ty: &Type, counters: &Counters, insts: &mut Vec<Inst>) -> Terminator {
+    pub fn term(
+        &mut self,
+        flow: &Flow,
+        labels: &[String],
+        ret_ty: &Type,
+        counters: &Counters,
+        insts: &mut Vec<Inst>,
+    ) -> Terminator {
         let label = |block: &usize| labels[*block].clone();
         match &flow.endings[self.block] {
             Ending::Ret => self.ret(ret_ty),

@@ -1,5 +1,5 @@
 //! Instructions that a run must stop at. The translator accepts every one.
-use super::maker::Maker;
+use super::Maker;
 use crate::book::*;
 
 impl Maker {

@@ -1,7 +1,7 @@
 //! What an instruction does in the source run.
-use super::source::{fixed_count, integer_width, result_width, width_of, Halt, Named, Source, Stop};
+use super::{fixed_count, integer_width, result_width, width_of, Halt, Named, Source, Stop};
 use super::values;
-use super::world::{Call, Target};
+use crate::two_runs::world::{Call, Target};
 use crate::book::*;
 
 impl<'a> Source<'a> {

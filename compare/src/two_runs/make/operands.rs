@@ -1,5 +1,5 @@
 //! Operands of random functions.
-use super::maker::{Local, Maker};
+use super::{Local, Maker};
 use crate::book::*;
 
 impl Maker {

@@ -1,6 +1,6 @@
 //! Calls of random functions: of a function, through a pointer, of a syscall, of memcmp.
-use super::maker::Maker;
-use super::world::Shape;
+use super::Maker;
+use crate::two_runs::world::Shape;
 use crate::book::*;
 
 impl Maker {
