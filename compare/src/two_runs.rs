@@ -8,14 +8,16 @@ mod inputs;
 mod machine;
 mod make;
 mod program;
+mod shrink;
 mod source;
 mod world;
 
 use crate::scratch::Scratch;
-use agree::hold;
+use agree::{hold, Held};
 use counts::Counts;
 use equations::Case;
 use program::Program;
+use world::Input;
 
 pub use cases::tests;
 
@@ -29,6 +31,8 @@ const INPUTS: u64 = 2;
 /// For each function that is computed, so many are only run here.
 const RUN_HERE: u64 = 100;
 
+const COUNTERS: [u64; 3] = [0, 7, 1 << 32];
+
 const SCRATCH: Scratch = Scratch {
     name: "runs",
     crates: &["manual", "machine", "lowering", "layout", "assembly", "book", "names", "numbers"],
@@ -38,14 +42,52 @@ const SCRATCH: Scratch = Scratch {
     unfolding: "openShow",
 };
 
-const COUNTERS: [u64; 3] = [0, 7, 1 << 32];
+/// A run by its names: the function's seed and index, the input's number.
+#[derive(Clone, Copy)]
+struct Run {
+    seed: u64,
+    index: u64,
+    number: u64,
+    bound: usize,
+}
+
+impl Run {
+    fn counter(&self) -> u64 {
+        COUNTERS[self.index as usize % COUNTERS.len()]
+    }
+
+    fn name(&self) -> String {
+        format!("seed {}, function {}, input {}", self.seed, self.index, self.number)
+    }
+
+    fn input(&self, program: &Program) -> Input {
+        inputs::input(program, self.seed, self.index, self.number, self.bound)
+    }
+
+    fn hold(&self, program: &Program) -> Result<(Input, Held), String> {
+        let input = self.input(program);
+        let held = hold(program, &input, self.bound)?;
+        Ok((input, held))
+    }
+
+    /// The equation of this run for its function or a smaller one; none where the interpreters differ.
+    fn case(&self, program: &Program) -> Option<Case> {
+        let (input, held) = self.hold(program).ok()?;
+        Some(equations::case(*self, program, &input, &held))
+    }
+
+    /// The smallest function that still differs, with the input and how it differs.
+    fn smallest(&self, differ: &mut dyn FnMut(&[Program]) -> Vec<bool>) -> String {
+        let Some(program) = shrink::shrink(self.seed, self.index, self.counter(), differ) else { return String::new() };
+        let input = self.input(&program);
+        let how = hold(&program, &input, self.bound).err().unwrap_or_default();
+        format!("{how}\n{:?}\n{}\n{input:?}", program.book.function, program.lines.join("\n"))
+    }
+}
 
 pub fn compare(seed: u64, count: u64) -> Result<(), String> {
     println!("by the two interpreters:");
-    let mut here = Counts::default();
-    for index in 0..count * RUN_HERE {
-        run(seed, index, FAR_BOUND, &mut here, None)?;
-    }
+    let here = run_here(seed, count * RUN_HERE)?;
     here.print(FAR_BOUND);
     println!("no difference");
 
@@ -53,46 +95,65 @@ pub fn compare(seed: u64, count: u64) -> Result<(), String> {
     let mut computed = Counts::default();
     let mut cases = vec![];
     for index in 0..count {
-        run(seed, index, BOUND, &mut computed, Some(&mut cases))?;
+        let program = function(seed, index, &mut computed)?;
+        for number in 0..INPUTS {
+            let run = Run { seed, index, number, bound: BOUND };
+            let (input, held) = run.hold(&program)?;
+            computed.add(&held);
+            cases.push(equations::case(run, &program, &input, &held));
+        }
     }
     computed.print(BOUND);
-    let differing = SCRATCH.differing(&cases.iter().map(|case| case.equation.clone()).collect::<Vec<_>>())?;
-    report(&cases, &differing)?;
+    report(&cases, &differing(&cases)?)?;
     println!("{} equations, no difference", cases.len());
     if here.lacks_a_kind() { Err("the maker has lost what was never run".to_string()) } else { Ok(()) }
 }
 
-/// Runs the function of this index on its inputs, both ways.
-fn run(seed: u64, index: u64, bound: usize, counts: &mut Counts, mut cases: Option<&mut Vec<Case>>) -> Result<(), String> {
-    let named = |error: String| format!("seed {seed}, function {index}: {error}");
-    let counter = COUNTERS[index as usize % COUNTERS.len()];
-    let program = Program::new(make::make(seed, index), counter).map_err(named)?;
-    let program = program.ok_or_else(|| named("refused".to_string()))?;
+fn function(seed: u64, index: u64, counts: &mut Counts) -> Result<Program, String> {
+    let run = Run { seed, index, number: 0, bound: 0 };
+    let program = Program::new(make::make(seed, index), run.counter()).and_then(|made| made.ok_or("refused".to_string()));
     counts.functions += 1;
-    for number in 0..INPUTS {
-        let input = inputs::input(&program, seed, index, number, bound);
-        let held = hold(&program, &input, bound).map_err(|error| named(format!("input {number}: {error}")))?;
-        counts.add(&held);
-        if let Some(cases) = &mut cases {
-            let name = format!("seed {seed}, function {index}, input {number}");
-            cases.push(equations::case(name, &program, &input, &held));
-        }
-    }
-    Ok(())
+    program.map_err(|error| format!("seed {seed}, function {index}: {error}"))
 }
 
-/// An error where the definitions don't show what was seen here.
-fn report(cases: &[Case], differing: &[usize]) -> Result<(), String> {
-    let words = |place: &usize| cases[*place].words;
-    let (Some(first), Some(smallest)) = (differing.first(), differing.iter().min_by_key(|place| words(place))) else {
+/// Runs functions by the two interpreters.
+fn run_here(seed: u64, count: u64) -> Result<Counts, String> {
+    let mut counts = Counts::default();
+    for index in 0..count {
+        let program = function(seed, index, &mut counts)?;
+        for number in 0..INPUTS {
+            let run = Run { seed, index, number, bound: FAR_BOUND };
+            match run.hold(&program) {
+                Ok((_, held)) => counts.add(&held),
+                Err(error) => {
+                    let differ = |programs: &[Program]| programs.iter().map(|program| run.hold(program).is_err()).collect();
+                    return Err(format!("{}: {error}\nthe smallest: {}", run.name(), run.smallest(&mut { differ })));
+                }
+            }
+        }
+    }
+    Ok(counts)
+}
+
+/// The places of the runs that the definitions don't show as they were seen here.
+fn differing(cases: &[Case]) -> Result<Vec<usize>, String> {
+    SCRATCH.differing(&cases.iter().map(|case| case.equation.clone()).collect::<Vec<_>>())
+}
+
+/// An error where there is a difference: the run with the smallest function, made smaller.
+fn report(cases: &[Case], places: &[usize]) -> Result<(), String> {
+    let (Some(first), Some(smallest)) = (places.first(), places.iter().min_by_key(|place| cases[**place].words)) else {
         return Ok(());
     };
-    Err(format!(
-        "{} of {} runs differ, the first: {}; the smallest: {}, {} words",
-        differing.len(),
-        cases.len(),
-        cases[*first].name,
-        cases[*smallest].name,
-        words(smallest)
-    ))
+    println!("{} of {} equations don't hold, the first: {}", places.len(), cases.len(), cases[*first].run.name());
+    let run = cases[*smallest].run;
+    let mut differ = |programs: &[Program]| {
+        let (places, cases): (Vec<usize>, Vec<Case>) =
+            programs.iter().enumerate().filter_map(|(place, program)| Some((place, run.case(program)?))).unzip();
+        let found = differing(&cases).unwrap_or_default();
+        let mut differs = vec![false; programs.len()];
+        found.iter().for_each(|place| differs[places[*place]] = true);
+        differs
+    };
+    Err(format!("the smallest: {}, made smaller:{}", run.name(), run.smallest(&mut differ)))
 }

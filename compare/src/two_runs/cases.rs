@@ -4,7 +4,7 @@ use super::make::{make, Made};
 use super::program::Program;
 use super::source::{values, Halt, Stop};
 use super::world::{Input, Memory, Reply, Target};
-use super::{counts::Counts, inputs, BOUND};
+use super::{counts::Counts, inputs, shrink::shrink, BOUND};
 use crate::book::*;
 use functions::{act, call, gives, load, local, returning, set, stopping, swapping, typed, Case, Ends};
 use std::collections::BTreeSet;
@@ -17,6 +17,7 @@ pub fn tests() -> Vec<(String, Result<(), String>)> {
         ("a call and its memory".to_string(), calling()),
         ("lines that are wrong".to_string(), wrong_lines()),
         ("random functions".to_string(), random_functions()),
+        ("a smaller function".to_string(), smaller_function()),
     ];
     for case in returning().into_iter().chain(stopping()) {
         results.push((case.name.to_string(), ends_so(case)));
@@ -135,4 +136,19 @@ fn random_functions() -> Result<(), String> {
 
 fn compares_itself(inst: &Inst) -> bool {
     matches!((&inst.kind, &inst.dest), (InstKind::Cmpxchg { cmp: Value::Local(name), .. }, Some(own)) if name == own)
+}
+
+/// Of the first function that loads, a load is left and what may go has gone.
+fn smaller_function() -> Result<(), String> {
+    let loads = |program: &Program| program.lines.iter().any(|line| line.starts_with("load_"));
+    for index in 0..100 {
+        let program = Program::new(make(5, index), 0)?.ok_or("refused")?;
+        if loads(&program) {
+            let mut differ = |programs: &[Program]| programs.iter().map(loads).collect();
+            let smallest = shrink(5, index, 0, &mut differ).ok_or("nothing")?;
+            let (many, few) = (program.book.instructions().count(), smallest.book.instructions().count());
+            return if loads(&smallest) && few < many { Ok(()) } else { Err(format!("{many} instructions became {few}")) };
+        }
+    }
+    Err("no function loads".to_string())
 }

@@ -4,6 +4,7 @@ use super::agree::{cells, Held, Seen};
 use super::program::Program;
 use super::source::Stop;
 use super::world::{Call, Input, Memory, Shape, Target};
+use super::Run;
 use std::fmt::Write as _;
 
 /// What the definitions are asked, over the crates' own.
@@ -22,13 +23,13 @@ const MOST_LOOKED: usize = 12;
 
 /// One run with what was seen of it.
 pub struct Case {
-    /// Seed, index and the input's number.
-    pub name: String,
+    pub run: Run,
+    /// Words of the book.
     pub words: usize,
     pub equation: String,
 }
 
-pub fn case(name: String, program: &Program, input: &Input, held: &Held) -> Case {
+pub fn case(run: Run, program: &Program, input: &Input, held: &Held) -> Case {
     let looked = looked(input, held);
     let slices = &program.lent.slices;
     let mut equation = format!(
@@ -42,7 +43,7 @@ pub fn case(name: String, program: &Program, input: &Input, held: &Held) -> Case
     given(&mut equation, program, input, held, &looked);
     let seen = list(&held.seen, |seen| format!("\n    {}", shown(program, input, &looked, seen)));
     let _ = write!(equation, ")\n    ≡ agreed ({seen})");
-    Case { name, words: slices.book.len(), equation }
+    Case { run, words: slices.book.len(), equation }
 }
 
 fn list<T>(items: &[T], item: impl Fn(&T) -> String) -> String {

@@ -52,8 +52,8 @@ fn global(rng: &mut Rng, place: usize) -> u64 {
 fn argument(rng: &mut Rng, width: u32, places: &[u64]) -> u64 {
     let number = match rng.below(8) {
         _ if width == 64 && rng.chance(600) => rng.pick(places).wrapping_add(rng.below(8) as u64),
-        0..=3 => rng.below(8) as u64,
-        4 => 0u64.wrapping_sub(rng.range(1, 5) as u64),
+        0..=2 => rng.below(8) as u64,
+        3..=4 => 0u64.wrapping_sub(rng.range(1, 9) as u64),
         5 => 1 << rng.below(width as usize),
         6 => (1u64 << (width - 1)).wrapping_sub(rng.below(2) as u64),
         _ => rng.next(),

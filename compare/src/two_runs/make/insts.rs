@@ -34,7 +34,8 @@ impl Maker {
 
     /// Divisors are not 0 and shifts stay below the width, but for a few.
     fn bin(&mut self, insts: &mut Vec<Inst>) -> Inst {
-        let mut op = *self.rng.pick(&BIN_OPS);
+        let signed = [BinOp::SDiv, BinOp::SRem, BinOp::AShr];
+        let mut op = if self.rng.chance(200) { *self.rng.pick(&signed) } else { *self.rng.pick(&BIN_OPS) };
         let width = *self.rng.pick(&WIDTHS);
         let ty = Type::Int(width);
         // i1 has no quotient for -1 / -1.

@@ -5,11 +5,11 @@ use crate::book::*;
 impl Maker {
     fn integer(&mut self) -> i128 {
         let power = |place: usize| 1i64.wrapping_shl(place as u32);
-        let number = match self.rng.below(8) {
-            0..=3 => self.rng.below(10) as i64,
-            4 => -(self.rng.below(10) as i64),
-            5 => power(self.rng.below(64)),
-            6 => power(self.rng.below(64)).wrapping_sub(1),
+        let number = match self.rng.below(16) {
+            0..=4 => self.rng.below(10) as i64,
+            5..=8 => -(self.rng.range(1, 10) as i64),
+            9..=10 => power(self.rng.below(64)),
+            11..=12 => power(self.rng.below(64)).wrapping_sub(1),
             _ => self.rng.next() as i64,
         };
         number as i128
