@@ -49,6 +49,8 @@ const USAGE: &str = "usage:
                                      whether a program prints what `compare oracle` does
   compare definitions SEED COUNT [--damaged]
                                      whether the definition in crates/lowering answers as the Rust does, by computation
+  compare runs SEED COUNT            whether a function's run by the manual and the run of its lines on the machine agree, by
+                                     two interpreters and by computation of the definitions, on random functions
   compare table SEED COUNT FILE      random books with the Rust's answers as a checked table of crates/lowering
   compare soundness SEED COUNT       whether the proved check of a book answers as ours does; built in where the
                                      static library of the crate `exports` stands

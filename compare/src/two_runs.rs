@@ -76,12 +76,11 @@ impl Run {
         Some(equations::case(*self, program, &input, &held))
     }
 
-    /// The smallest function that still differs, with the input and how it differs.
-    fn smallest(&self, differ: &mut dyn FnMut(&[Program]) -> Vec<bool>) -> String {
-        let Some(program) = shrink::shrink(self.seed, self.index, self.counter(), differ) else { return String::new() };
-        let input = self.input(&program);
-        let how = hold(&program, &input, self.bound).err().unwrap_or_default();
-        format!("{how}\n{:?}\n{}\n{input:?}", program.book.function, program.lines.join("\n"))
+    /// The function that still differs when no instruction can be left out, with its lines and input.
+    fn smaller(&self, differ: &mut dyn FnMut(&[Program]) -> Vec<bool>) -> Option<(Program, String)> {
+        let program = shrink::shrink(self.seed, self.index, self.counter(), differ)?;
+        let text = format!("{:?}\n{}\n{:?}", program.book.function, program.lines.join("\n"), self.input(&program));
+        Some((program, text))
     }
 }
 
@@ -126,8 +125,9 @@ fn run_here(seed: u64, count: u64) -> Result<Counts, String> {
             match run.hold(&program) {
                 Ok((_, held)) => counts.add(&held),
                 Err(error) => {
-                    let differ = |programs: &[Program]| programs.iter().map(|program| run.hold(program).is_err()).collect();
-                    return Err(format!("{}: {error}\nthe smallest: {}", run.name(), run.smallest(&mut { differ })));
+                    let mut differ = |programs: &[Program]| programs.iter().map(|program| run.hold(program).is_err()).collect();
+                    let text = run.smaller(&mut differ).map_or(String::new(), |(_, text)| text);
+                    return Err(format!("{}: {error}; made smaller:\n{text}", run.name()));
                 }
             }
         }
@@ -155,5 +155,14 @@ fn report(cases: &[Case], places: &[usize]) -> Result<(), String> {
         found.iter().for_each(|place| differs[places[*place]] = true);
         differs
     };
-    Err(format!("the smallest: {}, made smaller:{}", run.name(), run.smallest(&mut differ)))
+    let smaller = run.smaller(&mut differ);
+    // Once more, alone: the scratch repository then has this equation and its log.
+    let text = match smaller {
+        Some((program, text)) => {
+            differing(&run.case(&program).into_iter().collect::<Vec<_>>())?;
+            text
+        }
+        None => String::new(),
+    };
+    Err(format!("the smallest: {}, in target/{} made smaller:\n{text}", run.name(), SCRATCH.name))
 }
