@@ -8,7 +8,7 @@ use super::Run;
 use std::fmt::Write as _;
 
 /// What the definitions are asked, over the crates' own.
-pub const SHOW: &str = include_str!("show.antt");
+pub const SHOW: &str = include_str!("show.txt");
 
 pub const HEAD: &str = "use Prim.Native.Nat.{ℕ}
 use mathlib.Core.Bool.{Bool, true, false}

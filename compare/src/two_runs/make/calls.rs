@@ -31,10 +31,10 @@ impl Maker {
         let printed: Vec<String> = self.shapes.keys().cloned().collect();
         let printed = self.rng.pick(&printed).clone();
         let Shape { mut args, mut replies } = self.shapes[&printed];
-        if self.rng.below(1000) < self.risk {
+        if self.rng.below(1000) < 3 * self.risk {
             args = self.rng.below(4);
         }
-        if self.rng.below(1000) < self.risk {
+        if self.rng.below(1000) < 3 * self.risk {
             replies = !replies;
         }
         self.made(Value::Global(format!("__uvm_{printed}")), args, replies)

@@ -114,9 +114,9 @@ fn target(rng: &mut Rng, block: usize, count: usize) -> usize {
 
 fn ending(rng: &mut Rng, block: usize, count: usize) -> Ending {
     if block + 1 == count {
-        return match rng.below(20) {
+        return match rng.below(40) {
             0 => Ending::Unreachable,
-            1..=2 if count > 2 => Ending::CondBr(rng.range(1, count - 1), rng.range(1, count - 1)),
+            1..=4 if count > 2 => Ending::CondBr(rng.range(1, count - 1), rng.range(1, count - 1)),
             _ => Ending::Ret,
         };
     }

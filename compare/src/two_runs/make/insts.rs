@@ -170,7 +170,7 @@ impl Maker {
                 return TypedVal { ty, val: Value::Local(name) };
             }
         }
-        if self.rng.below(1000) < self.risk {
+        if width < 16 && self.rng.below(1000) < 8 * self.risk {
             return TypedVal { ty, val: Value::Int(200) };
         }
         let most = if width == 1 { 0 } else { 5 };
