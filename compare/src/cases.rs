@@ -4,6 +4,7 @@ use crate::check::{check, Verdict};
 use crate::expect::{expected, Expected};
 use crate::random;
 use crate::stats;
+use crate::two_runs;
 
 const RANDOM_BOOKS: u64 = 20_000;
 
@@ -35,6 +36,9 @@ pub fn test() -> Result<(), String> {
     say("structs that double", doubling());
     say("counting labels", labels());
     say("read what was written", round_trips());
+    for (name, result) in two_runs::tests() {
+        say(&format!("two runs: {name}"), result);
+    }
     println!("{count} tests, {failures} failures");
     println!("random books:");
     stats::books(1, RANDOM_BOOKS)?;

@@ -22,11 +22,13 @@ mod random;
 mod refusal;
 mod rng;
 mod runs;
+mod scratch;
 mod show;
 #[cfg(proved)]
 mod soundness;
 mod stats;
 mod table;
+mod two_runs;
 mod vectors;
 mod visit;
 
@@ -47,6 +49,8 @@ const USAGE: &str = "usage:
                                      whether a program prints what `compare oracle` does
   compare definitions SEED COUNT [--damaged]
                                      whether the definition in crates/lowering answers as the Rust does, by computation
+  compare runs SEED COUNT            whether a function's run by the manual and the run of its lines on the machine agree, by
+                                     two interpreters and by computation of the definitions, on random functions
   compare table SEED COUNT FILE      random books with the Rust's answers as a checked table of crates/lowering
   compare soundness SEED COUNT       whether the proved check of a book answers as ours does; built in where the
                                      static library of the crate `exports` stands
@@ -94,6 +98,7 @@ fn run(args: &[&str]) -> Result<(), String> {
         }
         ["definitions", seed, count] => definitions::compare(number(seed)?, number(count)?, false),
         ["definitions", seed, count, "--damaged"] => definitions::compare(number(seed)?, number(count)?, true),
+        ["runs", seed, count] => two_runs::compare(number(seed)?, number(count)?),
         ["table", seed, count, file] => table::write(number(seed)?, number(count)?, file),
         #[cfg(proved)]
         ["soundness", seed, count] => soundness::compare(number(seed)?, number(count)?),

@@ -60,7 +60,7 @@ pub fn answer(book: &Book, counter: u64) -> Answer {
 }
 
 /// The module that the book stands for: its structs, and a body for every name that is defined.
-fn module(book: &Book) -> Module {
+pub fn module(book: &Book) -> Module {
     let mut module = Module::default();
     for (name, body) in &book.structs {
         module.struct_types.insert(name.clone(), body.clone());
