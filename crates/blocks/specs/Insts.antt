@@ -6,6 +6,7 @@ use Rattle.book.specs.Kinds.{InstTag, TermTag, instKind}
 use Rattle.book.specs.Ast.{BinOp, ConvOp, ICmpPred}
 use Rattle.book.specs.Fields as book
 use Rattle.reader.specs.Items.{itemOf}
+use Rattle.reader.specs.declared.items.Item.the-variants as item
 use Rattle.blocks.specs.declared.insts.InstGroup.{InstGroup}
 use Rattle.blocks.specs.declared.insts.InstGroup.the-variants as inst
 use Rattle.blocks.specs.declared.insts.TermGroup.{TermGroup}
@@ -52,6 +53,10 @@ fieldIn (field.UpTo n i) = book.Field.upTo n (itemOf i) ∷ []
 
 abbrev pub twoFields : Field → Field → List book.Field
 twoFields a b = fieldIn a ++ fieldIn b
+
+-- a type and a value in front of two fields
+abbrev pub typedThen : Field → Field → List book.Field
+typedThen c d = twoFields (field.Plain item.Type) (field.Plain item.Value) ++ twoFields c d
 
 abbrev pub allFields : Fields → List book.Field
 allFields f = twoFields (f .a) (f .b) ++ twoFields (f .c) (f .d)

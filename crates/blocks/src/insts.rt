@@ -16,7 +16,7 @@ ghost use Rattle.book.specs.Entry.{entries};
 ghost use Rattle.book.specs.Kinds.{instTag, termTag};
 ghost use Rattle.book.specs.Decode.{inst, term, fields as fieldsReader};
 ghost use Rattle.reader.specs.Length.{lenOf};
-ghost use Rattle.blocks.specs.Insts.{instGroupOf, termGroupOf, instShape, termShape, shapeFields, fieldIn, twoFields, allFields};
+ghost use Rattle.blocks.specs.Insts.{instGroupOf, termGroupOf, instShape, termShape, shapeFields, fieldIn, twoFields, typedThen, allFields};
 
 // The group of an instruction's kind; the operations and predicates are numbered from 0 in the order of ast.rs.
 pub enum InstGroup {
@@ -129,6 +129,13 @@ fn four(a: Field, b: Field, c: Field, d: Field) -> Shape
     Shape::Known(Fields { a, b, c, d })
 }
 
+// A type and a value, then two more fields.
+fn typed_then(c: Field, d: Field) -> Shape
+    ensures { λ r. ⌜ shapeFields r ≡ some (typedThen c d) ⌝ }
+{
+    four(TYPE, VALUE, c, d)
+}
+
 const NONE: Field = Field::Nothing;
 
 const TYPE: Field = Field::Plain(Item::Type);
@@ -143,20 +150,20 @@ pub fn inst_fields(group: InstGroup) -> Shape
     ensures { λ r. ⌜ shapeFields r ≡ instShape group ⌝ }
 {
     match group {
-        InstGroup::Bin(_) => four(TYPE, VALUE, VALUE, NONE),
-        InstGroup::Conv(_) => four(TYPE, VALUE, TYPE, NONE),
-        InstGroup::ICmp(_) => four(TYPE, VALUE, VALUE, NONE),
+        InstGroup::Bin(_) => typed_then(VALUE, NONE),
+        InstGroup::Conv(_) => typed_then(TYPE, NONE),
+        InstGroup::ICmp(_) => typed_then(VALUE, NONE),
         InstGroup::Select => four(VALUE, TYPE, VALUE, VALUE),
-        InstGroup::Load => four(TYPE, VALUE, ALIGN, NONE),
-        InstGroup::Store => four(TYPE, VALUE, VALUE, ALIGN),
+        InstGroup::Load => typed_then(ALIGN, NONE),
+        InstGroup::Store => typed_then(VALUE, ALIGN),
         InstGroup::Alloca => four(TYPE, Field::Optional(Item::Typed), ALIGN, NONE),
-        InstGroup::GetElementPtr => four(TYPE, VALUE, Field::UpTo(32, Item::GepIndex), NONE),
+        InstGroup::GetElementPtr => typed_then(Field::UpTo(32, Item::GepIndex), NONE),
         InstGroup::Phi => four(TYPE, Field::List(Item::Incoming), NONE, NONE),
-        InstGroup::Call => four(TYPE, VALUE, Field::List(Item::Typed), NONE),
-        InstGroup::Freeze => four(TYPE, VALUE, NONE, NONE),
-        InstGroup::AtomicLoad => four(TYPE, VALUE, NONE, NONE),
-        InstGroup::AtomicStore => four(TYPE, VALUE, VALUE, NONE),
-        InstGroup::Cmpxchg => four(TYPE, VALUE, VALUE, VALUE),
+        InstGroup::Call => typed_then(Field::List(Item::Typed), NONE),
+        InstGroup::Freeze => typed_then(NONE, NONE),
+        InstGroup::AtomicLoad => typed_then(NONE, NONE),
+        InstGroup::AtomicStore => typed_then(VALUE, NONE),
+        InstGroup::Cmpxchg => typed_then(VALUE, VALUE),
         InstGroup::ExtractValue => four(VALUE, Field::Plain(Item::Index), NONE, NONE),
         InstGroup::Fence => four(NONE, NONE, NONE, NONE),
         InstGroup::Other => Shape::Unknown,
