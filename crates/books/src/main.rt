@@ -72,6 +72,17 @@ fn place(text: &[u8], from: usize, wanted: u8) -> usize
     from + before(&text[from..], wanted)
 }
 
+// Puts some of the kept words, if there are as many.
+fn put_kept(kept: &[u64], from: usize, to: usize, slice: &mut [u64], put: usize) -> usize {
+    if to < from {
+        return put;
+    }
+    if kept.len() < to {
+        return put;
+    }
+    put_words(&kept[from..to], slice, put)
+}
+
 // Puts an entry, or some that are kept.
 fn put_piece(
     piece: Token,
@@ -81,26 +92,20 @@ fn put_piece(
     words: &mut [u64],
     put: usize,
 ) -> usize {
-    if piece.mark == b':' {
-        put_words(&[piece.first], kinds, put);
-        return put_words(&[piece.second], words, put);
+    let mark = piece.mark;
+    match mark {
+        b':' => {
+            put_words(&[piece.first], kinds, put);
+            put_words(&[piece.second], words, put)
+        }
+        b'-' => {
+            let from = piece.first as usize;
+            let to = piece.second as usize;
+            put_kept(kept_kinds, from, to, kinds, put);
+            put_kept(kept_words, from, to, words, put)
+        }
+        _ => put,
     }
-    if piece.mark != b'-' {
-        return put;
-    }
-    let from = piece.first as usize;
-    let to = piece.second as usize;
-    if to < from {
-        return put;
-    }
-    if kept_kinds.len() < to {
-        return put;
-    }
-    if kept_words.len() < to {
-        return put;
-    }
-    put_words(&kept_kinds[from..to], kinds, put);
-    put_words(&kept_words[from..to], words, put)
 }
 
 // Puts what a part of a line lists, behind what is put.
@@ -140,6 +145,20 @@ fn laid(kinds: &[u64], words: &[u64], put: usize, names: u64, book: &mut [u64]) 
     let start = put_words(&[put as u64, names], book, 0);
     let middle = put_words(&kinds[0..put], book, start);
     put_words(&words[0..put], book, middle)
+}
+
+// The same of the entries that a part of a line lists.
+fn laid_out(
+    line: &[u8],
+    kept_kinds: &[u64],
+    kept_words: &[u64],
+    names: u64,
+    book: &mut [u64],
+) -> usize {
+    let mut kinds = [0u64; 512];
+    let mut words = [0u64; 512];
+    let put = put_pieces(line, kept_kinds, kept_words, &mut kinds, &mut words, 0);
+    laid(&kinds, &words, put, names, book)
 }
 
 // The names that stand in the input from one place to another; how many bytes they take.
@@ -233,19 +252,15 @@ fn run_case(
     let colon = place(line, 0, b':');
     let start = place(line, colon, b' ');
     let slash = place(line, start, b'/');
-    let mut kinds = [0u64; 512];
-    let mut words = [0u64; 512];
-    let put = put_pieces(
-        &line[start..slash],
-        kept_kinds,
-        kept_words,
-        &mut kinds,
-        &mut words,
-        0,
-    );
     let mut book = [0u64; 1026];
     let loan = Loan {
-        words: laid(&kinds, &words, put, base.names, &mut book),
+        words: laid_out(
+            &line[start..slash],
+            kept_kinds,
+            kept_words,
+            base.names,
+            &mut book,
+        ),
         bytes: named(text, base.from, base.to, names),
         counter: 0,
         work: 1_048_640,
