@@ -37,7 +37,7 @@ pub struct Number {
 }
 
 // The number that stands in front, 0 of no digits where none does.
-pub fn read_number(text: &[u8]) -> Number
+fn read_number(text: &[u8]) -> Number
     ensures { λ r. ⌜ r ≡ numberIn (now (text .entry)) ⌝ }
 {
     let mut value: u64 = 0;
