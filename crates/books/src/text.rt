@@ -1,146 +1,87 @@
-// Reading the input: bytes, numbers and tokens. A place beyond the input's end reads as the end of a line.
-ghost use Prim.Native.Nat.{_≤_};
+// Reading the input: how far a byte is, a number, a token.
+ghost use mathlib.Core.Path.{_≡_};
+ghost use lib.ListN.{length};
+ghost use Rattle.books.specs.Text.{upTo, isDigit, withDigit, numberIn, tokenIn};
 
-// The smaller of two numbers.
-pub fn least(a: usize, b: usize) -> usize
-    ensures { λ r. ⌜ r ≤ b ⌝ }
+// How many bytes stand before the first that is `wanted`; all of them where none is.
+pub fn before(text: &[u8], wanted: u8) -> usize
+    ensures { λ r. ⌜ r ≡ length (upTo wanted (now (text .entry))) ⌝ }
 {
-    if a < b { a } else { b }
-}
-
-// The place behind one; none lies behind 2^32.
-pub fn next(at: usize) -> usize {
-    if at < 0x1_0000_0000 { at + 1 } else { at }
-}
-
-pub fn byte(text: &[u8], at: usize) -> u8 {
-    if at < text.len() { text[at] } else { b'\n' }
-}
-
-// The first place of a byte from a place on, or the input's end.
-pub fn find(text: &[u8], from: usize, wanted: u8) -> usize {
-    let mut at = from;
+    let mut at: usize = 0;
     while at < text.len() {
         if text[at] == wanted {
             return at;
         }
         at += 1;
     }
-    text.len()
+    at
 }
 
-// A number and the place behind it.
+fn is_digit(b: u8) -> bool
+    ensures { λ r. ⌜ r ≡ isDigit b ⌝ }
+{
+    (b'0' <= b) & (b <= b'9')
+}
+
+// A number with one digit more, modulo 2^64; a digit's value is the low half of its byte.
+fn with_digit(value: u64, b: u8) -> u64
+    ensures { λ r. ⌜ r ≡ withDigit value b ⌝ }
+{
+    std::num::wrapping_add_u64(numbers::wrap::wrapping_mul(value, 10), (b % 16) as u64)
+}
+
+// A number and how many digits it has.
 pub struct Number {
     pub value: u64,
-    pub next: usize,
+    pub digits: usize,
 }
 
-fn is_digit(b: u8) -> bool {
-    match b {
-        b'0'..=b'9' => true,
-        _ => false,
-    }
-}
-
-// A number with one digit more; a number of 18 digits takes no more.
-fn with_digit(value: u64, b: u8) -> u64 {
-    if b < b'0' {
-        return value;
-    }
-    if b'9' < b {
-        return value;
-    }
-    if value < 100_000_000_000_000_000 {
-        value * 10 + (b - b'0') as u64
-    } else {
-        value
-    }
-}
-
-// The number whose digits stand at a place; 0 where there are none.
-fn digits(text: &[u8], from: usize) -> Number {
-    let mut at = from;
+// The number that stands in front, 0 of no digits where none does.
+fn read_number(text: &[u8]) -> Number
+    ensures { λ r. ⌜ r ≡ numberIn (now (text .entry)) ⌝ }
+{
     let mut value: u64 = 0;
+    let mut at: usize = 0;
     while at < text.len() {
-        let b = text[at];
-        if !is_digit(b) {
+        if !is_digit(text[at]) {
             return Number {
                 value: value,
-                next: at,
+                digits: at,
             };
         }
-        value = with_digit(value, b);
+        value = with_digit(value, text[at]);
         at += 1;
     }
     Number {
         value: value,
-        next: at,
+        digits: at,
     }
 }
 
-// The same with a sign, in two's complement.
-fn signed(text: &[u8], from: usize) -> Number {
-    if byte(text, from) == b'-' {
-        let found = digits(text, next(from));
-        let value = std::num::wrapping_sub_u64(0, found.value);
-        let end = found.next;
-        Number {
-            value: value,
-            next: end,
-        }
-    } else {
-        digits(text, from)
-    }
-}
-
-// A token: a letter and up to two numbers, with `:` or `=` between them. Where it starts with a digit the letter
-// reads as `0`.
+// A number, the byte behind it and a number behind that; what is not there is 0.
 pub struct Token {
-    pub letter: u8,
     pub first: u64,
+    pub mark: u8,
     pub second: u64,
-    pub next: usize,
 }
 
-fn is_between(b: u8) -> bool {
-    match b {
-        b':' | b'=' => true,
-        _ => false,
-    }
-}
-
-pub fn read_token(text: &[u8], at: usize) -> Token {
-    let b = byte(text, at);
-    if b == b' ' {
+pub fn read_token(word: &[u8]) -> Token
+    ensures { λ r. ⌜ r ≡ tokenIn (now (word .entry)) ⌝ }
+{
+    let first = read_number(word);
+    let n = first.digits;
+    if word.len() <= n {
         return Token {
-            letter: b,
-            first: 0,
+            first: first.value,
+            mark: 0,
             second: 0,
-            next: next(at),
         };
     }
-    let mut letter = b;
-    let mut from = next(at);
-    if is_digit(b) {
-        letter = b'0';
-        from = at;
-    }
-    let first = digits(text, from);
-    let behind = first.next;
-    if is_between(byte(text, behind)) {
-        let second = signed(text, next(behind));
-        Token {
-            letter: letter,
-            first: first.value,
-            second: second.value,
-            next: second.next,
-        }
-    } else {
-        Token {
-            letter: letter,
-            first: first.value,
-            second: 0,
-            next: behind,
-        }
+    let mark = word[n];
+    let second = read_number(&word[n + 1..]);
+    Token {
+        first: first.value,
+        mark: mark,
+        second: second.value,
     }
 }

@@ -2,8 +2,8 @@
 use crate::passes::Printed;
 use crate::passes::print_known;
 use crate::starts::note_starts;
+use blocks::function_len;
 use reader::Length;
-use reader::blocks::function_len;
 use reader::items::Item;
 use reader::items::list_len;
 use reader::shorter;

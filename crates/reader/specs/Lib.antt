@@ -2,9 +2,8 @@ pub mod Length
 pub mod Fit
 pub mod Groups
 pub mod Items
-pub mod Insts
 pub mod Tables
 pub mod Laws
 pub mod TypeLaws
 pub mod ItemLaws
-pub mod InstLaws
+pub mod Steps

@@ -26,10 +26,10 @@ use Rattle.book.specs.Result.{Result, ok, err, bind, okOr, given, require}
 use Rattle.book.specs.Input.{Counted, bookIn, namesIn}
 use Rattle.book.specs.Forbidden.{reservedBy, any, forbiddenBlock, forbidden}
 use Rattle.book.specs.Check.{Sound, workFor, checked, refusalOf}
-use Rattle.soundness.specs.Words.{wordsAt, isReserved, reserved-words}
-use Rattle.soundness.specs.Once.{allNew, marked, AllBelow, new-distinct, bits-marked}
-use Rattle.soundness.specs.Scan.{scan, scan-book}
-use Rattle.soundness.specs.Barred.{barredBy}
+use Rattle.scans.specs.Words.{wordsAt, isReserved, reserved-words}
+use Rattle.scans.specs.Once.{allNew, marked, AllBelow, new-distinct, bits-marked}
+use Rattle.scans.specs.Scan.{scan, scan-book}
+use Rattle.scans.specs.Barred.{reservedMap, intrinsic, barredIn}
 use Rattle.soundness.specs.Whole.{there, kindsIn, wordsIn, Holds, slice-holds, slice-parts}
 use Rattle.soundness.specs.declared.Verdict.{Verdict}
 use Rattle.soundness.specs.declared.Verdict.the-variants as verdict
@@ -41,16 +41,6 @@ numberOf verdict.BadBook = 1
 numberOf verdict.BadNames = 2
 numberOf verdict.Barred = 3
 numberOf verdict.ShortWork = 4
-
--- what the code looks for in the entries: the reserved names' bits, and the range of names that start `llvm.`
-abbrev pub reservedMap : List Entry → List ℕ
-reservedMap es = marked (replicate 2048 0) (wordsAt isReserved es)
-
-abbrev pub intrinsic : List ℕ
-intrinsic = 108 ∷ 108 ∷ 118 ∷ 109 ∷ 46 ∷ []
-
-abbrev pub barredIn : List Entry → List (List ℕ) → ℕ → Bool
-barredIn es ls = barredBy (firstWith intrinsic ls) (pastWith intrinsic ls) (reservedMap es)
 
 -- ---- names that may not be called
 not-or : (a b : Bool) → not (a || b) ≡ true → not b ≡ true

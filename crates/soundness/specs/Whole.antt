@@ -31,17 +31,13 @@ use Rattle.reader.specs.Length.{lenOf}
 use Rattle.reader.specs.Laws.{len-got, len-bad}
 use Rattle.reader.specs.declared.Length.{Length}
 use Rattle.reader.specs.declared.Length.the-variants as len
-use Rattle.soundness.specs.Words.{wordsAt, isMark, isStruct, mark-words, struct-words}
-use Rattle.soundness.specs.Once.{allNew, AllBelow, new-distinct}
+use Rattle.scans.specs.Words.{mark-words, struct-words}
+use Rattle.scans.specs.Once.{onceBy, AllBelow, new-distinct}
 
 -- whether there is one
 abbrev pub there : {A : Type 0} → Option A → Bool
 there none = false
 there (some a) = true
-
--- no repeated mark and no repeated struct name, by maps with a bit for each of 131,072 names
-abbrev pub onceBy : List Entry → Bool
-onceBy es = allNew (replicate 2048 0) (wordsAt isMark es) && allNew (replicate 2048 0) (wordsAt isStruct es)
 
 module _ (m : ℕ) (few : m ≤ 131072) where
   marks-below : (ms : List Mark) → Each (λ k. markName k < m) ms → AllBelow 2048 (map markName ms)

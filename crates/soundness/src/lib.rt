@@ -1,13 +1,11 @@
 // The whole check: whether a book slice, its names, a label counter and the length of a work slice are fit for
 // a translation, or the first of document 01's refusals 1 to 4.
-mod forbidden;
-mod marks;
 mod parts;
 
-use forbidden::forbidden_entries;
-use marks::once_each;
 use parts::parts_len;
 use reader::Length;
+use scans::forbidden::forbidden_entries;
+use scans::marks::once_each;
 ghost use mathlib.Core.Path.{_≡_};
 ghost use Prim.Native.Nat.{_≤_};
 ghost use Rattle.book.specs.Entry.{entries};

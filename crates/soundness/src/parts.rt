@@ -1,8 +1,8 @@
 // The parts of a book: marks, named structs, the function.
+use blocks::function_len;
 use reader::Front;
 use reader::Length;
 use reader::Step;
-use reader::blocks::function_len;
 use reader::entry_if;
 use reader::first_entry;
 use reader::items::word_len;

@@ -1,37 +1,34 @@
--- A turn passes one line, and there are no more than bytes.
+-- Each line leaves the slices as long as they were; what is left of the input falls.
 use Prim.Native.Nat.{_-_}
 use mathlib.Core.Path.{_≡_}
-use lib.ListN.{length}
 use borrow.Author.Needs.{needs}
+use lib.ListN.{length}
 use Rattle.books.proofs.run_lines.Statement.{statement}
 use Rattle.books.proofs.run_lines.Tie as tie
 
 abbrev Inv-loop : tie.InvT-loop
-Inv-loop text kinds₀ words₀ names₀ base₀ at₀ counter₀ end kinds words names base at counter = (length kinds ≡ length kinds₀) × (length words ≡ length words₀) × (length names ≡ length names₀)
+Inv-loop text kinds₀ words₀ names₀ base₀ at₀ kinds words names base at = (length kinds ≡ length kinds₀) × (length words ≡ length words₀) × (length names ≡ length names₀)
 
 abbrev μ-loop : tie.MeasureT-loop
-μ-loop text kinds₀ words₀ names₀ base₀ at₀ counter₀ end kinds words names base at counter = end - counter
+μ-loop text kinds₀ words₀ names₀ base₀ at₀ kinds words names base at = length text - at
 
 loop-holds : tie.Need-loop-holds Inv-loop μ-loop
-loop-holds c = (search needs, search needs, search needs)
+loop-holds c = search needs
+
+place-requires : tie.Need-place-requires Inv-loop μ-loop
+place-requires c κs = search needs
 
 run-line-requires : tie.Need-run-line-requires Inv-loop μ-loop
 run-line-requires c κs = search needs
 
-find-requires : tie.Need-find-requires Inv-loop μ-loop
-find-requires c κs = search needs
-
-next-requires : tie.Need-next-requires Inv-loop μ-loop
-next-requires c κs = search needs
-
-add-counter : tie.Need-add-counter Inv-loop μ-loop
-add-counter c = search needs
+add-at : tie.Need-add-at Inv-loop μ-loop
+add-at c = search needs
 
 loop-less : tie.Need-loop-less Inv-loop μ-loop
 loop-less c = search needs
 
 loop-again : tie.Need-loop-again Inv-loop μ-loop
-loop-again c = (search needs, search needs, search needs)
+loop-again c = search needs
 
 same-length : tie.Need-same-length Inv-loop μ-loop
 same-length c = search needs
@@ -52,10 +49,9 @@ run-lines-spec =
     Inv-loop
     μ-loop
     loop-holds
+    place-requires
     run-line-requires
-    find-requires
-    next-requires
-    add-counter
+    add-at
     loop-less
     loop-again
     same-length

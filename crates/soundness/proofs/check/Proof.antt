@@ -8,7 +8,7 @@ use Rattle.soundness.proofs.check.Statement.{statement}
 use Rattle.soundness.proofs.check.Tie as tie
 use Rattle.names.proofs.check_names.Reads as check-names-reads
 use Rattle.soundness.proofs.check_book.Reads as check-book-reads
-use Rattle.soundness.proofs.forbidden.forbidden_entries.Reads as forbidden-entries-reads
+use Rattle.scans.proofs.forbidden.forbidden_entries.Reads as forbidden-entries-reads
 
 check-book-requires : tie.Need-check-book-requires
 check-book-requires c κs = search needs

@@ -6,7 +6,7 @@ use borrow.Author.Needs.{needs}
 use Rattle.soundness.proofs.check_entries.Statement.{statement}
 use Rattle.soundness.proofs.check_entries.Tie as tie
 use Rattle.reader.proofs.shorter.Reads as shorter-reads
-use Rattle.soundness.proofs.marks.once_each.Reads as once-each-reads
+use Rattle.scans.proofs.marks.once_each.Reads as once-each-reads
 use Rattle.soundness.proofs.parts.parts_len.Reads as parts-len-reads
 
 parts-len-requires : tie.Need-parts-len-requires

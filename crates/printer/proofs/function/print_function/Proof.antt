@@ -8,7 +8,7 @@ use Rattle.printer.proofs.function.print_function.Statement.{statement}
 use Rattle.printer.proofs.function.print_function.Tie as tie
 use Rattle.names.proofs.check_names.Reads as check-names-reads
 use Rattle.printer.proofs.function.print_sound.Reads as print-sound-reads
-use Rattle.reader.proofs.blocks.function_len.Reads as function-len-reads
+use Rattle.blocks.proofs.function_len.Reads as function-len-reads
 
 returns : tie.Need-returns
 returns c = many-names (c .before .before .before .before .before .before .before .args .count) (c .before .before .before .before .before .before .before .args .kinds .now) (c .before .before .before .before .before .before .before .args .words .now) (c .before .before .before .before .before .before .before .args .names .now) _ _ (c .before .before .before .before .before .before .before .args .text .now) (c .if1 .taken)

@@ -4,7 +4,7 @@ use borrow.Author.Tests.{le-leb, lt-leb}
 use lib.Dec.{leb}
 use Rattle.book.specs.Entry.{entries}
 use Rattle.book.specs.Decode.{mark, structsAndFunction}
-use Rattle.reader.specs.InstLaws as insts
+use Rattle.reader.specs.Steps as steps
 use Rattle.soundness.specs.Parts.{markFront}
 use Rattle.soundness.specs.Parts as parts
 use borrow.Author.Needs.{needs}
@@ -28,7 +28,7 @@ enum-told c = search needs
 returns : tie.Need-returns
 returns c =
     let a = c .before .before .before .before .before .args in
-    insts.step-none (leb 3) (mark (a .names)) (structsAndFunction (a .names)) (entries (a .kinds .now) (a .words .now)) (parts.no-structs _) (sym (c .before .before .first-entry .ensures) ∙ c .enum-told .given .1)
+    steps.step-none (leb 3) (mark (a .names)) (structsAndFunction (a .names)) (entries (a .kinds .now) (a .words .now)) (parts.no-structs _) (sym (c .before .before .first-entry .ensures) ∙ c .enum-told .given .1)
 
 structs-len-requires : tie.Need-structs-len-requires
 structs-len-requires c κs = search needs
@@ -45,12 +45,12 @@ next-step-requires c κs = search needs
 returns-2 : tie.Need-returns-2
 returns-2 c =
     let a = c .before .before .before .before .before .before .before .before .before .args in
-    insts.step-end (leb 3) (mark (a .names)) (structsAndFunction (a .names)) (entries (a .kinds .now) (a .words .now)) _ _ (sym (c .before .before .before .before .before .before .first-entry .ensures) ∙ c .before .before .before .before .kind .given .1) (le-leb _ _ (c .before .before .if1 .taken)) _ _ (c .before .structs-len .ensures) (c .last-step .ensures)
+    steps.step-end (leb 3) (mark (a .names)) (structsAndFunction (a .names)) (entries (a .kinds .now) (a .words .now)) _ _ (sym (c .before .before .before .before .before .before .first-entry .ensures) ∙ c .before .before .before .before .kind .given .1) (le-leb _ _ (c .before .before .if1 .taken)) _ _ (c .before .structs-len .ensures) (c .last-step .ensures)
 
 returns-3 : tie.Need-returns-3
 returns-3 c =
     let a = c .before .before .before .before .before .before .before .before .before .args in
-    insts.step-item (leb 3) (mark (a .names)) (structsAndFunction (a .names)) (entries (a .kinds .now) (a .words .now)) _ _ (sym (c .before .before .before .before .before .before .first-entry .ensures) ∙ c .before .before .before .before .kind .given .1) (lt-leb _ _ (c .before .before .if1 .left)) _ _ (c .before .mark-len .ensures ∙ ap (markFront _) (sym (sym (c .before .before .before .before .before .before .first-entry .ensures) ∙ c .before .before .before .before .kind .given .1)) ∙ sym (parts.mark-front _ _)) (c .next-step .ensures)
+    steps.step-item (leb 3) (mark (a .names)) (structsAndFunction (a .names)) (entries (a .kinds .now) (a .words .now)) _ _ (sym (c .before .before .before .before .before .before .first-entry .ensures) ∙ c .before .before .before .before .kind .given .1) (lt-leb _ _ (c .before .before .if1 .left)) _ _ (c .before .mark-len .ensures ∙ ap (markFront _) (sym (sym (c .before .before .before .before .before .before .first-entry .ensures) ∙ c .before .before .before .before .kind .given .1)) ∙ sym (parts.mark-front _ _)) (c .next-step .ensures)
 
 pub mark-step-spec : {M : Type 1} → statement M
 mark-step-spec =

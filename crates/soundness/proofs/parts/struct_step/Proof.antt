@@ -4,12 +4,12 @@ use borrow.Author.Tests.{le-leb, lt-leb}
 use lib.Dec.{leb}
 use Rattle.book.specs.Entry.{entries}
 use Rattle.book.specs.Decode.{structType, function}
-use Rattle.reader.specs.InstLaws as insts
+use Rattle.reader.specs.Steps as steps
 use Rattle.soundness.specs.Parts as parts
 use borrow.Author.Needs.{needs}
 use Rattle.soundness.proofs.parts.struct_step.Statement.{statement}
 use Rattle.soundness.proofs.parts.struct_step.Tie as tie
-use Rattle.reader.proofs.blocks.function_len.Reads as function-len-reads
+use Rattle.blocks.proofs.function_len.Reads as function-len-reads
 use Rattle.reader.proofs.first_entry.Reads as first-entry-reads
 use Rattle.reader.proofs.last_step.Reads as last-step-reads
 use Rattle.reader.proofs.next_step.Reads as next-step-reads
@@ -27,7 +27,7 @@ enum-told c = search needs
 returns : tie.Need-returns
 returns c =
     let a = c .before .before .before .before .before .args in
-    insts.step-none (leb 4) (structType (a .names)) (function (a .names)) (entries (a .kinds .now) (a .words .now)) (parts.no-function _) (sym (c .before .before .first-entry .ensures) ∙ c .enum-told .given .1)
+    steps.step-none (leb 4) (structType (a .names)) (function (a .names)) (entries (a .kinds .now) (a .words .now)) (parts.no-function _) (sym (c .before .before .first-entry .ensures) ∙ c .enum-told .given .1)
 
 function-len-requires : tie.Need-function-len-requires
 function-len-requires c κs = search needs
@@ -44,12 +44,12 @@ next-step-requires c κs = search needs
 returns-2 : tie.Need-returns-2
 returns-2 c =
     let a = c .before .before .before .before .before .before .before .before .before .args in
-    insts.step-end (leb 4) (structType (a .names)) (function (a .names)) (entries (a .kinds .now) (a .words .now)) _ _ (sym (c .before .before .before .before .before .before .first-entry .ensures) ∙ c .before .before .before .before .kind .given .1) (le-leb _ _ (c .before .before .if1 .taken)) _ _ (c .before .function-len .ensures) (c .last-step .ensures)
+    steps.step-end (leb 4) (structType (a .names)) (function (a .names)) (entries (a .kinds .now) (a .words .now)) _ _ (sym (c .before .before .before .before .before .before .first-entry .ensures) ∙ c .before .before .before .before .kind .given .1) (le-leb _ _ (c .before .before .if1 .taken)) _ _ (c .before .function-len .ensures) (c .last-step .ensures)
 
 returns-3 : tie.Need-returns-3
 returns-3 c =
     let a = c .before .before .before .before .before .before .before .before .before .args in
-    insts.step-item (leb 4) (structType (a .names)) (function (a .names)) (entries (a .kinds .now) (a .words .now)) _ _ (sym (c .before .before .before .before .before .before .first-entry .ensures) ∙ c .before .before .before .before .kind .given .1) (lt-leb _ _ (c .before .before .if1 .left)) _ _ (c .before .struct-len .ensures) (c .next-step .ensures)
+    steps.step-item (leb 4) (structType (a .names)) (function (a .names)) (entries (a .kinds .now) (a .words .now)) _ _ (sym (c .before .before .before .before .before .before .first-entry .ensures) ∙ c .before .before .before .before .kind .given .1) (lt-leb _ _ (c .before .before .if1 .left)) _ _ (c .before .struct-len .ensures) (c .next-step .ensures)
 
 pub struct-step-spec : {M : Type 1} → statement M
 struct-step-spec =

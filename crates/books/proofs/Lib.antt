@@ -1,0 +1,3 @@
+-- What the loops of the code rest on.
+pub mod Copying
+pub mod Reading

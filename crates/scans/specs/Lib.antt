@@ -1,0 +1,4 @@
+pub mod Words
+pub mod Once
+pub mod Scan
+pub mod Barred
