@@ -119,22 +119,16 @@ fn struct_align(
     let mut align: u64 = 1;
     let mut levels: u32 = 0;
     while kinds[at] != 0 {
-        match align_of(
-            &kinds[at..],
-            &words[at..],
-            book_kinds,
-            book_words,
-            work,
-            names,
-            level,
-        ) {
+        let ks = &kinds[at..];
+        let ws = &words[at..];
+        match align_of(ks, ws, book_kinds, book_words, work, names, level) {
             Measured::Refused(e) => return Measured::Refused(e),
             Measured::Bytes(a, h) => {
                 align = larger(align, a);
                 levels = deeper(levels, h);
             }
         }
-        at = at + skip(&kinds[at..], &words[at..], names);
+        at = at + skip(ks, ws, names);
     }
     Measured::Bytes(align, levels)
 }

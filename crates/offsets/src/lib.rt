@@ -84,30 +84,15 @@ pub fn field_offset(
     let mut offset: u64 = 0;
     let mut left = index;
     while kinds[at] != 0 {
-        match field_start(
-            &kinds[at..],
-            &words[at..],
-            book_kinds,
-            book_words,
-            work,
-            names,
-            packed,
-            offset,
-        ) {
+        let ks = &kinds[at..];
+        let ws = &words[at..];
+        match field_start(ks, ws, book_kinds, book_words, work, names, packed, offset) {
             Offset::Refused(e) => return Offset::Refused(e),
             Offset::At(start) => {
                 if left == 0 {
                     return Offset::At(start);
                 }
-                match size_of(
-                    &kinds[at..],
-                    &words[at..],
-                    book_kinds,
-                    book_words,
-                    work,
-                    names,
-                    64,
-                ) {
+                match size_of(ks, ws, book_kinds, book_words, work, names, 64) {
                     Measured::Refused(e) => return Offset::Refused(e),
                     Measured::Bytes(size, _) => {
                         offset = start + size;
@@ -116,7 +101,7 @@ pub fn field_offset(
             }
         }
         left = left - 1;
-        at = at + skip(&kinds[at..], &words[at..], names);
+        at = at + skip(ks, ws, names);
     }
     Offset::Refused(14)
 }

@@ -183,32 +183,20 @@ fn struct_size(
         levels: 0,
     };
     while kinds[at] != 0 {
-        match align_of(
-            &kinds[at..],
-            &words[at..],
-            book_kinds,
-            book_words,
-            work,
-            names,
-            level,
-        ) {
+        let ks = &kinds[at..];
+        let ws = &words[at..];
+        match align_of(ks, ws, book_kinds, book_words, work, names, level) {
             Measured::Refused(e) => return Measured::Refused(e),
-            Measured::Bytes(a, a_levels) => match size_of(
-                &kinds[at..],
-                &words[at..],
-                book_kinds,
-                book_words,
-                work,
-                names,
-                level,
-            ) {
-                Measured::Refused(e) => return Measured::Refused(e),
-                Measured::Bytes(s, s_levels) => {
-                    sum = add_field(sum, packed, a, a_levels, s, s_levels);
+            Measured::Bytes(a, a_levels) => {
+                match size_of(ks, ws, book_kinds, book_words, work, names, level) {
+                    Measured::Refused(e) => return Measured::Refused(e),
+                    Measured::Bytes(s, s_levels) => {
+                        sum = add_field(sum, packed, a, a_levels, s, s_levels);
+                    }
                 }
-            },
+            }
         }
-        at = at + skip(&kinds[at..], &words[at..], names);
+        at = at + skip(ks, ws, names);
     }
     closed(sum, packed)
 }

@@ -47,19 +47,12 @@ fn struct_step(
     let Index::Constant(field) = index else {
         return Step::Refused(14);
     };
-    let Place::At(n) = field_at(&book_kinds[at..], &book_words[at..], names, field) else {
+    let ks = &book_kinds[at..];
+    let ws = &book_words[at..];
+    let Place::At(n) = field_at(ks, ws, names, field) else {
         return Step::Refused(14);
     };
-    match field_offset(
-        &book_kinds[at..],
-        &book_words[at..],
-        book_kinds,
-        book_words,
-        work,
-        names,
-        packed,
-        field,
-    ) {
+    match field_offset(ks, ws, book_kinds, book_words, work, names, packed, field) {
         Offset::Refused(e) => Step::Refused(e),
         Offset::At(offset) => Step::Constant(offset, at + n),
     }

@@ -1,4 +1,4 @@
--- `layout::one_more` meets its contract.
+-- `measuring::one_more` meets its contract.
 use Prim.Native.Nat.{ℕ, _+_, _*_, _≤_, _<_}
 use mathlib.Core.Path.{_≡_, sym, ap, _∙_}
 use native.Mathlib.Omega.{arith}

@@ -1,4 +1,4 @@
--- `layout::skip` meets its contract.
+-- `measuring::skip` meets its contract.
 use Prim.Native.Nat.{ℕ, _+_, _*_, _≤_, _<_}
 use mathlib.Core.Path.{_≡_, sym, ap, _∙_}
 use native.Mathlib.Omega.{arith}

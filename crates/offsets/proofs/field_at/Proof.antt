@@ -1,4 +1,4 @@
--- `layout::offsets::field_at` meets its contract.
+-- `offsets::field_at` meets its contract.
 use borrow.Author.Needs.{needs}
 use Prim.Native.Nat.{ℕ, _+_, _-_, _*_, _<_, _≤_}
 use mathlib.Core.Path.{_≡_, refl, sym, ap, _∙_}

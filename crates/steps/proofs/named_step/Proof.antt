@@ -1,4 +1,4 @@
--- `layout::steps::named_step` meets its contract.
+-- `steps::named_step` meets its contract.
 use native.Mathlib.Omega.{arith}
 use Rattle.steps.specs.Steps as laws
 use Rattle.book.specs.Entry.{entries}

@@ -1,4 +1,4 @@
--- `layout::structs::first_struct` meets its contract.
+-- `measuring::structs::first_struct` meets its contract.
 use borrow.Author.Needs.{needs}
 use Prim.Native.Nat.{ℕ, _+_, _-_, _<_, _≤_}
 use lib.ListN.{length}

@@ -1,4 +1,4 @@
--- `layout::structs::place_struct` meets its contract.
+-- `measuring::structs::place_struct` meets its contract.
 use Prim.Native.Nat.{ℕ, _+_, _-_, _<_, _≤_}
 use lib.ListN.{length}
 use native.Mathlib.Omega.{arith}

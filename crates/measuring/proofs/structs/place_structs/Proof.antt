@@ -1,4 +1,4 @@
--- `layout::structs::place_structs` meets its contract.
+-- `measuring::structs::place_structs` meets its contract.
 use borrow.Author.Needs.{needs}
 use Prim.Native.Nat.{ℕ, _+_, _-_, _<_, _≤_}
 use lib.ListN.{length}
