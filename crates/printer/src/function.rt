@@ -77,7 +77,7 @@ pub fn print_sound(
 {
     let function = words[0];
     let params = function_params(kinds, words, count);
-    let mut starts = [0usize; 4096];
+    let mut starts = [0usize; 16384];
     note_starts(names, &mut starts);
     print_known(
         names,

@@ -1,4 +1,4 @@
--- The starts of every 32nd name.
+-- The starts of every 8th name.
 use Prim.Native.Nat.{ℕ, zero, suc, _+_, _-_, _*_, _/_, _%_, _≤_, _<_}
 use mathlib.Core.Path.{_≡_, refl, sym, ap, _∙_}
 use mathlib.Core.Logic.{_⊎_, inl, inr, ⊎-elim}
@@ -23,11 +23,11 @@ sound bs ns e h =
 
 -- the starts before the name numbered n
 pub record Before (bs : List ℕ) (n : ℕ) (starts : List ℕ) : Type 0 where
-  pub at : (j : ℕ) → 32 * j < n → getD starts j 0 ≡ startOf (lines bs) (32 * j)
+  pub at : (j : ℕ) → 8 * j < n → getD starts j 0 ≡ startOf (lines bs) (8 * j)
 
 pub record Starts (bs starts : List ℕ) : Type 0 where
   pub sound : Sound bs
-  pub room : length starts ≡ 4096
+  pub room : length starts ≡ 16384
   pub all : Before bs (length (lines bs)) starts
 
 module _ (bs : List ℕ) (s : Sound bs) where
@@ -80,22 +80,22 @@ none-before bs starts = record { at = λ j h. absurd (omega arith) }
 
 module _ {bs starts : List ℕ} {i : ℕ} (b : Before bs i starts) where
   -- a name between is not noted
-  pub before-skip : (i % 32 ≡ 0 → ⊥) → Before bs (i + 1) starts
+  pub before-skip : (i % 8 ≡ 0 → ⊥) → Before bs (i + 1) starts
   before-skip h = record { at = λ j l. b .at j (omega (arith, h)) }
 
-  pub before-note : (at : ℕ) → i % 32 ≡ 0 → at ≡ startOf (lines bs) i → i / 32 < length starts → Before bs (i + 1) (set starts (i / 32) at)
+  pub before-note : (at : ℕ) → i % 8 ≡ 0 → at ≡ startOf (lines bs) i → i / 8 < length starts → Before bs (i + 1) (set starts (i / 8) at)
   before-note at h e f = record { at = go }
     where
       k : ℕ
-      k = i / 32
+      k = i / 8
 
-      whole : 32 * (i / 32) ≡ i
+      whole : 8 * (i / 8) ≡ i
       whole = omega arith
 
-      go : (j : ℕ) → 32 * j < i + 1 → getD (set starts (i / 32) at) j 0 ≡ startOf (lines bs) (32 * j)
-      go j l = ⊎-elim (λ q. rw q (getD-set-same starts (i / 32) at 0 f ∙ e ∙ sym (ap (startOf (lines bs)) whole)))
-          (λ q. getD-set-other starts (i / 32) j at 0 q ∙ b .at j (less q))
-          (decide j (i / 32))
+      go : (j : ℕ) → 8 * j < i + 1 → getD (set starts (i / 8) at) j 0 ≡ startOf (lines bs) (8 * j)
+      go j l = ⊎-elim (λ q. rw q (getD-set-same starts (i / 8) at 0 f ∙ e ∙ sym (ap (startOf (lines bs)) whole)))
+          (λ q. getD-set-other starts (i / 8) j at 0 q ∙ b .at j (less q))
+          (decide j (i / 8))
         where
           decide : (a b : ℕ) → (a ≡ b) ⊎ (a ≡ b → ⊥)
           decide zero zero = inl refl
@@ -103,7 +103,7 @@ module _ {bs starts : List ℕ} {i : ℕ} (b : Before bs i starts) where
           decide (suc a) zero = inr (λ z. omega arith)
           decide (suc a) (suc b) = ⊎-elim (λ z. inl (ap suc z)) (λ z. inr (λ y. z (omega arith))) (decide a b)
 
-          less : (j ≡ i / 32 → ⊥) → 32 * j < i
+          less : (j ≡ i / 8 → ⊥) → 8 * j < i
           less q = omega (arith, q)
 
 -- on the way to the name numbered x, with so many names left
@@ -111,10 +111,10 @@ pub record Stepping (bs : List ℕ) (x at left : ℕ) : Type 0 where
   pub few : left ≤ x
   pub there : at ≡ startOf (lines bs) (x - left)
 
-pub stepping-start : {bs starts : List ℕ} (x : ℕ) → Starts bs starts → x < length (lines bs) → Stepping bs x (getD starts (x / 32) 0) (x % 32)
+pub stepping-start : {bs starts : List ℕ} (x : ℕ) → Starts bs starts → x < length (lines bs) → Stepping bs x (getD starts (x / 8) 0) (x % 8)
 stepping-start {bs} {starts} x s h =
-    let e : 32 * (x / 32) ≡ x - x % 32 = omega arith in
-    record { few = omega arith; there = s .all .at (x / 32) (omega arith) ∙ ap (startOf (lines bs)) e }
+    let e : 8 * (x / 8) ≡ x - x % 8 = omega arith in
+    record { few = omega arith; there = s .all .at (x / 8) (omega arith) ∙ ap (startOf (lines bs)) e }
 
 pub stepping-next : {bs : List ℕ} {x at left : ℕ} (s : Sound bs) → Stepping bs x at left → x < length (lines bs) → 0 < left → (end : ℕ)
     → end ≡ at + length (nameFrom bs at) → Stepping bs x (end + 1) (left - 1)
@@ -128,11 +128,11 @@ stepping-end {bs} {x} {at} {left} t h = let e : x - left ≡ x = omega arith in 
 -- the pass over the names, at the start of the name numbered i
 pub record Noting (bs starts : List ℕ) (at i : ℕ) : Type 0 where
   pub few : i ≤ length (lines bs)
-  pub room : length starts ≡ 4096
+  pub room : length starts ≡ 16384
   pub there : at ≡ startOf (lines bs) i
   pub noted : Before bs i starts
 
-pub noting-start : (bs starts : List ℕ) → length starts ≡ 4096 → Noting bs starts 0 0
+pub noting-start : (bs starts : List ℕ) → length starts ≡ 16384 → Noting bs starts 0 0
 unfolding startOf
 noting-start bs starts r = record { few = omega arith; room = r; there = refl; noted = none-before bs starts }
 
@@ -140,18 +140,18 @@ module _ {bs starts : List ℕ} {at i : ℕ} (s : Sound bs) (t : Noting bs start
   pub noting-inside : at < length bs → i < length (lines bs)
   noting-inside h = start-inside bs s i (t .few) (rw (t .there) at h)
 
-  next : (starts′ : List ℕ) (end : ℕ) → at < length bs → end ≡ at + length (nameFrom bs at) → length starts′ ≡ 4096 → Before bs (i + 1) starts′ → Noting bs starts′ (end + 1) (i + 1)
+  next : (starts′ : List ℕ) (end : ℕ) → at < length bs → end ≡ at + length (nameFrom bs at) → length starts′ ≡ 16384 → Before bs (i + 1) starts′ → Noting bs starts′ (end + 1) (i + 1)
   next starts′ end h f r b =
       let l = noting-inside h in
       record { few = omega arith; room = r; there = start-further bs s i at end l (t .there) f; noted = b }
 
   -- the name was noted, or was between
-  pub noting-note : (end : ℕ) → at < length bs → end ≡ at + length (nameFrom bs at) → i % 32 ≡ 0 → Noting bs (set starts (i / 32) at) (end + 1) (i + 1)
+  pub noting-note : (end : ℕ) → at < length bs → end ≡ at + length (nameFrom bs at) → i % 8 ≡ 0 → Noting bs (set starts (i / 8) at) (end + 1) (i + 1)
   noting-note end h f z =
-      next (set starts (i / 32) at) end h f (length-set starts (i / 32) at ∙ t .room)
+      next (set starts (i / 8) at) end h f (length-set starts (i / 8) at ∙ t .room)
       (before-note (t .noted) at z (t .there) (omega (arith, t .room, noting-inside h, s .few)))
 
-  pub noting-skip : (end : ℕ) → at < length bs → end ≡ at + length (nameFrom bs at) → (i % 32 ≡ 0 → ⊥) → Noting bs starts (end + 1) (i + 1)
+  pub noting-skip : (end : ℕ) → at < length bs → end ≡ at + length (nameFrom bs at) → (i % 8 ≡ 0 → ⊥) → Noting bs starts (end + 1) (i + 1)
   noting-skip end h f z = next starts end h f (t .room) (before-skip (t .noted) z)
 
   pub noting-below : (end : ℕ) → at < length bs → end ≡ at + length (nameFrom bs at) → (at ≤ end) × (end < length bs)

@@ -16,7 +16,7 @@ ghost use Rattle.words.specs.Words.{word};
 ghost use Rattle.words.specs.Ends.{isLabel, ending, paramsText};
 
 // The word of kind k stands from WORD_STARTS[k] up to WORD_STARTS[k + 1].
-const WORD_STARTS: [usize; 95] = [
+const WORD_STARTS: [u16; 95] = [
     0,
     2,
     2,
@@ -114,18 +114,28 @@ const WORD_STARTS: [usize; 95] = [
     875,
 ];
 
+// A place among the letters of the words.
+fn place(at: u16) -> usize
+    ensures { λ r. ⌜ r ≡ at ⌝ }
+{
+    at as usize
+}
+
 // Puts the word of a line's kind.
 pub fn put_word(text: &mut [u8], pen: Pen, kind: u16) -> Pen
     requires { ⌜ kind < 94 ⌝ }
     ensures { λ r. ⌜ Put (word kind) pen (now (text .entry)) (now (text .exit)) r ⌝ }
 {
     let k = kind as usize;
+    let starts = WORD_STARTS;
+    let start = place(starts[k]);
+    let end = place(starts[k + 1]);
     put_part(
         text,
         pen,
         b"# jmp push call syscall push_0n push get_arg get_local set_local call_fp __sel_false___sel_done___br_false___sw_case_jz __sel_false_jmp __sel_done_jz __br_false_jnz __sw_case_add_u32;\nsub_u32;\nmul_u32;\ndiv_u32;\ndiv_i32;\nmod_u32;\nmod_i32;\nand_u32;\nor_u32;\nxor_u32;\nlshift_u32;\nrshift_u32;\nrshift_i32;\neq_u32;\nne_u32;\ngt_u32;\nge_u32;\nlt_u32;\nle_u32;\ngt_i32;\nge_i32;\nlt_i32;\nle_i32;\nadd_u64;\nsub_u64;\nmul_u64;\ndiv_u64;\ndiv_i64;\nmod_u64;\nmod_i64;\nand_u64;\nor_u64;\nxor_u64;\nlshift_u64;\nrshift_u64;\nrshift_i64;\neq_u64;\nne_u64;\ngt_u64;\nge_u64;\nlt_u64;\nle_u64;\ngt_i64;\nge_i64;\nlt_i64;\nle_i64;\ntrunc_u8;\ntrunc_u16;\ntrunc_u32;\nsx_i8_i32;\nsx_i16_i32;\nsx_i8_i64;\nsx_i16_i64;\nsx_i32_i64;\nload_u8;\nload_u16;\nload_u32;\nload_u64;\nstore_u8;\nstore_u16;\nstore_u32;\nstore_u64;\natomic_load_u64;\natomic_store_u64;\natomic_cas_u64;\nsyscall memcmp;\ndup;\npop;\nret;\npanic;\nthread_get 0;\nthread_set 0;\n\n",
-        WORD_STARTS[k],
-        WORD_STARTS[k + 1],
+        start,
+        end,
     )
 }
 
