@@ -8,14 +8,3 @@ pub mod Allowance
 pub mod Parts
 pub mod Limit
 pub mod AnyAllowance
-pub mod Measured
-pub mod Front
-pub mod Work
-pub mod Arms
-pub mod Loops
-pub mod Helpers
-pub mod Calls
-pub mod LoopCalls
-pub mod Offsets
-pub mod Steps
-pub mod Structs

@@ -9,7 +9,7 @@ use Rattle.book.specs.Open.{openBook}
 use Rattle.book.specs.Entry.{entries}
 use Rattle.book.specs.Decode.{decode}
 use Rattle.reader.specs.Laws.{length-entries}
-use Rattle.layout.specs.Structs.{IsBook}
+use Rattle.measuring.specs.Structs.{IsBook}
 use Rattle.measures.specs.Book.{kinds, words}
 use Rattle.measures.specs.Laws.{found, is-book}
 

@@ -15,10 +15,10 @@ use Rattle.reader.specs.Length.{lenOf}
 use Rattle.reader.specs.Laws.{len-got, len-fits, entries-part, length-entries}
 use Rattle.reader.specs.declared.Length.{Length}
 use Rattle.reader.specs.declared.Length.the-variants as len
-use Rattle.layout.specs.Front.{Starts}
-use Rattle.layout.specs.Work.{Ready, Ask}
-use Rattle.layout.specs.Calls.{lent}
-use Rattle.layout.specs.Structs.{IsBook}
+use Rattle.measuring.specs.Front.{Starts}
+use Rattle.measuring.specs.Work.{Ready, Ask}
+use Rattle.measuring.specs.Calls.{lent}
+use Rattle.measuring.specs.Structs.{IsBook}
 
 -- what measuring one type leaves
 pub record Measuring (m : ℕ) (es : List Entry) (work work′ : List ℕ) (at r : ℕ) : Type 0 where

@@ -1,15 +1,15 @@
 // Measures the types of a book and prints, for each parameter of its function, the size and the alignment; a refusal is
 // printed as r and its number.
-use layout::Measured;
-use layout::aligns::align_of;
-use layout::sizes::size_of;
-use layout::structs::place_structs;
+use aligns::align_of;
 use libc::STDOUT_FILENO;
+use measuring::Measured;
+use measuring::structs::place_structs;
 use reader::Length;
 use reader::types::type_len;
+use sizes::size_of;
 ghost use Prim.Native.Nat.{_≤_};
 ghost use Rattle.book.specs.Entry.{entries};
-ghost use Rattle.layout.specs.Work.{Ready};
+ghost use Rattle.measuring.specs.Work.{Ready};
 ghost use Rattle.measures.specs.Laws.{Measuring};
 
 // %0 is empty, and each of %1 to %60 has two of the one before; %61 is {i8, i32, i8}, %62 the same, packed; %63 is opaque and

@@ -1,6 +1,6 @@
 -- Where a book's function stands: its entry is the only one of kind 5.
-use Prim.Native.Nat.{ℕ, zero, suc, _+_, _-_, _*_, _≤_, _<_}
-use mathlib.Core.Path.{_≡_, refl, sym, ap, _∙_, subst}
+use Prim.Native.Nat.{ℕ, suc, _+_, _-_, _*_, _≤_, _<_}
+use mathlib.Core.Path.{_≡_, refl, sym, ap, _∙_}
 use mathlib.Core.Bool.{Bool, true, false, cond, false≢true, _&&_}
 use mathlib.Core.Option.{Option, none, some}
 use mathlib.Core.List.{List, [], _∷_, _++_, append-assoc}
@@ -12,27 +12,25 @@ use lib.ListN.{length, getD, take, drop, length-append, length-drop}
 use lib.Seq.{drop-cons, drop-append-seam}
 use Rattle.names.specs.Tests.{both}
 use Rattle.book.specs.Ast.{Ty, Tys, Sizeless, StructType, StructBody, Mark, Function, Book}
-use Rattle.book.specs.Entry.{Entry, entry, entries}
-use lib.Seq.{take-all, drop-length}
+use Rattle.book.specs.Entry.{Entry, entries}
+use lib.Seq.{take-all}
 use lib.ListN.{length-take}
 use native.Mathlib.Nat.{le-of-eq}
-use borrow.Author.Tests.{lt-leb, le-leb}
 use Rattle.names.specs.Name.{lines, namesOf, counts, accepted}
 use Rattle.names.specs.Lines.{accepted-iff, names-lines}
 use Rattle.book.specs.Rule.{pick}
-use Rattle.book.specs.Read.{Read, got, bad}
-use Rattle.book.specs.Limits.{Limits}
+use Rattle.book.specs.Read.{got}
 use Rattle.book.specs.Input.{Counted, counted, bookIn, namesIn}
 use Rattle.book.specs.AgreeBook.{agrees-function, decode-sound}
 use Rattle.book.specs.Decode.{function, decode}
 use Rattle.reader.specs.Laws.{lentFrom, entries-part, length-entries}
 use Rattle.soundness.specs.Whole as whole
 use Rattle.assembly.specs.Printer.{Printing, refusing, needed, print}
-use Rattle.printer.specs.Types.{isGot}
-use Rattle.printer.specs.Starts.{Sound, sound}
+use Rattle.typetext.specs.Types.{isGot}
+use Rattle.typetext.specs.Starts.{Sound, sound}
 use Rattle.printer.specs.Passes.{printing, definition}
 use Rattle.printer.specs.Function.{FunctionThere}
-use Rattle.printer.specs.Allowed.{isSome}
+use Rattle.forms.specs.Allowed.{isSome}
 use Rattle.printer.specs.declared.passes.Printed.the-variants.{Refused}
 use Rattle.book.specs.Encode.{ending, encTy, encTys, encFunction, markEntry, encMark, encBody, encStruct, encode}
 

@@ -1,41 +1,30 @@
 -- The function that entries begin with.
 use Prim.Native.Nat.{ℕ, zero, suc, _+_, _-_, _≤_, _<_}
 use mathlib.Core.Path.{_≡_, refl, sym, ap, _∙_, subst}
-use mathlib.Core.Bool.{Bool, true, false, cond, false≢true, _&&_}
-use mathlib.Core.Option.{Option, none, some}
+use mathlib.Core.Bool.{Bool, true, false, false≢true}
 use mathlib.Core.List.{List, [], _∷_, _++_}
 use native.Mathlib.Numerals.{add-one}
-use native.Mathlib.Nat.{add-zero, zero-add}
 use native.Mathlib.Omega.{arith}
-use borrow.Author.Tests.{eq-eqb, ne-eqb, le-leb, lt-leb}
-use lib.Dec.{eqb, leb, ltb}
-use lib.ListN.{length, getD, take, drop, length-append, length-drop, length-take}
+use borrow.Author.Tests.{eq-eqb, ne-eqb}
+use lib.Dec.{eqb}
+use lib.ListN.{length, getD, take, drop, length-append, length-drop}
 use lib.Seq.{drop-cons, drop-drop, take-append-seam, drop-length}
-use Rattle.names.specs.Name.{lines, namesOf, counts, accepted}
-use Rattle.names.specs.Lines.{accepted-iff, names-lines}
-use Rattle.book.specs.Input.{namesIn}
-use Rattle.assembly.specs.Printer.{Printing, refusing, needed}
-use Rattle.printer.specs.Starts.{Sound, sound}
-use Rattle.printer.specs.declared.passes.Printed.the-variants.{Refused}
+use Rattle.names.specs.Name.{lines}
+use Rattle.typetext.specs.Starts.{sound}
 use Rattle.book.specs.Ast.{Ty, Tys, Sizeless, Param, Function, Book}
 use Rattle.book.specs.Entry.{Entry, entry, entries}
-use Rattle.book.specs.Kinds.{tyKind}
-use Rattle.book.specs.Rule.{when, pick}
 use Rattle.book.specs.Fields.{Item}
 use Rattle.book.specs.Encode.{ending, closed, encTy, encTys, encParam}
-use Rattle.book.specs.Agree.{Agrees, Begins}
 use Rattle.book.specs.AgreeTy.{agrees-type}
 use Rattle.book.specs.AgreeInst.{agrees-items, agrees-name}
-use Rattle.book.specs.Read.{Read, got, bad, Reader, andThen, taking, one, word, both, mapped, many}
-use Rattle.book.specs.Decode.{name, type, typeTo, item, basicBlock, function}
+use Rattle.book.specs.Read.{Read, got, bad, Reader, andThen, one, word, both, mapped, many}
+use Rattle.book.specs.Decode.{name, type, typeTo, item, function}
 use Rattle.reader.specs.Length.{lenOf}
 use Rattle.reader.specs.Laws.{length-entries, entries-front, entries-part, lentFrom, len-got, len-fits}
-use Rattle.reader.specs.declared.Length.{Length}
 use Rattle.reader.specs.declared.Length.the-variants as len
 use Rattle.reader.specs.TypeLaws.{behindFront}
-use Rattle.printer.specs.Types.{isGot, Typed, typeBytes}
-use Rattle.assembly.specs.Text.{typeText}
-use Rattle.printer.specs.Passes.{Known, printing, definition}
+use Rattle.typetext.specs.Types.{isGot, Typed, typeBytes}
+use Rattle.printer.specs.Passes.{Known}
 
 -- something was read
 pub record There {A : Type 0} (r : Read A) : Type 0 where
@@ -301,74 +290,3 @@ module _ (m : ℕ) (ks ws : List ℕ) (h : There (many (item m Item.param) (entr
 
     pub list-count : (r : ℕ) → r ≡ sixes (take n ks) → r ≡ readCount (many (item m Item.param) (entries ks ws))
     list-count r e = e ∙ params-count m ks ws (read .0) n (read .1) ∙ sym (ap readCount (read .1))
-
--- ---- the whole call, for the entries of a function alone
-abbrev pub functionRead : Read Function → Option Function
-functionRead (got f n) = some f
-functionRead bad = none
-
--- a function of a book with at most 131,072 names
-unfoldable pub functionIn : ℕ → List Entry → Option Function
-functionIn m es = pick (leb m 131072) (functionRead (function m es)) none
-
--- a book of this function alone
-abbrev pub bookWith : Function → Book
-bookWith f = record { marks = []; structs = []; function = f }
-
-unfoldable pub printFunction : (m : ℕ) → (ks ws bs kinds operands text : List ℕ) → Printing
-printFunction m ks ws bs kinds operands text =
-    needed 1 text (functionIn m (entries ks ws)) λ f.
-    needed 2 text (namesIn m bs) λ ns.
-    definition ns (bookWith f) kinds operands text
-
-module _ (m : ℕ) (ks ws bs kinds operands text : List ℕ) where
-  pub many-names : 131072 < m → printing (Refused 1) text ≡ printFunction m ks ws bs kinds operands text
-  unfolding printFunction functionIn needed refusing
-  many-names h = rw (lt-leb m 131072 h)
-
-  module _ (h : m ≤ 131072) where
-    pub no-function : len.Bad ≡ lenOf (function m (entries ks ws)) → printing (Refused 1) text ≡ printFunction m ks ws bs kinds operands text
-    unfolding printFunction functionIn needed refusing
-    no-function e = rw (le-leb m 131072 h) (go (function m (entries ks ws)) e)
-      where
-        go : (r : Read Function) → len.Bad ≡ lenOf r
-            → printing (Refused 1) text ≡ needed 1 text (functionRead r) (λ f. needed 2 text (namesIn m bs) (λ ns. definition ns (bookWith f) kinds operands text))
-        go (got f n) e = absurd (let z : _≡_ {A = ℕ} 0 1 = cc in omega arith)
-        go bad e = refl
-
-    module _ (n : ℕ) (l : len.Entries n ≡ lenOf (function m (entries ks ws))) where
-      fn : (f : Function) × (function m (entries ks ws) ≡ got f n)
-      fn = len-got (function m (entries ks ws)) n (sym l)
-
-      pub function-there : FunctionThere m ks ws
-      function-there = record { got = ap isGot (fn .1) }
-
-      go-on : printFunction m ks ws bs kinds operands text ≡ needed 2 text (namesIn m bs) (λ ns. definition ns (bookWith (fn .0)) kinds operands text)
-      unfolding printFunction functionIn needed
-      go-on = rw (le-leb m 131072 h, fn .1)
-
-      pub no-names : (t : Bool) → t ≡ accepted bs m → t ≡ false → printing (Refused 2) text ≡ printFunction m ks ws bs kinds operands text
-      unfolding accepted namesIn needed refusing
-      no-names t e f = sym (go-on ∙ go (counts m (namesOf bs)) (sym e ∙ f))
-        where
-          go : (b : Bool) → b ≡ false → needed 2 text (pick b (namesOf bs) none) (λ ns. definition ns (bookWith (fn .0)) kinds operands text) ≡ printing (Refused 2) text
-          go true e = absurd (false≢true (sym e))
-          go false e = refl
-
-      module _ (t : Bool) (e : t ≡ accepted bs m) (f : t ≡ true) where
-        named : (ns : List (List ℕ)) × (namesOf bs ≡ some ns) × (length ns ≡ m)
-        named = accepted-iff bs m .0 (sym e ∙ f)
-
-        pub names-sound : Sound bs
-        names-sound = sound bs (named .0) (named .1) (omega (arith, named .2))
-
-        pub names-count : m ≡ length (lines bs)
-        names-count = sym (ap length (names-lines bs (named .0) (named .1)) ∙ named .2)
-
-        there : namesIn m bs ≡ some (lines bs)
-        unfolding namesIn accepted
-        there = rw (sym e ∙ f) (named .1 ∙ ap some (sym (names-lines bs (named .0) (named .1))))
-
-        pub sound-printed : (g : Printing) → ((b : Book) (n : ℕ) → function m (entries ks ws) ≡ got (b .function) n → g ≡ definition (lines bs) b kinds operands text) → g ≡ printFunction m ks ws bs kinds operands text
-        unfolding needed
-        sound-printed g p = p (bookWith (fn .0)) n (fn .1) ∙ sym (go-on ∙ rw there)

@@ -1,13 +1,3 @@
-pub mod Pen
-pub mod Starts
-pub mod Table
-pub mod Words
-pub mod Forms
-pub mod Types
-pub mod Lines
-pub mod All
-pub mod Same
-pub mod Allowed
 pub mod Passes
 pub mod Function
 pub mod Book

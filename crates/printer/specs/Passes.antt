@@ -1,9 +1,9 @@
 -- The two passes, and the answer of the call.
-use Prim.Native.Nat.{ℕ, _+_, _≤_, _<_}
+use Prim.Native.Nat.{ℕ, _+_}
 use mathlib.Core.Path.{_≡_, refl, sym, ap, _∙_}
 use mathlib.Core.Bool.{Bool, true, false, cond, false≢true}
 use mathlib.Core.Option.{Option, none, some}
-use mathlib.Core.List.{List, [], _∷_, _++_}
+use mathlib.Core.List.{List, [], _++_}
 use native.Mathlib.Omega.{arith}
 use borrow.Author.Tests.{leb-true, le-leb}
 use lib.Dec.{leb}
@@ -12,23 +12,23 @@ use Rattle.names.specs.Text.{bytes}
 use Rattle.names.specs.Name.{namesOf, nameAt, lines}
 use Rattle.names.specs.Lines.{names-iff}
 use Rattle.names.specs.Prefix.{PrefixRange}
-use Rattle.book.specs.Ast.{Ty, Book, Function}
+use Rattle.book.specs.Ast.{Ty, Book}
 use Rattle.book.specs.Entry.{entries}
-use Rattle.book.specs.Read.{Read, got, bad}
 use Rattle.book.specs.Decode.{typeTo}
 use Rattle.assembly.specs.Line.{Line}
 use Rattle.assembly.specs.Text.{typeText, texts}
 use Rattle.assembly.specs.Printer.{Printing, refusing, writing, needed, linesOf}
 use Rattle.assembly.specs.Printer as printer
-use Rattle.printer.specs.Pen.{Put, reached, fitting, counted, written}
-use Rattle.printer.specs.Starts.{Sound, Starts}
-use Rattle.printer.specs.Types.{typeBytes, Typed, isGot}
-use Rattle.printer.specs.Lines.{printed}
-use Rattle.printer.specs.All.{AllReady, printedAll, allowedAll}
-use Rattle.printer.specs.Same.{putFor, lines-same}
-use Rattle.printer.specs.Allowed.{isSome, allowed-lines, all-ready, uvm-range}
-use Rattle.printer.specs.declared.pen.Pen.{Pen}
-use Rattle.printer.specs.declared.pen.Pen.the-variants.{Counting, Writing, Full}
+use Rattle.pen.specs.Pen.{Put, reached, fitting, counted, written}
+use Rattle.typetext.specs.Starts.{Starts}
+use Rattle.typetext.specs.Types.{typeBytes}
+use Rattle.linetext.specs.Lines.{printed}
+use Rattle.forms.specs.All.{AllReady, allowedAll}
+use Rattle.linetext.specs.All.{printedAll}
+use Rattle.linetext.specs.Same.{putFor, lines-same}
+use Rattle.forms.specs.Allowed.{isSome, allowed-lines, all-ready, uvm-range}
+use Rattle.pen.specs.declared.Pen.{Pen}
+use Rattle.pen.specs.declared.Pen.the-variants.{Counting, Writing, Full}
 use Rattle.printer.specs.declared.passes.Printed.{Printed}
 use Rattle.printer.specs.declared.passes.Printed.the-variants.{Accepted, Refused}
 

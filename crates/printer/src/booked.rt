@@ -9,7 +9,7 @@ ghost use Rattle.book.specs.Ast.{Book};
 ghost use Rattle.book.specs.Entry.{entries};
 ghost use Rattle.book.specs.Decode.{decode};
 ghost use Rattle.assembly.specs.Printer.{print};
-ghost use Rattle.printer.specs.Starts.{Sound};
+ghost use Rattle.typetext.specs.Starts.{Sound};
 ghost use Rattle.printer.specs.Passes.{printing, definition};
 ghost use Rattle.printer.specs.Book.{firstFive, Decoded, Booked};
 

@@ -1,13 +1,12 @@
 // The function that the entries begin with: its name, its return type and its parameters, and the printing of its lines.
 use crate::passes::Printed;
 use crate::passes::print_known;
-use crate::starts::note_starts;
-use blocks::function_len;
 use reader::Length;
 use reader::items::Item;
 use reader::items::list_len;
 use reader::shorter;
 use reader::types::type_len;
+use typetext::starts::note_starts;
 ghost use mathlib.Core.Path.{_≡_};
 ghost use Prim.Native.Nat.{ℕ};
 ghost use lib.ListN.{length};
@@ -17,9 +16,9 @@ ghost use Rattle.book.specs.Entry.{entries};
 ghost use Rattle.book.specs.Read.{got, many};
 ghost use Rattle.book.specs.Fields.{Item as BookItem};
 ghost use Rattle.book.specs.Decode.{item, function as functionReader};
-ghost use Rattle.printer.specs.Starts.{Sound};
+ghost use Rattle.typetext.specs.Starts.{Sound};
 ghost use Rattle.printer.specs.Passes.{printing, definition};
-ghost use Rattle.printer.specs.Function.{sixes, There, FunctionThere, readCount, paramsRead, printFunction};
+ghost use Rattle.printer.specs.Function.{sixes, There, FunctionThere, readCount, paramsRead};
 
 // How many entries have kind 6.
 fn count_params(kinds: &[u64]) -> u64
@@ -78,7 +77,7 @@ pub fn print_sound(
 {
     let function = words[0];
     let params = function_params(kinds, words, count);
-    let mut starts = [0usize; 4096];
+    let mut starts = [0usize; 16384];
     note_starts(names, &mut starts);
     print_known(
         names,
@@ -92,28 +91,4 @@ pub fn print_sound(
         operands,
         text,
     )
-}
-
-// Prints the lines of the function at the front: refuses with 1 where there is none, with 2 where the names are not sound.
-pub fn print_function(
-    kinds: &[u64],
-    words: &[u64],
-    count: u64,
-    names: &[u8],
-    line_kinds: &[u16],
-    operands: &[u64],
-    text: &mut [u8],
-) -> Printed
-    ensures { λ r. ⌜ printing r (now (text .exit)) ≡ printFunction count (now (kinds .entry)) (now (words .entry)) (now (names .entry)) (now («line_kinds» .entry)) (now (operands .entry)) (now (text .entry)) ⌝ }
-{
-    if 131072 < count {
-        return Printed::Refused(1);
-    }
-    let Length::Entries(_) = function_len(kinds, words, count) else {
-        return Printed::Refused(1);
-    };
-    if !names::check_names(names, count) {
-        return Printed::Refused(2);
-    }
-    print_sound(kinds, words, count, names, line_kinds, operands, text)
 }

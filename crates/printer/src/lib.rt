@@ -1,13 +1,7 @@
 // The printer: lines of the stack machine, as kinds and operands, become text.
 pub mod booked;
-pub mod forms;
 pub mod function;
-pub mod lines;
 pub mod passes;
-pub mod pen;
-pub mod starts;
-pub mod types;
-pub mod words;
 
 use crate::booked::print_booked;
 use crate::passes::Printed;

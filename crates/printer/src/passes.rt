@@ -1,8 +1,8 @@
 // The two passes over the lines: one counts the bytes, the other stores them if they fit.
-use crate::lines::check_lines;
-use crate::lines::put_lines;
-use crate::pen::Pen;
-use crate::starts::name_of;
+use forms::check_lines;
+use linetext::put_lines;
+use pen::Pen;
+use typetext::starts::name_of;
 ghost use mathlib.Core.Path.{_≡_};
 ghost use mathlib.Core.List.{List};
 ghost use Prim.Native.Nat.{ℕ, _<_};
@@ -12,10 +12,11 @@ ghost use Rattle.book.specs.Ast.{Book};
 ghost use Rattle.book.specs.Entry.{entries};
 ghost use Rattle.book.specs.Decode.{typeTo};
 ghost use Rattle.assembly.specs.Printer.{writing};
-ghost use Rattle.printer.specs.Starts.{Starts};
-ghost use Rattle.printer.specs.Types.{typeBytes, Typed};
-ghost use Rattle.printer.specs.Lines.{printed};
-ghost use Rattle.printer.specs.All.{AllReady, printedAll};
+ghost use Rattle.typetext.specs.Starts.{Starts};
+ghost use Rattle.typetext.specs.Types.{typeBytes, Typed};
+ghost use Rattle.linetext.specs.Lines.{printed};
+ghost use Rattle.forms.specs.All.{AllReady};
+ghost use Rattle.linetext.specs.All.{printedAll};
 ghost use Rattle.printer.specs.Passes.{printing, Known, definition};
 
 // The bytes put from index 0 on, or a refusal's number.

@@ -1,8 +1,8 @@
 // Prints one line of every kind for a function `i32 @f(i32)`, then what else is accepted or refused: the answer, and the text slice
 // after the call.
+use pen::Pen;
+use pen::put_number;
 use printer::passes::Printed;
-use printer::pen::Pen;
-use printer::pen::put_number;
 use printer::print;
 
 // 8 entries and 4 names; the kinds, then the words.

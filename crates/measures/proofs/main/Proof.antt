@@ -9,7 +9,7 @@ use Rattle.measures.proofs.main.Statement.{statement}
 use Rattle.measures.proofs.main.Tie as tie
 use Rattle.measures.proofs.main.Reads as reads
 use Rattle.measures.proofs.main.Lts as lts
-use Rattle.layout.proofs.structs.place_structs.Reads as place-structs-reads
+use Rattle.measuring.proofs.structs.place_structs.Reads as place-structs-reads
 use Rattle.measures.proofs.measure_all.Reads as measure-all-reads
 
 slice-aggregate-place-structs : tie.Need-slice-aggregate-place-structs

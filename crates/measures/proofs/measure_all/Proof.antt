@@ -4,7 +4,7 @@ use borrow.Author.Needs.{needs}
 use Prim.Native.Nat.{_-_}
 use lib.ListN.{length}
 use Rattle.book.specs.Entry.{entries}
-use Rattle.layout.specs.Work.{Ready}
+use Rattle.measuring.specs.Work.{Ready}
 use Rattle.measures.proofs.measure_all.Statement.{statement}
 use Rattle.measures.proofs.measure_all.Tie as tie
 use Rattle.measures.proofs.measure_all.Reads as reads

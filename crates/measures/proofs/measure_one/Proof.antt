@@ -9,8 +9,8 @@ use Rattle.measures.proofs.measure_one.Tie as tie
 use Rattle.measures.proofs.measure_one.Reads as reads
 use Rattle.measures.proofs.measure_one.Lts as lts
 use Rattle.io.proofs.write_all.Reads as write-all-reads
-use Rattle.layout.proofs.aligns.align_of.Reads as align-of-reads
-use Rattle.layout.proofs.sizes.size_of.Reads as size-of-reads
+use Rattle.aligns.proofs.align_of.Reads as align-of-reads
+use Rattle.sizes.proofs.size_of.Reads as size-of-reads
 use Rattle.measures.proofs.show.Reads as show-reads
 use Rattle.reader.proofs.types.type_len.Reads as type-len-reads
 

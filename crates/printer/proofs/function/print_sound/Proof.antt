@@ -5,7 +5,7 @@ use Rattle.printer.proofs.function.print_sound.Statement.{statement}
 use Rattle.printer.proofs.function.print_sound.Tie as tie
 use Rattle.printer.proofs.function.function_params.Reads as function-params-reads
 use Rattle.printer.proofs.passes.print_known.Reads as print-known-reads
-use Rattle.printer.proofs.starts.note_starts.Reads as note-starts-reads
+use Rattle.typetext.proofs.starts.note_starts.Reads as note-starts-reads
 
 shared-slice-read-function : tie.Need-shared-slice-read-function
 shared-slice-read-function c = fn-words (c .before .before .before .before .before .before .before .args .count) (c .before .before .before .before .before .before .before .args .kinds .now) (c .before .before .before .before .before .before .before .args .words .now) (c .before .before .before .before .before .before .before .pre .0)

@@ -6,9 +6,9 @@ use borrow.Author.Needs.{needs}
 use Rattle.printer.proofs.passes.print_known.Statement.{statement}
 use Rattle.printer.proofs.passes.print_known.Tie as tie
 use Rattle.names.proofs.prefix_range.Reads as prefix-range-reads
-use Rattle.printer.proofs.lines.check_lines.Reads as check-lines-reads
+use Rattle.forms.proofs.check_lines.Reads as check-lines-reads
 use Rattle.printer.proofs.passes.put_twice.Reads as put-twice-reads
-use Rattle.printer.proofs.starts.name_of.Reads as name-of-reads
+use Rattle.typetext.proofs.starts.name_of.Reads as name-of-reads
 
 slice-aggregate-prefix-range : tie.Need-slice-aggregate-prefix-range
 slice-aggregate-prefix-range c = search needs

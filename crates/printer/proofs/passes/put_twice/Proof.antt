@@ -3,7 +3,7 @@ use Rattle.printer.specs.Passes.{start-counting, start-writing, passes-d
 use borrow.Author.Needs.{needs}
 use Rattle.printer.proofs.passes.put_twice.Statement.{statement}
 use Rattle.printer.proofs.passes.put_twice.Tie as tie
-use Rattle.printer.proofs.lines.put_lines.Reads as put-lines-reads
+use Rattle.linetext.proofs.put_lines.Reads as put-lines-reads
 
 put-lines-requires : tie.Need-put-lines-requires
 put-lines-requires c κs = (c .before .before .before .before .before .before .before .before .before .pre .0, (c .before .before .before .before .before .before .before .before .before .pre .1 .0, (c .before .before .before .before .before .before .before .before .before .pre .1 .1, start-counting (c .before .before .before .before .before .before .before .before .before .args .text .now))))

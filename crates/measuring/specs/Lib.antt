@@ -1,0 +1,9 @@
+pub mod Measured
+pub mod Front
+pub mod Work
+pub mod Arms
+pub mod Helpers
+pub mod Calls
+pub mod Fields
+pub mod FieldCalls
+pub mod Structs

@@ -1,0 +1,14 @@
+-- `fits` meets its contract by its test.
+use Rattle.pen.specs.Pen.{fits-there, fits-not}
+use borrow.Author.Needs.{needs}
+use Rattle.pen.proofs.fits.Statement.{statement}
+use Rattle.pen.proofs.fits.Tie as tie
+
+returns : tie.Need-returns
+returns c = fits-there _ _ _ (c .if1 .taken)
+
+returns-2 : tie.Need-returns-2
+returns-2 c = fits-not _ _ _ (c .if1 .left)
+
+pub fits-spec : {M : Type 1} → statement M
+fits-spec = tie.close (tie.spec returns returns-2)

@@ -1,0 +1,22 @@
+-- `sizes::closed` meets its contract.
+use Prim.Native.Nat.{ℕ, _+_, _*_, _≤_, _<_}
+use mathlib.Core.Path.{_≡_, sym, ap, _∙_}
+use native.Mathlib.Omega.{arith}
+use Rattle.measuring.specs.Helpers as laws
+use Rattle.sizes.specs.Sums.{closed-fits, closed-over}
+use borrow.Author.Needs.{needs}
+use Rattle.sizes.proofs.closed.Statement.{statement}
+use Rattle.sizes.proofs.closed.Tie as tie
+use Rattle.sizes.proofs.placed.Reads as placed-reads
+
+placed-requires : tie.Need-placed-requires
+placed-requires c κs = search needs
+
+returns : tie.Need-returns
+returns c = closed-fits _ _ _ (c .before .placed .ensures) (c .if1 .taken)
+
+returns-2 : tie.Need-returns-2
+returns-2 c = closed-over _ _ _ (c .before .placed .ensures) (c .if1 .left)
+
+pub closed-spec : {M : Type 1} → statement M
+closed-spec = tie.close (tie.spec placed-requires returns returns-2)

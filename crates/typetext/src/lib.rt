@@ -1,0 +1,3 @@
+// Where a name stands among the names, and the text of a type.
+pub mod starts;
+pub mod types;
