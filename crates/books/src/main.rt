@@ -1,13 +1,10 @@
 // Runs the check of a book on the cases of standard input, and writes a line for each: its name and document 01's
 // number, 0 where the book is sound. The top of the input says what its lines are.
-mod lent;
-mod text;
-
-use lent::copy_names;
-use lent::put_words;
-use text::Token;
-use text::before;
-use text::read_token;
+use written::lent::copy_names;
+use written::lent::put_words;
+use written::text::Token;
+use written::text::before;
+use written::text::read_token;
 ghost use mathlib.Core.Path.{_≡_};
 ghost use Prim.Native.Nat.{_≤_};
 ghost use lib.ListN.{length};

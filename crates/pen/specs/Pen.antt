@@ -30,7 +30,8 @@ reached room n (Counting a) = fitting (leb (a + n) room) (Counting (a + n))
 reached room n (Writing a) = fitting (leb (a + n) room) (Writing (a + n))
 reached room n Full = Full
 
--- the text x becomes y: a writing pen stores the bytes where all fit, any other nothing
+-- the text x becomes y: a writing pen stores the bytes where all fit, a counting or full one nothing. Left free: what a writing pen has stored of bytes that do
+-- not all fit, of which some pieces may. The printer writes only what a counting pen has shown to fit.
 abbrev pub Text : Pen → List ℕ → List ℕ → List ℕ → Type 0
 Text (Counting a) bs x y = y ≡ x
 Text (Writing a) bs x y = a + length bs ≤ length x → y ≡ sets x a bs

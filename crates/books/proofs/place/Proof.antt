@@ -3,7 +3,7 @@ use Prim.Native.Nat.{_-_}
 use native.Mathlib.Omega.{arith}
 use borrow.Author.Needs.{needs}
 use lib.ListN.{length, take, drop, length-drop, length-take}
-use Rattle.books.proofs.Reading.{up-within}
+use Rattle.written.proofs.Reading.{up-within}
 use Rattle.books.proofs.place.Statement.{statement}
 use Rattle.books.proofs.place.Tie as tie
 

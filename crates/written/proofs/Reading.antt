@@ -9,9 +9,9 @@ use lib.ListN.{length, getD, take, drop, length-take, length-drop, drop-of-lengt
 use lib.Seq.{take-all}
 use Rattle.names.specs.Name.{until}
 use Rattle.names.proofs.Scan.{until-part, until-past, until-stop, until-pass}
-use Rattle.books.specs.declared.text.Number.{Number}
-use Rattle.books.specs.declared.text.Token.{Token}
-use Rattle.books.specs.Text.{upTo, noDigit, digits, withDigit, withDigits, numberIn, tokenIn}
+use Rattle.written.specs.declared.text.Number.{Number}
+use Rattle.written.specs.declared.text.Token.{Token}
+use Rattle.written.specs.Text.{upTo, noDigit, digits, withDigit, withDigits, numberIn, tokenIn}
 
 module _ (w : ℕ) (text : List ℕ) (i : ℕ) where
   pub up-past : length text ≤ i → length (upTo w (drop i text)) ≡ 0

@@ -1,7 +1,7 @@
 // Reading the input: how far a byte is, a number, a token.
 ghost use mathlib.Core.Path.{_≡_};
 ghost use lib.ListN.{length};
-ghost use Rattle.books.specs.Text.{upTo, isDigit, withDigit, numberIn, tokenIn};
+ghost use Rattle.written.specs.Text.{upTo, isDigit, withDigit, numberIn, tokenIn};
 
 // How many bytes stand before the first that is `wanted`; all of them where none is.
 pub fn before(text: &[u8], wanted: u8) -> usize

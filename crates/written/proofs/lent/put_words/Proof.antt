@@ -8,9 +8,9 @@ use borrow.Author.Tests.{le-leb, lt-leb}
 use borrow.Author.Needs.{needs}
 use lib.Seq.{paste, paste-zero, paste-suc}
 use lib.ListN.{length, set, getD, length-set}
-use Rattle.books.specs.Lent.{putEnd, putWords}
-use Rattle.books.proofs.lent.put_words.Statement.{statement}
-use Rattle.books.proofs.lent.put_words.Tie as tie
+use Rattle.written.specs.Lent.{putEnd, putWords}
+use Rattle.written.proofs.lent.put_words.Statement.{statement}
+use Rattle.written.proofs.lent.put_words.Tie as tie
 
 abbrev Inv-loop : tie.InvT-loop
 Inv-loop from to₀ at i₀ i-end to i = (i ≤ i-end) × (i-end ≡ length from) × (length to ≡ length to₀) × (to ≡ paste to₀ at from i)

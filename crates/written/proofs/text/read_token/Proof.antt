@@ -2,10 +2,10 @@
 use Prim.Native.Nat.{_+_}
 use mathlib.Core.Path.{ap, _∙_}
 use borrow.Author.Needs.{needs}
-use Rattle.books.specs.Text.{numberIn}
-use Rattle.books.proofs.Reading.{token-short, token-parts, to-end}
-use Rattle.books.proofs.text.read_token.Statement.{statement}
-use Rattle.books.proofs.text.read_token.Tie as tie
+use Rattle.written.specs.Text.{numberIn}
+use Rattle.written.proofs.Reading.{token-short, token-parts, to-end}
+use Rattle.written.proofs.text.read_token.Statement.{statement}
+use Rattle.written.proofs.text.read_token.Tie as tie
 
 read-number-requires : tie.Need-read-number-requires
 read-number-requires c κs = search needs

@@ -5,8 +5,8 @@ use mathlib.Core.List.{List, [], _∷_}
 use lib.Dec.{eqb, leb}
 use lib.ListN.{length, getD, drop}
 use Rattle.names.specs.Name.{until}
-use Rattle.books.specs.declared.text.Number.{Number}
-use Rattle.books.specs.declared.text.Token.{Token}
+use Rattle.written.specs.declared.text.Number.{Number}
+use Rattle.written.specs.declared.text.Token.{Token}
 
 -- the bytes before the first that is `wanted`
 unfoldable pub upTo : ℕ → List ℕ → List ℕ

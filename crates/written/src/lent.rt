@@ -3,7 +3,7 @@ ghost use mathlib.Core.Path.{_≡_};
 ghost use mathlib.Core.List.{_++_, map};
 ghost use Prim.Native.Nat.{_≤_};
 ghost use lib.ListN.{length, drop};
-ghost use Rattle.books.specs.Lent.{putEnd, putWords, nameByte};
+ghost use Rattle.written.specs.Lent.{putEnd, putWords, nameByte};
 
 // Puts words into a slice from a place on, if there is room; the place behind them, or the same place.
 pub fn put_words(from: &[u64], to: &mut [u64], at: usize) -> usize

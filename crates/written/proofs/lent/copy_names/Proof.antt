@@ -5,10 +5,10 @@ use mathlib.Core.Path.{_≡_, refl, sym, ap, _∙_}
 use native.Mathlib.Omega.{arith}
 use borrow.Author.Needs.{needs}
 use lib.ListN.{length, take, drop, set, length-set, length-map, List·getD-map}
-use Rattle.books.specs.Lent.{nameByte}
-use Rattle.books.proofs.Copying.{copied-more, copied-all}
-use Rattle.books.proofs.lent.copy_names.Statement.{statement}
-use Rattle.books.proofs.lent.copy_names.Tie as tie
+use Rattle.written.specs.Lent.{nameByte}
+use Rattle.written.proofs.Copying.{copied-more, copied-all}
+use Rattle.written.proofs.lent.copy_names.Statement.{statement}
+use Rattle.written.proofs.lent.copy_names.Tie as tie
 
 abbrev Inv-loop : tie.InvT-loop
 Inv-loop from to₀ i₀ i-end to i = (i ≤ i-end) × (i-end ≡ length from) × (length to ≡ length to₀) × (to ≡ take i (map nameByte from) ++ drop i to₀)

@@ -5,10 +5,10 @@ use native.Mathlib.Omega.{arith}
 use borrow.Author.Tests.{eq-eqb, ne-eqb}
 use borrow.Author.Needs.{needs}
 use lib.ListN.{length, drop}
-use Rattle.books.specs.Text.{upTo}
-use Rattle.books.proofs.Reading.{up-past, up-stop, up-pass}
-use Rattle.books.proofs.text.before.Statement.{statement}
-use Rattle.books.proofs.text.before.Tie as tie
+use Rattle.written.specs.Text.{upTo}
+use Rattle.written.proofs.Reading.{up-past, up-stop, up-pass}
+use Rattle.written.proofs.text.before.Statement.{statement}
+use Rattle.written.proofs.text.before.Tie as tie
 
 abbrev Inv-loop : tie.InvT-loop
 Inv-loop text wanted at₀ at = (at ≤ length text) × (length (upTo wanted text) ≡ at + length (upTo wanted (drop at text)))

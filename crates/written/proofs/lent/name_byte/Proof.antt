@@ -1,8 +1,8 @@
 -- `name_byte` by its test.
 use borrow.Author.Tests.{eq-eqb, ne-eqb}
-use Rattle.books.specs.Lent.{nameByte}
-use Rattle.books.proofs.lent.name_byte.Statement.{statement}
-use Rattle.books.proofs.lent.name_byte.Tie as tie
+use Rattle.written.specs.Lent.{nameByte}
+use Rattle.written.proofs.lent.name_byte.Statement.{statement}
+use Rattle.written.proofs.lent.name_byte.Tie as tie
 
 returns : tie.Need-returns
 unfolding nameByte

@@ -4,10 +4,10 @@ use mathlib.Core.Path.{_≡_, sym, ap, _∙_}
 use mathlib.Core.Bool.{not}
 use borrow.Author.Needs.{needs}
 use lib.ListN.{length}
-use Rattle.books.specs.Text.{noDigit}
-use Rattle.books.proofs.Reading.{Reached, reached-first, reached-more, reached-end, digits-past, digits-stop}
-use Rattle.books.proofs.text.read_number.Statement.{statement}
-use Rattle.books.proofs.text.read_number.Tie as tie
+use Rattle.written.specs.Text.{noDigit}
+use Rattle.written.proofs.Reading.{Reached, reached-first, reached-more, reached-end, digits-past, digits-stop}
+use Rattle.written.proofs.text.read_number.Statement.{statement}
+use Rattle.written.proofs.text.read_number.Tie as tie
 
 abbrev Inv-loop : tie.InvT-loop
 Inv-loop text value₀ at₀ value at = Reached text value at
