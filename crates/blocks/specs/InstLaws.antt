@@ -1,35 +1,31 @@
 -- Laws on instructions, terminators and their fields.
-use Prim.Native.Nat.{ℕ, zero, suc, _+_, _-_, _≤_, _<_, _^_}
-use mathlib.Core.Path.{_≡_, refl, ap, sym, _∙_, subst, fun-ext}
+use Prim.Native.Nat.{ℕ, _+_, _-_, _≤_, _<_}
+use mathlib.Core.Path.{_≡_, refl, ap, sym, _∙_, fun-ext}
 use mathlib.Core.Bool.{Bool, true, false}
 use mathlib.Core.Option.{Option, none, some}
 use mathlib.Core.List.{List, [], _∷_, _++_}
-use native.Mathlib.Nat.{add-assoc, add-zero, zero-add}
+use native.Mathlib.Nat.{add-zero}
 use native.Mathlib.Omega.{arith}
-use borrow.Author.Tests.{eqb-true, eqb-false, eq-eqb, ne-eqb, le-leb, lt-leb}
-use lib.ListN.{length, drop, take, length-take}
+use borrow.Author.Tests.{eq-eqb, ne-eqb, le-leb, lt-leb}
+use lib.ListN.{drop}
 use lib.Seq.{drop-drop}
 use lib.Dec.{eqb, leb}
-use Rattle.book.specs.Entry.{Entry, entry, entries}
-use Rattle.book.specs.Ast.{BinOp, ConvOp, ICmpPred, Inst}
+use Rattle.book.specs.Entry.{Entry, entries}
 use Rattle.book.specs.Rule.{when, pick, unmentioned}
-use Rattle.book.specs.Kinds.{InstTag, TermTag, instTag, termTag}
+use Rattle.book.specs.Kinds.{InstTag, TermTag}
 use Rattle.book.specs.Fields as book
-use Rattle.book.specs.Read.{Read, got, bad, Reader, andThen, behind, taking, stops, mapped, both}
-use Rattle.book.specs.Decode.{name, maybeName, field, fields, taggedAs, tagged, inst, term}
-use Rattle.reader.specs.Length.{lenOf, further, stepOf, stepOfLength, lastOfLength, pickStep, frontOf}
+use Rattle.book.specs.Read.{Read, got, bad, Reader, andThen, behind, mapped, both}
+use Rattle.book.specs.Decode.{maybeName, field, fields, taggedAs, tagged, term}
+use Rattle.reader.specs.Length.{lenOf, further, frontOf}
 use Rattle.blocks.specs.Insts.{instGroupOf, termGroupOf, instShape, termShape, shapeFields, allFields}
-use Rattle.reader.specs.Laws.{length-entries, entries-part, further-none, further-further}
+use Rattle.reader.specs.Laws.{entries-part, further-none, further-further}
 use Rattle.reader.specs.TypeLaws.{behindFront}
-use Rattle.reader.specs.Fit.{Room}
 use Rattle.blocks.specs.declared.insts.Shape.{Shape}
 use Rattle.blocks.specs.declared.insts.Shape.the-variants as shape
 use Rattle.blocks.specs.declared.insts.Fields.{Fields}
 use Rattle.reader.specs.declared.Length.{Length}
 use Rattle.reader.specs.declared.Length.the-variants as len
-use Rattle.reader.specs.declared.Step.{Step}
 use Rattle.reader.specs.declared.Step.the-variants as step
-use Rattle.reader.specs.declared.Front.{Front}
 use Rattle.reader.specs.declared.Front.the-variants as front
 
 -- ---- fields one after the other

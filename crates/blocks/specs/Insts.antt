@@ -1,5 +1,5 @@
 -- The groups of instructions and terminators, and the fields of each.
-use Prim.Native.Nat.{ℕ, _-_}
+use Prim.Native.Nat.{_-_}
 use mathlib.Core.Option.{Option, none, some}
 use mathlib.Core.List.{List, [], _∷_, _++_}
 use Rattle.book.specs.Kinds.{InstTag, TermTag, instKind}

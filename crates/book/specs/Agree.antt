@@ -1,19 +1,19 @@
 -- A reader and a writer agree: what is read is what was written, within the limits, and every such writing is read. One law for each
 -- way to put readers together.
-use Prim.Native.Nat.{ℕ, zero, suc, _+_, _≤_, _<_}
-use mathlib.Core.Path.{_≡_, refl, ap, sym, _∙_, subst, subst₂}
+use Prim.Native.Nat.{ℕ, zero, suc, _+_, _≤_}
+use mathlib.Core.Path.{_≡_, refl, ap, sym, _∙_, subst₂}
 use mathlib.Core.Bool.{Bool, true, false}
 use mathlib.Core.Option.{Option, none, some}
 use mathlib.Core.List.{List, [], _∷_, _++_, append-assoc}
 use native.Mathlib.Omega.{arith}
-use borrow.Author.Tests.{eqb-true, eq-eqb, ne-eqb}
+use borrow.Author.Tests.{eqb-true, eq-eqb}
 use lib.ListN.{length, drop, length-append}
 use lib.Seq.{drop-drop, drop-append-seam}
 use lib.Dec.{eqb}
 use Rattle.book.specs.Entry.{Entry, entry}
 use Rattle.book.specs.Rule.{when, pick}
-use Rattle.book.specs.Read.{Read, got, bad, Reader, andThen, behind, taking, choose, one, filtered, optional, stops, mapped, both, until, word, closing, isClosing, listOf, many}
-use Rattle.book.specs.Encode.{ending, closed, orAbsent}
+use Rattle.book.specs.Read.{Read, got, bad, Reader, andThen, taking, choose, one, filtered, optional, stops, mapped, both, until, word}
+use Rattle.book.specs.Encode.{ending, orAbsent}
 use Rattle.book.specs.Limits.{Each, Maybe}
 
 module _ {A : Type 0} (write : A → List Entry) (Keeps : A → Type 0) where

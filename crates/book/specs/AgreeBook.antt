@@ -1,27 +1,26 @@
 -- The book: decoder and encoder agree.
-use Prim.Native.Nat.{ℕ, zero, suc, _+_, _-_, _≤_, _<_}
-use mathlib.Core.Path.{_≡_, refl, ap, sym, _∙_, subst}
+use Prim.Native.Nat.{ℕ, _+_, _-_, _<_}
+use mathlib.Core.Path.{_≡_, refl, ap, _∙_, subst}
 use mathlib.Core.Logic.{_↔_}
 use mathlib.Core.Bool.{Bool, true, false, _&&_}
 use mathlib.Core.Option.{Option, none, some}
-use mathlib.Core.List.{List, [], _∷_, _++_, append-assoc, append-nil}
-use native.Mathlib.Numerals.{one-add}
+use mathlib.Core.List.{List, [], _∷_, _++_, append-nil}
 use native.Mathlib.Omega.{arith}
-use borrow.Author.Tests.{eqb-true, eqb-false, eq-eqb, ne-eqb, ltb-true, lt-ltb, leb-true, le-leb, lt-leb}
+use borrow.Author.Tests.{eqb-true, eq-eqb, ltb-true, lt-ltb, lt-leb}
 use lib.ListN.{length, drop}
 use lib.Seq.{drop-length}
 use lib.Dec.{eqb, ltb, leb}
 use Rattle.book.specs.Entry.{Entry, entry}
-use Rattle.book.specs.Ast.{Ty, Tys, BinOp, ConvOp, ICmpPred, Inst, Terminator, BasicBlock, Param, Function, StructBody, StructType, Mark, Book}
+use Rattle.book.specs.Ast.{Ty, Tys, Function, StructBody, StructType, Mark, Book}
 use Rattle.book.specs.Rule.{when, pick}
 use Rattle.book.specs.Kinds.{InstTag, TermTag, instKind, termKind, instTags, termTags, instTag, termTag}
 use Rattle.book.specs.Fields.{Item, instTagOf, termTagOf}
-use Rattle.book.specs.Read.{Read, got, bad, Reader, andThen, behind, taking, choose, stops, mapped, both, until, word, isClosing, many}
+use Rattle.book.specs.Read.{Read, got, bad, andThen, taking, choose, stops, mapped, both, word, many}
 use Rattle.book.specs.Decode.{name, type, inst, term, body, basicBlock, item, function, markAs, mark, bodyOf, structBody, structType, structsAndFunction, parts, markName, bookOf, onceEach, whole, decode}
-use Rattle.book.specs.Encode.{ending, closed, encTy, encInst, encTerm, encBasicBlock, encParam, encFunction, markEntry, encMark, encBody, encStruct, destWord, encode}
-use Rattle.book.specs.Limits.{Each, Maybe, TyLimits, NameLimits, InstLimits, TermLimits, BlockLimits, ParamLimits, FunctionLimits, BodyLimits, StructLimits, Limits}
+use Rattle.book.specs.Encode.{ending, closed, encTy, encInst, encTerm, encBasicBlock, encParam, encFunction, markEntry, encMark, encBody, encStruct, encode}
+use Rattle.book.specs.Limits.{Each, TyLimits, NameLimits, InstLimits, TermLimits, BlockLimits, ParamLimits, FunctionLimits, BodyLimits, StructLimits, Limits}
 use Rattle.book.specs.Agree.{Begins, Sound, Complete, Heads, Agrees, no-got, no-some, moved, when-some, entry-is, agrees-one, agrees-both, agrees-mapped, agrees-all}
-use Rattle.book.specs.AgreeTy.{find-every, ty-head, agrees-many, agrees-type}
+use Rattle.book.specs.AgreeTy.{find-every, agrees-many, agrees-type}
 use Rattle.book.specs.AgreeInst.{inst-found, term-found, agrees-name, agrees-items, agrees-inst, agrees-term}
 
 -- an instruction stands below 90, a terminator not

@@ -1,25 +1,24 @@
 -- Fields, instructions and terminators: decoder and encoder agree.
-use Prim.Native.Nat.{ℕ, zero, suc, _+_, _-_, _≤_, _<_, _^_}
+use Prim.Native.Nat.{ℕ, suc, _+_, _-_, _≤_, _<_, _^_}
 use mathlib.Core.Path.{_≡_, refl, ap, sym, _∙_, subst}
 use mathlib.Core.Bool.{Bool, true, false}
 use mathlib.Core.Option.{Option, none, some}
 use mathlib.Core.List.{List, [], _∷_, _++_, append-assoc}
 use native.Mathlib.Numerals.{one-add}
 use native.Mathlib.Omega.{arith}
-use borrow.Author.Tests.{eqb-true, eqb-false, eq-eqb, ne-eqb, ltb-true, lt-ltb, leb-true, le-leb}
-use lib.ListN.{length, drop}
+use borrow.Author.Tests.{eqb-true, eqb-false, ne-eqb, ltb-true, lt-ltb, leb-true, le-leb}
 use lib.Dec.{eqb, ltb, leb}
 use Rattle.numbers.specs.Align.{isAlign}
 use Rattle.book.specs.Entry.{Entry, entry}
-use Rattle.book.specs.Ast.{Ty, Value, TypedVal, BinOp, ConvOp, ICmpPred, Incoming, Case, Param, InstKind, Inst, Terminator}
+use Rattle.book.specs.Ast.{Ty, TypedVal, BinOp, ConvOp, ICmpPred, InstKind, Terminator}
 use Rattle.book.specs.Rule.{when, pick, find, unmentioned}
 use Rattle.book.specs.Kinds.{InstTag, TermTag, instKind, termKind, instTags, termTags, instTag, termTag}
-use Rattle.book.specs.Fields.{Item, Field, ItemMeaning, Meaning, Meanings, instFields, termFields, instOf, termOf, instTagOf, termTagOf, instArgs, termArgs}
-use Rattle.book.specs.Read.{Read, got, bad, Reader, andThen, behind, taking, choose, stops, mapped, both, word, isClosing, listOf, many, optional}
+use Rattle.book.specs.Fields.{Item, Field, ItemMeaning, Meanings, instFields, termFields, instOf, termOf, instTagOf, termTagOf, instArgs, termArgs}
+use Rattle.book.specs.Read.{Read, got, bad, andThen, behind, stops, mapped, word, isClosing, many, optional}
 use Rattle.book.specs.Decode.{name, maybeName, type, value, typedVal, indexFits, block, index, align, gepIndex, incoming, case, param, item, field, fields, taggedAs, tagged, inst, term}
-use Rattle.book.specs.Encode.{closed, orAbsent, encTy, encValue, encTyped, encBlock, encNumber, encIncoming, encCase, destWord, encParam, encItem, encField, encFields, encInst, encTerm}
+use Rattle.book.specs.Encode.{closed, encTy, encValue, encTyped, encBlock, encNumber, encIncoming, encCase, destWord, encParam, encItem, encField, encFields, encInst, encTerm}
 use Rattle.book.specs.Limits.{Each, Maybe, TyLimits, ValueLimits, NameLimits, TypedLimits, AlignLimits, IndexLimits, IncomingLimits, CaseLimits, ParamLimits, ItemLimits, FieldLimits, FieldsLimits, InstLimits, TermLimits}
-use Rattle.book.specs.Agree.{Begins, Sound, Complete, Heads, Agrees, no-got, no-some, moved, when-some, entry-is, agrees-one, agrees-word, agrees-both, agrees-mapped, agrees-filtered, agrees-optional, isAbsent}
+use Rattle.book.specs.Agree.{Begins, Sound, Complete, Agrees, no-got, no-some, moved, when-some, entry-is, agrees-word, agrees-both, agrees-mapped, agrees-filtered, agrees-optional, isAbsent}
 use Rattle.book.specs.AgreeTy.{find-is, ty-head, val-head, agrees-list, agrees-many, agrees-type, agrees-value, agrees-typed}
 
 typed-head : (stop : ℕ → Bool) → ((k : ℕ) → 10 ≤ k → k ≤ 20 → stop k ≡ false) → (v : TypedVal) (rest : List Entry) → stops stop (encTyped v ++ rest) ≡ false

@@ -1,5 +1,5 @@
 -- Types and values: decoder and encoder agree.
-use Prim.Native.Nat.{ℕ, zero, suc, _+_, _-_, _≤_, _<_, max}
+use Prim.Native.Nat.{ℕ, zero, suc, _+_, _-_, _≤_}
 use mathlib.Core.Path.{_≡_, refl, ap, sym, _∙_, subst}
 use mathlib.Core.Bool.{Bool, true, false, _&&_}
 use mathlib.Core.Option.{Option, none, some}
@@ -7,19 +7,18 @@ use mathlib.Core.List.{List, [], _∷_, _++_}
 use native.Mathlib.Numerals.{one-add}
 use native.Mathlib.Nat.{max-le, le-max-left, le-max-right, le-trans}
 use native.Mathlib.Omega.{arith}
-use borrow.Author.Tests.{eqb-true, eq-eqb, ne-eqb, ltb-true, lt-ltb}
-use lib.ListN.{length, drop}
-use lib.Dec.{eqb, ltb}
-use Rattle.numbers.specs.Width.{widthOk}
+use borrow.Author.Tests.{eqb-true, ne-eqb, ltb-true, lt-ltb}
+use lib.ListN.{length}
+use lib.Dec.{eqb}
 use Rattle.book.specs.Entry.{Entry, entry}
-use Rattle.book.specs.Ast.{Sizeless, Ty, Tys, Zero, Value, TypedVal, BinOp, ConvOp, ICmpPred}
+use Rattle.book.specs.Ast.{Sizeless, Ty, Tys, Zero, Value}
 use Rattle.book.specs.Rule.{when, pick, find, unmentioned}
-use Rattle.book.specs.Kinds.{TyTag, ValTag, InstTag, TermTag, tyKind, valKind, instKind, termKind, tyTags, valTags, instTags, termTags, tyTag, valTag, instTag, termTag}
-use Rattle.book.specs.Read.{Read, got, bad, Reader, andThen, behind, taking, choose, mapped, until, stops, closing, isClosing, listOf, many, both, word}
+use Rattle.book.specs.Kinds.{TyTag, ValTag, tyKind, valKind, tyTags, valTags, tyTag, valTag}
+use Rattle.book.specs.Read.{Read, got, bad, Reader, andThen, behind, taking, choose, mapped, stops, closing, isClosing, listOf, many, word}
 use Rattle.book.specs.Decode.{tys, typeAs, typeTo, type, valueAs, value, typedVal}
 use Rattle.book.specs.Encode.{ending, closed, encTy, encTys, depth, depths, valueEntry, encValue, encTyped}
 use Rattle.book.specs.Limits.{Each, Parts, PartsOf, TyTo, TyLimits, ValueLimits, TypedLimits}
-use Rattle.book.specs.Agree.{Begins, Sound, Complete, Heads, Agrees, no-got, no-some, moved, when-some, entry-is, agrees-one, agrees-word, agrees-both, agrees-mapped, agrees-until, agrees-all}
+use Rattle.book.specs.Agree.{Begins, Sound, Heads, Agrees, no-got, no-some, moved, when-some, entry-is, agrees-one, agrees-word, agrees-both, agrees-mapped, agrees-until, agrees-all}
 
 -- ---- tables
 module _ {A : Type 0} (number : A → ℕ) where

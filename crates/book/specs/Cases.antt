@@ -1,12 +1,11 @@
 -- Small books by computation: what "Sheets to check" and the examples of "Replies" say of refusals 1 to 4.
 use Prim.Native.Nat.{ℕ, _+_, _^_}
 use mathlib.Core.Path.{_≡_, refl}
-use mathlib.Core.Option.{Option, none, some}
+use mathlib.Core.Option.{some}
 use mathlib.Core.List.{List, [], _∷_, _++_}
 use Rattle.names.specs.Text.{bytes}
 use Rattle.names.specs.Name.{join}
-use Rattle.book.specs.Ast.{Ty, Value, BinOp, InstKind, Terminator, Book}
-use Rattle.book.specs.Encode.{encode}
+use Rattle.book.specs.Ast.{Ty, Value, BinOp, InstKind, Terminator}
 use Rattle.book.specs.AgreeInput.{slice}
 use Rattle.book.specs.Input.{Counted, bookIn}
 use Rattle.book.specs.Check.{checked, refusalOf}

@@ -1,17 +1,17 @@
 -- "The book": what the entries stand for. m is the number of names.
-use Prim.Native.Nat.{ℕ, zero, suc, _+_, _-_, _^_}
+use Prim.Native.Nat.{ℕ, zero, suc, _-_, _^_}
 use mathlib.Core.Bool.{Bool, true, false, _&&_, _||_, not}
 use mathlib.Core.Option.{Option, none, some}
 use mathlib.Core.List.{List, [], _∷_, map}
-use lib.ListN.{length, drop}
+use lib.ListN.{length}
 use lib.Dec.{eqb, leb, ltb}
 use Rattle.numbers.specs.Width.{widthOk}
 use Rattle.numbers.specs.Align.{isAlign}
 use Rattle.book.specs.Entry.{Entry}
-use Rattle.book.specs.Ast.{Ty, Tys, Value, TypedVal, Incoming, Case, InstKind, Inst, Terminator, BasicBlock, Param, Function, StructBody, StructType, Mark, Book}
+use Rattle.book.specs.Ast.{Ty, Tys, Value, TypedVal, Incoming, Case, Inst, Terminator, BasicBlock, Param, Function, StructBody, StructType, Mark, Book}
 use Rattle.book.specs.Rule.{when, pick, unmentioned}
 use Rattle.book.specs.Read.{Read, got, bad, Reader, andThen, behind, taking, choose, one, filtered, optional, both, mapped, until, word, listOf, many}
-use Rattle.book.specs.Kinds.{TyTag, ValTag, InstTag, TermTag, tyTag, valTag, instTag, termTag}
+use Rattle.book.specs.Kinds.{TyTag, ValTag, tyTag, valTag, instTag, termTag}
 use Rattle.book.specs.Fields.{Item, Field, ItemMeaning, Meaning, Meanings, instFields, termFields, instOf, termOf}
 
 -- ---- types

@@ -1,17 +1,11 @@
 -- "The book", the other way round: the entries of a book.
-use Prim.Native.Nat.{ℕ, suc, max, _+_, _^_, _<_, _≤_}
-use mathlib.Core.Path.{_≡_}
-use mathlib.Core.Bool.{Bool, true}
+use Prim.Native.Nat.{ℕ, suc, max, _+_}
 use mathlib.Core.Option.{Option, none, some}
-use mathlib.Core.List.{List, [], _∷_, _++_, map}
-use lib.ListN.{length}
-use Rattle.numbers.specs.Width.{widthOk}
-use Rattle.numbers.specs.Align.{isAlign}
+use mathlib.Core.List.{List, [], _∷_, _++_}
 use Rattle.book.specs.Entry.{Entry, entry}
-use Rattle.book.specs.Ast.{Ty, Tys, Value, TypedVal, Incoming, Case, InstKind, Inst, Terminator, BasicBlock, Param, Function, StructBody, StructType, Mark, Book}
-use Rattle.book.specs.Kinds.{TyTag, ValTag, InstTag, TermTag, tyKind, valKind, instKind, termKind}
+use Rattle.book.specs.Ast.{Ty, Tys, Value, TypedVal, Incoming, Case, Inst, Terminator, BasicBlock, Param, Function, StructBody, StructType, Mark, Book}
+use Rattle.book.specs.Kinds.{TyTag, ValTag, tyKind, valKind, instKind, termKind}
 use Rattle.book.specs.Fields.{Item, Field, ItemMeaning, Meaning, Meanings, instFields, termFields, instTagOf, termTagOf, instArgs, termArgs}
-use Rattle.book.specs.Decode.{indexFits, onceEach}
 
 module _ {A : Type 0} (write : A → List Entry) where
   -- items, then the end

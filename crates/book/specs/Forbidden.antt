@@ -5,7 +5,7 @@ use mathlib.Core.Option.{Option, none, some}
 use mathlib.Core.List.{List, [], _∷_}
 use Rattle.names.specs.Name.{nameAt}
 use Rattle.names.specs.Spelling.{isIntrinsic}
-use Rattle.book.specs.Ast.{Value, Mark, Inst, Terminator, BasicBlock, Function, Book}
+use Rattle.book.specs.Ast.{Value, Mark, Inst, Terminator, BasicBlock, Book}
 use Rattle.book.specs.Fields.{Item, Field, ItemMeaning, Meaning, Meanings, instFields, termFields, instTagOf, termTagOf, instArgs, termArgs}
 use Rattle.book.specs.Shape.{Shape, shape}
 use Rattle.book.specs.Decode.{member}

@@ -7,7 +7,7 @@ use mathlib.Core.List.{List, [], _∷_}
 use lib.ListN.{length}
 use Rattle.numbers.specs.Width.{widthOk}
 use Rattle.numbers.specs.Align.{isAlign}
-use Rattle.book.specs.Ast.{Ty, Tys, Value, TypedVal, Incoming, Case, InstKind, Inst, Terminator, BasicBlock, Param, Function, StructBody, StructType, Mark, Book}
+use Rattle.book.specs.Ast.{Ty, Tys, Value, TypedVal, Incoming, Case, Inst, Terminator, BasicBlock, Param, Function, StructBody, StructType, Book}
 use Rattle.book.specs.Fields.{Item, Field, ItemMeaning, Meaning, Meanings, instFields, termFields, instTagOf, termTagOf, instArgs, termArgs}
 use Rattle.book.specs.Decode.{indexFits, onceEach, markName}
 use Rattle.book.specs.Encode.{depth}

@@ -1,6 +1,6 @@
 -- The printer's answer in numbers.
 use Prim.Native.Nat.{ℕ}
-use mathlib.Core.Path.{_≡_, refl, sym, ap, _∙_}
+use mathlib.Core.Path.{_≡_, sym, ap, _∙_}
 use mathlib.Core.List.{List}
 use Rattle.assembly.specs.Printer.{Printing, printedNumber, printedBytes}
 use Rattle.printer.specs.Passes.{printing, replyOf}

@@ -1,5 +1,5 @@
 -- What the program's proofs cite.
-use Prim.Native.Nat.{ℕ, _+_, _-_, _≤_, _<_, _^_}
+use Prim.Native.Nat.{ℕ, _+_, _-_, _≤_, _^_}
 use mathlib.Core.Path.{_≡_, refl, sym, ap, _∙_}
 use mathlib.Core.Bool.{Bool, true, false}
 use mathlib.Core.Option.{Option, none, some}
@@ -9,7 +9,6 @@ use lib.ListN.{length, drop, length-drop}
 use Rattle.book.specs.Entry.{Entry, entries}
 use Rattle.book.specs.Ast.{Book}
 use Rattle.book.specs.Decode.{typeTo, decode}
-use Rattle.book.specs.Agree.{Agrees}
 use Rattle.book.specs.AgreeTy.{agrees-typeTo}
 use Rattle.reader.specs.Length.{lenOf}
 use Rattle.reader.specs.Laws.{len-got, len-fits, entries-part, length-entries}

@@ -1,19 +1,19 @@
 -- The arms of measuring a type: from the answers for its parts to its own.
-use Prim.Native.Nat.{ℕ, zero, suc, _+_, _-_, _*_, _/_, _<_, _≤_, _^_, max}
-use mathlib.Core.Path.{_≡_, refl, sym, ap, _∙_, subst}
-use mathlib.Core.Bool.{Bool, true, false, cond}
+use Prim.Native.Nat.{ℕ, _+_, _-_, _*_, _/_, _≤_, _^_}
+use mathlib.Core.Path.{_≡_, refl}
+use mathlib.Core.Bool.{Bool, true, false}
 use mathlib.Core.List.{List}
 use native.Mathlib.Omega.{arith}
 use lib.Dec.{leb}
 use lib.ListN.{drop}
 use Rattle.numbers.specs.Width.{widthOk, intBytes}
 use Rattle.book.specs.Entry.{Entry}
-use Rattle.book.specs.Ast.{Ty, Tys, Sizeless, StructBody, StructType}
-use Rattle.book.specs.Result.{Result, ok, err, bind, given}
-use Rattle.layout.specs.Layout.{limit, intSize, placed, maxAlign, structAlign, sizeFrom, structSize, asType, resolve, alignAt, sizeAt}
-use Rattle.measuring.specs.Measured.{Known, Gives, Measures, oneMore, leaf-known, leaf-refused, measures-up}
+use Rattle.book.specs.Ast.{Ty, Tys, Sizeless, StructType}
+use Rattle.book.specs.Result.{Result, err, bind, given}
+use Rattle.layout.specs.Layout.{limit, intSize, structAlign, structSize, alignAt, sizeAt}
+use Rattle.measuring.specs.Measured.{Gives, Measures, oneMore, leaf-known, leaf-refused, measures-up}
 use Rattle.measuring.specs.Front.{tyOf}
-use Rattle.measuring.specs.Work.{BodyAt, Placed, sizes, aligns, pickMeasured, Outcome}
+use Rattle.measuring.specs.Work.{BodyAt, Placed, sizes, aligns, pickMeasured}
 use Rattle.measuring.specs.declared.Measured.{Measured}
 use Rattle.measuring.specs.declared.Measured.the-variants.{Bytes, Refused}
 

@@ -1,24 +1,24 @@
 -- What the measuring functions ask of each other, and the outcome of each arm, over the lent slices.
-use Prim.Native.Nat.{ℕ, zero, suc, _+_, _-_, _*_, _/_, _%_, _<_, _≤_, _^_, max}
-use mathlib.Core.Path.{_≡_, refl, sym, ap, _∙_, subst}
+use Prim.Native.Nat.{ℕ, zero, suc, _+_, _-_, _*_, _/_, _≤_}
+use mathlib.Core.Path.{_≡_, refl, sym, ap, subst}
 use mathlib.Core.Bool.{Bool, true, false}
-use mathlib.Core.List.{List, [], _∷_, _++_}
+use mathlib.Core.List.{List}
 use native.Mathlib.Omega.{arith}
 use lib.Dec.{leb}
-use lib.ListN.{length, getD, drop, take, set, length-append, length-drop}
-use Rattle.numbers.specs.Width.{widthOk, width-bounds}
+use lib.ListN.{length, getD, drop, take, set, length-append}
+use Rattle.numbers.specs.Width.{width-bounds}
 use Rattle.book.specs.Entry.{Entry, entries}
 use Rattle.book.specs.Ast.{Ty, Tys, StructType}
 use Rattle.book.specs.Kinds.{tyTag}
 use Rattle.book.specs.Encode.{encTy}
-use Rattle.book.specs.Result.{Result, ok, err}
+use Rattle.book.specs.Result.{Result}
 use Rattle.reader.specs.Groups.{typeGroupOf}
-use Rattle.reader.specs.Laws.{entries-part, length-entries, within-kinds, within-words}
+use Rattle.reader.specs.Laws.{entries-part, within-kinds, within-words}
 use Rattle.reader.specs.declared.types.TypeGroup.{TypeGroup}
 use Rattle.reader.specs.declared.types.TypeGroup.the-variants as group
-use Rattle.measuring.specs.Measured.{Gives, Measures, oneMore, Few, measures-few}
-use Rattle.measuring.specs.Front.{Starts, StartsFields, tyOf, tysOf, tyLen, ShapeOf, shape, enc-pos}
-use Rattle.measuring.specs.Work.{structsIn, BodyAt, Placed, sizePart, alignPart, sizes, aligns, Remembered, Ready, After, Outcome, outcome, Ask, AskFields, AskName, after-none, after-then, after-set, withSize, withAlign, recalled, recalls, pickMeasured, size-remembered, align-remembered}
+use Rattle.measuring.specs.Measured.{Measures, oneMore, Few, measures-few}
+use Rattle.measuring.specs.Front.{Starts, StartsFields, tyOf, tysOf, ShapeOf, shape, enc-pos}
+use Rattle.measuring.specs.Work.{structsIn, BodyAt, sizePart, alignPart, sizes, aligns, Ready, Outcome, outcome, Ask, AskFields, AskName, after-none, after-then, after-set, withSize, withAlign, recalled, recalls, pickMeasured, size-remembered, align-remembered}
 use Rattle.measuring.specs.Arms as arms
 use Rattle.measuring.specs.Arms.{timesOf, SmallBytes, fieldSizes, fieldAligns}
 use Rattle.measuring.specs.Helpers.{size-bytes, align-bytes}

@@ -2,14 +2,14 @@
 use Prim.Native.Nat.{ℕ, zero, suc, _+_, _-_, _<_, _≤_, _^_}
 use mathlib.Core.Path.{_≡_, refl, sym, ap, _∙_, subst}
 use mathlib.Core.Logic.{_⊎_, inl, inr, ⊎-elim}
-use mathlib.Core.Bool.{Bool, true, false}
-use mathlib.Core.Option.{Option, none, some}
+use mathlib.Core.Bool.{true, false}
+use mathlib.Core.Option.{some}
 use mathlib.Core.List.{List, [], _∷_, _++_, append-assoc}
 use native.Mathlib.Nat.{le-max-left, le-max-right, le-trans}
 use native.Mathlib.Omega.{arith}
 use borrow.Author.Tests.{eqb-false, ne-eqb}
 use lib.ListN.{length, getD, drop, length-append, length-drop}
-use lib.Seq.{drop-drop, drop-append-seam}
+use lib.Seq.{drop-append-seam}
 use Rattle.numbers.specs.Width.{widthOk}
 use Rattle.book.specs.Entry.{Entry, entry, entries}
 use Rattle.book.specs.Ast.{Ty, Tys, Sizeless}
@@ -18,7 +18,6 @@ use Rattle.book.specs.Kinds.{TyTag, tyTag, tyKind}
 use Rattle.book.specs.Decode.{tys, typeTo}
 use Rattle.book.specs.Encode.{encTy, encTys, depth, depths, closed}
 use Rattle.book.specs.Limits.{Each, Parts, PartsOf, TyTo}
-use Rattle.book.specs.Agree.{Agrees}
 use Rattle.book.specs.AgreeTy.{ty-found, ty-head, untys, enc-tys, agrees-typeTo}
 use Rattle.reader.specs.Groups.{typeGroupOf}
 use Rattle.reader.specs.TypeLaws.{agrees-types}

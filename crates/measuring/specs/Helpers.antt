@@ -1,13 +1,12 @@
 -- Laws that the helpers' proofs cite.
-use Prim.Native.Nat.{ℕ, zero, suc, _/_, _%_, _+_, _*_, _≤_, _<_, _^_}
-use mathlib.Core.Path.{_≡_, refl, sym, ap, _∙_, subst}
-use mathlib.Core.Bool.{Bool, true, false, cond}
+use Prim.Native.Nat.{ℕ, zero, suc, _/_, _%_, _*_, _≤_, _<_, _^_}
+use mathlib.Core.Path.{_≡_, refl, sym, ap, _∙_}
+use mathlib.Core.Bool.{Bool, true, false}
 use mathlib.Core.List.{List}
 use native.Mathlib.Omega.{arith}
 use native.Mathlib.Nat.{mul-zero, mul-le-mul-left, mul-le-mul-right, le-trans}
-use lib.Dec.{leb}
 use borrow.Author.Tests.{le-leb, lt-leb}
-use Rattle.book.specs.Entry.{Entry, entries}
+use Rattle.book.specs.Entry.{Entry}
 use Rattle.book.specs.Read.{Read, got, bad}
 use Rattle.book.specs.Result.{Result}
 use Rattle.book.specs.Decode.{typeTo}
@@ -16,9 +15,9 @@ use Rattle.reader.specs.declared.Length.{Length}
 use Rattle.reader.specs.declared.Length.the-variants as len
 use Rattle.layout.specs.Layout.{placed}
 use Rattle.numbers.specs.Align.{alignUp}
-use Rattle.measuring.specs.Measured.{Few, Gives, Measures, Known}
+use Rattle.measuring.specs.Measured.{Few, Gives, Measures}
 use Rattle.measuring.specs.Front.{tyLen, countOf}
-use Rattle.measuring.specs.Work.{recalled, pickMeasured, sizes, aligns, size-small, align-small}
+use Rattle.measuring.specs.Work.{recalled, sizes, aligns, size-small, align-small}
 use Rattle.measuring.specs.Arms.{timesOf, SmallBytes}
 use Rattle.measuring.specs.declared.Measured.{Measured}
 use Rattle.measuring.specs.declared.Measured.the-variants.{Bytes, Refused}

@@ -1,9 +1,9 @@
 -- What a measurement answers, and how measurements of parts make one of the whole. A measure goes by the allowance: f k is the answer with k levels.
 use Prim.Native.Nat.{ℕ, zero, suc, _+_, _-_, _<_, _≤_, max}
-use mathlib.Core.Path.{_≡_, refl, sym, ap, _∙_}
-use mathlib.Core.Logic.{_⊎_, inl, inr, ⊎-elim}
+use mathlib.Core.Path.{_≡_, refl, sym, _∙_}
+use mathlib.Core.Logic.{_⊎_, ⊎-elim}
 use native.Mathlib.Omega.{arith}
-use native.Mathlib.Numerals.{add-one, sub-one}
+use native.Mathlib.Numerals.{sub-one}
 use Rattle.numbers.specs.Tests.{lt-or-le}
 use Rattle.book.specs.Result.{Result, ok, err, bind}
 use Rattle.measuring.specs.declared.Measured.{Measured}

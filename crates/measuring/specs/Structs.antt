@@ -10,18 +10,18 @@ use lib.ListN.{length, getD, drop, set, length-set, length-append, length-drop}
 use lib.Seq.{drop-drop, drop-append-seam, getD-set-same, getD-set-other}
 use borrow.Author.Tests.{eqb-true, eqb-false, eq-eqb, ne-eqb}
 use Rattle.book.specs.Entry.{Entry, entry, entries}
-use Rattle.book.specs.Ast.{Ty, Tys, StructBody, StructType, Mark, Function, Book}
+use Rattle.book.specs.Ast.{Ty, StructBody, StructType, Mark, Function, Book}
 use Rattle.book.specs.Rule.{find, pick}
-use Rattle.book.specs.Result.{Result, ok, err, okOr}
+use Rattle.book.specs.Result.{ok, okOr}
 use Rattle.book.specs.Kinds.{TyTag, tyKind}
 use Rattle.book.specs.Decode.{decode, member, distinct, onceEach, markName}
 use Rattle.book.specs.Encode.{ending, encTy, encMark, markEntry, encStruct, encBody, encFunction, encode}
-use Rattle.book.specs.Limits.{Each, StructLimits, BodyLimits, Limits, TyTo}
+use Rattle.book.specs.Limits.{Each, StructLimits, BodyLimits}
 use Rattle.book.specs.AgreeBook.{decode-sound}
-use Rattle.reader.specs.Laws.{entries-part, entries-drop, within-kinds, within-words}
+use Rattle.reader.specs.Laws.{entries-part, within-kinds, within-words}
 use Rattle.layout.specs.Layout.{bodyOf, resolve, asType}
-use Rattle.measuring.specs.Front.{Starts, tyOf, tyLen, ty-is, len-is, kindOf, kind-at, enc-pos}
-use Rattle.measuring.specs.Work.{structsIn, structsOr, BodyAt, Placed, Recalls, Remembered, Ready}
+use Rattle.measuring.specs.Front.{Starts, tyLen, ty-is, len-is, kindOf, kind-at}
+use Rattle.measuring.specs.Work.{structsIn, structsOr, Placed, Ready}
 use Rattle.measuring.specs.Calls.{lent}
 
 abbrev nameOf : StructType → ℕ

@@ -2,10 +2,9 @@
 --   0 parameter   1 slot   2 block   3 fixed place   4 struct body   5 mark   6 start of the name's bytes   7 measuring
 -- Word 4 is one more than the place of the struct's body among the book's entries, 0 where the name has none. Word 7 has the size in its upper
 -- 32 bits and the alignment in its lower ones, each as 128 * bytes + levels, 0 where it is not measured yet.
-use Prim.Native.Nat.{ℕ, zero, suc, _+_, _-_, _*_, _/_, _%_, _<_, _≤_, _^_}
-use mathlib.Core.Path.{_≡_, refl, sym, ap, _∙_, subst}
-use mathlib.Core.Bool.{Bool, true, false, cond}
-use mathlib.Core.Logic.{_⊎_, inl, inr, ⊎-elim}
+use Prim.Native.Nat.{ℕ, _+_, _-_, _*_, _/_, _%_, _<_, _≤_, _^_}
+use mathlib.Core.Path.{_≡_, refl, _∙_}
+use mathlib.Core.Bool.{Bool, true, false}
 use mathlib.Core.Option.{Option, none, some}
 use mathlib.Core.List.{List, []}
 use native.Mathlib.Omega.{arith}
@@ -20,7 +19,7 @@ use Rattle.book.specs.Result.{Result, ok, err}
 use Rattle.layout.specs.Layout.{asType, resolve, alignAt, sizeAt, alignOf, sizeOf}
 use Rattle.layout.specs.Natural.{Natural, one, two, four, eight, align-of-natural}
 use Rattle.layout.specs.Limit.{size-of-limit}
-use Rattle.measuring.specs.Measured.{resultOf, Known, Gives, Measures, measures-result}
+use Rattle.measuring.specs.Measured.{resultOf, Known, Measures, measures-result}
 use Rattle.measuring.specs.Front.{Starts, StartsFields, tyOf}
 use Rattle.measuring.specs.declared.Measured.{Measured}
 use Rattle.measuring.specs.declared.Measured.the-variants.{Bytes, Refused}

@@ -1,21 +1,21 @@
 -- Offsets of fields: what the functions ask and answer, and the loops over a struct's fields.
-use Prim.Native.Nat.{ℕ, zero, suc, _+_, _-_, _*_, _<_, _≤_, _^_, max}
+use Prim.Native.Nat.{ℕ, zero, suc, _+_, _-_, _*_, _<_, _≤_, _^_}
 use mathlib.Core.Path.{_≡_, refl, sym, ap, _∙_, subst}
-use mathlib.Core.Bool.{Bool, true, false, cond}
-use mathlib.Core.Option.{Option, none, some}
+use mathlib.Core.Bool.{Bool, true, false}
+use mathlib.Core.Option.{none, some}
 use mathlib.Core.List.{List}
 use native.Mathlib.Omega.{arith}
 use native.Mathlib.Numerals.{sub-one}
 use lib.ListN.{length, getD, drop}
 use Rattle.book.specs.Entry.{Entry, entries}
-use Rattle.book.specs.Ast.{Ty, Tys, StructBody, StructType}
+use Rattle.book.specs.Ast.{Ty, Tys, StructType}
 use Rattle.book.specs.Result.{Result, ok, err, bind}
 use Rattle.reader.specs.Laws.{entries-part}
-use Rattle.layout.specs.Layout.{placed, alignIn, offsetFrom, alignAt, sizeAt, alignOf, sizeOf, fieldOffset}
+use Rattle.layout.specs.Layout.{placed, alignIn, offsetFrom, alignOf, sizeOf}
 use Rattle.layout.specs.Step.{fieldAt}
-use Rattle.measuring.specs.Measured.{Measures, resultOf}
+use Rattle.measuring.specs.Measured.{Measures}
 use Rattle.measuring.specs.Front.{Starts, StartsFields, tyOf, tysOf, tyLen}
-use Rattle.measuring.specs.Work.{structsIn, sizes, aligns, Ready, After, Outcome, Ask, AskFields, after-none, after-then, align-small, size-small}
+use Rattle.measuring.specs.Work.{structsIn, sizes, aligns, After, Outcome, Ask, AskFields, after-none, after-then, align-small, size-small}
 use Rattle.measuring.specs.Helpers.{gives-at, refused-at}
 use Rattle.measuring.specs.Calls.{lent, ask-part, part-type}
 use Rattle.measuring.specs.Fields.{AtFields, at-start, at-nil, at-field, at-next, at-cons}

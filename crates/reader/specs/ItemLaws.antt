@@ -1,21 +1,21 @@
 -- Laws on values and items: what the entry in front says, and parts one after the other.
-use Prim.Native.Nat.{ℕ, zero, suc, _+_, _-_, _≤_, _<_, _^_}
+use Prim.Native.Nat.{ℕ, zero, _+_, _-_, _≤_, _<_, _^_}
 use mathlib.Core.Path.{_≡_, refl, ap, sym, _∙_, subst}
 use mathlib.Core.Bool.{Bool, true, false, _||_}
 use mathlib.Core.Option.{Option, none, some}
 use mathlib.Core.List.{List, [], _∷_, _++_, append-assoc}
 use native.Mathlib.Omega.{arith}
-use lib.ListN.{length, drop, take, length-append, length-drop, length-take}
-use lib.Seq.{drop-append-seam, drop-at}
+use lib.ListN.{length, drop, take, length-append, length-take}
+use lib.Seq.{drop-at}
 use lib.Dec.{eqb, ltb, leb}
 use borrow.Author.Tests.{eqb-true, ne-eqb, le-leb}
 use Rattle.numbers.specs.Align.{isAlign}
-use Rattle.book.specs.Entry.{Entry, entry, entries}
+use Rattle.book.specs.Entry.{Entry, entries}
 use Rattle.book.specs.Ast.{Zero, Value, TypedVal}
 use Rattle.book.specs.Rule.{when, pick}
-use Rattle.book.specs.Kinds.{ValTag, valTag, valKind}
-use Rattle.book.specs.Read.{Read, got, bad, Reader, andThen, taking, choose, one, word, mapped, both, filtered, optional}
-use Rattle.book.specs.Decode.{maybeName, indexFits, index, align, type, value, valueAs, typedVal, block, gepIndex, incoming, case}
+use Rattle.book.specs.Kinds.{ValTag, valTag}
+use Rattle.book.specs.Read.{Read, got, bad, Reader, andThen, taking, one, word, mapped, both, filtered, optional}
+use Rattle.book.specs.Decode.{maybeName, indexFits, align, value, valueAs, typedVal, gepIndex}
 use Rattle.book.specs.Encode.{encTy, encValue, encTyped, valueEntry}
 use Rattle.book.specs.Limits.{TypedLimits}
 use Rattle.book.specs.Agree.{Agrees, Begins}

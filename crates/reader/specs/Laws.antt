@@ -1,17 +1,15 @@
 -- Laws that the readers' proofs cite: entries of slices and of their parts, and lists of items.
 use Prim.Native.Nat.{ℕ, zero, suc, _+_, _-_, _≤_, _<_, _^_, min}
-use mathlib.Core.Path.{_≡_, refl, ap, sym, _∙_, subst}
+use mathlib.Core.Path.{_≡_, refl, ap, sym, _∙_}
 use mathlib.Core.Bool.{Bool, true, false}
-use mathlib.Core.List.{List, [], _∷_, _++_}
-use native.Mathlib.Numerals.{sub-one, one-add}
-use native.Mathlib.Nat.{le-of-eq, add-assoc, add-zero, zero-add}
+use mathlib.Core.List.{List, [], _∷_}
+use native.Mathlib.Numerals.{sub-one}
+use native.Mathlib.Nat.{le-of-eq, add-assoc, zero-add}
 use native.Mathlib.Omega.{arith}
-use borrow.Author.Tests.{eqb-true, eqb-false, eq-eqb, ne-eqb}
 use lib.ListN.{length, getD, drop, take, length-append, length-drop}
-use lib.Seq.{drop-drop, take-all, drop-nil}
-use lib.Dec.{eqb}
+use lib.Seq.{drop-drop, take-all}
 use Rattle.book.specs.Entry.{Entry, entry, entries}
-use Rattle.book.specs.Read.{Read, got, bad, Reader, andThen, choose, stops, mapped, until, closing, isClosing, listOf, many, word, one}
+use Rattle.book.specs.Read.{Read, got, bad, Reader, andThen, choose, stops, mapped, until}
 use Rattle.book.specs.Agree.{Agrees, Begins}
 use Rattle.reader.specs.Length.{lenOf, further, stepOf, stepOfLength, lastOfLength, pickStep, frontOf}
 use Rattle.reader.specs.Fit.{Room}
@@ -19,7 +17,6 @@ use Rattle.reader.specs.declared.Length.{Length}
 use Rattle.reader.specs.declared.Length.the-variants as len
 use Rattle.reader.specs.declared.Step.{Step}
 use Rattle.reader.specs.declared.Step.the-variants as step
-use Rattle.reader.specs.declared.Front.{Front}
 use Rattle.reader.specs.declared.Front.the-variants as front
 
 -- ---- entries of two slices

@@ -1,17 +1,16 @@
 -- Laws on the front entry, and on the next step of a list or a block.
 use Prim.Native.Nat.{ℕ, _≤_}
-use mathlib.Core.Path.{_≡_, refl, ap, sym, _∙_, subst}
+use mathlib.Core.Path.{_≡_, ap, sym, _∙_}
 use mathlib.Core.Bool.{Bool, true, false}
 use mathlib.Core.List.{List, [], _∷_}
 use native.Mathlib.Omega.{arith}
 use lib.ListN.{length}
-use Rattle.book.specs.Entry.{Entry, entry}
+use Rattle.book.specs.Entry.{Entry}
 use Rattle.book.specs.Read.{bad, Reader, stops}
-use Rattle.reader.specs.Length.{lenOf, stepOf, stepOfLength, lastOfLength, pickStep, frontOf}
+use Rattle.reader.specs.Length.{lenOf, stepOf, stepOfLength, lastOfLength, frontOf}
 use Rattle.reader.specs.declared.Length.{Length}
 use Rattle.reader.specs.declared.Step.{Step}
 use Rattle.reader.specs.declared.Step.the-variants as step
-use Rattle.reader.specs.declared.Front.{Front}
 use Rattle.reader.specs.declared.Front.the-variants as front
 
 pub front-there : (es : List Entry) (k w : ℕ) → frontOf es ≡ front.Entry k w → 1 ≤ length es

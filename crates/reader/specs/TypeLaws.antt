@@ -1,5 +1,5 @@
 -- Laws on lists of types and on the type at the front of the entries.
-use Prim.Native.Nat.{ℕ, zero, suc, _+_, _-_, _≤_, _<_, _^_}
+use Prim.Native.Nat.{ℕ, zero, suc, _-_, _≤_, _<_, _^_}
 use mathlib.Core.Path.{_≡_, refl, ap, sym, _∙_, subst}
 use mathlib.Core.Bool.{Bool, true, false}
 use mathlib.Core.Option.{Option, none, some}
@@ -10,12 +10,12 @@ use borrow.Author.Tests.{ne-eqb}
 use lib.ListN.{length, drop, take, length-take}
 use lib.Dec.{eqb, ltb}
 use Rattle.numbers.specs.Width.{widthOk}
-use Rattle.book.specs.Entry.{Entry, entry, entries}
+use Rattle.book.specs.Entry.{Entry, entries}
 use Rattle.book.specs.Agree.{Agrees}
 use Rattle.book.specs.AgreeTy.{ty-head, agrees-many, agrees-typeTo}
 use Rattle.book.specs.Encode.{closed, encTy}
 use Rattle.book.specs.Limits.{Each, TyTo}
-use Rattle.book.specs.Rule.{when, pick, unmentioned}
+use Rattle.book.specs.Rule.{when, pick}
 use Rattle.book.specs.Kinds.{TyTag, tyTag}
 use Rattle.book.specs.Read.{Read, got, bad, Reader, andThen, behind, taking, choose, stops, mapped, until, one, word, closing, isClosing, listOf, many}
 use Rattle.book.specs.Ast.{Ty}

@@ -7,16 +7,13 @@ use native.Mathlib.Numerals.{add-one}
 use native.Mathlib.Omega.{arith}
 use borrow.Author.Tests.{eq-eqb, ne-eqb}
 use lib.ListN.{length, drop, replicate}
-use lib.Seq.{drop-length, drop-drop}
+use lib.Seq.{drop-length}
 use lib.Dec.{eqb, leb, ltb}
 use Rattle.numbers.specs.Bits.{bitAt}
-use Rattle.book.specs.Entry.{Entry, entry, entries}
-use Rattle.book.specs.Ast.{Ty}
-use Rattle.book.specs.Read.{Read, got, bad}
+use Rattle.book.specs.Entry.{Entry, entries}
 use Rattle.book.specs.Decode.{type}
 use Rattle.reader.specs.Length.{lenOf, frontOf}
 use Rattle.reader.specs.Laws.{entries-part, lentFrom, len-got, len-bad}
-use Rattle.reader.specs.TypeLaws.{behindFront}
 use Rattle.reader.specs.declared.Length.{Length}
 use Rattle.reader.specs.declared.Length.the-variants as len
 use Rattle.reader.specs.declared.Front.{Front}
@@ -24,7 +21,7 @@ use Rattle.reader.specs.declared.Front.the-variants as front
 use Rattle.names.specs.Prefix.{firstWith, pastWith}
 use Rattle.scans.specs.Words.{wordsAt, isReserved}
 use Rattle.scans.specs.Once.{marked}
-use Rattle.scans.specs.Scan.{calleeBarred, callBarred, behindType, entryBarred, scan}
+use Rattle.scans.specs.Scan.{calleeBarred, callBarred, entryBarred, scan}
 
 -- in the range, or with its bit set
 abbrev pub barredBy : ℕ → ℕ → List ℕ → ℕ → Bool

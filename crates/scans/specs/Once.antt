@@ -1,18 +1,18 @@
 -- Numbers that occur once, found by a map of bits.
-use Prim.Native.Nat.{ℕ, zero, suc, _+_, _*_, _/_, _≤_, _<_}
+use Prim.Native.Nat.{ℕ, zero, suc, _+_, _/_, _≤_, _<_}
 use mathlib.Core.Path.{_≡_, refl, ap, sym, _∙_}
 use mathlib.Core.Bool.{Bool, true, false, _&&_, _||_, not}
-use mathlib.Core.List.{List, [], _∷_, _++_}
+use mathlib.Core.List.{List, [], _∷_}
 use native.Mathlib.Numerals.{add-one}
 use native.Mathlib.Omega.{arith}
-use borrow.Author.Tests.{eqb-true, eqb-false, eq-eqb, ne-eqb, lt-ltb, le-ltb, ltb-true}
+use borrow.Author.Tests.{eqb-true, eqb-false, eq-eqb, ne-eqb, lt-ltb, ltb-true}
 use lib.ListN.{length, getD, drop, replicate, length-replicate}
 use lib.Seq.{drop-length}
 use lib.Dec.{eqb, ltb}
 use Rattle.numbers.specs.Bits.{bitAt, setBitAt, length-set-bit, bit-set-same, bit-set-other, bit-none}
 use Rattle.book.specs.Entry.{Entry, entry, entries}
 use Rattle.book.specs.Decode.{member, distinct}
-use Rattle.scans.specs.Words.{kept, wordsAt, isMark, isStruct}
+use Rattle.scans.specs.Words.{wordsAt, isMark, isStruct}
 
 -- whether a number has a bit in the map that is not set yet
 abbrev pub isNew : List ℕ → ℕ → Bool

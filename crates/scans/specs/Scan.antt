@@ -1,27 +1,26 @@
 -- Refusal 3 by one look at each entry: kind 37, or kind 76 with a callee that is no callee behind its type.
-use Prim.Native.Nat.{ℕ, zero, suc, _+_, _≤_, _<_}
+use Prim.Native.Nat.{ℕ, zero, _+_, _≤_, _<_}
 use mathlib.Core.Path.{_≡_, refl, ap, sym, _∙_}
-use mathlib.Core.Logic.{_⊎_, inl, inr}
 use mathlib.Core.Bool.{Bool, true, false, _&&_, _||_}
 use mathlib.Core.Option.{Option, none, some}
 use mathlib.Core.List.{List, [], _∷_, _++_, append-assoc, append-nil}
 use native.Mathlib.Omega.{arith}
-use borrow.Author.Tests.{eq-eqb, ne-eqb, leb-true}
-use lib.ListN.{length, drop}
+use borrow.Author.Tests.{ne-eqb, leb-true}
+use lib.ListN.{drop}
 use lib.Seq.{drop-append-seam}
-use lib.Dec.{eqb, leb, ltb}
+use lib.Dec.{eqb, leb}
 use Rattle.names.specs.Name.{nameAt}
 use Rattle.names.specs.Spelling.{isIntrinsic}
 use Rattle.book.specs.Entry.{Entry, entry}
 use Rattle.book.specs.Ast.{Sizeless, Ty, Tys, Zero, Value, TypedVal, InstKind, Inst, Terminator, BasicBlock, Function, StructBody, StructType, Mark, Book}
 use Rattle.book.specs.Kinds.{InstTag, TermTag, instKind, termKind, instTags, termTags, instTag, termTag}
 use Rattle.book.specs.Fields.{Item, Field, ItemMeaning, Meaning, Meanings, instFields, termFields, instTagOf, termTagOf, instArgs, termArgs}
-use Rattle.book.specs.Shape.{Shape, shape}
+use Rattle.book.specs.Shape.{shape}
 use Rattle.book.specs.Read.{Read, got, bad}
 use Rattle.book.specs.Decode.{type, member}
-use Rattle.book.specs.Encode.{ending, closed, orAbsent, encTy, encTys, valueEntry, encValue, encTyped, encParam, encItem, encField, encFields, encInst, encTerm, encBasicBlock, encFunction, markEntry, encMark, encBody, encStruct, encode}
-use Rattle.book.specs.Limits.{Each, TyLimits, ValueLimits, TypedLimits, InstLimits, TermLimits, BlockLimits, FunctionLimits, Limits}
-use Rattle.book.specs.Forbidden.{any, anyThere, isOther, otherItem, otherField, otherFields, otherInst, otherTerm, reservedBy, barredCallee, barredShape, forbiddenInst, forbiddenBlock, forbidden}
+use Rattle.book.specs.Encode.{ending, closed, encTy, encTys, valueEntry, encValue, encTyped, encParam, encItem, encField, encFields, encInst, encTerm, encBasicBlock, encFunction, markEntry, encMark, encBody, encStruct, encode}
+use Rattle.book.specs.Limits.{Each, TyLimits, ValueLimits, InstLimits, BlockLimits, FunctionLimits, Limits}
+use Rattle.book.specs.Forbidden.{any, anyThere, isOther, otherItem, otherField, otherFields, otherInst, otherTerm, reservedBy, barredCallee, barredShape, forbiddenInst, forbiddenBlock}
 use Rattle.book.specs.AgreeTy.{find-every, agrees-type}
 use Rattle.book.specs.AgreeInst.{inst-found, term-found}
 use Rattle.reader.specs.Length.{frontOf}

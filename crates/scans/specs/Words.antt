@@ -1,19 +1,19 @@
 -- The words of the entries of some kinds. Marks are the entries of kinds 1 and 2 and named structs those of kind 3, wherever they stand.
-use Prim.Native.Nat.{ℕ, zero, suc, _+_, _≤_, _<_}
-use mathlib.Core.Path.{_≡_, refl, ap, sym, _∙_}
+use Prim.Native.Nat.{ℕ, zero, _+_, _≤_}
+use mathlib.Core.Path.{_≡_, refl, ap, _∙_}
 use mathlib.Core.Logic.{_⊎_, inl, inr}
-use mathlib.Core.Bool.{Bool, true, false, _&&_, _||_}
+use mathlib.Core.Bool.{Bool, true, false, _&&_}
 use mathlib.Core.Option.{Option, none, some}
 use mathlib.Core.List.{List, [], _∷_, _++_, map}
 use native.Mathlib.Omega.{arith}
-use borrow.Author.Tests.{leb-true, le-leb, lt-leb, ne-eqb}
-use lib.Dec.{eqb, leb}
+use borrow.Author.Tests.{leb-true, lt-leb}
+use lib.Dec.{leb}
 use Rattle.book.specs.Entry.{Entry, entry}
-use Rattle.book.specs.Ast.{Sizeless, Ty, Tys, Zero, Value, TypedVal, Incoming, Case, Param, Inst, Terminator, BasicBlock, Function, StructBody, StructType, Mark, Book}
-use Rattle.book.specs.Kinds.{InstTag, TermTag, instKind, termKind, instTags, termTags, instTag, termTag}
-use Rattle.book.specs.Fields.{Item, Field, ItemMeaning, Meaning, Meanings, instFields, termFields, instTagOf, termTagOf, instArgs, termArgs}
+use Rattle.book.specs.Ast.{Sizeless, Ty, Tys, Zero, Value, Inst, Terminator, BasicBlock, Function, StructBody, StructType, Mark, Book}
+use Rattle.book.specs.Kinds.{instKind, termKind, instTags, termTags, instTag, termTag}
+use Rattle.book.specs.Fields.{Item, Field, ItemMeaning, Meaning, Meanings, instTagOf, termTagOf, instArgs, termArgs}
 use Rattle.book.specs.Decode.{markName}
-use Rattle.book.specs.Encode.{ending, closed, orAbsent, encTy, encTys, valueEntry, encValue, encTyped, encParam, encItem, encField, encFields, encInst, encTerm, encBasicBlock, encFunction, markEntry, encMark, encBody, encStruct, encode}
+use Rattle.book.specs.Encode.{ending, closed, encTy, encTys, valueEntry, encValue, encParam, encItem, encField, encFields, encInst, encTerm, encBasicBlock, encFunction, markEntry, encMark, encBody, encStruct, encode}
 use Rattle.book.specs.Forbidden.{reservedBy}
 use Rattle.book.specs.AgreeTy.{find-every}
 use Rattle.book.specs.AgreeInst.{inst-found, term-found}

@@ -1,27 +1,23 @@
 -- The answers for marks and struct bodies, and the laws that their proofs cite.
-use Prim.Native.Nat.{ℕ, zero, suc, _+_, _≤_, _<_}
+use Prim.Native.Nat.{ℕ, _+_}
 use mathlib.Core.Path.{_≡_, refl, ap, sym, _∙_}
 use mathlib.Core.Bool.{Bool, true, false}
-use mathlib.Core.Option.{Option, none, some}
+use mathlib.Core.Option.{Option, none}
 use mathlib.Core.List.{List, [], _∷_, _++_}
 use native.Mathlib.Omega.{arith}
 use borrow.Author.Tests.{eq-eqb, ne-eqb}
-use lib.ListN.{length, drop}
-use lib.Dec.{eqb, ltb, leb}
+use lib.Dec.{eqb, ltb}
 use Rattle.book.specs.Entry.{Entry, entry}
 use Rattle.book.specs.Ast.{Sizeless, Ty, Mark, StructBody}
 use Rattle.book.specs.Rule.{when, pick}
-use Rattle.book.specs.Kinds.{TyTag, tyTag, tyKind}
-use Rattle.book.specs.Read.{Read, got, bad, Reader, andThen, taking, choose, one, stops, mapped, both, until, word}
-use Rattle.book.specs.Decode.{type, markAs, mark, bodyOf, structBody, structType, function, structsAndFunction}
+use Rattle.book.specs.Kinds.{TyTag, tyTag}
+use Rattle.book.specs.Read.{Read, got, bad, andThen, taking, one, stops, mapped, both, until, word}
+use Rattle.book.specs.Decode.{type, markAs, mark, bodyOf, structBody, function, structsAndFunction}
 use Rattle.book.specs.Encode.{encTy}
-use Rattle.book.specs.Limits.{TyLimits}
-use Rattle.book.specs.Agree.{Agrees, Begins}
 use Rattle.book.specs.AgreeTy.{agrees-type, ty-found}
 use Rattle.reader.specs.Length.{lenOf, lenIf, frontOf}
 use Rattle.reader.specs.Groups.{typeGroupOf}
 use Rattle.reader.specs.Items.{pickLen}
-use Rattle.reader.specs.Laws.{len-got, len-bad}
 use Rattle.reader.specs.declared.Length.{Length}
 use Rattle.reader.specs.declared.Length.the-variants as len
 use Rattle.reader.specs.declared.Front.{Front}

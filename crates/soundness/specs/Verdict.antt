@@ -9,25 +9,23 @@ use borrow.Author.Tests.{le-leb, lt-leb, eq-eqb}
 use lib.ListN.{length, replicate, getD, take, drop}
 use lib.Dec.{leb, ltb, eqb}
 use Rattle.numbers.specs.Bits.{bitAt, bit-none}
-use Rattle.names.specs.Text.{bytes, starts}
+use Rattle.names.specs.Text.{bytes}
 use Rattle.names.specs.Name.{nameAt, namesOf, lines, counts, accepted}
 use Rattle.names.specs.Spelling.{isIntrinsic}
-use Rattle.names.specs.Prefix.{PrefixRange, firstWith, pastWith}
+use Rattle.names.specs.Prefix.{firstWith, pastWith}
 use Rattle.names.specs.Lines.{accepted-iff}
 use Rattle.names.specs.Ranges.{range-test}
 use Rattle.book.specs.Entry.{Entry, entries}
-use Rattle.book.specs.Ast.{Mark, Book}
-use Rattle.book.specs.Rule.{pick}
-use Rattle.book.specs.Agree.{no-some}
+use Rattle.book.specs.Ast.{Mark}
 use Rattle.book.specs.Decode.{member, distinct, markName, onceEach}
 use Rattle.book.specs.Encode.{encode}
-use Rattle.book.specs.Limits.{Each, Limits}
-use Rattle.book.specs.Result.{Result, ok, err, bind, okOr, given, require}
+use Rattle.book.specs.Limits.{Each}
+use Rattle.book.specs.Result.{ok, bind, okOr, given, require}
 use Rattle.book.specs.Input.{Counted, bookIn, namesIn}
-use Rattle.book.specs.Forbidden.{reservedBy, any, forbiddenBlock, forbidden}
+use Rattle.book.specs.Forbidden.{reservedBy, forbidden}
 use Rattle.book.specs.Check.{Sound, workFor, checked, refusalOf}
 use Rattle.scans.specs.Words.{wordsAt, isReserved, reserved-words}
-use Rattle.scans.specs.Once.{allNew, marked, AllBelow, new-distinct, bits-marked}
+use Rattle.scans.specs.Once.{allNew, AllBelow, new-distinct, bits-marked}
 use Rattle.scans.specs.Scan.{scan, scan-book}
 use Rattle.scans.specs.Barred.{reservedMap, intrinsic, barredIn}
 use Rattle.soundness.specs.Whole.{there, kindsIn, wordsIn, Holds, slice-holds, slice-parts}

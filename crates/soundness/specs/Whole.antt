@@ -1,32 +1,27 @@
 -- The whole check: laws from its parts to the definition.
-use Prim.Native.Nat.{ℕ, zero, suc, _+_, _-_, _*_, _/_, _≤_, _<_, _^_}
+use Prim.Native.Nat.{ℕ, _+_, _-_, _*_, _≤_, _<_}
 use mathlib.Core.Path.{_≡_, refl, ap, sym, _∙_, subst⁻¹}
-use mathlib.Core.Bool.{Bool, true, false, _&&_, _||_, not}
+use mathlib.Core.Bool.{Bool, true, false, _&&_}
 use mathlib.Core.Option.{Option, none, some}
 use mathlib.Core.List.{List, [], _∷_, _++_, map, append-nil}
 use native.Mathlib.Nat.{le-of-eq}
 use native.Mathlib.Omega.{arith}
-use borrow.Author.Tests.{eq-eqb, ne-eqb, eqb-true, le-leb, lt-leb, leb-true}
-use lib.ListN.{length, getD, drop, take, replicate, length-append, length-drop}
+use borrow.Author.Tests.{eq-eqb, ne-eqb, le-leb, lt-leb}
+use lib.ListN.{length, getD, drop, take, length-append, length-drop}
 use lib.Seq.{drop-length, take-all, drop-drop, take-at, drop-at}
-use lib.Dec.{eqb, leb, ltb}
-use Rattle.names.specs.Name.{nameAt, accepted, namesOf, counts}
-use Rattle.names.specs.Lines.{accepted-iff}
-use Rattle.names.specs.Spelling.{isIntrinsic}
+use lib.Dec.{eqb, leb}
 use Rattle.book.specs.Entry.{Entry, entries, kindsOf, wordsOf}
 use Rattle.book.specs.Ast.{Mark, StructType, Function, Book}
 use Rattle.book.specs.Rule.{pick, when}
 use Rattle.book.specs.Read.{Read, got, bad, mapped, andThen}
-use Rattle.book.specs.Decode.{parts, markName, bookOf, onceEach, whole, decode, distinct}
+use Rattle.book.specs.Decode.{parts, markName, bookOf, onceEach, decode}
 use Rattle.book.specs.Encode.{encode}
 use Rattle.book.specs.Limits.{Each, StructLimits, Limits}
 use Rattle.book.specs.Agree.{Begins}
 use Rattle.book.specs.AgreeBook.{PartsLimits, agrees-book}
 use Rattle.book.specs.AgreeInput.{slice, slice-sound, entries-back, length-kinds, length-words}
-use Rattle.book.specs.Result.{Result, ok, err, bind, okOr, given, require}
-use Rattle.book.specs.Input.{Counted, counted, bookIn, namesIn}
-use Rattle.book.specs.Forbidden.{reservedBy, any, forbiddenBlock, forbidden}
-use Rattle.book.specs.Check.{Sound, workFor, checked, refusalOf}
+use Rattle.book.specs.Result.{ok}
+use Rattle.book.specs.Input.{Counted, counted, bookIn}
 use Rattle.reader.specs.Length.{lenOf}
 use Rattle.reader.specs.Laws.{len-got, len-bad}
 use Rattle.reader.specs.declared.Length.{Length}

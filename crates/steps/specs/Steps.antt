@@ -1,7 +1,7 @@
 -- The step of a getelementptr's index: what the functions ask and answer.
-use Prim.Native.Nat.{ℕ, zero, suc, _+_, _-_, _*_, _%_, _<_, _≤_, _^_}
+use Prim.Native.Nat.{ℕ, _+_, _-_, _*_, _<_, _≤_}
 use mathlib.Core.Path.{_≡_, refl, sym, ap, _∙_, subst}
-use mathlib.Core.Bool.{Bool, true, false}
+use mathlib.Core.Bool.{Bool}
 use mathlib.Core.Option.{Option, none, some}
 use mathlib.Core.List.{List}
 use native.Mathlib.Omega.{arith}
@@ -9,14 +9,14 @@ use lib.ListN.{length, getD, drop, length-drop}
 use lib.Seq.{drop-drop, getD-drop}
 use Rattle.numbers.specs.Wrap.{wrapMul}
 use Rattle.book.specs.Entry.{Entry, entries}
-use Rattle.book.specs.Ast.{Ty, Tys, Value, StructBody, StructType}
+use Rattle.book.specs.Ast.{Ty, Tys, Value, StructType}
 use Rattle.book.specs.Kinds.{tyTag}
 use Rattle.book.specs.Result.{Result, ok, err, bind, okOr}
 use Rattle.reader.specs.Groups.{typeGroupOf}
 use Rattle.reader.specs.Laws.{entries-part, entries-drop, within-kinds, within-words}
 use Rattle.reader.specs.declared.types.TypeGroup.{TypeGroup}
 use Rattle.reader.specs.declared.types.TypeGroup.the-variants as group
-use Rattle.layout.specs.Layout.{asType, resolve, alignOf, sizeOf, fieldOffset}
+use Rattle.layout.specs.Layout.{asType, resolve, sizeOf, fieldOffset}
 use Rattle.layout.specs.Step.{Step as GepStep, constInt, fieldAt, stride, structStep, gepStep}
 use Rattle.measuring.specs.Measured.{Measures}
 use Rattle.measuring.specs.Front.{Starts, StartsFields, tyOf, tysOf, ShapeOf, shape}

@@ -3,10 +3,9 @@ use Rattle.measuring.specs.Calls as calls
 use Rattle.aligns.specs.LoopCalls as lc
 use Rattle.measuring.specs.FieldCalls as fields
 use borrow.Author.Needs.{needs}
-use Prim.Native.Nat.{ℕ, _+_, _-_, _*_, _<_, _≤_}
-use mathlib.Core.Path.{_≡_, refl, sym, ap, _∙_}
+use Prim.Native.Nat.{ℕ, _+_, _-_, _*_, _<_}
 use native.Mathlib.Omega.{arith}
-use lib.ListN.{length, drop, getD}
+use lib.ListN.{length}
 use Rattle.book.specs.Entry.{entries}
 use Rattle.aligns.specs.Loop.{AlignLoop}
 use Rattle.measuring.specs.Work.{structsIn, After}

@@ -1,5 +1,5 @@
 -- `blocks::block_len` meets its contract: the body is read behind the block's entry.
-use mathlib.Core.Path.{_≡_, refl, _∙_, sym, ap}
+use mathlib.Core.Path.{_∙_, sym, ap}
 use native.Mathlib.Omega.{arith}
 use Rattle.book.specs.Read.{word}
 use Rattle.book.specs.Decode.{name, body, basicBlock}

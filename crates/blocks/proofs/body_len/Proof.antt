@@ -1,7 +1,6 @@
 -- `blocks::body_len` meets its contract: the loop goes on by the list's next step, and what is left of the list is as long as the whole from there.
 use borrow.Author.Needs.{needs}
 use native.Mathlib.Omega.{arith}
-use mathlib.Core.Path.{_≡_, refl, _∙_, sym, ap}
 use lib.ListN.{length}
 use Rattle.book.specs.Entry.{entries}
 use lib.Dec.{leb}

@@ -1,5 +1,5 @@
 -- `blocks::body_step` meets its contract: a kind from 90 on is the terminator's, any other an instruction's.
-use mathlib.Core.Path.{_≡_, refl, _∙_, sym, ap}
+use mathlib.Core.Path.{_∙_, sym}
 use borrow.Author.Tests.{le-leb, lt-leb}
 use lib.Dec.{leb}
 use Rattle.book.specs.Entry.{entries}

@@ -1,7 +1,7 @@
 -- `blocks::function_len` meets its contract: the rest is read behind the function's entry.
-use mathlib.Core.Path.{_≡_, refl, _∙_, sym, ap}
+use mathlib.Core.Path.{_∙_, sym, ap}
 use native.Mathlib.Omega.{arith}
-use Rattle.book.specs.Read.{word, many, both, listOf}
+use Rattle.book.specs.Read.{word, many, both}
 use Rattle.book.specs.Fields.{Item}
 use Rattle.book.specs.Decode.{name, type, item, basicBlock, function}
 use Rattle.book.specs.AgreeInst.{agrees-name}

@@ -1,7 +1,6 @@
 -- `blocks::params_and_blocks_len` meets its contract: the blocks are read behind the parameters.
-use mathlib.Core.Path.{_≡_, refl, _∙_, sym, ap}
 use native.Mathlib.Omega.{arith}
-use Rattle.book.specs.Read.{word, many, both, listOf}
+use Rattle.book.specs.Read.{many}
 use Rattle.book.specs.Fields.{Item}
 use Rattle.book.specs.Decode.{item, basicBlock}
 use Rattle.book.specs.AgreeInst.{agrees-items}

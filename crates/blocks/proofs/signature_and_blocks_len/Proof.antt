@@ -1,7 +1,6 @@
 -- `blocks::signature_and_blocks_len` meets its contract: parameters and blocks are read behind the type.
-use mathlib.Core.Path.{_≡_, refl, _∙_, sym, ap}
 use native.Mathlib.Omega.{arith}
-use Rattle.book.specs.Read.{word, many, both, listOf}
+use Rattle.book.specs.Read.{many, both}
 use Rattle.book.specs.Fields.{Item}
 use Rattle.book.specs.Decode.{type, item, basicBlock}
 use Rattle.book.specs.AgreeTy.{agrees-type}

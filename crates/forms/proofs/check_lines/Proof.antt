@@ -1,7 +1,7 @@
 -- `check_lines` meets its contract: what is left of the lines decides.
 use borrow.Author.Needs.{needs}
 use Prim.Native.Nat.{_-_}
-use mathlib.Core.Path.{_≡_, refl, sym, _∙_}
+use mathlib.Core.Path.{_≡_, sym, _∙_}
 use lib.ListN.{length, drop}
 use borrow.Author.Tests.{not-true, not-false}
 use Rattle.forms.specs.All.{allowedAll, checked-kinds, checked-operands, checked-false, checked-true}

@@ -1,5 +1,5 @@
 -- `form_of` meets its contract by its tests.
-use borrow.Author.Tests.{le-leb, lt-leb, lt-ltb, le-ltb, eq-eqb, ne-eqb}
+use borrow.Author.Tests.{le-leb, lt-leb, lt-ltb, le-ltb}
 use Rattle.forms.specs.Forms.{formOf}
 use borrow.Author.Needs.{needs}
 use Rattle.forms.proofs.form_of.Statement.{statement}

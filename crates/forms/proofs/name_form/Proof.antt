@@ -1,5 +1,5 @@
 -- `name_form` meets its contract by its tests.
-use borrow.Author.Tests.{le-leb, lt-leb, lt-ltb, le-ltb, eq-eqb, ne-eqb}
+use borrow.Author.Tests.{eq-eqb, ne-eqb}
 use Rattle.forms.specs.Forms.{nameForm}
 use Rattle.forms.proofs.name_form.Statement.{statement}
 use Rattle.forms.proofs.name_form.Tie as tie

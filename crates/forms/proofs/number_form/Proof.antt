@@ -1,5 +1,5 @@
 -- `number_form` meets its contract by its tests.
-use borrow.Author.Tests.{le-leb, lt-leb, lt-ltb, le-ltb, eq-eqb, ne-eqb}
+use borrow.Author.Tests.{lt-ltb, le-ltb, eq-eqb, ne-eqb}
 use Rattle.forms.specs.Forms.{numberForm}
 use Rattle.forms.proofs.number_form.Statement.{statement}
 use Rattle.forms.proofs.number_form.Tie as tie

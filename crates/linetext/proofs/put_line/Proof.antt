@@ -1,9 +1,6 @@
 -- `put_line` meets its contract by its tests.
-use mathlib.Core.Path.{refl, sym, ap, _∙_}
-use mathlib.Core.List.{_++_}
 use borrow.Author.Tests.{le-leb, lt-leb, eq-eqb, ne-eqb}
-use Rattle.names.specs.Text.{bytes}
-use Rattle.pen.specs.Pen.{put-same, then-put}
+use Rattle.pen.specs.Pen.{put-same}
 use Rattle.linetext.specs.Lines.{printed}
 use borrow.Author.Needs.{needs}
 use Rattle.linetext.proofs.put_line.Statement.{statement}

@@ -1,7 +1,6 @@
 -- `put_lines` meets its contract: the lines put so far and those left are all lines. The measure is the number of lines left.
 use borrow.Author.Needs.{needs}
 use Prim.Native.Nat.{_-_}
-use mathlib.Core.Path.{_≡_, refl, sym, _∙_}
 use lib.ListN.{length}
 use Rattle.names.specs.Name.{lines}
 use Rattle.book.specs.Entry.{entries}

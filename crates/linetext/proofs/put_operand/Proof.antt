@@ -1,9 +1,8 @@
 -- `put_operand` meets its contract, by the form.
-use mathlib.Core.Path.{refl, sym, ap, _∙_}
+use mathlib.Core.Path.{ap}
 use mathlib.Core.List.{_++_}
-use borrow.Author.Tests.{le-leb, lt-leb, eq-eqb, ne-eqb}
 use Rattle.names.specs.Text.{bytes}
-use Rattle.pen.specs.Pen.{put-same, then-put}
+use Rattle.pen.specs.Pen.{put-same}
 use Prim.Native.Nat.{_%_}
 use lib.ListN.{drop}
 use Rattle.numbers.specs.Digits.{decimal}

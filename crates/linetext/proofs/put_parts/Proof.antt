@@ -1,8 +1,5 @@
 -- `put_parts` meets its contract, one part after the other.
-use mathlib.Core.Path.{refl, sym, ap, _∙_}
-use mathlib.Core.List.{_++_}
-use borrow.Author.Tests.{le-leb, lt-leb, eq-eqb, ne-eqb}
-use Rattle.names.specs.Text.{bytes}
+use mathlib.Core.Path.{ap}
 use Rattle.pen.specs.Pen.{put-same, then-put}
 use Rattle.names.specs.Name.{lines}
 use Rattle.linetext.specs.Lines.{operandText, partsText}

@@ -1,6 +1,5 @@
 -- `measures::measure_one` meets its contract.
 use mathlib.Core.Path.{_∙_}
-use Prim.Native.Nat.{_+_}
 use native.Mathlib.Omega.{arith}
 use Rattle.measures.specs.Laws as laws
 use borrow.Author.Needs.{needs}

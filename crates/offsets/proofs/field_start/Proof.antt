@@ -1,9 +1,6 @@
 -- `offsets::field_start` meets its contract.
 use borrow.Author.Needs.{needs}
-use Prim.Native.Nat.{ℕ, _+_, _-_, _*_, _<_, _≤_}
-use mathlib.Core.Path.{_≡_, refl, sym, ap, _∙_}
-use native.Mathlib.Omega.{arith}
-use lib.ListN.{length, drop, getD}
+use Prim.Native.Nat.{_-_}
 use Rattle.book.specs.Entry.{entries}
 use Rattle.measuring.specs.FieldCalls as fields
 use Rattle.offsets.specs.Offsets as laws

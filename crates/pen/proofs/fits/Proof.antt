@@ -1,6 +1,5 @@
 -- `fits` meets its contract by its test.
 use Rattle.pen.specs.Pen.{fits-there, fits-not}
-use borrow.Author.Needs.{needs}
 use Rattle.pen.proofs.fits.Statement.{statement}
 use Rattle.pen.proofs.fits.Tie as tie
 

@@ -1,7 +1,6 @@
 -- `put_bytes` meets its contract, by the pen that is reached.
-use mathlib.Core.Path.{refl, sym}
+use mathlib.Core.Path.{refl}
 use native.Mathlib.Omega.{arith}
-use Rattle.names.specs.Labels.{sanitize-length}
 use Rattle.pen.specs.Pen.{end-fits, put-wrote, put-none, put-full}
 use borrow.Author.Needs.{needs}
 use Rattle.pen.proofs.put_bytes.Statement.{statement}

@@ -1,6 +1,6 @@
 use Rattle.names.specs.Spelling.{sanitize}
 -- `put_clean` meets its contract, by the pen that is reached.
-use mathlib.Core.Path.{refl, sym}
+use mathlib.Core.Path.{sym}
 use native.Mathlib.Omega.{arith}
 use Rattle.names.specs.Labels.{sanitize-length}
 use Rattle.pen.specs.Pen.{end-fits, put-wrote, put-none, put-full}

@@ -1,8 +1,6 @@
 use Rattle.numbers.specs.Digits.{decimal}
 -- `put_number` meets its contract, by the pen that is reached.
-use mathlib.Core.Path.{refl, sym}
 use native.Mathlib.Omega.{arith}
-use Rattle.names.specs.Labels.{sanitize-length}
 use Rattle.pen.specs.Pen.{end-fits, put-wrote, put-none, put-full}
 use borrow.Author.Needs.{needs}
 use Rattle.pen.proofs.put_number.Statement.{statement}

@@ -5,9 +5,8 @@ use Rattle.measuring.specs.FieldCalls as fields
 use borrow.Author.Needs.{needs}
 use Rattle.sizes.specs.LoopCalls.{SizeInv}
 use Prim.Native.Nat.{ℕ, _+_, _-_, _*_, _<_, _≤_}
-use mathlib.Core.Path.{_≡_, refl, sym, ap, _∙_}
 use native.Mathlib.Omega.{arith}
-use lib.ListN.{length, drop, getD}
+use lib.ListN.{length, getD}
 use Rattle.book.specs.Entry.{entries}
 use Prim.Native.Nat.{ℕ, _<_}
 use borrow.Fn.Kinds.{In}

@@ -1,6 +1,6 @@
 -- `sizes::add_field` meets its contract.
-use Prim.Native.Nat.{ℕ, _+_, _*_, _≤_, _<_}
-use mathlib.Core.Path.{_≡_, sym, ap, _∙_}
+use Prim.Native.Nat.{ℕ, _+_}
+use mathlib.Core.Path.{ap, _∙_}
 use native.Mathlib.Omega.{arith}
 use Rattle.measuring.specs.Helpers as laws
 use Prim.Native.Nat.{max}

@@ -1,7 +1,4 @@
 -- `sizes::closed` meets its contract.
-use Prim.Native.Nat.{ℕ, _+_, _*_, _≤_, _<_}
-use mathlib.Core.Path.{_≡_, sym, ap, _∙_}
-use native.Mathlib.Omega.{arith}
 use Rattle.measuring.specs.Helpers as laws
 use Rattle.sizes.specs.Sums.{closed-fits, closed-over}
 use borrow.Author.Needs.{needs}

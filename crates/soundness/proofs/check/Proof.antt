@@ -1,5 +1,4 @@
 -- `soundness::check` meets its contract: each return is the refusal of its place in the order.
-use mathlib.Core.Path.{_≡_, refl, _∙_, sym, ap}
 use native.Mathlib.Omega.{arith}
 use borrow.Author.Tests.{not-true, not-false}
 use Rattle.soundness.specs.Verdict as verdict

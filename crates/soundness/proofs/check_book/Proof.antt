@@ -1,5 +1,5 @@
 -- `soundness::check_book` meets its contract: the counts and the length are the slice's, and the entries a book's.
-use mathlib.Core.Path.{_≡_, refl, _∙_, sym, ap}
+use mathlib.Core.Path.{_∙_, ap}
 use native.Mathlib.Omega.{arith}
 use lib.ListN.{getD}
 use Rattle.book.specs.Decode.{decode}

@@ -1,5 +1,5 @@
 -- `soundness::check_entries` meets its contract: the parts take all entries, and no mark or struct name is repeated.
-use mathlib.Core.Path.{_≡_, refl, _∙_, sym, ap}
+use mathlib.Core.Path.{_∙_, sym}
 use Rattle.book.specs.Entry.{entries}
 use Rattle.soundness.specs.Whole as whole
 use borrow.Author.Needs.{needs}

@@ -1,7 +1,5 @@
 -- `steps::array_step` meets its contract.
-use native.Mathlib.Omega.{arith}
 use Rattle.steps.specs.Steps as laws
-use Rattle.book.specs.Entry.{entries}
 use borrow.Author.Needs.{needs}
 use Rattle.steps.proofs.array_step.Statement.{statement}
 use Rattle.steps.proofs.array_step.Tie as tie

@@ -1,9 +1,6 @@
 -- `put_call` meets its contract, one part after the other.
-use mathlib.Core.Path.{refl, sym, ap, _∙_}
-use mathlib.Core.List.{_++_}
-use borrow.Author.Tests.{le-leb, lt-leb, eq-eqb, ne-eqb}
 use Rattle.names.specs.Text.{bytes}
-use Rattle.pen.specs.Pen.{put-same, then-put}
+use Rattle.pen.specs.Pen.{then-put}
 use borrow.Author.Needs.{needs}
 use Rattle.words.proofs.put_call.Statement.{statement}
 use Rattle.words.proofs.put_call.Tie as tie

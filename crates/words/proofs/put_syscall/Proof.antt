@@ -1,9 +1,5 @@
 -- `put_syscall` meets its contract: the part from byte 6 on is the rest.
-use mathlib.Core.Path.{refl, sym, ap, _∙_}
-use mathlib.Core.List.{_++_}
-use borrow.Author.Tests.{le-leb, lt-leb, eq-eqb, ne-eqb}
-use Rattle.names.specs.Text.{bytes}
-use Rattle.pen.specs.Pen.{put-same, then-put}
+use Rattle.pen.specs.Pen.{put-same}
 use native.Mathlib.Nat.{le-of-eq}
 use lib.ListN.{length-drop}
 use lib.Seq.{take-all}

@@ -1,5 +1,5 @@
 -- `blocks::insts::field_len` meets its contract: each arm reads what its field holds.
-use mathlib.Core.Path.{_≡_, refl, _∙_, sym, ap}
+use mathlib.Core.Path.{_∙_, sym, ap}
 use Rattle.book.specs.Entry.{entries}
 use Rattle.book.specs.Read.{listOf, many}
 use Rattle.book.specs.Fields.{Field as BookField}

@@ -1,5 +1,5 @@
 -- `blocks::insts::inst_fields` meets its contract: each row is the table's.
-use mathlib.Core.Path.{_≡_, refl, _∙_, sym, ap}
+use mathlib.Core.Path.{_∙_, sym, ap}
 use borrow.Author.Needs.{needs}
 use Rattle.blocks.specs.Insts.{instShape}
 use Rattle.blocks.proofs.insts.inst_fields.Statement.{statement}

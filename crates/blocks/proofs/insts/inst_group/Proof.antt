@@ -1,6 +1,6 @@
 -- `blocks::insts::inst_group` meets its contract: each range is looked up, and what lies between or outside is not in the table.
 use Prim.Native.Nat.{ℕ, _-_, _≤_, _<_}
-use mathlib.Core.Path.{_≡_, refl, _∙_, sym, ap}
+use mathlib.Core.Path.{_≡_, refl, sym, ap}
 use native.Mathlib.Omega.{arith}
 use Rattle.book.specs.Rule.{find}
 use Rattle.book.specs.Kinds.{instTag, instTags, instKind}

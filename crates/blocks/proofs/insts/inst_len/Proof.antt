@@ -1,5 +1,5 @@
 -- `blocks::insts::inst_len` meets its contract: the kind says which fields are read behind the entry.
-use mathlib.Core.Path.{_≡_, refl, _∙_, sym, ap}
+use mathlib.Core.Path.{_∙_, sym, ap}
 use native.Mathlib.Omega.{arith}
 use Rattle.book.specs.Entry.{entries}
 use Rattle.book.specs.Kinds.{instTag}

@@ -1,6 +1,6 @@
 -- `blocks::insts::single_group` meets its contract: each kind is looked up.
 use Prim.Native.Nat.{ℕ, suc-le-suc}
-use mathlib.Core.Path.{_≡_, refl, _∙_, sym, ap}
+use mathlib.Core.Path.{_≡_, refl, sym, ap}
 use Rattle.book.specs.Rule.{find}
 use Rattle.book.specs.Kinds.{instTag, instTags}
 use Rattle.blocks.specs.Insts.{instGroupOf}

@@ -1,5 +1,5 @@
 -- `blocks::insts::term_fields` meets its contract: each row is the table's.
-use mathlib.Core.Path.{_≡_, refl, _∙_, sym, ap}
+use mathlib.Core.Path.{_∙_, sym, ap}
 use Rattle.blocks.specs.Insts.{termShape}
 use borrow.Author.Needs.{needs}
 use Rattle.blocks.proofs.insts.term_fields.Statement.{statement}

@@ -1,7 +1,4 @@
 -- `measuring::memory::recalled` meets its contract.
-use Prim.Native.Nat.{ℕ, _+_, _*_, _≤_, _<_}
-use mathlib.Core.Path.{_≡_, sym, ap, _∙_}
-use native.Mathlib.Omega.{arith}
 use Rattle.measuring.specs.Helpers as laws
 use borrow.Author.Needs.{needs}
 use Rattle.measuring.proofs.memory.recalled.Statement.{statement}

@@ -1,8 +1,6 @@
 -- `measuring::structs::place_struct` meets its contract.
-use Prim.Native.Nat.{ℕ, _+_, _-_, _<_, _≤_}
-use lib.ListN.{length}
+use Prim.Native.Nat.{_-_}
 use native.Mathlib.Omega.{arith}
-use Rattle.book.specs.Entry.{entries}
 use Rattle.measuring.specs.Structs as laws
 use borrow.Author.Needs.{needs}
 use Rattle.measuring.proofs.structs.place_struct.Statement.{statement}

@@ -1,5 +1,5 @@
 -- `reader::items::align_len` meets its contract: the two tests are the definition's.
-use mathlib.Core.Path.{_≡_, refl, _∙_, sym, ap}
+use mathlib.Core.Path.{_∙_, sym, ap}
 use borrow.Author.Tests.{ne-eqb}
 use Rattle.reader.specs.Length.{lenIf}
 use borrow.Author.Needs.{needs}

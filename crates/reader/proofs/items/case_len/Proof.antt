@@ -1,5 +1,5 @@
 -- `reader::items::case_len` meets its contract: a block is read behind the integer.
-use mathlib.Core.Path.{_≡_, refl, _∙_, sym, ap}
+use mathlib.Core.Path.{_∙_, sym, ap}
 use native.Mathlib.Omega.{arith}
 use Rattle.book.specs.Decode.{case, block}
 use mathlib.Core.Option.{some}

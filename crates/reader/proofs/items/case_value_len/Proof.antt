@@ -1,5 +1,5 @@
 -- `reader::items::case_value_len` meets its contract: the test is the definition's.
-use mathlib.Core.Path.{_≡_, refl, _∙_, sym, ap}
+use mathlib.Core.Path.{_∙_, sym}
 use borrow.Author.Needs.{needs}
 use Rattle.reader.proofs.items.case_value_len.Statement.{statement}
 use Rattle.reader.proofs.items.case_value_len.Tie as tie

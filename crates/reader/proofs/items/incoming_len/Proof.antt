@@ -1,5 +1,5 @@
 -- `reader::items::incoming_len` meets its contract: a block is read behind the value.
-use mathlib.Core.Path.{_≡_, refl, _∙_, sym, ap}
+use mathlib.Core.Path.{_∙_, sym, ap}
 use native.Mathlib.Omega.{arith}
 use Rattle.book.specs.Decode.{incoming, block, value}
 use Rattle.book.specs.AgreeTy.{agrees-value}

@@ -1,5 +1,5 @@
 -- `reader::items::index_fits` meets its contract: the tests are the definition's.
-use mathlib.Core.Path.{_≡_, refl, _∙_, sym, ap}
+use mathlib.Core.Path.{sym}
 use borrow.Author.Tests.{ne-eqb, lt-ltb, le-ltb}
 use borrow.Author.Needs.{needs}
 use Rattle.reader.proofs.items.index_fits.Statement.{statement}

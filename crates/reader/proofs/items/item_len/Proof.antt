@@ -1,7 +1,7 @@
 -- `reader::items::item_len` meets its contract: each arm reads what its item is.
-use mathlib.Core.Path.{_≡_, refl, _∙_, sym, ap}
+use mathlib.Core.Path.{_∙_, sym, ap}
 use Rattle.book.specs.Entry.{entries}
-use Rattle.book.specs.Decode.{item, type, block, index}
+use Rattle.book.specs.Decode.{item, block, index}
 use Rattle.reader.specs.Length.{lenOf}
 use Rattle.reader.specs.Items.{valueFront, wordFront, alignFront, itemOf}
 use Rattle.reader.specs.ItemLaws as items

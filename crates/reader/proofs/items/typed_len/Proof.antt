@@ -1,5 +1,5 @@
 -- `reader::items::typed_len` meets its contract: a value is read behind the type.
-use mathlib.Core.Path.{_≡_, refl, _∙_, sym, ap}
+use mathlib.Core.Path.{_∙_, sym, ap}
 use native.Mathlib.Omega.{arith}
 use Rattle.book.specs.Decode.{type, typedVal, value}
 use Rattle.book.specs.AgreeTy.{agrees-type, agrees-value}

@@ -1,6 +1,6 @@
 -- `reader::items::value_group` meets its contract: each kind is looked up, and what is below or above the table is not in it.
 use Prim.Native.Nat.{ℕ, suc-le-suc}
-use mathlib.Core.Path.{_≡_, refl, _∙_, sym, ap}
+use mathlib.Core.Path.{_≡_, refl, sym, ap}
 use native.Mathlib.Omega.{arith}
 use Rattle.book.specs.Rule.{find}
 use Rattle.book.specs.Kinds.{valTag, valTags, valKind}

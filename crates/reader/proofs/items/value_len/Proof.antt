@@ -1,5 +1,5 @@
 -- `reader::items::value_len` meets its contract: the kind's group and the word decide.
-use mathlib.Core.Path.{_≡_, refl, _∙_, sym, ap}
+use mathlib.Core.Path.{_∙_, sym, ap}
 use Rattle.reader.specs.Length.{lenIf}
 use Rattle.reader.specs.Items.{valueOk, valueFront}
 use borrow.Author.Needs.{needs}

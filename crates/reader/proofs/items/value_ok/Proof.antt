@@ -1,5 +1,5 @@
 -- `reader::items::value_ok` meets its contract: each arm is the definition's.
-use mathlib.Core.Path.{_≡_, refl, _∙_, sym, ap}
+use mathlib.Core.Path.{sym, ap}
 use Rattle.reader.specs.Items.{valueOk}
 use borrow.Author.Needs.{needs}
 use Rattle.reader.proofs.items.value_ok.Statement.{statement}

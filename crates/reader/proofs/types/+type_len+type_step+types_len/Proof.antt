@@ -1,13 +1,12 @@
 use borrow.Author.Needs.{needs}
-use Prim.Native.Nat.{ℕ, _<_, _≤_, _+_, _-_, _*_}
-use mathlib.Core.Path.{_≡_, refl, sym, ap, _∙_}
+use Prim.Native.Nat.{ℕ, _<_, _+_, _-_, _*_}
+use mathlib.Core.Path.{sym, _∙_}
 use native.Mathlib.Omega.{arith}
-use lib.ListN.{length, drop}
+use lib.ListN.{length}
 use Rattle.book.specs.Entry.{entries}
-use Rattle.book.specs.Read.{until, many, closing, isClosing}
+use Rattle.book.specs.Read.{closing, isClosing}
 use Rattle.book.specs.Decode.{typeTo}
 use Rattle.book.specs.AgreeTy.{agrees-closing, agrees-typeTo}
-use Rattle.reader.specs.Length.{lenOf, further, stepOf}
 use Rattle.reader.specs.Laws.{Loop}
 use Rattle.reader.specs.Laws as laws
 use Rattle.reader.specs.TypeLaws as types

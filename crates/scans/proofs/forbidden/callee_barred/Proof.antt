@@ -1,5 +1,5 @@
 -- `scans::forbidden::callee_barred` meets its contract: the tests are the definition's.
-use mathlib.Core.Path.{_≡_, refl, _∙_, sym, ap}
+use mathlib.Core.Path.{_∙_, sym}
 use borrow.Author.Tests.{ne-eqb, le-leb, lt-leb, lt-ltb, le-ltb}
 use borrow.Author.Needs.{needs}
 use Rattle.scans.proofs.forbidden.callee_barred.Statement.{statement}

@@ -1,5 +1,5 @@
 -- `scans::forbidden::entry_barred` meets its contract: the kind decides, and a call's callee.
-use mathlib.Core.Path.{_≡_, refl, _∙_, sym, ap}
+use mathlib.Core.Path.{_∙_, sym, ap}
 use Rattle.book.specs.Entry.{entries}
 use Rattle.reader.specs.Laws.{entries-part, within-kinds, within-words}
 use Rattle.reader.specs.Steps.{front-there}

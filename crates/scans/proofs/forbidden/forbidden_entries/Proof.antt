@@ -1,5 +1,5 @@
 -- `scans::forbidden::forbidden_entries` meets its contract: the map has the bits of the reserved names, the range those that start `llvm.`.
-use mathlib.Core.Path.{_≡_, refl, _∙_, sym, ap}
+use mathlib.Core.Path.{_∙_}
 use Rattle.book.specs.Entry.{entries}
 use Rattle.scans.specs.Barred.{scan-by}
 use borrow.Author.Needs.{needs}

@@ -1,5 +1,5 @@
 -- `scans::marks::mark_entry` meets its contract: a kind outside the range is not looked at.
-use mathlib.Core.Path.{_≡_, refl, _∙_, sym, ap}
+use mathlib.Core.Path.{_≡_, _∙_, sym, ap}
 use borrow.Author.Tests.{le-leb, lt-leb}
 use Rattle.scans.specs.Words.{between}
 use Rattle.scans.specs.Once.{isNew, setIf, orElse}

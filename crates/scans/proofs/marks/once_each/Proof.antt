@@ -1,5 +1,5 @@
 -- `scans::marks::once_each` meets its contract: two maps, each of them empty at first.
-use mathlib.Core.Path.{_≡_, refl, _∙_, sym, ap}
+use mathlib.Core.Path.{_∙_, sym, ap}
 use mathlib.Core.Bool.{_&&_}
 use borrow.Author.Tests.{not-true, not-false}
 use lib.ListN.{replicate}

@@ -1,5 +1,5 @@
 -- `soundness::parts::mark_len` meets its contract: the tests are the definition's.
-use mathlib.Core.Path.{_≡_, refl, _∙_, sym, ap}
+use mathlib.Core.Path.{_∙_, sym}
 use borrow.Author.Tests.{ne-eqb}
 use borrow.Author.Needs.{needs}
 use Rattle.soundness.proofs.parts.mark_len.Statement.{statement}

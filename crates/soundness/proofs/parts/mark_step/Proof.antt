@@ -1,5 +1,5 @@
 -- `soundness::parts::mark_step` meets its contract: a kind from 3 on ends the marks.
-use mathlib.Core.Path.{_≡_, refl, _∙_, sym, ap}
+use mathlib.Core.Path.{_∙_, sym, ap}
 use borrow.Author.Tests.{le-leb, lt-leb}
 use lib.Dec.{leb}
 use Rattle.book.specs.Entry.{entries}

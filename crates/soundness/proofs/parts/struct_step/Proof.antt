@@ -1,5 +1,5 @@
 -- `soundness::parts::struct_step` meets its contract: a kind from 4 on is the function's, any other a named struct's.
-use mathlib.Core.Path.{_≡_, refl, _∙_, sym, ap}
+use mathlib.Core.Path.{_∙_, sym}
 use borrow.Author.Tests.{le-leb, lt-leb}
 use lib.Dec.{leb}
 use Rattle.book.specs.Entry.{entries}

@@ -1,5 +1,4 @@
 -- `name_of` meets its contract: from its start the name stands up to its end.
-use native.Mathlib.Omega.{arith}
 use Rattle.typetext.specs.Starts.{end-below, name-bytes}
 use borrow.Author.Needs.{needs}
 use Rattle.typetext.proofs.starts.name_of.Statement.{statement}

@@ -2,7 +2,7 @@
 use native.Mathlib.Omega.{arith}
 use Rattle.typetext.specs.Starts.{stepping-below}
 use borrow.Author.Needs.{needs}
-use Rattle.typetext.specs.Starts.{Stepping, stepping-start, stepping-next, stepping-end, end-below}
+use Rattle.typetext.specs.Starts.{Stepping, stepping-start, stepping-next, stepping-end}
 use Rattle.typetext.proofs.starts.name_start.Statement.{statement}
 use Rattle.typetext.proofs.starts.name_start.Tie as tie
 use Rattle.names.proofs.name_end.Reads as name-end-reads

@@ -1,5 +1,5 @@
 -- `put_type` meets its contract, by the group of its first entry. The level falls.
-use mathlib.Core.Path.{refl, sym, ap, _∙_}
+use mathlib.Core.Path.{ap}
 use mathlib.Core.List.{[], _++_}
 use native.Mathlib.Omega.{arith}
 use lib.ListN.{length}

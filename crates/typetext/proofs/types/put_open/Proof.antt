@@ -1,8 +1,6 @@
 -- `put_open` meets its contract by its test.
-use mathlib.Core.Path.{refl, sym, _∙_}
-use borrow.Author.Tests.{eq-eqb, ne-eqb}
 use Rattle.names.specs.Text.{bytes}
-use Rattle.pen.specs.Pen.{put-same, then-put}
+use Rattle.pen.specs.Pen.{put-same}
 use Rattle.typetext.specs.Types.{opened}
 use borrow.Author.Needs.{needs}
 use Rattle.typetext.proofs.types.put_open.Statement.{statement}

@@ -1,8 +1,7 @@
 -- `put_sizeless` meets its contract by its tests.
-use mathlib.Core.Path.{refl, sym, _∙_}
 use borrow.Author.Tests.{eq-eqb, ne-eqb}
 use Rattle.names.specs.Text.{bytes}
-use Rattle.pen.specs.Pen.{put-same, then-put}
+use Rattle.pen.specs.Pen.{put-same}
 use Rattle.typetext.specs.Types.{sizelessText}
 use borrow.Author.Needs.{needs}
 use Rattle.typetext.proofs.types.put_sizeless.Statement.{statement}
