@@ -67,7 +67,7 @@ fn copy_clean(src: &[u8], text: &mut [u8], at: usize)
 {
     let mut i: usize = 0;
     while i < src.len() {
-        text[at + i] = names::clean_byte(src[i]);
+        text[at + i] = spelling::clean_byte(src[i]);
         i += 1;
     }
 }

@@ -95,7 +95,7 @@ pub fn print_known(
     ensures { λ r. ⌜ ((b : Book) → Known (now (names .entry)) (now (kinds .entry)) (now (words .entry)) function params b
         → printing r (now (text .exit)) ≡ definition (lines (now (names .entry))) b (now («line_kinds» .entry)) (now (operands .entry)) (now (text .entry))) ⌝ }
 {
-    let calls = names::prefix_range(names, b"__uvm_");
+    let calls = spelling::prefix_range(names, b"__uvm_");
     if !check_lines(line_kinds, operands, count, function, calls.from, calls.to) {
         return Printed::Refused(21);
     }

@@ -1,11 +1,11 @@
 // Refusal 3: a value of kind 37, or a call whose callee starts `llvm.` or is marked reserved.
 use crate::marks::mark_words;
-use names::prefix_range;
 use reader::Front;
 use reader::Length;
 use reader::first_entry;
 use reader::shorter;
 use reader::types::type_len;
+use spelling::prefix_range;
 ghost use mathlib.Core.Path.{_≡_};
 ghost use mathlib.Core.Bool.{_&&_, _||_};
 ghost use lib.Dec.{leb, ltb};

@@ -71,7 +71,7 @@ pub fn check(book: &[u64], names: &[u8], counter: u64, work: usize) -> Verdict
         return Verdict::BadBook;
     }
     let count = book[1];
-    if !names::check_names(names, count) {
+    if !spelling::check_names(names, count) {
         return Verdict::BadNames;
     }
     let words = 2 + book[0] as usize;

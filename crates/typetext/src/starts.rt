@@ -17,7 +17,7 @@ pub fn note_starts(names: &[u8], starts: &mut [usize])
         if i % 8 == 0 {
             starts[i / 8] = at;
         }
-        at = names::name_end(names, at) + 1;
+        at = spelling::name_end(names, at) + 1;
         i += 1;
     }
 }
@@ -32,7 +32,7 @@ pub fn name_start(names: &[u8], starts: &[usize], x: u64) -> usize
     let mut at = starts[number / 8];
     let mut left = number % 8;
     while 0 < left {
-        at = names::name_end(names, at) + 1;
+        at = spelling::name_end(names, at) + 1;
         left -= 1;
     }
     at
@@ -45,6 +45,6 @@ pub fn name_of<'a>(names: &'a [u8], starts: &[usize], x: u64) -> &'a [u8]
     ensures { λ r. ⌜ now r ≡ nameAt (lines (now (names .entry))) x ⌝ }
 {
     let at = name_start(names, starts, x);
-    let end = names::name_end(names, at);
+    let end = spelling::name_end(names, at);
     &names[at..end]
 }

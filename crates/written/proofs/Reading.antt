@@ -8,7 +8,7 @@ use lib.Dec.{eqb}
 use lib.ListN.{length, getD, take, drop, length-take, length-drop, drop-of-length-le, List·getD-eq-default}
 use lib.Seq.{take-all}
 use Rattle.names.specs.Name.{until}
-use Rattle.names.proofs.Scan.{until-part, until-past, until-stop, until-pass}
+use Rattle.spelling.proofs.Scan.{until-part, until-past, until-stop, until-pass}
 use Rattle.written.specs.declared.text.Number.{Number}
 use Rattle.written.specs.declared.text.Token.{Token}
 use Rattle.written.specs.Text.{upTo, noDigit, digits, withDigit, withDigits, numberIn, tokenIn}

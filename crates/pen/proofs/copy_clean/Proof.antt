@@ -5,7 +5,7 @@ use lib.ListN.{length}
 use Rattle.pen.specs.Pen.{Cleaned, clean-start, clean-step, clean-end}
 use Rattle.pen.proofs.copy_clean.Statement.{statement}
 use Rattle.pen.proofs.copy_clean.Tie as tie
-use Rattle.names.proofs.clean_byte.Reads as clean-byte-reads
+use Rattle.spelling.proofs.clean_byte.Reads as clean-byte-reads
 
 abbrev Inv-loop : tie.InvT-loop
 Inv-loop src text₀ at i₀ text i = Cleaned src text₀ at text i

@@ -5,7 +5,7 @@ use Rattle.soundness.specs.Verdict as verdict
 use borrow.Author.Needs.{needs}
 use Rattle.soundness.proofs.check.Statement.{statement}
 use Rattle.soundness.proofs.check.Tie as tie
-use Rattle.names.proofs.check_names.Reads as check-names-reads
+use Rattle.spelling.proofs.check_names.Reads as check-names-reads
 use Rattle.soundness.proofs.check_book.Reads as check-book-reads
 use Rattle.scans.proofs.forbidden.forbidden_entries.Reads as forbidden-entries-reads
 

@@ -5,7 +5,7 @@ use Rattle.printer.specs.Passes.{lines-barred, lines-ready, lines-put}
 use borrow.Author.Needs.{needs}
 use Rattle.printer.proofs.passes.print_known.Statement.{statement}
 use Rattle.printer.proofs.passes.print_known.Tie as tie
-use Rattle.names.proofs.prefix_range.Reads as prefix-range-reads
+use Rattle.spelling.proofs.prefix_range.Reads as prefix-range-reads
 use Rattle.forms.proofs.check_lines.Reads as check-lines-reads
 use Rattle.printer.proofs.passes.put_twice.Reads as put-twice-reads
 use Rattle.typetext.proofs.starts.name_of.Reads as name-of-reads

@@ -5,7 +5,7 @@ use Rattle.scans.specs.Barred.{scan-by}
 use borrow.Author.Needs.{needs}
 use Rattle.scans.proofs.forbidden.forbidden_entries.Statement.{statement}
 use Rattle.scans.proofs.forbidden.forbidden_entries.Tie as tie
-use Rattle.names.proofs.prefix_range.Reads as prefix-range-reads
+use Rattle.spelling.proofs.prefix_range.Reads as prefix-range-reads
 use Rattle.scans.proofs.forbidden.scan_entries.Reads as scan-entries-reads
 use Rattle.scans.proofs.marks.mark_words.Reads as mark-words-reads
 

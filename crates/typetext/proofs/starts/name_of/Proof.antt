@@ -3,7 +3,7 @@ use Rattle.typetext.specs.Starts.{end-below, name-bytes}
 use borrow.Author.Needs.{needs}
 use Rattle.typetext.proofs.starts.name_of.Statement.{statement}
 use Rattle.typetext.proofs.starts.name_of.Tie as tie
-use Rattle.names.proofs.name_end.Reads as name-end-reads
+use Rattle.spelling.proofs.name_end.Reads as name-end-reads
 use Rattle.typetext.proofs.starts.name_start.Reads as name-start-reads
 
 name-start-requires : tie.Need-name-start-requires

@@ -5,7 +5,7 @@ use borrow.Author.Needs.{needs}
 use Rattle.typetext.specs.Starts.{Stepping, stepping-start, stepping-next, stepping-end}
 use Rattle.typetext.proofs.starts.name_start.Statement.{statement}
 use Rattle.typetext.proofs.starts.name_start.Tie as tie
-use Rattle.names.proofs.name_end.Reads as name-end-reads
+use Rattle.spelling.proofs.name_end.Reads as name-end-reads
 
 abbrev Inv-loop : tie.InvT-loop
 Inv-loop names starts x number at₀ left₀ at left = Stepping names x at left

@@ -8,7 +8,7 @@ use lib.ListN.{length}
 use Rattle.typetext.specs.Starts.{Noting}
 use Rattle.typetext.proofs.starts.note_starts.Statement.{statement}
 use Rattle.typetext.proofs.starts.note_starts.Tie as tie
-use Rattle.names.proofs.name_end.Reads as name-end-reads
+use Rattle.spelling.proofs.name_end.Reads as name-end-reads
 
 abbrev Inv-loop : tie.InvT-loop
 Inv-loop names starts₀ at₀ i₀ starts at i = Noting names starts at i

@@ -3,11 +3,11 @@ use Prim.Native.Nat.{_-_, _≤_}
 use mathlib.Core.Path.{_≡_, sym, _∙_}
 use lib.ListN.{length, drop}
 use borrow.Author.Needs.{needs}
 use Rattle.names.specs.Text.{starts}
 use Rattle.names.specs.Name.{nameFrom}
-use Rattle.names.proofs.Spell.{name-past, name-ended, name-more, starts-over, starts-none, starts-more, starts-differ}
-use Rattle.names.proofs.name_starts.Statement.{statement}
-use Rattle.names.proofs.name_starts.Tie as tie
+use Rattle.spelling.proofs.Spell.{name-past, name-ended, name-more, starts-over, starts-none, starts-more, starts-differ}
+use Rattle.spelling.proofs.name_starts.Statement.{statement}
+use Rattle.spelling.proofs.name_starts.Tie as tie
 
 abbrev Inv-loop : tie.InvT-loop
 Inv-loop names at text i₀ j₀ i j = (i ≤ length text) × (starts text (nameFrom names at) ≡ starts (drop i text) (nameFrom names j))

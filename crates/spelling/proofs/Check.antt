@@ -8,10 +8,10 @@ use native.Mathlib.Omega.{arith}
 use borrow.Author.Tests.{ne-eqb, not-true}
 use lib.Dec.{eqb}
 use lib.ListN.{length, getD, take, drop, length-append, length-drop, drop-of-length-le}
 use Rattle.names.specs.Name.{nameByte, barred, isEnd, everyByte, filled, allowed, everyName, before, ascendingFrom, ascending, lines, lastOr, ended, sound, keep, namesOf, counts, accepted, upTo, until, line, front}
 use Rattle.names.specs.Tests.{both}
 use Rattle.names.specs.Lines.{lines-first, lines-of, no-end, ended-behind}
-use Rattle.names.proofs.Scan.{reach, reach-split, reach-next, reach-all, passed}
+use Rattle.spelling.proofs.Scan.{reach, reach-split, reach-next, reach-all, passed}
 
 -- whether the bytes that are left are names that ascend from `last` and are, with n that were passed, m
 unfoldable pub going : List ℕ → List ℕ → ℕ → ℕ → Bool

@@ -3,12 +3,12 @@ use Prim.Native.Nat.{_-_}
 use mathlib.Core.Path.{_≡_, sym, _∙_}
 use lib.ListN.{length}
 use borrow.Author.Needs.{needs}
 use Rattle.names.specs.Text.{contains}
 use Rattle.names.specs.Name.{nameFrom}
 use Rattle.names.specs.Texts.{contains-here}
-use Rattle.names.proofs.Spell.{name-past, name-ended, name-more, contains-none, contains-empty, contains-later}
-use Rattle.names.proofs.name_contains.Statement.{statement}
-use Rattle.names.proofs.name_contains.Tie as tie
+use Rattle.spelling.proofs.Spell.{name-past, name-ended, name-more, contains-none, contains-empty, contains-later}
+use Rattle.spelling.proofs.name_contains.Statement.{statement}
+use Rattle.spelling.proofs.name_contains.Tie as tie
 
 abbrev Inv-loop : tie.InvT-loop
 Inv-loop names at text i₀ i = contains text (nameFrom names at) ≡ contains text (nameFrom names i)

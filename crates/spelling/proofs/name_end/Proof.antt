@@ -4,10 +4,10 @@ use mathlib.Core.Path.{_≡_, sym, _∙_}
 use borrow.Author.Tests.{eq-eqb, ne-eqb}
 use lib.ListN.{length}
 use borrow.Author.Needs.{needs}
 use Rattle.names.specs.Name.{isEnd, line, nameFrom}
-use Rattle.names.proofs.Scan.{reach-past, reach-stop, reach-pass}
-use Rattle.names.proofs.name_end.Statement.{statement}
-use Rattle.names.proofs.name_end.Tie as tie
+use Rattle.spelling.proofs.Scan.{reach-past, reach-stop, reach-pass}
+use Rattle.spelling.proofs.name_end.Statement.{statement}
+use Rattle.spelling.proofs.name_end.Tie as tie
 
 abbrev Inv-loop : tie.InvT-loop
 Inv-loop names at i₀ i = at + length (nameFrom names at) ≡ i + length (nameFrom names i)

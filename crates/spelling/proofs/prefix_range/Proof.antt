@@ -6,11 +6,11 @@ use native.Mathlib.Nat.{le-of-lt}
 use native.Mathlib.Omega.{arith}
 use lib.ListN.{length, drop}
 use borrow.Author.Needs.{needs}
 use Rattle.names.specs.Name.{lines}
 use Rattle.names.specs.Places.{name-inside}
-use Rattle.names.proofs.Tally.{Tally, lines-place, lines-past, tally-start, tally-end, tally-hit, tally-skip, tally-stop}
-use Rattle.names.proofs.prefix_range.Statement.{statement}
-use Rattle.names.proofs.prefix_range.Tie as tie
+use Rattle.spelling.proofs.Tally.{Tally, lines-place, lines-past, tally-start, tally-end, tally-hit, tally-skip, tally-stop}
+use Rattle.spelling.proofs.prefix_range.Statement.{statement}
+use Rattle.spelling.proofs.prefix_range.Tie as tie
 
 abbrev Inv-loop : tie.InvT-loop
 Inv-loop names prefix from₀ to₀ at₀ from to at = (to ≤ at) × Tally prefix (lines names) from to (lines (drop at names))

@@ -4,10 +4,10 @@ use mathlib.Core.Path.{_≡_, sym, _∙_}
 use borrow.Author.Tests.{not-true, not-false}
 use lib.ListN.{length, take, drop}
 use borrow.Author.Needs.{needs}
 use Rattle.names.specs.Name.{accepted}
-use Rattle.names.proofs.Check.{going, going-start, going-over, going-open, going-barred, going-unordered, going-ordered}
-use Rattle.names.proofs.check_names.Statement.{statement}
-use Rattle.names.proofs.check_names.Tie as tie
+use Rattle.spelling.proofs.Check.{going, going-start, going-over, going-open, going-barred, going-unordered, going-ordered}
+use Rattle.spelling.proofs.check_names.Statement.{statement}
+use Rattle.spelling.proofs.check_names.Tie as tie
 
 abbrev Inv-loop : tie.InvT-loop
 Inv-loop names count seen₀ last₀ last-end₀ at₀ seen last last-end at =

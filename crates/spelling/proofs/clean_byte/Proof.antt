@@ -1,9 +1,9 @@
 -- `clean_byte` meets its contract by its test.
 use mathlib.Core.Path.{sym, _∙_}
 use borrow.Author.Needs.{needs}
 use Rattle.names.specs.Spelling.{cleanByte}
-use Rattle.names.proofs.clean_byte.Statement.{statement}
-use Rattle.names.proofs.clean_byte.Tie as tie
+use Rattle.spelling.proofs.clean_byte.Statement.{statement}
+use Rattle.spelling.proofs.clean_byte.Tie as tie
 
 word-byte-requires : tie.Need-word-byte-requires
 word-byte-requires c κs = search needs

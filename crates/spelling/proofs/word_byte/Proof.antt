@@ -1,8 +1,8 @@
 -- `word_byte` meets its contract: it is the definition's own test.
 use borrow.Author.Needs.{needs}
 use Rattle.names.specs.Spelling.{wordByte}
-use Rattle.names.proofs.word_byte.Statement.{statement}
-use Rattle.names.proofs.word_byte.Tie as tie
+use Rattle.spelling.proofs.word_byte.Statement.{statement}
+use Rattle.spelling.proofs.word_byte.Tie as tie
 
 within-requires : tie.Need-within-requires
 within-requires c κs = search needs

@@ -1,9 +1,9 @@
 -- `name_is` meets its contract: a name that starts with the text is the text if it is as long.
 use mathlib.Core.Path.{sym, _∙_}
 use borrow.Author.Needs.{needs}
-use Rattle.names.proofs.Spell.{same-part, same-not}
-use Rattle.names.proofs.name_is.Statement.{statement}
-use Rattle.names.proofs.name_is.Tie as tie
+use Rattle.spelling.proofs.Spell.{same-part, same-not}
+use Rattle.spelling.proofs.name_is.Statement.{statement}
+use Rattle.spelling.proofs.name_is.Tie as tie
 
 name-starts-requires : tie.Need-name-starts-requires
 name-starts-requires c κs = search needs

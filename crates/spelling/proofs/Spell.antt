@@ -7,10 +7,10 @@ use native.Mathlib.Omega.{arith}
 use borrow.Author.Tests.{le-ltb, lt-ltb, eq-eqb, ne-eqb, eqb-true}
 use lib.Dec.{eqb, ltb, eqb·suc-suc}
 use lib.ListN.{length, getD, drop, drop-of-length-le, length-drop}
 use Rattle.names.specs.Text.{same, starts, contains}
 use Rattle.names.specs.Name.{isEnd, before, line, nameFrom}
 use Rattle.names.specs.Tests.{both, is-false}
-use Rattle.names.proofs.Scan.{from-place, until-past, until-stop, until-pass}
+use Rattle.spelling.proofs.Scan.{from-place, until-past, until-stop, until-pass}
 
 -- the order of two names from the place i on
 module _ (a b : List ℕ) (i : ℕ) where

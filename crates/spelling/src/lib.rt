@@ -1,0 +1,193 @@
+// The names that come with a book: whether they are a list of names as document 01 wants them, where each of them ends,
+// and what their spelling says.
+ghost use mathlib.Core.Path.{_≡_};
+ghost use Prim.Native.Nat.{_+_};
+ghost use lib.ListN.{length, drop};
+ghost use Rattle.names.specs.Text.{within as textWithin, same, starts, contains};
+ghost use Rattle.names.specs.Name.{nameByte, before, accepted, lines, front, nameFrom};
+ghost use Rattle.names.specs.Spelling.{wordByte, cleanByte};
+ghost use Rattle.names.specs.Prefix.{PrefixRange};
+
+// The byte that ends a name.
+pub const END: u8 = 10;
+
+// Whether a byte lies from `low` to `high`.
+fn within(low: u8, high: u8, b: u8) -> bool
+    ensures { λ r. ⌜ r ≡ textWithin low high b ⌝ }
+{
+    (low <= b) & (b <= high)
+}
+
+// Whether a byte may stand in a name.
+fn name_byte(b: u8) -> bool
+    ensures { λ r. ⌜ r ≡ nameByte b ⌝ }
+{
+    within(32, 126, b)
+}
+
+// The index of the first byte from `at` on that may not stand in a name, or the number of bytes.
+fn front_end(names: &[u8], at: usize) -> usize
+    ensures { λ r. ⌜ r ≡ at + length (front (drop at (now (names .entry)))) ⌝ }
+{
+    let mut i = at;
+    while i < names.len() {
+        if !name_byte(names[i]) {
+            return i;
+        }
+        i += 1;
+    }
+    i
+}
+
+// Whether one name comes strictly before another bytewise.
+pub fn name_before(a: &[u8], b: &[u8]) -> bool
+    ensures { λ r. ⌜ r ≡ before (now (a .entry)) (now (b .entry)) ⌝ }
+{
+    let mut i: usize = 0;
+    while i < a.len() {
+        if b.len() <= i {
+            return false;
+        }
+        let x = a[i];
+        let y = b[i];
+        if x != y {
+            return x < y;
+        }
+        i += 1;
+    }
+    i < b.len()
+}
+
+// Whether the bytes are a list of names, and `count` of them: one pass, in which each name is compared with the one before it. An empty
+// name fails that comparison, since nothing comes before it.
+pub fn check_names(names: &[u8], count: u64) -> bool
+    ensures { λ r. ⌜ r ≡ accepted (now (names .entry)) count ⌝ }
+{
+    let mut seen: u64 = 0;
+    let mut last: usize = 0;
+    let mut last_end: usize = 0;
+    let mut at: usize = 0;
+    while at < names.len() {
+        let end = front_end(names, at);
+        if names.len() <= end {
+            return false;
+        }
+        if names[end] != END {
+            return false;
+        }
+        if !name_before(&names[last..last_end], &names[at..end]) {
+            return false;
+        }
+        seen += 1;
+        last = at;
+        last_end = end;
+        at = end + 1;
+    }
+    seen == count
+}
+
+// The index of the byte that ends the name at `at`, or the number of bytes where none does. From behind the bytes it is `at`.
+pub fn name_end(names: &[u8], at: usize) -> usize
+    ensures { λ r. ⌜ r ≡ at + length (nameFrom (now (names .entry)) at) ⌝ }
+{
+    let mut i = at;
+    while i < names.len() {
+        if names[i] == END {
+            return i;
+        }
+        i += 1;
+    }
+    i
+}
+
+// Whether the name at `at` starts with the text.
+pub fn name_starts(names: &[u8], at: usize, text: &[u8]) -> bool
+    ensures { λ r. ⌜ r ≡ starts (now (text .entry)) (nameFrom (now (names .entry)) at) ⌝ }
+{
+    let mut i: usize = 0;
+    let mut j = at;
+    while i < text.len() {
+        if names.len() <= j {
+            return false;
+        }
+        let b = names[j];
+        if b == END {
+            return false;
+        }
+        if b != text[i] {
+            return false;
+        }
+        i += 1;
+        j += 1;
+    }
+    true
+}
+
+// Whether the name at `at` is the text. Its end is looked for only where it starts with the text.
+pub fn name_is(names: &[u8], at: usize, text: &[u8]) -> bool
+    ensures { λ r. ⌜ r ≡ same (nameFrom (now (names .entry)) at) (now (text .entry)) ⌝ }
+{
+    if name_starts(names, at, text) {
+        name_end(names, at) - at == text.len()
+    } else {
+        false
+    }
+}
+
+// Whether the text, a short one, stands somewhere in the name at `at`.
+pub fn name_contains(names: &[u8], at: usize, text: &[u8]) -> bool
+    ensures { λ r. ⌜ r ≡ contains (now (text .entry)) (nameFrom (now (names .entry)) at) ⌝ }
+{
+    let mut i = at;
+    while i < names.len() {
+        if name_starts(names, i, text) {
+            return true;
+        }
+        if names[i] == END {
+            return false;
+        }
+        i += 1;
+    }
+    text.len() == 0
+}
+
+// The numbers from `from` up to and without `to`.
+pub struct Range {
+    pub from: u64,
+    pub to: u64,
+}
+
+// The numbers of the names that start with the prefix, in one scan that ends behind them.
+pub fn prefix_range(names: &[u8], prefix: &[u8]) -> Range
+    ensures { λ r. ⌜ PrefixRange (now (prefix .entry)) (lines (now (names .entry))) (r .from) (r .to) ⌝ }
+{
+    let mut from: u64 = 0;
+    let mut to: u64 = 0;
+    let mut at: usize = 0;
+    while at < names.len() {
+        if name_starts(names, at, prefix) {
+            to += 1;
+        } else if from == to {
+            from += 1;
+            to += 1;
+        } else {
+            return Range { from, to };
+        }
+        at = name_end(names, at) + 1;
+    }
+    Range { from, to }
+}
+
+// Whether a byte is a digit, an ASCII letter or `_`.
+fn word_byte(b: u8) -> bool
+    ensures { λ r. ⌜ r ≡ wordByte b ⌝ }
+{
+    within(b'0', b'9', b) | within(b'A', b'Z', b) | within(b'a', b'z', b) | (b == b'_')
+}
+
+// A byte of a name as it stands in a label: each that is no letter, digit or `_` becomes `_`.
+pub fn clean_byte(b: u8) -> u8
+    ensures { λ r. ⌜ r ≡ cleanByte b ⌝ }
+{
+    if word_byte(b) { b } else { b'_' }
+}
