@@ -8,7 +8,8 @@ use Rattle.lowering.specs.Context.{codegenOf}
 use Rattle.lowering.specs.Function.{genFunction}
 use Rattle.manual.specs.Open.{openManual}
 use Rattle.lowering.specs.Open.{openLowering}
-use Rattle.manual.specs.Functions.{Summary, Try, names, holding, world, orNone, bySource, expected, tries, functions-run}
+use Rattle.machine.specs.Cases.{Summary, holding, world}
+use Rattle.manual.specs.Functions.{Try, names, orNone, bySource, expected, tries, functions-run}
 
 summary : Outcome → Option Summary
 summary (running x) = none

@@ -7,6 +7,7 @@ use mathlib.Core.List.{List, [], _∷_}
 use lib.Dec.{eqb}
 use lib.ListN.{drop}
 use borrow.Author.Tests.{eq-eqb, not-true}
+use Rattle.names.specs.Tests.{both}
 use Rattle.book.specs.Decode.{member, distinct}
 use Rattle.assembly.specs.Line.{Line}
 use Rattle.machine.specs.Labels.{prints, labelOf}
@@ -15,10 +16,6 @@ use Rattle.agreement.specs.Lists.{none-some, some-same}
 use Rattle.agreement.specs.Labels.{distinct-nil, distinct-cons}
 use Rattle.agreement.specs.Unique.{some-prints}
 use Rattle.agreement.specs.Naming.{Distinct, LabelsOnce}
-
-both : (a b : Bool) → (a && b) ≡ true → (a ≡ true) × (b ≡ true)
-both true b h = (refl, h)
-both false b h = absurd (false≢true h)
 
 -- ---- names
 member-at : (x : ℕ) (l : List ℕ) (i : ℕ) → cellAt l i ≡ some x → member x l ≡ true

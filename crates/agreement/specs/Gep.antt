@@ -19,7 +19,7 @@ use Rattle.machine.specs.State.{Frame}
 use Rattle.lowering.specs.Gen.{_>>_, when, each}
 use Rattle.lowering.specs.Operand.{intWidth, emitSext, pushInt, add64, mul64}
 use Rattle.lowering.specs.Gep.{VarTerm, Walk, start, varTerm, took, firstStep, walkRest, walk, genVarTerm, genGep}
-use Rattle.manual.specs.Stop.{Stop, stopNumber}
+use Rattle.manual.specs.Stop.{Stop}
 use Rattle.manual.specs.Values.{inSignedRange}
 use Rattle.manual.specs.State.{Env, Source}
 use Rattle.manual.specs.Operand.{widthOf, value}
@@ -31,7 +31,7 @@ use Rattle.agreement.specs.Setup.{Setup, ctx, given}
 use Rattle.agreement.specs.Reach.{Runs, runs-nil, run-line, seq, _⊳_}
 use Rattle.agreement.specs.Relation.{Rel}
 use Rattle.agreement.specs.Signed.{same-width}
-use Rattle.agreement.specs.Operand.{H-width, Sound, at-most, okOr-some, fits-mod, value-ok}
+use Rattle.agreement.specs.Operand.{H-width, Sound, at-most, fits-mod, value-ok, okOr-any}
 use Rattle.agreement.specs.Extend.{Leaves, sext-ok}
 use Rattle.agreement.specs.Arith.{Computes}
 use Rattle.agreement.specs.Alloca.{add-does, mul-does, push-does}
@@ -130,11 +130,8 @@ module _ (s : Setup) where
         let (next, hn, h₂) = bind-ok (okOr 14 (fieldAt (body .fields) f)) _ st h₁ in
         let (off, ho, h₃) = bind-ok (fieldOffset structsOf body f) _ st h₂ in
         let e : Step.const off next ≡ st = ok-same h₃ in
-        H-eq (index (s .world) structsOf ρ i) _ λ n hi. H-known _ (known (constInt (i .val)) f hf) (H-known _ (known (fieldAt (body .fields) f) next hn) (H-known _ ho (
+        H-eq (index (s .world) structsOf ρ i) _ λ n hi. H-known _ (okOr-any 14 _ (constInt (i .val)) f hf) (H-known _ (okOr-any 14 _ (fieldAt (body .fields) f) next hn) (H-known _ ho (
         H-ok _ (const-step w w′ off next i (rw e k)))))
-      where
-        known : {A : Type 0} (r : Option A) (a : A) → okOr 14 r ≡ ok a → okOr (stopNumber Stop.illFormed) r ≡ ok a
-        known r a e = rw (okOr-some 14 r a e) refl
 
     pub into-ok : (ty : Ty) (i : TypedVal) (w w′ : Walk) (st : Step) → Sound (i .ty) → gepStep structsOf ty (i .val) ≡ ok st → took st i w ≡ ok w′
         → Holds (into (s .world) structsOf ρ ty i) (λ p. Walked w w′ (p .0) × (p .1 ≡ w′ .curTy))

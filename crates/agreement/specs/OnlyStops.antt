@@ -18,7 +18,7 @@ use Rattle.lowering.specs.Gep.{Walk, start, took, firstStep, walkRest, walk, ge
 use Rattle.lowering.specs.Memory.{genLoad, genStore, alignOr, genDynamicAlloca, placeOf, genAlloca, requireAtomicWidth, genAtomicLoad, genAtomicStore}
 use Rattle.lowering.specs.Inst.{genKind, genInst}
 use Rattle.lowering.specs.Function.{genBlock}
-use Rattle.manual.specs.Stop.{Stop, stopNumber}
+use Rattle.manual.specs.Stop.{Stop}
 use Rattle.manual.specs.State.{Env, Source}
 use Rattle.manual.specs.Gep.{indexAt, index, overElements, overFields, into, offsetIn, offset}
 use Rattle.manual.specs.Inst.{evalGep, runLoad, runStore, runCmpxchg, stated, countIn, runVarying, runPlace, runAlloca, runKind, runInst, runInsts}
@@ -29,7 +29,7 @@ use Rattle.agreement.specs.Gives.{Gives, G-put, G-skip, G-then, G-bind, 
 use Rattle.agreement.specs.Lists.{none-some, In, here, there}
 use Rattle.agreement.specs.Labels.{find-some}
 use Rattle.agreement.specs.Setup.{Setup, ctx, given}
-use Rattle.agreement.specs.Operand.{okOr-some}
+use Rattle.agreement.specs.Operand.{okOr-some, okOr-any}
 use Rattle.agreement.specs.Memory.{atomic-ok}
 use Rattle.agreement.specs.Alloca.{Varies}
 use Rattle.agreement.specs.Gep.{SoundIndices, into-ok}
@@ -124,10 +124,7 @@ module _ (s : Setup) where
         let (f, hf, h₁) = bind-ok (okOr 14 (constInt (i .val))) _ st h in
         let (next, hn, h₂) = bind-ok (okOr 14 (fieldAt (body .fields) f)) _ st h₁ in
         let (off, ho, h₃) = bind-ok (fieldOffset structsOf body f) _ st h₂ in
-        O-then _ (index-only i) λ n. O-known _ (known (constInt (i .val)) f hf) (O-known _ (known (fieldAt (body .fields) f) next hn) (O-known _ ho (O-ok _)))
-      where
-        known : {A : Type 0} (r : Option A) (a : A) → okOr 14 r ≡ ok a → okOr (stopNumber Stop.illFormed) r ≡ ok a
-        known r a e = rw (okOr-some 14 r a e) refl
+        O-then _ (index-only i) λ n. O-known _ (okOr-any 14 _ (constInt (i .val)) f hf) (O-known _ (okOr-any 14 _ (fieldAt (body .fields) f) next hn) (O-known _ ho (O-ok _)))
 
     into-only : (ty : Ty) (i : TypedVal) (st : Step) → gepStep structsOf ty (i .val) ≡ ok st → Only (into (s .world) structsOf ρ ty i)
     unfolding into gepStep

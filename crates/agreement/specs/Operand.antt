@@ -38,6 +38,11 @@ unfolding okOr
 okOr-some n none a e = err-no-ok n a e
 okOr-some n (some b) a e = ap {B = Option _} some (ok-same e)
 
+-- whatever is answered where there is none
+pub okOr-any : {A : Type 0} (n m : ℕ) (r : Option A) (a : A) → okOr n r ≡ ok a → okOr m r ≡ ok a
+unfolding okOr
+okOr-any n m r a e = rw (okOr-some n r a e) refl
+
 -- ---- types: the width of the source is that of the generator
 module _ {B : Type 0} {Q : B → Type 0} where
   pub H-width : (ty : Ty) {w : ℕ} (f : ℕ → Result B) → intWidth ty ≡ ok w → Holds (f w) Q → Holds (bind (widthOf ty) f) Q

@@ -1,7 +1,7 @@
 -- `gen_function` up to its first block: slots are made, the frame is entered, and the two runs begin alike.
 use Prim.Native.Nat.{ℕ, _+_, _%_, _^_, _<_}
 use mathlib.Core.Path.{_≡_, refl, sym, ap, _∙_, subst}
-use mathlib.Core.Bool.{Bool, true, false, cond, _&&_, false≢true}
+use mathlib.Core.Bool.{Bool, true, false, cond, false≢true}
 use mathlib.Core.Option.{Option, none, some}
 use mathlib.Core.List.{List, [], _∷_, _++_, append-assoc}
 use native.Mathlib.Omega.{arith}
@@ -9,6 +9,7 @@ use lib.Dec.{eqb, ltb}
 use lib.ListN.{length, set, replicate, length-set, length-replicate, length-append}
 use borrow.Author.Tests.{eqb-true, eqb-false, ltb-true, ltb-false, lt-ltb}
 use Rattle.numbers.specs.Align.{alignUp}
+use Rattle.names.specs.Tests.{both}
 use Rattle.book.specs.Ast.{BinOp, BasicBlock, Param}
 use Rattle.book.specs.Result.{Result, ok, err, err-no-ok}
 use Rattle.assembly.specs.Line.{Line, Work}
@@ -61,10 +62,6 @@ one-held args m ρ none k v (ok w) hv t h = h
 one-held args m ρ none k v (err n) hv t h = h
 one-held args m ρ (some y) k v (ok w) hv t h = with-held args m ρ y k w v hv (ltb-true v (2 ^ w) t) h
 one-held args m ρ (some y) k v (err n) hv t h = without-held args m ρ y k h
-
-both : (a b : Bool) → (a && b) ≡ true → (a ≡ true) × (b ≡ true)
-both true b h = (refl, h)
-both false b h = absurd (false≢true h)
 
 params-held : (ps : List Param) (pre vs : List ℕ) (k : ℕ) (m : Map ℕ) (ρ : Env) → k ≡ length pre → argsFit ps vs ≡ true → ParamsHeld (pre ++ vs) m ρ → ParamsHeld (pre ++ vs) (paramMap k ps m) (paramEnv ps vs ρ)
 unfolding argsFit paramMap paramEnv cellAt

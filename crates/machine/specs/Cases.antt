@@ -33,11 +33,11 @@ names : List (List ℕ)
 names = map bytes ("f" ∷ "b" ∷ "g" ∷ "__uvm_ask" ∷ "__uvm_put" ∷ [])
 
 -- memory with one byte
-holding : ℕ → ℕ → Memory
+unfoldable pub holding : ℕ → ℕ → Memory
 holding a v x = cond (eqb x a) v 0
 
 -- the reply at position n is the cell n + 40, and the byte n + 50 at address 4096
-world : World
+unfoldable pub world : World
 unfolding holding
 world = record {
   globals = λ x. 8192 + x;

@@ -1,15 +1,15 @@
 -- Small functions and what they give, run by the manual: one table, one theorem. `agreement` runs their lines.
 use Prim.Native.Nat.{ℕ, _+_, _-_, _*_, _^_}
 use mathlib.Core.Path.{_≡_, refl}
-use mathlib.Core.Bool.{true, false, cond}
+use mathlib.Core.Bool.{false}
 use mathlib.Core.Option.{Option, none, some}
 use mathlib.Core.List.{List, [], _∷_, map}
-use lib.Dec.{eqb}
-use Rattle.names.specs.Text.{bytes, same}
+use Rattle.names.specs.Text.{bytes}
 use Rattle.book.specs.Ast.{Ty, Tys, Value, Zero, TypedVal, BinOp, ConvOp, ICmpPred, Incoming, Case, InstKind, Inst, Terminator, BasicBlock, Param, Mark, Book}
 use Rattle.book.specs.Result.{Result, ok, err}
-use Rattle.machine.specs.Memory.{Memory, peek}
-use Rattle.machine.specs.State.{Target, Call, World}
+use Rattle.machine.specs.Memory.{peek}
+use Rattle.machine.specs.State.{Target}
+use Rattle.machine.specs.Cases.{Summary, holding, world}
 use Rattle.manual.specs.Term.{Stand}
 use Rattle.manual.specs.Run.{sourceRun}
 use Rattle.manual.specs.Open.{openManual}
@@ -61,12 +61,6 @@ function : Ty → List Param → List BasicBlock → Book
 function t ps bs = record { marks = Mark.defined 1 ∷ []; structs = []; function = record { name = 0; retTy = t; params = ps; blocks = bs } }
 
 -- ---- a run
--- what a run gives back: its value, the calls listed, and the 8 bytes at address 4096
-pub record Summary : Type 0 where
-  pub value : ℕ
-  pub calls : List Call
-  pub bytes : ℕ
-
 pub record Try : Type 0 where
   pub book : Book
   pub args : List ℕ
@@ -78,19 +72,6 @@ names =
     map bytes (
     "f" ∷ "g" ∷ "__uvm_put" ∷ "__uvm_ask" ∷ "memcmp" ∷ "bcmp" ∷ "-" ∷ "b0" ∷ "b1" ∷ "b2" ∷ "b3" ∷ "v11" ∷ "v12" ∷ "v13" ∷ "v14" ∷ "v15" ∷ "v16" ∷ "v17" ∷ "v18" ∷ "v19" ∷ "v20" ∷ "v21" ∷ "v22" ∷ "v23" ∷ "v24" ∷ []
     )
-
--- memory with one byte
-unfoldable pub holding : ℕ → ℕ → Memory
-holding a v x = cond (eqb x a) v 0
-
--- the reply at position n is the cell n + 40, and the byte n + 50 at address 4096
-unfoldable pub world : World
-unfolding holding
-world = record {
-  globals = λ x. 8192 + x;
-  shapes = λ t. cond (same t (bytes "put")) (some (record { args = 1; replies = false })) (cond (same t (bytes "ask")) (some (record { args = 2; replies = true })) none);
-  replies = λ n. record { cell = n + 40; memory = holding 4096 (n + 50) };
-}
 
 summary : Stand → Option Summary
 summary (Stand.at b σ) = none

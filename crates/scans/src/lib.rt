@@ -1,4 +1,4 @@
-// What one look over all entries finds: repeated marks and struct names, and what is forbidden. `names` is the number of
+// What looks over all entries find: repeated marks and struct names, and what is forbidden. `names` is the number of
 // the book's names.
 pub mod forbidden;
 pub mod marks;
