@@ -1,2 +1,3 @@
-pub mod Insts
-pub mod InstLaws
+pub mod Found
+pub mod Passes
+pub mod Forbids

@@ -5,7 +5,7 @@ use mathlib.Core.Option.{Option, none, some}
 use mathlib.Core.List.{List, [], _∷_}
 use Rattle.names.specs.Name.{nameAt}
 use Rattle.names.specs.Spelling.{isIntrinsic}
-use Rattle.book.specs.Ast.{Value, Mark, Inst, Terminator, BasicBlock, Book}
+use Rattle.book.specs.Ast.{Value, Mark, Inst, Terminator, BasicBlock, Function, Book}
 use Rattle.book.specs.Fields.{Item, Field, ItemMeaning, Meaning, Meanings, instFields, termFields, instTagOf, termTagOf, instArgs, termArgs}
 use Rattle.book.specs.Shape.{Shape, shape}
 use Rattle.book.specs.Decode.{member}
@@ -61,9 +61,14 @@ reservedBy [] = []
 reservedBy (Mark.defined x ∷ ms) = reservedBy ms
 reservedBy (Mark.reserved x ∷ ms) = x ∷ reservedBy ms
 
-module _ (names : List (List ℕ)) (marks : List Mark) where
+-- "callee starting `llvm.` or marked reserved"
+unfoldable pub uncallable : List (List ℕ) → List Mark → ℕ → Bool
+uncallable names marks x = member x (reservedBy marks) || isIntrinsic (nameAt names x)
+
+-- by the names that may not be called
+module _ (barred : ℕ → Bool) where
   unfoldable pub barredCallee : Value → Bool
-  barredCallee (Value.global x) = member x (reservedBy marks) || isIntrinsic (nameAt names x)
+  barredCallee (Value.global x) = barred x
   barredCallee (Value.local x) = false
   barredCallee (Value.int v) = false
   barredCallee (Value.zero z) = false
@@ -82,10 +87,13 @@ module _ (names : List (List ℕ)) (marks : List Mark) where
   abbrev pub forbiddenBlock : BasicBlock → Bool
   forbiddenBlock b = any forbiddenInst (b .insts) || otherTerm (b .term)
 
+  abbrev pub forbiddenFunction : Function → Bool
+  forbiddenFunction f = any forbiddenBlock (f .blocks)
+
 unfoldable pub forbidden : List (List ℕ) → Book → Bool
-forbidden names b = any (forbiddenBlock names (b .marks)) (b .function .blocks)
+forbidden names b = forbiddenFunction (uncallable names (b .marks)) (b .function)
 
 -- opens every definition of this file, for an example that computes
 unfoldable pub openForbidden : Unit {0}
-unfolding any anyThere isOther otherFields reservedBy barredCallee forbidden
+unfolding any anyThere isOther otherFields reservedBy uncallable barredCallee forbidden
 openForbidden = tt

@@ -1,38 +1,40 @@
--- `blocks::blocks_len` meets its contract: the loop goes on by the list's next step, and what is left of the list is as long as the whole from there.
-use borrow.Author.Needs.{needs}
+-- `blocks::blocks_len` meets its contract: the loop goes on by the list's next step, and what is left of the list tells what the whole is from there.
 use native.Mathlib.Omega.{arith}
 use mathlib.Core.Path.{_∙_, sym}
 use lib.ListN.{length}
+use Rattle.numbers.specs.Bits.{bitAt}
 use Rattle.book.specs.Entry.{entries}
 use Rattle.book.specs.Read.{closing, isClosing}
 use Rattle.book.specs.Decode.{basicBlock}
+use Rattle.book.specs.Forbidden.{forbiddenBlock}
 use Rattle.book.specs.AgreeTy.{agrees-closing}
 use Rattle.book.specs.AgreeBook.{agrees-basicBlock}
-use Rattle.reader.specs.TypeLaws as types
-use Rattle.reader.specs.Laws.{Loop}
-use Rattle.reader.specs.Laws as laws
+use Rattle.blocks.specs.Found.{never}
+use Rattle.blocks.specs.Passes.{Loop}
+use Rattle.blocks.specs.Passes as passes
+use borrow.Author.Needs.{needs}
 use Rattle.blocks.proofs.blocks_len.Statement.{statement}
 use Rattle.blocks.proofs.blocks_len.Tie as tie
 use Rattle.blocks.proofs.block_step.Reads as block-step-reads
 use Rattle.reader.proofs.shorter.Reads as shorter-reads
 
 abbrev Inv-loop : tie.InvT-loop
-Inv-loop kinds words names at₀ left₀ at left =
-    Loop isClosing (basicBlock names) closing (length (entries kinds words)) kinds words at left
+Inv-loop kinds words names barred at₀ left₀ seen₀ at left seen =
+    Loop (forbiddenBlock (bitAt barred)) never isClosing (basicBlock names) closing (length (entries kinds words)) kinds words at left seen
 
 abbrev μ-loop : tie.MeasureT-loop
-μ-loop kinds words names at₀ left₀ at left = left
+μ-loop kinds words names barred at₀ left₀ seen₀ at left seen = left
 
 shorter-requires : tie.Need-shorter-requires Inv-loop μ-loop
 shorter-requires c κs = search needs
 
 loop-holds : tie.Need-loop-holds Inv-loop μ-loop
 loop-holds c =
-    let a = c .before .before .before .args in
-    laws.loop-start isClosing (basicBlock (a .names)) closing (length (entries (a .kinds .now) (a .words .now))) (a .kinds .now) (a .words .now) _ (c .shorter .ensures)
+    let a = c .before .before .before .before .args in
+    passes.loop-start (forbiddenBlock (bitAt (a .barred .now))) never isClosing (basicBlock (a .names)) closing (length (entries (a .kinds .now) (a .words .now))) (a .kinds .now) (a .words .now) _ (c .shorter .ensures)
 
 mul-block-step : tie.Need-mul-block-step Inv-loop μ-loop
-mul-block-step c = omega (arith, c .loop .inv .kinds, c .before .before .before .before .good)
+mul-block-step c = omega (arith, c .loop .inv .kinds, c .before .before .before .before .before .good)
 
 sub-block-step : tie.Need-sub-block-step Inv-loop μ-loop
 sub-block-step c = c .loop .inv .kinds
@@ -44,7 +46,7 @@ part-block-step-end : tie.Need-part-block-step-end Inv-loop μ-loop
 part-block-step-end c = search needs
 
 mul-block-step-2 : tie.Need-mul-block-step-2 Inv-loop μ-loop
-mul-block-step-2 c = omega (arith, c .before .loop .inv .words, c .before .before .before .before .before .good)
+mul-block-step-2 c = omega (arith, c .before .loop .inv .words, c .before .before .before .before .before .before .good)
 
 sub-block-step-2 : tie.Need-sub-block-step-2 Inv-loop μ-loop
 sub-block-step-2 c = c .before .loop .inv .words
@@ -61,36 +63,36 @@ block-step-requires c κs = search needs
 enum-known-n : tie.Need-enum-known-n Inv-loop μ-loop
 enum-known-n c = search needs
 
-add-t19 : tie.Need-add-t19 Inv-loop μ-loop
-add-t19 c =
-    let a = c .before .before .before .before .before .before .before .before .before .before .args in
-    omega (arith, laws.done-there isClosing (basicBlock (a .names)) closing (length (entries (a .kinds .now) (a .words .now))) (a .kinds .now) (a .words .now) _ _ (c .before .before .before .before .before .before .loop .inv) _ (c .before .before .before .block-step .ensures) (agrees-basicBlock _) agrees-closing _ (c .before .n .given .1), c .before .before .before .before .before .before .before .before .before .before .good)
+add-t23 : tie.Need-add-t23 Inv-loop μ-loop
+add-t23 c =
+    let a = c .before .before .before .before .before .before .before .before .before .before .before .args in
+    omega (arith, passes.done-there (forbiddenBlock (bitAt (a .barred .now))) never isClosing (basicBlock (a .names)) closing (length (entries (a .kinds .now) (a .words .now))) (a .kinds .now) (a .words .now) _ _ _ (c .before .before .before .before .before .before .loop .inv) _ (c .before .before .before .block-step .ensures) (agrees-basicBlock _) agrees-closing _ _ (c .before .n .given .1), c .before .before .before .before .before .before .before .before .before .before .before .good)
 
 returns : tie.Need-returns Inv-loop μ-loop
 returns c =
-    let a = c .before .before .before .before .before .before .before .before .before .before .args in
-    laws.loop-done isClosing (basicBlock (a .names)) closing (length (entries (a .kinds .now) (a .words .now))) (a .kinds .now) (a .words .now) _ _ (c .before .before .before .before .before .before .loop .inv) _ (c .before .before .before .block-step .ensures) _ (c .before .n .given .1) ∙ sym (types.many-len _ _)
+    let a = c .before .before .before .before .before .before .before .before .before .before .before .args in
+    passes.loop-done (forbiddenBlock (bitAt (a .barred .now))) never isClosing (basicBlock (a .names)) closing (length (entries (a .kinds .now) (a .words .now))) (a .kinds .now) (a .words .now) _ _ _ (c .before .before .before .before .before .before .loop .inv) _ (c .before .before .before .block-step .ensures) _ _ (c .before .n .given .1) ∙ sym (passes.many-found _ _ _)
 
 enum-told : tie.Need-enum-told Inv-loop μ-loop
 enum-told c = search needs
 
 returns-2 : tie.Need-returns-2 Inv-loop μ-loop
 returns-2 c =
-    let a = c .before .before .before .before .before .before .before .before .before .args in
-    laws.loop-bad isClosing (basicBlock (a .names)) closing (length (entries (a .kinds .now) (a .words .now))) (a .kinds .now) (a .words .now) _ _ (c .before .before .before .before .before .loop .inv) _ (c .before .before .block-step .ensures) (c .enum-told .given .1) ∙ sym (types.many-len _ _)
+    let a = c .before .before .before .before .before .before .before .before .before .before .args in
+    passes.loop-bad (forbiddenBlock (bitAt (a .barred .now))) never isClosing (basicBlock (a .names)) closing (length (entries (a .kinds .now) (a .words .now))) (a .kinds .now) (a .words .now) _ _ _ (c .before .before .before .before .before .loop .inv) _ (c .before .before .block-step .ensures) (c .enum-told .given .1) ∙ sym (passes.many-found _ _ _)
 
 enum-known-n-2 : tie.Need-enum-known-n-2 Inv-loop μ-loop
 enum-known-n-2 c = search needs
 
 returns-3 : tie.Need-returns-3 Inv-loop μ-loop
 returns-3 c =
-    let a = c .before .before .before .before .before .before .before .before .before .before .before .args in
-    laws.loop-full isClosing (basicBlock (a .names)) closing (length (entries (a .kinds .now) (a .words .now))) (a .kinds .now) (a .words .now) _ _ (c .before .before .before .before .before .before .before .loop .inv) _ (c .before .before .before .before .block-step .ensures) _ (c .before .before .n2 .given .1) (c .if1 .taken) ∙ sym (types.many-len _ _)
+    let a = c .before .before .before .before .before .before .before .before .before .before .before .before .args in
+    passes.loop-full (forbiddenBlock (bitAt (a .barred .now))) never isClosing (basicBlock (a .names)) closing (length (entries (a .kinds .now) (a .words .now))) (a .kinds .now) (a .words .now) _ _ _ (c .before .before .before .before .before .before .before .loop .inv) _ (c .before .before .before .before .block-step .ensures) _ _ (c .before .before .n2 .given .1) (c .if1 .taken) ∙ sym (passes.many-found _ _ _)
 
 add-at : tie.Need-add-at Inv-loop μ-loop
 add-at c =
-    let a = c .before .before .before .before .before .before .before .before .before .before .before .args in
-    omega (arith, laws.loop-next isClosing (basicBlock (a .names)) closing (length (entries (a .kinds .now) (a .words .now))) (a .kinds .now) (a .words .now) _ _ (c .before .before .before .before .before .before .before .loop .inv) _ (c .before .before .before .before .block-step .ensures) (agrees-basicBlock _) agrees-closing _ (c .before .before .n2 .given .1) (c .if1 .left) .kinds, c .before .before .before .before .before .before .before .before .before .before .before .good)
+    let a = c .before .before .before .before .before .before .before .before .before .before .before .before .args in
+    omega (arith, passes.loop-next (forbiddenBlock (bitAt (a .barred .now))) never isClosing (basicBlock (a .names)) closing (length (entries (a .kinds .now) (a .words .now))) (a .kinds .now) (a .words .now) _ _ _ (c .before .before .before .before .before .before .before .loop .inv) _ (c .before .before .before .before .block-step .ensures) (agrees-basicBlock _) agrees-closing _ _ (c .before .before .n2 .given .1) (c .if1 .left) .kinds, c .before .before .before .before .before .before .before .before .before .before .before .before .good)
 
 sub-left : tie.Need-sub-left Inv-loop μ-loop
 sub-left c = search needs
@@ -100,8 +102,8 @@ loop-less c = search needs
 
 loop-again : tie.Need-loop-again Inv-loop μ-loop
 loop-again c =
-    let a = c .before .before .before .before .before .before .before .before .before .before .before .args in
-    laws.loop-next isClosing (basicBlock (a .names)) closing (length (entries (a .kinds .now) (a .words .now))) (a .kinds .now) (a .words .now) _ _ (c .before .before .before .before .before .before .before .loop .inv) _ (c .before .before .before .before .block-step .ensures) (agrees-basicBlock _) agrees-closing _ (c .before .before .n2 .given .1) (c .if1 .left)
+    let a = c .before .before .before .before .before .before .before .before .before .before .before .before .args in
+    passes.loop-next (forbiddenBlock (bitAt (a .barred .now))) never isClosing (basicBlock (a .names)) closing (length (entries (a .kinds .now) (a .words .now))) (a .kinds .now) (a .words .now) _ _ _ (c .before .before .before .before .before .before .before .loop .inv) _ (c .before .before .before .before .block-step .ensures) (agrees-basicBlock _) agrees-closing _ _ (c .before .before .n2 .given .1) (c .if1 .left)
 
 pub blocks-len-spec : {M : Type 1} → statement M
 blocks-len-spec =
@@ -121,7 +123,7 @@ blocks-len-spec =
     part-block-step-end-2
     block-step-requires
     enum-known-n
-    add-t19
+    add-t23
     returns
     enum-told
     returns-2

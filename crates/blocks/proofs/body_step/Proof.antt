@@ -2,18 +2,20 @@
 use mathlib.Core.Path.{_∙_, sym}
 use borrow.Author.Tests.{le-leb, lt-leb}
 use lib.Dec.{leb}
+use Rattle.numbers.specs.Bits.{bitAt}
 use Rattle.book.specs.Entry.{entries}
 use Rattle.book.specs.Decode.{inst, term}
-use Rattle.blocks.specs.InstLaws as insts
-use Rattle.reader.specs.Steps as steps
+use Rattle.book.specs.Forbidden.{forbiddenInst, otherTerm}
+use Rattle.insts.specs.InstLaws as insts
+use Rattle.blocks.specs.Passes as passes
 use borrow.Author.Needs.{needs}
 use Rattle.blocks.proofs.body_step.Statement.{statement}
 use Rattle.blocks.proofs.body_step.Tie as tie
+use Rattle.blocks.proofs.forbidden.inst_found.Reads as inst-found-reads
+use Rattle.blocks.proofs.forbidden.term_found.Reads as term-found-reads
+use Rattle.blocks.proofs.last_pass.Reads as last-pass-reads
+use Rattle.blocks.proofs.next_pass.Reads as next-pass-reads
 use Rattle.reader.proofs.first_entry.Reads as first-entry-reads
-use Rattle.blocks.proofs.insts.inst_len.Reads as inst-len-reads
-use Rattle.blocks.proofs.insts.term_len.Reads as term-len-reads
-use Rattle.reader.proofs.last_step.Reads as last-step-reads
-use Rattle.reader.proofs.next_step.Reads as next-step-reads
 
 first-entry-requires : tie.Need-first-entry-requires
 first-entry-requires c κs = search needs
@@ -26,30 +28,30 @@ enum-told c = search needs
 
 returns : tie.Need-returns
 returns c =
-    let a = c .before .before .before .before .before .args in
-    steps.step-none (leb 90) (inst (a .names)) (term (a .names)) (entries (a .kinds .now) (a .words .now)) (insts.no-term _) (sym (c .before .before .first-entry .ensures) ∙ c .enum-told .given .1)
+    let a = c .before .before .before .before .before .before .args in
+    passes.pass-none (forbiddenInst (bitAt (a .barred .now))) otherTerm (leb 90) (inst (a .names)) (term (a .names)) (entries (a .kinds .now) (a .words .now)) (insts.no-term _) (sym (c .before .before .first-entry .ensures) ∙ c .enum-told .given .1)
 
-term-len-requires : tie.Need-term-len-requires
-term-len-requires c κs = search needs
+term-found-requires : tie.Need-term-found-requires
+term-found-requires c κs = search needs
 
-last-step-requires : tie.Need-last-step-requires
-last-step-requires c κs = search needs
+last-pass-requires : tie.Need-last-pass-requires
+last-pass-requires c κs = search needs
 
-inst-len-requires : tie.Need-inst-len-requires
-inst-len-requires c κs = search needs
+inst-found-requires : tie.Need-inst-found-requires
+inst-found-requires c κs = search needs
 
-next-step-requires : tie.Need-next-step-requires
-next-step-requires c κs = search needs
+next-pass-requires : tie.Need-next-pass-requires
+next-pass-requires c κs = search needs
 
 returns-2 : tie.Need-returns-2
 returns-2 c =
-    let a = c .before .before .before .before .before .before .before .before .before .args in
-    steps.step-end (leb 90) (inst (a .names)) (term (a .names)) (entries (a .kinds .now) (a .words .now)) _ _ (sym (c .before .before .before .before .before .before .first-entry .ensures) ∙ c .before .before .before .before .kind .given .1) (le-leb _ _ (c .before .before .if1 .taken)) _ _ (c .before .term-len .ensures) (c .last-step .ensures)
+    let a = c .before .before .before .before .before .before .before .before .before .before .args in
+    passes.pass-end (forbiddenInst (bitAt (a .barred .now))) otherTerm (leb 90) (inst (a .names)) (term (a .names)) (entries (a .kinds .now) (a .words .now)) (passes.front-stops (forbiddenInst (bitAt (a .barred .now))) otherTerm (leb 90) (inst (a .names)) (term (a .names)) (entries (a .kinds .now) (a .words .now)) _ _ (sym (c .before .before .before .before .before .before .first-entry .ensures) ∙ c .before .before .before .before .kind .given .1) _ (le-leb _ _ (c .before .before .if1 .taken))) _ _ (c .before .term-found .ensures) (c .last-pass .ensures)
 
 returns-3 : tie.Need-returns-3
 returns-3 c =
-    let a = c .before .before .before .before .before .before .before .before .before .args in
-    steps.step-item (leb 90) (inst (a .names)) (term (a .names)) (entries (a .kinds .now) (a .words .now)) _ _ (sym (c .before .before .before .before .before .before .first-entry .ensures) ∙ c .before .before .before .before .kind .given .1) (lt-leb _ _ (c .before .before .if1 .left)) _ _ (c .before .inst-len .ensures) (c .next-step .ensures)
+    let a = c .before .before .before .before .before .before .before .before .before .before .args in
+    passes.pass-item (forbiddenInst (bitAt (a .barred .now))) otherTerm (leb 90) (inst (a .names)) (term (a .names)) (entries (a .kinds .now) (a .words .now)) (passes.front-stops (forbiddenInst (bitAt (a .barred .now))) otherTerm (leb 90) (inst (a .names)) (term (a .names)) (entries (a .kinds .now) (a .words .now)) _ _ (sym (c .before .before .before .before .before .before .first-entry .ensures) ∙ c .before .before .before .before .kind .given .1) _ (lt-leb _ _ (c .before .before .if1 .left))) _ _ (c .before .inst-found .ensures) (c .next-pass .ensures)
 
 pub body-step-spec : {M : Type 1} → statement M
 body-step-spec =
@@ -59,9 +61,9 @@ body-step-spec =
     enum-known-kind
     enum-told
     returns
-    term-len-requires
-    last-step-requires
-    inst-len-requires
-    next-step-requires
+    term-found-requires
+    last-pass-requires
+    inst-found-requires
+    next-pass-requires
     returns-2
     returns-3)

@@ -1,0 +1,93 @@
+-- The groups of instructions and terminators, and the fields of each.
+use Prim.Native.Nat.{_-_}
+use mathlib.Core.Option.{Option, none, some}
+use mathlib.Core.List.{List, [], _∷_, _++_}
+use Rattle.book.specs.Kinds.{InstTag, TermTag, instKind}
+use Rattle.book.specs.Ast.{BinOp, ConvOp, ICmpPred}
+use Rattle.book.specs.Fields as book
+use Rattle.reader.specs.Items.{itemOf}
+use Rattle.reader.specs.declared.items.Item.the-variants as item
+use Rattle.insts.specs.declared.InstGroup.{InstGroup}
+use Rattle.insts.specs.declared.InstGroup.the-variants as inst
+use Rattle.insts.specs.declared.TermGroup.{TermGroup}
+use Rattle.insts.specs.declared.TermGroup.the-variants as term
+use Rattle.insts.specs.declared.Field.{Field}
+use Rattle.insts.specs.declared.Field.the-variants as field
+use Rattle.insts.specs.declared.Fields.{Fields}
+use Rattle.insts.specs.declared.Shape.{Shape}
+use Rattle.insts.specs.declared.Shape.the-variants as shape
+
+abbrev pub instGroupOf : Option InstTag → InstGroup
+instGroupOf none = inst.Other
+instGroupOf (some (InstTag.bin op)) = inst.Bin (instKind (InstTag.bin op) - 40)
+instGroupOf (some (InstTag.conv op)) = inst.Conv (instKind (InstTag.conv op) - 53)
+instGroupOf (some (InstTag.icmp p)) = inst.ICmp (instKind (InstTag.icmp p) - 60)
+instGroupOf (some InstTag.select) = inst.Select
+instGroupOf (some InstTag.load) = inst.Load
+instGroupOf (some InstTag.store) = inst.Store
+instGroupOf (some InstTag.alloca) = inst.Alloca
+instGroupOf (some InstTag.getElementPtr) = inst.GetElementPtr
+instGroupOf (some InstTag.phi) = inst.Phi
+instGroupOf (some InstTag.call) = inst.Call
+instGroupOf (some InstTag.freeze) = inst.Freeze
+instGroupOf (some InstTag.atomicLoad) = inst.AtomicLoad
+instGroupOf (some InstTag.atomicStore) = inst.AtomicStore
+instGroupOf (some InstTag.cmpxchg) = inst.Cmpxchg
+instGroupOf (some InstTag.extractValue) = inst.ExtractValue
+instGroupOf (some InstTag.fence) = inst.Fence
+
+abbrev pub termGroupOf : Option TermTag → TermGroup
+termGroupOf none = term.Other
+termGroupOf (some TermTag.ret) = term.Ret
+termGroupOf (some TermTag.br) = term.Br
+termGroupOf (some TermTag.switch) = term.Switch
+termGroupOf (some TermTag.unreachable) = term.Unreachable
+
+-- a field in front of a list of fields
+abbrev pub fieldIn : Field → List book.Field
+fieldIn field.Nothing = []
+fieldIn (field.Plain i) = book.Field.plain (itemOf i) ∷ []
+fieldIn (field.Optional i) = book.Field.optional (itemOf i) ∷ []
+fieldIn (field.List i) = book.Field.list (itemOf i) ∷ []
+fieldIn (field.UpTo n i) = book.Field.upTo n (itemOf i) ∷ []
+
+abbrev pub twoFields : Field → Field → List book.Field
+twoFields a b = fieldIn a ++ fieldIn b
+
+-- a type and a value in front of two fields
+abbrev pub typedThen : Field → Field → List book.Field
+typedThen c d = twoFields (field.Plain item.Type) (field.Plain item.Value) ++ twoFields c d
+
+abbrev pub allFields : Fields → List book.Field
+allFields f = twoFields (f .a) (f .b) ++ twoFields (f .c) (f .d)
+
+abbrev pub shapeFields : Shape → Option (List book.Field)
+shapeFields (shape.Known f) = some (allFields f)
+shapeFields shape.Unknown = none
+
+-- the fields of a group are those of its tags
+abbrev pub instShape : InstGroup → Option (List book.Field)
+instShape (inst.Bin n) = some (book.instFields (InstTag.bin BinOp.add))
+instShape (inst.Conv n) = some (book.instFields (InstTag.conv ConvOp.trunc))
+instShape (inst.ICmp n) = some (book.instFields (InstTag.icmp ICmpPred.eq))
+instShape inst.Select = some (book.instFields InstTag.select)
+instShape inst.Load = some (book.instFields InstTag.load)
+instShape inst.Store = some (book.instFields InstTag.store)
+instShape inst.Alloca = some (book.instFields InstTag.alloca)
+instShape inst.GetElementPtr = some (book.instFields InstTag.getElementPtr)
+instShape inst.Phi = some (book.instFields InstTag.phi)
+instShape inst.Call = some (book.instFields InstTag.call)
+instShape inst.Freeze = some (book.instFields InstTag.freeze)
+instShape inst.AtomicLoad = some (book.instFields InstTag.atomicLoad)
+instShape inst.AtomicStore = some (book.instFields InstTag.atomicStore)
+instShape inst.Cmpxchg = some (book.instFields InstTag.cmpxchg)
+instShape inst.ExtractValue = some (book.instFields InstTag.extractValue)
+instShape inst.Fence = some (book.instFields InstTag.fence)
+instShape inst.Other = none
+
+abbrev pub termShape : TermGroup → Option (List book.Field)
+termShape term.Ret = some (book.termFields TermTag.ret)
+termShape term.Br = some (book.termFields TermTag.br)
+termShape term.Switch = some (book.termFields TermTag.switch)
+termShape term.Unreachable = some (book.termFields TermTag.unreachable)
+termShape term.Other = none
