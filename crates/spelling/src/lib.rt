@@ -166,7 +166,11 @@ pub fn read_names(names: &[u8], count: u64, prefix: &[u8]) -> Names
         last_end = end;
         at = end + 1;
     }
-    if seen == count { Names::Sorted(from, to) } else { Names::Bad }
+    if seen == count {
+        Names::Sorted(from, to)
+    } else {
+        Names::Bad
+    }
 }
 
 // Whether the bytes are a list of names, and `count` of them.
