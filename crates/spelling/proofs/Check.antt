@@ -8,9 +8,9 @@ use native.Mathlib.Omega.{arith}
 use borrow.Author.Tests.{ne-eqb, not-true}
 use lib.Dec.{eqb}
 use lib.ListN.{length, getD, take, drop, length-append, length-drop, drop-of-length-le}
-use Rattle.names.specs.Name.{nameByte, barred, isEnd, everyByte, filled, allowed, everyName, before, ascendingFrom, ascending, lines, lastOr, ended, sound, keep, namesOf, counts, accepted, upTo, until, line, front}
+use Rattle.names.specs.Name.{nameByte, barred, isEnd, everyByte, filled, allowed, everyName, before, ascendingFrom, ascending, lines, lastOr, ended, sound, keep, namesOf, counts, accepted, upTo, until, line, front, nameFrom}
 use Rattle.names.specs.Tests.{both}
-use Rattle.names.specs.Lines.{lines-first, lines-of, no-end, ended-behind}
+use Rattle.names.specs.Lines.{lines-first, line-of, lines-of, no-end, ended-behind}
 use Rattle.spelling.proofs.Scan.{reach, reach-split, reach-next, reach-all, passed}
 
 -- whether the bytes that are left are names that ascend from `last` and are, with n that were passed, m
@@ -90,36 +90,50 @@ unfolding going ended lastOr everyName ascendingFrom lines
 going-over last names at n m h = rw (drop-of-length-le names h, add-zero)
 
 -- the name at `at`, whose bytes end at `end`
-module _ (names : List ℕ) (at end : ℕ) (q : end ≡ at + length (front (drop at names))) (last : List ℕ) (n m : ℕ) where
-  pub going-open : at < length names → length names ≤ end → going last (drop at names) n m ≡ false
+module _ (names : List ℕ) (at end : ℕ) (q : end ≡ at + length (front (drop at names))) where
+  split-named : end < length names → getD names end 0 ≡ 10 → drop at names ≡ front (drop at names) ++ (10 ∷ drop (end + 1) names)
   unfolding front
-  going-open l h =
-      let all = reach-all barred names at (rw q at h) in
-      rw all (open-refused (front (drop at names)) last n m (front-bytes (drop at names)) (omega (arith, ap length all, length-drop at names)))
+  split-named l e = rw (← q, e) at (reach-split barred names at (rw q at l))
 
-  pub going-barred : end < length names → (getD names end 0 ≡ 10 → ⊥) → going last (drop at names) n m ≡ false
-  unfolding front barred isEnd
-  going-barred l d =
-      let l′ : reach barred names at < length names = rw q at l in
-      rw (reach-split barred names at l′)
-      (barred-refused (front (drop at names)) (drop (reach barred names at + 1) names) last (getD names (reach barred names at) 0) n m
-      (front-bytes (drop at names)) (not-true _ (reach-next barred names at l′)) (ne-eqb _ 10 (rw q at d)))
+  -- it is the line that stands there
+  pub line-named : end < length names → getD names end 0 ≡ 10 → lines (drop at names) ≡ nameFrom names at ∷ lines (drop (end + 1) names)
+  unfolding nameFrom
+  line-named l e =
+      let f = front (drop at names) in
+      let r = drop (end + 1) names in
+      let b = front-bytes (drop at names) in
+      rw (ap line (split-named l e) ∙ line-of f r b) (ap lines (split-named l e) ∙ lines-of f r b)
 
-  -- its bytes, as a part of all
-  abbrev part : List ℕ
-  part = take (end - at) (drop at names)
+  module _ (last : List ℕ) (n m : ℕ) where
+    pub going-open : at < length names → length names ≤ end → going last (drop at names) n m ≡ false
+    unfolding front
+    going-open l h =
+        let all = reach-all barred names at (rw q at h) in
+        rw all (open-refused (front (drop at names)) last n m (front-bytes (drop at names)) (omega (arith, ap length all, length-drop at names)))
 
-  going-named : end < length names → getD names end 0 ≡ 10
-      → going last (drop at names) n m ≡ (before last part && going part (drop (end + 1) names) (n + 1) m)
-  unfolding front
-  going-named l e =
-      let p : part ≡ front (drop at names) = rw (← q) at (passed barred names at) in
-      let s : drop at names ≡ front (drop at names) ++ (10 ∷ drop (end + 1) names) = rw (← q, e) at (reach-split barred names at (rw q at l)) in
-      rw p (ap (λ r. going last r n m) s ∙ named (front (drop at names)) (drop (end + 1) names) last n m (front-bytes (drop at names)))
+    pub going-barred : end < length names → (getD names end 0 ≡ 10 → ⊥) → going last (drop at names) n m ≡ false
+    unfolding front barred isEnd
+    going-barred l d =
+        let l′ : reach barred names at < length names = rw q at l in
+        rw (reach-split barred names at l′)
+        (barred-refused (front (drop at names)) (drop (reach barred names at + 1) names) last (getD names (reach barred names at) 0) n m
+        (front-bytes (drop at names)) (not-true _ (reach-next barred names at l′)) (ne-eqb _ 10 (rw q at d)))
 
-  pub going-unordered : end < length names → getD names end 0 ≡ 10 → before last part ≡ false → going last (drop at names) n m ≡ false
-  going-unordered l e b = going-named l e ∙ ap (λ t. t && going part (drop (end + 1) names) (n + 1) m) b
+    -- its bytes, as a part of all
+    abbrev part : List ℕ
+    part = take (end - at) (drop at names)
 
-  pub going-ordered : end < length names → getD names end 0 ≡ 10 → before last part ≡ true
-      → going last (drop at names) n m ≡ going part (drop (end + 1) names) (n + 1) m
-  going-ordered l e b = going-named l e ∙ ap (λ t. t && going part (drop (end + 1) names) (n + 1) m) b
+    going-named : end < length names → getD names end 0 ≡ 10
+        → going last (drop at names) n m ≡ (before last part && going part (drop (end + 1) names) (n + 1) m)
+    unfolding front
+    going-named l e =
+        let p : part ≡ front (drop at names) = rw (← q) at (passed barred names at) in
+        rw p
+        (ap (λ r. going last r n m) (split-named l e) ∙ named (front (drop at names)) (drop (end + 1) names) last n m (front-bytes (drop at names)))
+
+    pub going-unordered : end < length names → getD names end 0 ≡ 10 → before last part ≡ false → going last (drop at names) n m ≡ false
+    going-unordered l e b = going-named l e ∙ ap (λ t. t && going part (drop (end + 1) names) (n + 1) m) b
+
+    pub going-ordered : end < length names → getD names end 0 ≡ 10 → before last part ≡ true
+        → going last (drop at names) n m ≡ going part (drop (end + 1) names) (n + 1) m
+    going-ordered l e b = going-named l e ∙ ap (λ t. t && going part (drop (end + 1) names) (n + 1) m) b

@@ -6,7 +6,8 @@ ghost use lib.ListN.{length, drop};
 ghost use Rattle.names.specs.Text.{within as textWithin, same, starts, contains};
 ghost use Rattle.names.specs.Name.{nameByte, before, accepted, lines, front, nameFrom};
 ghost use Rattle.names.specs.Spelling.{wordByte, cleanByte};
-ghost use Rattle.names.specs.Prefix.{PrefixRange};
+ghost use Rattle.names.specs.Prefix.{firstWith, pastWith, PrefixRange};
+ghost use Rattle.spelling.specs.Read.{namesRead};
 
 // The byte that ends a name.
 pub const END: u8 = 10;
@@ -56,34 +57,6 @@ pub fn name_before(a: &[u8], b: &[u8]) -> bool
         i += 1;
     }
     i < b.len()
-}
-
-// Whether the bytes are a list of names, and `count` of them: one pass, in which each name is compared with the one before it. An empty
-// name fails that comparison, since nothing comes before it.
-pub fn check_names(names: &[u8], count: u64) -> bool
-    ensures { λ r. ⌜ r ≡ accepted (now (names .entry)) count ⌝ }
-{
-    let mut seen: u64 = 0;
-    let mut last: usize = 0;
-    let mut last_end: usize = 0;
-    let mut at: usize = 0;
-    while at < names.len() {
-        let end = front_end(names, at);
-        if names.len() <= end {
-            return false;
-        }
-        if names[end] != END {
-            return false;
-        }
-        if !name_before(&names[last..last_end], &names[at..end]) {
-            return false;
-        }
-        seen += 1;
-        last = at;
-        last_end = end;
-        at = end + 1;
-    }
-    seen == count
 }
 
 // The index of the byte that ends the name at `at`, or the number of bytes where none does. From behind the bytes it is `at`.
@@ -149,6 +122,65 @@ pub fn name_contains(names: &[u8], at: usize, text: &[u8]) -> bool
         i += 1;
     }
     text.len() == 0
+}
+
+// The names of a slice: a list of names, with the range of those that start with a prefix; or no such list.
+pub enum Names {
+    Sorted(u64, u64),
+    Bad,
+}
+
+// Whether the bytes are a list of names, and `count` of them, with the range of those that start with the prefix: one pass, in which each
+// name is compared with the one before it. An empty name fails that comparison, since nothing comes before it. The range ends at the first
+// name behind it, from which on `to` is less than `seen`.
+pub fn read_names(names: &[u8], count: u64, prefix: &[u8]) -> Names
+    ensures { λ r. ⌜ r ≡ namesRead (accepted (now (names .entry)) count) (firstWith (now (prefix .entry)) (lines (now (names .entry)))) (pastWith (now (prefix .entry)) (lines (now (names .entry)))) ⌝ }
+{
+    let mut seen: u64 = 0;
+    let mut from: u64 = 0;
+    let mut to: u64 = 0;
+    let mut last: usize = 0;
+    let mut last_end: usize = 0;
+    let mut at: usize = 0;
+    while at < names.len() {
+        let end = front_end(names, at);
+        if names.len() <= end {
+            return Names::Bad;
+        }
+        if names[end] != END {
+            return Names::Bad;
+        }
+        if !name_before(&names[last..last_end], &names[at..end]) {
+            return Names::Bad;
+        }
+        if to == seen {
+            if name_starts(names, at, prefix) {
+                to += 1;
+            } else if from == to {
+                from += 1;
+                to += 1;
+            }
+        }
+        seen += 1;
+        last = at;
+        last_end = end;
+        at = end + 1;
+    }
+    if seen == count {
+        Names::Sorted(from, to)
+    } else {
+        Names::Bad
+    }
+}
+
+// Whether the bytes are a list of names, and `count` of them.
+pub fn check_names(names: &[u8], count: u64) -> bool
+    ensures { λ r. ⌜ r ≡ accepted (now (names .entry)) count ⌝ }
+{
+    match read_names(names, count, b"") {
+        Names::Sorted(_, _) => true,
+        Names::Bad => false,
+    }
 }
 
 // The numbers from `from` up to and without `to`.
