@@ -1,3 +1,5 @@
 pub mod Parts
+pub mod Reading
+pub mod Folds
 pub mod Whole
 pub mod Verdict

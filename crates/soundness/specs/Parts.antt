@@ -1,45 +1,53 @@
--- The answers for marks and struct bodies, and the laws that their proofs cite.
-use Prim.Native.Nat.{ℕ, _+_}
-use mathlib.Core.Path.{_≡_, refl, ap, sym, _∙_}
-use mathlib.Core.Bool.{Bool, true, false}
-use mathlib.Core.Option.{Option, none}
+-- The answers for marks and named structs, and the laws that their proofs cite.
+use Prim.Native.Nat.{ℕ, zero, suc, _+_, _-_, _/_, _≤_, _<_, _^_}
+use mathlib.Core.Path.{_≡_, refl, ap, sym, _∙_, subst}
+use mathlib.Core.Logic.{_⊎_, inl, inr, ⊎-elim}
+use mathlib.Core.Bool.{Bool, true, false, _&&_, not}
+use mathlib.Core.Option.{Option, none, some}
 use mathlib.Core.List.{List, [], _∷_, _++_}
+use native.Mathlib.Numerals.{add-one}
 use native.Mathlib.Omega.{arith}
-use borrow.Author.Tests.{eq-eqb, ne-eqb}
-use lib.Dec.{eqb, ltb}
-use Rattle.book.specs.Entry.{Entry, entry}
-use Rattle.book.specs.Ast.{Sizeless, Ty, Mark, StructBody}
+use borrow.Author.Tests.{eq-eqb, ne-eqb, le-leb, lt-leb, le-ltb, lt-ltb, ltb-true}
+use lib.ListN.{length, getD, drop, take, replicate, length-append, length-drop, length-take, drop-of-length-le}
+use lib.Dec.{eqb, leb, ltb}
+use Rattle.numbers.specs.Bits.{bitAt, setBitAt}
+use Rattle.book.specs.Entry.{Entry, entry, entries}
+use Rattle.book.specs.Ast.{Sizeless, Ty, Mark, StructBody, StructType, Function}
 use Rattle.book.specs.Rule.{when, pick}
 use Rattle.book.specs.Kinds.{TyTag, tyTag}
 use Rattle.book.specs.Read.{Read, got, bad, andThen, taking, one, stops, mapped, both, until, word}
-use Rattle.book.specs.Decode.{type, markAs, mark, bodyOf, structBody, function, structsAndFunction}
-use Rattle.book.specs.Encode.{encTy}
+use Rattle.book.specs.Decode.{type, markAs, mark, bodyOf, structBody, structType, function, structsAndFunction, parts}
+use Rattle.book.specs.Encode.{encTy, encStruct}
+use Rattle.book.specs.Limits.{StructLimits}
+use Rattle.book.specs.Forbidden.{forbiddenFunction}
+use Rattle.book.specs.Agree.{Begins}
 use Rattle.book.specs.AgreeTy.{agrees-type, ty-found}
+use Rattle.book.specs.AgreeBook.{agrees-function, agrees-structType, agrees-structs}
 use Rattle.reader.specs.Length.{lenOf, lenIf, frontOf}
 use Rattle.reader.specs.Groups.{typeGroupOf}
 use Rattle.reader.specs.Items.{pickLen}
+use Rattle.reader.specs.Laws.{length-entries, entries-part, within-kinds, lentFrom, len-fits}
 use Rattle.reader.specs.declared.Length.{Length}
 use Rattle.reader.specs.declared.Length.the-variants as len
 use Rattle.reader.specs.declared.Front.{Front}
 use Rattle.reader.specs.declared.Front.the-variants as front
 use Rattle.reader.specs.declared.types.TypeGroup.{TypeGroup}
 use Rattle.reader.specs.declared.types.TypeGroup.the-variants as group
+use Rattle.marks.specs.Once.{isNew, setIf}
+use Rattle.blocks.specs.Found.{foundOf, behindOf, FoundRoom, nextOf, passOf, never}
+use Rattle.blocks.specs.Passes.{found-fits}
+use Rattle.blocks.specs.declared.Found.{Found}
+use Rattle.blocks.specs.declared.Found.the-variants as found
+use Rattle.blocks.specs.declared.Pass.{Pass}
+use Rattle.blocks.specs.declared.Pass.the-variants as pass
+use Rattle.soundness.specs.Reading.{goes, answered, folded, endFound, structTaken, functionEnded, namedFound, structsFound, markedBy, structsEnded, marksFound, markTaken}
+use Rattle.soundness.specs.Folds.{Fold, fold-end, fold-bad, fold-full, fold-refused, fold-next, pass-done, pass-last, pass-next, pass-item-bad}
 
-abbrev pub markFront : ℕ → Front → Length
-markFront m front.Nothing = len.Bad
-markFront m (front.Entry k w) = pickLen (eqb k 1) (lenIf (ltb w m)) (pickLen (eqb k 2) (lenIf (ltb w m)) len.Bad)
+no : false ≡ true → ⊥
+no e = let z : _≡_ {A = ℕ} 0 1 = cc in omega arith
 
-pub mark-front : (m : ℕ) (es : List Entry) → lenOf (mark m es) ≡ markFront m (frontOf es)
-unfolding mark one markAs frontOf
-mark-front m [] = refl
-mark-front m (e ∷ es) = go (eqb (e .kind) 1) (eqb (e .kind) 2) (ltb (e .word) m)
-  where
-    go : (a b c : Bool) → lenOf (taking 1 (pick a (when c (Mark.defined (e .word))) (pick b (when c (Mark.reserved (e .word))) none))) ≡ pickLen a (lenIf c) (pickLen b (lenIf c) len.Bad)
-    go true b true = refl
-    go true b false = refl
-    go false true true = refl
-    go false true false = refl
-    go false false c = refl
+yes : true ≡ false → ⊥
+yes e = let z : _≡_ {A = ℕ} 0 1 = cc in omega arith
 
 abbrev pub isStructGroup : TypeGroup → Bool
 isStructGroup group.Void = false
@@ -126,3 +134,234 @@ no-function m = refl
 pub no-structs : (m : ℕ) → structsAndFunction m [] ≡ bad
 unfolding structsAndFunction until stops mapped function both word one
 no-structs m = refl
+
+-- ---- named structs
+-- a struct as the next step; nothing in it is forbidden
+abbrev pub plainPass : Length → Pass
+plainPass (len.Entries n) = pass.Next n false
+plainPass len.Bad = pass.Bad
+
+pub plain-next : {A : Type 0} (r : Read A) → plainPass (lenOf r) ≡ nextOf (foundOf never r)
+plain-next (got a n) = refl
+plain-next bad = refl
+
+pub function-ended : (barred named : List ℕ) (r : Read Function) → endFound structTaken (functionEnded barred) named r ≡ foundOf (forbiddenFunction (bitAt barred)) r
+function-ended barred named (got f n) = refl
+function-ended barred named bad = refl
+
+-- the entry at a place of the slices
+pub entry-at : (ks ws : List ℕ) (i : ℕ) → i < length (entries ks ws) → drop i (entries ks ws) ≡ entry (getD ks i 0) (getD ws i 0) ∷ drop (i + 1) (entries ks ws)
+unfolding entries
+entry-at [] ws i h = absurd (omega arith)
+entry-at (k ∷ ks) [] i h = absurd (omega arith)
+entry-at (k ∷ ks) (w ∷ ws) zero h = refl
+entry-at (k ∷ ks) (w ∷ ws) (suc i) h = rw (add-one (suc i)) (entry-at ks ws i (omega arith) ∙ rw (add-one i))
+
+module _ (barred named : List ℕ) (m n : ℕ) (ks ws : List ℕ) (a left : ℕ) (now : List ℕ)
+    (l : Fold structTaken (functionEnded barred) (leb 4) (structType m) (function m) named n ks ws a left now)
+    (s : Pass) (e : s ≡ passOf never (forbiddenFunction (bitAt barred)) (leb 4) (structType m) (function m) (lentFrom ks ws a)) where
+  abbrev whole : Found
+  whole = namedFound barred named (until (leb 4) (structType m) (function m) n (entries ks ws))
+
+  abbrev rest : List Entry
+  rest = drop a (entries ks ws)
+
+  at-rest : s ≡ passOf never (forbiddenFunction (bitAt barred)) (leb 4) (structType m) (function m) rest
+  at-rest = rw (entries-part a ks ws) at e
+
+  pub named-done : (k : ℕ) (b : Bool) → s ≡ pass.Done k b → found.Entries (a + k) b ≡ whole
+  named-done k b h =
+      let d = pass-done never (forbiddenFunction (bitAt barred)) (leb 4) (structType m) (function m) rest k b (sym at-rest ∙ h) in
+      fold-end structTaken (functionEnded barred) (leb 4) (structType m) (function m) named n ks ws a left now l (d .0) (found.Entries k b) _ (sym (function-ended barred now (function m rest) ∙ d .1)) refl
+
+  pub named-bad : s ≡ pass.Bad → found.Bad ≡ whole
+  named-bad h = go (stops (leb 4) rest) refl
+    where
+      go : (t : Bool) → stops (leb 4) rest ≡ t → found.Bad ≡ whole
+      go true t =
+          let d = pass-last never (forbiddenFunction (bitAt barred)) (leb 4) (structType m) (function m) rest t (sym at-rest ∙ h) in
+          fold-end structTaken (functionEnded barred) (leb 4) (structType m) (function m) named n ks ws a left now l t found.Bad _ (sym (function-ended barred now (function m rest) ∙ d)) refl
+      go false t =
+          fold-bad structTaken (functionEnded barred) (leb 4) (structType m) (function m) named n ks ws a left now l t
+          (pass-item-bad never (forbiddenFunction (bitAt barred)) (leb 4) (structType m) (function m) rest t (sym at-rest ∙ h))
+
+  pub named-done-there : (k : ℕ) (b : Bool) → s ≡ pass.Done k b → a + k ≤ length ks
+  named-done-there k b h =
+      let d = pass-done never (forbiddenFunction (bitAt barred)) (leb 4) (structType m) (function m) rest k b (sym at-rest ∙ h) in
+      within-kinds (a + k) ks ws (omega (arith, found-fits (forbiddenFunction (bitAt barred)) (agrees-function m) rest k b (d .1), length-drop a (entries ks ws), l .there))
+
+  module _ (k : ℕ) (b : Bool) (h : s ≡ pass.Next k b) where
+    next : (stops (leb 4) rest ≡ false) × ((x : StructType) × (structType m rest ≡ got x k))
+    next = pass-next never (forbiddenFunction (bitAt barred)) (leb 4) (structType m) (function m) rest k b (sym at-rest ∙ h)
+
+    pub named-full : left ≡ 0 → found.Bad ≡ whole
+    named-full z = fold-full structTaken (functionEnded barred) (leb 4) (structType m) (function m) named n ks ws a left now l (next .0) z
+
+    begins : Begins encStruct (StructLimits m) rest (next .1 .0) k
+    begins = agrees-structType m .sound rest (next .1 .0) k (next .1 .1)
+
+    pub named-there : a + k ≤ length (entries ks ws)
+    named-there = omega (arith, begins .size, ap length (begins .here), length-append (encStruct (next .1 .0)) (drop k rest), length-drop a (entries ks ws), l .there)
+
+    -- a struct takes an entry at least, and its name is the word in front
+    some-entry : 1 ≤ k
+    unfolding encStruct
+    some-entry = omega (arith, begins .size)
+
+    pub named-at : a < length (entries ks ws)
+    named-at = omega (arith, named-there, some-entry)
+
+    name-is : getD ws a 0 ≡ next .1 .0 .name
+    unfolding encStruct
+    name-is =
+        let z : entry (getD ks a 0) (getD ws a 0) ∷ drop (a + 1) (entries ks ws) ≡ encStruct (next .1 .0) ++ drop k rest = sym (entry-at ks ws a named-at) ∙ begins .here in
+        front-word _ _ z
+      where
+        front-word : (xs ys : List Entry) {x y : Entry} → x ∷ xs ≡ y ∷ ys → x .word ≡ y .word
+        front-word xs ys {x} {y} q = let z : x ≡ y = cc in ap (λ e. e .word) z
+
+    module _ (r : Bool) (er : r ≡ isNew now (getD ws a 0)) where
+      new-is : isNew now (next .1 .0 .name) ≡ r
+      new-is = sym (er ∙ ap (isNew now) name-is)
+
+      pub named-repeated : r ≡ false → found.Bad ≡ whole
+      named-repeated f = fold-refused structTaken (functionEnded barred) (leb 4) (structType m) (function m) named n ks ws a left now l (next .0) (next .1 .0) k (next .1 .1) (rw (new-is, f))
+
+      pub named-next : r ≡ true → (later : List ℕ) → later ≡ setIf r now (getD ws a 0) → (left ≡ 0 → ⊥)
+          → Fold structTaken (functionEnded barred) (leb 4) (structType m) (function m) named n ks ws (a + k) (left - 1) later
+      named-next f later el z =
+          fold-next structTaken (functionEnded barred) (leb 4) (structType m) (function m) named n ks ws a left now l (next .0) (next .1 .0) k (next .1 .1) later
+          (rw (new-is, f) (ap some (ap (setBitAt now) (sym name-is) ∙ sym (el ∙ ap (λ t. setIf t now (getD ws a 0)) f)))) z named-there
+
+-- ---- marks
+structs-ended : (marked barred : List ℕ) (r : Read (List StructType × Function)) → endFound markedBy structsEnded (marked, barred) r ≡ structsFound barred r
+structs-ended marked barred (got p n) = refl
+structs-ended marked barred bad = refl
+
+-- what the code finds behind the marks leaves room for them
+pub structs-room : (barred : List ℕ) (m : ℕ) (ks ws : List ℕ) (a : ℕ) (x : Found) → x ≡ structsFound barred (structsAndFunction m (lentFrom ks ws a)) → a ≤ length ks → length ks < 2 ^ 64 → FoundRoom a x
+structs-room barred m ks ws a x ex f g = subst (FoundRoom a) (sym ex) (go (structsAndFunction m (lentFrom ks ws a)) refl)
+  where
+    sized : (k : ℕ) (o : Option Bool) → k ≤ length (lentFrom ks ws a) → FoundRoom a (answered k o)
+    sized k none h = tt
+    sized k (some b) h = omega (arith, length-entries (take (length ks - a) (drop a ks)) (take (length ws - a) (drop a ws)), length-take (length ks - a) (drop a ks))
+
+    go : (r : Read (List StructType × Function)) → structsAndFunction m (lentFrom ks ws a) ≡ r → FoundRoom a (structsFound barred r)
+    go (got p k) e = sized k (goes (folded structTaken (functionEnded barred) (replicate 2048 0) (p .0)) (λ t. functionEnded barred t (p .1))) (len-fits (agrees-structs m) (lentFrom ks ws a) k (ap lenOf e))
+    go bad e = tt
+
+module _ (m : ℕ) (marked barred : List ℕ) (k w : ℕ) (es : List Entry) (low : k < 3) where
+  -- the entry is read as a mark, or is none
+  pub mark-yes : markTaken m marked k w ≡ true → (x : Mark) × ((mark m (entry k w ∷ es) ≡ got x 1) × (markedBy (marked, barred) x ≡ some (setBitAt marked w, setIf (eqb k 2) barred w)))
+  unfolding mark one markAs
+  mark-yes t = go k low t (ltb w m) refl (isNew marked w) refl
+    where
+      go : (k : ℕ) → k < 3 → markTaken m marked k w ≡ true → (p : Bool) → ltb w m ≡ p → (q : Bool) → isNew marked w ≡ q
+          → (x : Mark) × ((mark m (entry k w ∷ es) ≡ got x 1) × (markedBy (marked, barred) x ≡ some (setBitAt marked w, setIf (eqb k 2) barred w)))
+      go zero l t p ep q eq = absurd (let z : _≡_ {A = ℕ} 0 1 = cc in omega arith)
+      go (suc zero) l t true ep true eq = (Mark.defined w, (rw ep, rw eq))
+      go (suc zero) l t true ep false eq = absurd (no (rw (ep, eq) at t))
+      go (suc zero) l t false ep q eq = absurd (no (rw ep at t))
+      go (suc (suc zero)) l t true ep true eq = (Mark.reserved w, (rw ep, rw eq))
+      go (suc (suc zero)) l t true ep false eq = absurd (no (rw (ep, eq) at t))
+      go (suc (suc zero)) l t false ep q eq = absurd (no (rw ep at t))
+      go (suc (suc (suc k))) l t p ep q eq = absurd (omega arith)
+
+  pub mark-no : markTaken m marked k w ≡ false → (mark m (entry k w ∷ es) ≡ bad) ⊎ ((x : Mark) × ((mark m (entry k w ∷ es) ≡ got x 1) × (markedBy (marked, barred) x ≡ none)))
+  unfolding mark one markAs
+  mark-no t = go k low t (ltb w m) refl (isNew marked w) refl
+    where
+      go : (k : ℕ) → k < 3 → markTaken m marked k w ≡ false → (p : Bool) → ltb w m ≡ p → (q : Bool) → isNew marked w ≡ q
+          → (mark m (entry k w ∷ es) ≡ bad) ⊎ ((x : Mark) × ((mark m (entry k w ∷ es) ≡ got x 1) × (markedBy (marked, barred) x ≡ none)))
+      go zero l t p ep q eq = inl refl
+      go (suc zero) l t true ep true eq = absurd (yes (rw (ep, eq) at t))
+      go (suc zero) l t true ep false eq = inr (Mark.defined w, (rw ep, rw eq))
+      go (suc zero) l t false ep q eq = inl (rw ep)
+      go (suc (suc zero)) l t true ep true eq = absurd (yes (rw (ep, eq) at t))
+      go (suc (suc zero)) l t true ep false eq = inr (Mark.reserved w, (rw ep, rw eq))
+      go (suc (suc zero)) l t false ep q eq = inl (rw ep)
+      go (suc (suc (suc k))) l t p ep q eq = absurd (omega arith)
+
+-- the tests of the code
+module _ (m : ℕ) (marked : List ℕ) (k w : ℕ) where
+  last-false : (a b : Bool) → false ≡ (a && (b && false))
+  last-false true true = refl
+  last-false true false = refl
+  last-false false b = refl
+
+  pub mark-zero : k ≡ 0 → false ≡ markTaken m marked k w
+  mark-zero e = sym (rw e)
+
+  pub mark-high : 2 < k → false ≡ markTaken m marked k w
+  mark-high h = sym (rw (lt-leb k 2 h) (go (leb 1 k)))
+    where
+      go : (a : Bool) → ((a && false) && (ltb w m && isNew marked w)) ≡ false
+      go true = refl
+      go false = refl
+
+  pub mark-name : m ≤ w → false ≡ markTaken m marked k w
+  mark-name h = sym (rw (le-ltb w m h) (go (leb 1 k && leb k 2)))
+    where
+      go : (a : Bool) → (a && false) ≡ false
+      go true = refl
+      go false = refl
+
+  pub mark-old : (r : Bool) → r ≡ isNew marked w → r ≡ false → false ≡ markTaken m marked k w
+  mark-old r er f = sym (rw (sym er ∙ f) (sym (last-false (leb 1 k && leb k 2) (ltb w m))))
+
+  pub mark-first : (k ≡ 0 → ⊥) → k ≤ 2 → w < m → (r : Bool) → r ≡ isNew marked w → r ≡ true → true ≡ markTaken m marked k w
+  mark-first z h l r er t = sym (rw (le-leb 1 k (omega (arith, z)), le-leb k 2 h, lt-ltb w m l, sym er ∙ t))
+
+  -- a bit that the map has
+  pub mark-fits : (barred : List ℕ) (r : Bool) → r ≡ isNew marked w → r ≡ true → length marked ≡ length barred → w / 64 < length barred
+  mark-fits barred r er t e = rw e at (ltb-true (w / 64) (length marked) (both-left (ltb (w / 64) (length marked)) (not (bitAt marked w)) (sym er ∙ t)))
+    where
+      both-left : (a b : Bool) → (a && b) ≡ true → a ≡ true
+      both-left true b h = refl
+      both-left false b h = absurd (no h)
+
+-- the loop over the marks, at the place a
+module _ (marked barred : List ℕ) (m : ℕ) (ks ws : List ℕ) (a : ℕ) (now : List ℕ × List ℕ)
+    (l : Fold markedBy structsEnded (leb 3) (mark m) (structsAndFunction m) (marked, barred) (length (entries ks ws)) ks ws a (length (entries ks ws) - a) now) where
+  abbrev wholeMarks : Found
+  wholeMarks = marksFound marked barred (parts m (entries ks ws))
+
+  pub marks-over : length (entries ks ws) ≤ a → found.Bad ≡ wholeMarks
+  unfolding parts stops
+  marks-over h =
+      let e : drop a (entries ks ws) ≡ [] = drop-of-length-le (entries ks ws) h in
+      fold-end markedBy structsEnded (leb 3) (mark m) (structsAndFunction m) (marked, barred) (length (entries ks ws)) ks ws a _ now l (rw e) found.Bad _ (sym (ap (λ es. endFound markedBy structsEnded now (structsAndFunction m es)) e ∙ ap (endFound markedBy structsEnded now) (no-structs m))) refl
+
+  module _ (h : a < length (entries ks ws)) where
+    here : drop a (entries ks ws) ≡ entry (getD ks a 0) (getD ws a 0) ∷ drop (a + 1) (entries ks ws)
+    here = entry-at ks ws a h
+
+    pub marks-end : 3 ≤ getD ks a 0 → (r x : Found) → r ≡ structsFound (now .1) (structsAndFunction m (lentFrom ks ws a)) → x ≡ behindOf a r → x ≡ wholeMarks
+    unfolding parts stops
+    marks-end t r x er ex =
+        fold-end markedBy structsEnded (leb 3) (mark m) (structsAndFunction m) (marked, barred) (length (entries ks ws)) ks ws a _ now l (rw here (le-leb 3 (getD ks a 0) t)) r x
+        (er ∙ ap (λ es. structsFound (now .1) (structsAndFunction m es)) (entries-part a ks ws) ∙ sym (structs-ended (now .0) (now .1) (structsAndFunction m (drop a (entries ks ws))))) ex
+
+    module _ (t : getD ks a 0 < 3) (r : Bool) (er : r ≡ markTaken m (now .0) (getD ks a 0) (getD ws a 0)) where
+      item-stays : stops (leb 3) (drop a (entries ks ws)) ≡ false
+      unfolding stops
+      item-stays = rw here (lt-leb 3 (getD ks a 0) t)
+
+      pub marks-refused : r ≡ false → found.Bad ≡ wholeMarks
+      unfolding parts
+      marks-refused f =
+          ⊎-elim
+          (λ e. fold-bad markedBy structsEnded (leb 3) (mark m) (structsAndFunction m) (marked, barred) (length (entries ks ws)) ks ws a _ now l item-stays (ap (mark m) here ∙ e))
+          (λ y. fold-refused markedBy structsEnded (leb 3) (mark m) (structsAndFunction m) (marked, barred) (length (entries ks ws)) ks ws a _ now l item-stays (y .0) 1 (ap (mark m) here ∙ y .1 .0) (y .1 .1))
+          (mark-no m (now .0) (now .1) (getD ks a 0) (getD ws a 0) (drop (a + 1) (entries ks ws)) t (sym er ∙ f))
+
+      pub marks-next : r ≡ true → (p q : List ℕ) → p ≡ setIf r (now .0) (getD ws a 0) → q ≡ setIf (r && eqb (getD ks a 0) 2) (now .1) (getD ws a 0)
+          → Fold markedBy structsEnded (leb 3) (mark m) (structsAndFunction m) (marked, barred) (length (entries ks ws)) ks ws (a + 1) (length (entries ks ws) - (a + 1)) (p, q)
+      marks-next f p q ep eq =
+          let y = mark-yes m (now .0) (now .1) (getD ks a 0) (getD ws a 0) (drop (a + 1) (entries ks ws)) t (sym er ∙ f) in
+          let u : _≡_ {A = List ℕ × List ℕ} (setBitAt (now .0) (getD ws a 0), setIf (eqb (getD ks a 0) 2) (now .1) (getD ws a 0)) (p, q) = λ i. (sym (ep ∙ ap (λ b. setIf b (now .0) (getD ws a 0)) f) i, sym (eq ∙ ap (λ b. setIf (b && eqb (getD ks a 0) 2) (now .1) (getD ws a 0)) f) i) in
+          ap-left (fold-next markedBy structsEnded (leb 3) (mark m) (structsAndFunction m) (marked, barred) (length (entries ks ws)) ks ws a _ now l item-stays (y .0) 1 (ap (mark m) here ∙ y .1 .0) (p, q) (y .1 .1 ∙ ap some u) (λ z. omega arith) (omega arith))
+        where
+          ap-left : Fold markedBy structsEnded (leb 3) (mark m) (structsAndFunction m) (marked, barred) (length (entries ks ws)) ks ws (a + 1) (length (entries ks ws) - a - 1) (p, q)
+              → Fold markedBy structsEnded (leb 3) (mark m) (structsAndFunction m) (marked, barred) (length (entries ks ws)) ks ws (a + 1) (length (entries ks ws) - (a + 1)) (p, q)
+          ap-left = subst (λ i. Fold markedBy structsEnded (leb 3) (mark m) (structsAndFunction m) (marked, barred) (length (entries ks ws)) ks ws (a + 1) i (p, q)) (omega arith)

@@ -1,34 +1,35 @@
 -- The answer of the whole check, and the laws that lead to it.
-use Prim.Native.Nat.{ℕ, _+_, _-_, _*_, _≤_, _<_, _^_}
-use mathlib.Core.Path.{_≡_, refl, ap, sym, _∙_, subst}
-use mathlib.Core.Bool.{Bool, true, false, _&&_, _||_, not}
+use Prim.Native.Nat.{ℕ, _-_, _*_, _/_, _≤_, _<_, _^_}
+use mathlib.Core.Path.{_≡_, refl, ap, sym, _∙_, fun-ext}
+use mathlib.Core.Bool.{Bool, true, false, _&&_, _||_}
 use mathlib.Core.Option.{Option, none, some}
-use mathlib.Core.List.{List, [], _∷_, map}
+use mathlib.Core.List.{List, [], _∷_}
 use native.Mathlib.Omega.{arith}
-use borrow.Author.Tests.{le-leb, lt-leb, eq-eqb}
-use lib.ListN.{length, replicate, getD, take, drop}
-use lib.Dec.{leb, ltb, eqb}
+use borrow.Author.Tests.{le-leb, lt-leb, eq-eqb, leb-true, leb-false, ltb-true, ltb-false, le-ltb}
+use lib.ListN.{length, replicate, getD, length-replicate, List·getD-eq-default}
+use lib.Dec.{leb, ltb}
 use Rattle.numbers.specs.Bits.{bitAt, bit-none}
-use Rattle.names.specs.Text.{bytes}
+use Rattle.names.specs.Text.{bytes, starts}
 use Rattle.names.specs.Name.{nameAt, namesOf, lines, counts, accepted}
 use Rattle.names.specs.Spelling.{isIntrinsic}
 use Rattle.names.specs.Prefix.{firstWith, pastWith}
-use Rattle.names.specs.Lines.{accepted-iff}
-use Rattle.names.specs.Ranges.{range-test}
-use Rattle.book.specs.Entry.{Entry, entries}
-use Rattle.book.specs.Ast.{Mark}
-use Rattle.book.specs.Decode.{member, distinct, markName, onceEach}
-use Rattle.book.specs.Encode.{encode}
-use Rattle.book.specs.Limits.{Each}
-use Rattle.book.specs.Result.{ok, bind, okOr, given, require}
+use Rattle.names.specs.Lines.{accepted-iff, names-lines}
+use Rattle.names.specs.Ranges.{range-test, range-order}
+use Rattle.spelling.specs.Read.{namesRead}
+use Rattle.spelling.specs.declared.Names.{Names}
+use Rattle.spelling.specs.declared.Names.the-variants as names
+use Rattle.book.specs.Ast.{Book}
+use Rattle.book.specs.Decode.{member}
+use Rattle.book.specs.Result.{bind, okOr, given, require}
 use Rattle.book.specs.Input.{Counted, bookIn, namesIn}
-use Rattle.book.specs.Forbidden.{reservedBy, forbidden}
-use Rattle.book.specs.Check.{Sound, workFor, checked, refusalOf}
-use Rattle.scans.specs.Words.{wordsAt, isReserved, reserved-words}
-use Rattle.scans.specs.Once.{allNew, AllBelow, new-distinct, bits-marked}
-use Rattle.scans.specs.Scan.{scan, scan-book}
-use Rattle.scans.specs.Barred.{reservedMap, intrinsic, barredIn}
-use Rattle.soundness.specs.Whole.{there, kindsIn, wordsIn, Holds, slice-holds, slice-parts}
+use Rattle.book.specs.Forbidden.{reservedBy, uncallable, forbiddenFunction, forbidden}
+use Rattle.book.specs.Check.{workFor, checked, refusalOf}
+use Rattle.marks.specs.Range.{markedRange, bit-range}
+use Rattle.blocks.specs.Passes.{or-false}
+use Rattle.soundness.specs.Reading.{barredWith}
+use Rattle.soundness.specs.Whole.{there, readingIn, Holds, slice-holds}
+use Rattle.soundness.specs.declared.Reading.{Reading}
+use Rattle.soundness.specs.declared.Reading.the-variants as reading
 use Rattle.soundness.specs.declared.Verdict.{Verdict}
 use Rattle.soundness.specs.declared.Verdict.the-variants as verdict
 
@@ -40,65 +41,62 @@ numberOf verdict.BadNames = 2
 numberOf verdict.Barred = 3
 numberOf verdict.ShortWork = 4
 
--- ---- names that may not be called
-not-or : (a b : Bool) → not (a || b) ≡ true → not b ≡ true
-not-or true b e = absurd (let z : _≡_ {A = ℕ} 0 1 = cc in omega arith)
-not-or false b e = e
+-- the answer to what was read, in document 01's order
+abbrev pub pickVerdict : Bool → Verdict → Verdict → Verdict
+pickVerdict true a b = a
+pickVerdict false a b = b
 
-split : (a b : Bool) → (a && b) ≡ true → (a ≡ true) × (b ≡ true)
-split true b e = (refl, e)
-split false b e = absurd (let z : _≡_ {A = ℕ} 0 1 = cc in omega arith)
+abbrev pub namesVerdict : Names → Bool → ℕ → ℕ → Verdict
+namesVerdict names.Bad x m work = verdict.BadNames
+namesVerdict (names.Sorted from to) x m work = pickVerdict x verdict.Barred (pickVerdict (leb (workFor m) work) verdict.Sound verdict.ShortWork)
 
--- the reserved names are among the marked ones, so they are distinct too
-reserved-not : (x : ℕ) (ms : List Mark) → not (member x (map markName ms)) ≡ true → not (member x (reservedBy ms)) ≡ true
-unfolding member reservedBy
-reserved-not x [] h = refl
-reserved-not x (Mark.defined y ∷ ms) h = reserved-not x ms (not-or (eqb x y) _ h)
-reserved-not x (Mark.reserved y ∷ ms) h = go (eqb x y) h (reserved-not x ms)
-  where
-    go : (b : Bool) → not (b || member x (map markName ms)) ≡ true → (not (member x (map markName ms)) ≡ true → not (member x (reservedBy ms)) ≡ true) → not (b || member x (reservedBy ms)) ≡ true
-    go true h ih = absurd (let z : _≡_ {A = ℕ} 0 1 = cc in omega arith)
-    go false h ih = ih h
+abbrev pub verdictOf : Reading → Names → ℕ → ℕ → ℕ → Verdict
+verdictOf reading.Bad ns counter m work = verdict.BadBook
+verdictOf (reading.Book x) ns counter m work = pickVerdict (leb counter (2 ^ 32)) (namesVerdict ns x m work) verdict.BadBook
 
-reserved-distinct : (ms : List Mark) → distinct (map markName ms) ≡ true → distinct (reservedBy ms) ≡ true
-unfolding distinct reservedBy
-reserved-distinct [] h = refl
-reserved-distinct (Mark.defined y ∷ ms) h = reserved-distinct ms (split (not (member y (map markName ms))) (distinct (map markName ms)) h .1)
-reserved-distinct (Mark.reserved y ∷ ms) h =
-    let t : (not (member y (map markName ms)) ≡ true) × (distinct (map markName ms) ≡ true) = split (not (member y (map markName ms))) (distinct (map markName ms)) h in
-    rw (reserved-not y ms (t .0), reserved-distinct ms (t .1))
+-- the map with the names that start `llvm.`
+abbrev pub intrinsicsIn : Names → List ℕ → List ℕ
+intrinsicsIn names.Bad barred = barred
+intrinsicsIn (names.Sorted from to) barred = markedRange barred from to
 
-reserved-below : (m : ℕ) → m ≤ 131072 → (ms : List Mark) → Each (λ k. markName k < m) ms → AllBelow 2048 (reservedBy ms)
-unfolding reservedBy
-reserved-below m f [] k = tt
-reserved-below m f (Mark.defined y ∷ ms) k = reserved-below m f ms (k .1)
-reserved-below m f (Mark.reserved y ∷ ms) k = (omega (arith, k .0), reserved-below m f ms (k .1))
+abbrev pub intrinsic : List ℕ
+intrinsic = 108 ∷ 108 ∷ 118 ∷ 109 ∷ 46 ∷ []
 
-swapped : (a b : Bool) → (a || (b || false)) ≡ (b || a)
-swapped true true = refl
-swapped true false = refl
-swapped false true = refl
-swapped false false = refl
+-- ---- the names that may not be called
+module _ (bs : List ℕ) (ns : List (List ℕ)) (en : namesOf bs ≡ some ns) where
+  abbrev from : ℕ
+  from = firstWith intrinsic (lines bs)
 
--- the code's scan is the definition
-pub scan-forbidden : (s bs : List ℕ) (c : Counted) (ns : List (List ℕ)) → Holds s c → namesOf bs ≡ some ns → length ns ≡ c .count
-    → scan (barredIn (entries (kindsIn s) (wordsIn s)) (lines bs)) (c .count) (entries (kindsIn s) (wordsIn s)) ≡ forbidden ns (c .book)
-unfolding forbidden onceEach isIntrinsic bytes
-scan-forbidden s bs c ns h en el =
-    rw (h .written) (scan-book (barredIn (encode (c .book)) (lines bs)) (c .count) ns (c .book .marks) right (c .book) (h .limits))
-  where
-    fresh : allNew (replicate 2048 0) (wordsAt isReserved (encode (c .book))) ≡ true
-    fresh =
-        rw (reserved-words (c .book)) (new-distinct 2048 (reservedBy (c .book .marks)) (reserved-below (c .count) (h .few) (c .book .marks) (h .limits .marks))
-        ∙ reserved-distinct (c .book .marks) (split (distinct (map markName (c .book .marks))) _ (h .limits .once) .0))
+  abbrev to : ℕ
+  to = pastWith intrinsic (lines bs)
 
-    right : (x : ℕ) → x < c .count → barredIn (encode (c .book)) (lines bs) x ≡ (member x (reservedBy (c .book .marks)) || isIntrinsic (nameAt ns x))
-    right x f =
-        let a : (leb (firstWith intrinsic (lines bs)) x && ltb x (pastWith intrinsic (lines bs))) ≡ isIntrinsic (nameAt ns x) =
-        range-test intrinsic bs ns _ _ en (record { first = refl; past = refl }) x (omega (arith, el)) in
-        let b : bitAt (reservedMap (encode (c .book))) x ≡ (member x (reservedBy (c .book .marks)) || false) =
-        bits-marked (replicate 2048 0) (wordsAt isReserved (encode (c .book))) fresh x ∙ rw (reserved-words (c .book), bit-none 2048 x) in
-        rw (a, b) (swapped (isIntrinsic (nameAt ns x)) (member x (reservedBy (c .book .marks))))
+  past-fits : to ≤ length ns
+  past-fits = rw (names-lines bs ns en) (range-order intrinsic ns .1)
+
+  in-range : (x : ℕ) → (leb from x && ltb x to) ≡ isIntrinsic (nameAt ns x)
+  unfolding isIntrinsic bytes nameAt starts
+  in-range x = go (ltb x (length ns)) refl
+    where
+      none-after : (b : Bool) → (b && false) ≡ false
+      none-after true = refl
+      none-after false = refl
+
+      go : (t : Bool) → ltb x (length ns) ≡ t → (leb from x && ltb x to) ≡ isIntrinsic (nameAt ns x)
+      go true e = range-test intrinsic bs ns _ _ en (record { first = refl; past = refl }) x (ltb-true x (length ns) e)
+      go false e =
+          let l : length ns ≤ x = ltb-false x (length ns) e in
+          rw (le-ltb x to (omega (arith, past-fits)), List·getD-eq-default ns [] l) (none-after (leb from x))
+
+  -- by their bits
+  uncallable-bits : length ns ≤ 131072 → (b : Book) (x : ℕ) → barredWith (markedRange (replicate 2048 0) from to) b x ≡ uncallable ns (b .marks) x
+  unfolding uncallable
+  uncallable-bits few b x =
+      ap (λ t. member x (reservedBy (b .marks)) || t)
+      (bit-range (replicate 2048 0) from to (omega (arith, past-fits, length-replicate {A = ℕ} 2048 0)) x ∙ rw (in-range x, bit-none 2048 x) (or-false (isIntrinsic (nameAt ns x))))
+
+  pub book-forbidden : length ns ≤ 131072 → (b : Book) → forbiddenFunction (barredWith (markedRange (replicate 2048 0) from to) b) (b .function) ≡ forbidden ns b
+  unfolding forbidden
+  book-forbidden few b = ap (λ t. forbiddenFunction t (b .function)) (fun-ext (uncallable-bits few b))
 
 -- ---- the refusals in order
 module _ (s bs : List ℕ) (counter work : ℕ) where
@@ -141,71 +139,69 @@ module _ (s bs : List ℕ) (counter work : ℕ) where
           unfolding checked refusalOf bind okOr require given
           says-sound h = sym (rw (ec, le-leb counter (2 ^ 32) fits, names-in, free, le-leb (workFor (c .count)) work h))
 
--- from a test to what it found
-pub found-book : (s : List ℕ) → there (bookIn s) ≡ true → (c : Counted) × (bookIn s ≡ some c)
-found-book s h = go (bookIn s) refl h
+-- ---- the whole answer
+module _ (s bs : List ℕ) (counter work : ℕ) where
+  abbrev pub spelled : Names
+  spelled = namesRead (accepted bs (getD s 1 0)) (firstWith intrinsic (lines bs)) (pastWith intrinsic (lines bs))
+
+  abbrev pub read : Reading
+  read = readingIn (intrinsicsIn spelled (replicate 2048 0)) (bookIn s)
+
+  module _ (c : Counted) (ec : bookIn s ≡ some c) (fits : counter ≤ 2 ^ 32) where
+    holds : Holds s c
+    holds = slice-holds s c ec
+
+    sized : (ns : List (List ℕ)) → namesOf bs ≡ some ns → length ns ≡ c .count → (v : Bool) → forbidden ns (c .book) ≡ v → (t : Bool) → leb (workFor (getD s 1 0)) work ≡ t
+        → says s bs counter work (numberOf (pickVerdict v verdict.Barred (pickVerdict t verdict.Sound verdict.ShortWork)))
+    sized ns en el true ev t et = says-barred s bs counter work c ec fits ns en el ev
+    sized ns en el false ev true et = says-sound s bs counter work c ec fits ns en el ev (rw (holds .count) (leb-true _ _ et))
+    sized ns en el false ev false et = says-work s bs counter work c ec fits ns en el ev (rw (holds .count) (leb-false _ _ et))
+
+    by-names : (u : Bool) → accepted bs (getD s 1 0) ≡ u
+        → says s bs counter work (numberOf (namesVerdict (namesRead u (firstWith intrinsic (lines bs)) (pastWith intrinsic (lines bs))) (forbiddenFunction (barredWith (intrinsicsIn (namesRead u (firstWith intrinsic (lines bs)) (pastWith intrinsic (lines bs))) (replicate 2048 0)) (c .book)) (c .book .function)) (getD s 1 0) work))
+    by-names true eu =
+        let n = accepted-iff bs (getD s 1 0) .0 eu in
+        let el : length (n .0) ≡ c .count = n .2 ∙ sym (holds .count) in
+        let f = book-forbidden bs (n .0) (n .1) (omega (arith, el, holds .few)) (c .book) in
+        sized (n .0) (n .1) el _ (sym f) (leb (workFor (getD s 1 0)) work) refl
+    by-names false eu = says-names s bs counter work c ec fits (ap (accepted bs) (holds .count) ∙ eu)
+
+  pub check-number : says s bs counter work (numberOf (verdictOf read spelled counter (getD s 1 0) work))
+  check-number = book (bookIn s) refl
+    where
+      book : (o : Option Counted) → bookIn s ≡ o → says s bs counter work (numberOf (verdictOf (readingIn (intrinsicsIn spelled (replicate 2048 0)) o) spelled counter (getD s 1 0) work))
+      book none e = says-book s bs counter work (ap there e)
+      book (some c) e = counted (leb counter (2 ^ 32)) refl
+        where
+          counted : (t : Bool) → leb counter (2 ^ 32) ≡ t → says s bs counter work (numberOf (pickVerdict t (namesVerdict spelled (forbiddenFunction (barredWith (intrinsicsIn spelled (replicate 2048 0)) (c .book)) (c .book .function)) (getD s 1 0) work) verdict.BadBook))
+          counted true et = by-names c e (leb-true counter (2 ^ 32) et) (accepted bs (getD s 1 0)) refl
+          counted false et = says-counter s bs counter work c e (leb-false counter (2 ^ 32) et)
+
+-- ---- the arms of the code
+-- a work slice is long enough: by a division, so that nothing can overflow
+pub work-test : (m w : ℕ) → 64 ≤ w → leb m ((w - 64) / 8) ≡ leb (workFor m) w
+work-test m w h = go (leb (workFor m) w) refl
   where
-    go : (o : Option Counted) → bookIn s ≡ o → there o ≡ true → (c : Counted) × (bookIn s ≡ some c)
-    go none e t = absurd (let z : _≡_ {A = ℕ} 0 1 = cc in omega arith)
-    go (some c) e t = (c, e)
+    go : (t : Bool) → leb (workFor m) w ≡ t → leb m ((w - 64) / 8) ≡ t
+    go true e = le-leb m ((w - 64) / 8) (omega (arith, leb-true (workFor m) w e))
+    go false e = lt-leb m ((w - 64) / 8) (omega (arith, leb-false (workFor m) w e))
 
--- ---- the returns of the code, over the parts that it lends
-abbrev pub lent : List ℕ → List Entry
-lent s = entries (take (2 + getD s 0 0 - 2) (drop 2 s)) (take (length s - (2 + getD s 0 0)) (drop (2 + getD s 0 0) s))
+pub work-short : (m w : ℕ) → w < 64 → false ≡ leb (workFor m) w
+work-short m w h = sym (lt-leb (workFor m) w (omega arith))
 
-module _ (s bs : List ℕ) (counter work : ℕ) (t : Bool) (et : t ≡ there (bookIn s)) where
-  pub arm-book : t ≡ false → says s bs counter work 1
-  arm-book h = says-book s bs counter work (sym et ∙ h)
+pub no-count : (s : List ℕ) → length s < 2 → 0 ≡ getD s 1 0
+no-count [] h = refl
+no-count (n ∷ []) h = refl
+no-count (n ∷ (m ∷ es)) h = absurd (omega arith)
 
-  module _ (ok : t ≡ true) where
-    held : (c : Counted) × (bookIn s ≡ some c)
-    held = found-book s (sym et ∙ ok)
-
-    holds : Holds s (held .0)
-    holds = slice-holds s (held .0) (held .1)
-
-    -- the counts are there, and the parts lie within the slice
-    pub arm-two : 1 < length s
-    arm-two = omega (arith, holds .size)
-
-    pub arm-most : getD s 0 0 ≤ 1048576
-    arm-most = holds .most
-
-    pub arm-few : getD s 1 0 ≤ 131072
-    arm-few = omega (arith, holds .few, holds .count)
-
-    pub arm-size : length s ≡ 2 + 2 * getD s 0 0
-    arm-size = holds .size
-
-    pub arm-counter : 2 ^ 32 < counter → says s bs counter work 1
-    arm-counter h = says-counter s bs counter work (held .0) (held .1) h
-
-    module _ (fits : counter ≤ 2 ^ 32) (u : Bool) (eu : u ≡ accepted bs (getD s 1 0)) where
-      pub arm-names : u ≡ false → says s bs counter work 2
-      arm-names h = says-names s bs counter work (held .0) (held .1) fits (ap (accepted bs) (holds .count) ∙ sym eu ∙ h)
-
-      module _ (nok : u ≡ true) where
-        named : (ns : List (List ℕ)) × (namesOf bs ≡ some ns) × (length ns ≡ getD s 1 0)
-        named = accepted-iff bs (getD s 1 0) .0 (sym eu ∙ nok)
-
-        size : length (named .0) ≡ held .0 .count
-        size = named .2 ∙ sym (holds .count)
-
-        module _ (v : Bool) (ev : v ≡ scan (barredIn (lent s) (lines bs)) (getD s 1 0) (lent s)) where
-          scanned : forbidden (named .0) (held .0 .book) ≡ v
-          scanned =
-              sym (scan-forbidden s bs (held .0) (named .0) holds (named .1) size)
-              ∙ sym (ev ∙ ap (λ es. scan (barredIn es (lines bs)) (getD s 1 0) es) (slice-parts s (omega (arith, arm-two)) (holds .most) arm-few (holds .size))
-              ∙ ap (λ m. scan (barredIn (entries (kindsIn s) (wordsIn s)) (lines bs)) m (entries (kindsIn s) (wordsIn s))) (sym (holds .count)))
-
-          pub arm-barred : v ≡ true → says s bs counter work 3
-          arm-barred h = says-barred s bs counter work (held .0) (held .1) fits (named .0) (named .1) size (scanned ∙ h)
-
-          module _ (free : v ≡ false) where
-            pub arm-work : work < 8 * getD s 1 0 + 64 → says s bs counter work 4
-            arm-work h =
-                says-work s bs counter work (held .0) (held .1) fits (named .0) (named .1) size (scanned ∙ free) (subst (λ m. work < 8 * m + 64) (sym (holds .count)) h)
-
-            pub arm-sound : 8 * getD s 1 0 + 64 ≤ work → says s bs counter work 0
-            arm-sound h =
-                says-sound s bs counter work (held .0) (held .1) fits (named .0) (named .1) size (scanned ∙ free) (subst (λ m. 8 * m + 64 ≤ work) (sym (holds .count)) h)
+-- the whole, over what the code has at hand
+pub check-arm : (s bs : List ℕ) (counter work count : ℕ) (nm : Names) (map : List ℕ) (rd : Reading) (v : Verdict)
+    → count ≡ getD s 1 0 → nm ≡ namesRead (accepted bs count) (firstWith intrinsic (lines bs)) (pastWith intrinsic (lines bs)) → map ≡ intrinsicsIn nm (replicate 2048 0)
+    → rd ≡ readingIn map (bookIn s) → v ≡ verdictOf rd nm counter count work → says s bs counter work (numberOf v)
+check-arm s bs counter work count nm map rd v ec en em er ev =
+    let sp : nm ≡ spelled s bs counter work = en ∙ ap (λ n. namesRead (accepted bs n) (firstWith intrinsic (lines bs)) (pastWith intrinsic (lines bs))) ec in
+    ap numberOf
+    (ev ∙ ap (λ r. verdictOf r nm counter count work) (er ∙ ap (λ m. readingIn m (bookIn s)) em)
+    ∙ ap (λ n. verdictOf (readingIn (intrinsicsIn n (replicate 2048 0)) (bookIn s)) n counter count work) sp
+    ∙ ap (λ n. verdictOf (read s bs counter work) (spelled s bs counter work) counter n work) ec)
+    ∙ check-number s bs counter work

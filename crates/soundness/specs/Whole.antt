@@ -1,38 +1,102 @@
 -- The whole check: laws from its parts to the definition.
 use Prim.Native.Nat.{ℕ, _+_, _-_, _*_, _≤_, _<_}
-use mathlib.Core.Path.{_≡_, refl, ap, sym, _∙_, subst⁻¹}
-use mathlib.Core.Bool.{Bool, true, false, _&&_}
+use mathlib.Core.Path.{_≡_, refl, ap, sym, _∙_, subst, subst⁻¹, fun-ext}
+use mathlib.Core.Bool.{Bool, true, false, _&&_, _||_}
 use mathlib.Core.Option.{Option, none, some}
-use mathlib.Core.List.{List, [], _∷_, _++_, map, append-nil}
+use mathlib.Core.List.{List, [], _∷_, map}
 use native.Mathlib.Nat.{le-of-eq}
 use native.Mathlib.Omega.{arith}
-use borrow.Author.Tests.{eq-eqb, ne-eqb, le-leb, lt-leb}
-use lib.ListN.{length, getD, drop, take, length-append, length-drop}
-use lib.Seq.{drop-length, take-all, drop-drop, take-at, drop-at}
+use borrow.Author.Tests.{eqb-true, eqb-false, eq-eqb, ne-eqb, le-leb, lt-leb}
+use lib.ListN.{length, getD, drop, take, replicate, length-append, length-drop}
+use lib.Seq.{take-all, drop-drop, take-at, drop-at}
 use lib.Dec.{eqb, leb}
+use Rattle.numbers.specs.Bits.{bitAt, setBitAt, length-set-bit}
 use Rattle.book.specs.Entry.{Entry, entries, kindsOf, wordsOf}
 use Rattle.book.specs.Ast.{Mark, StructType, Function, Book}
 use Rattle.book.specs.Rule.{pick, when}
 use Rattle.book.specs.Read.{Read, got, bad, mapped, andThen}
-use Rattle.book.specs.Decode.{parts, markName, bookOf, onceEach, decode}
+use Rattle.book.specs.Decode.{parts, member, distinct, markName, bookOf, onceEach, whole, decode}
 use Rattle.book.specs.Encode.{encode}
 use Rattle.book.specs.Limits.{Each, StructLimits, Limits}
-use Rattle.book.specs.Agree.{Begins}
+use Rattle.book.specs.Forbidden.{reservedBy, forbiddenFunction}
 use Rattle.book.specs.AgreeBook.{PartsLimits, agrees-book}
 use Rattle.book.specs.AgreeInput.{slice, slice-sound, entries-back, length-kinds, length-words}
-use Rattle.book.specs.Result.{ok}
 use Rattle.book.specs.Input.{Counted, counted, bookIn}
-use Rattle.reader.specs.Length.{lenOf}
-use Rattle.reader.specs.Laws.{len-got, len-bad}
-use Rattle.reader.specs.declared.Length.{Length}
-use Rattle.reader.specs.declared.Length.the-variants as len
-use Rattle.scans.specs.Words.{mark-words, struct-words}
-use Rattle.scans.specs.Once.{onceBy, AllBelow, new-distinct}
+use Rattle.marks.specs.Once.{isNew, allNew, AllBelow, new-distinct, bit-set}
+use Rattle.blocks.specs.declared.Found.{Found}
+use Rattle.blocks.specs.declared.Found.the-variants as found
+use Rattle.soundness.specs.Reading.{goes, answered, folded, structTaken, functionEnded, nowBarred, markedBy, structsEnded, partsFound, barredWith, readingOf}
+use Rattle.soundness.specs.declared.Reading.{Reading}
+use Rattle.soundness.specs.declared.Reading.the-variants as reading
 
 -- whether there is one
 abbrev pub there : {A : Type 0} → Option A → Bool
 there none = false
 there (some a) = true
+
+-- the same of a book with the number of its names
+abbrev pub readingIn : List ℕ → Option Counted → Reading
+readingIn barred none = reading.Bad
+readingIn barred (some c) = readingOf barred (some (c .book))
+
+abbrev pub isBook : Reading → Bool
+isBook reading.Bad = false
+isBook (reading.Book x) = true
+
+pub book-there : (barred : List ℕ) (o : Option Counted) → isBook (readingIn barred o) ≡ there o
+book-there barred none = refl
+book-there barred (some c) = refl
+
+-- ---- what the pass finds, by the definition
+-- structs are taken exactly where their names are new, one after the other
+structs-taken : (barred named : List ℕ) (x : Bool) (ss : List StructType)
+    → goes (folded structTaken (functionEnded barred) named ss) (λ t. some x) ≡ when (allNew named (map (λ s. s .name) ss)) x
+unfolding folded allNew
+structs-taken barred named x [] = refl
+structs-taken barred named x (s ∷ ss) = go (isNew named (s .name)) (structs-taken barred (setBitAt named (s .name)) x ss)
+  where
+    go : (b : Bool) → goes (folded structTaken (functionEnded barred) (setBitAt named (s .name)) ss) (λ t. some x) ≡ when (allNew (setBitAt named (s .name)) (map (λ s. s .name) ss)) x
+        → goes (goes (when b (setBitAt named (s .name))) (λ t. folded structTaken (functionEnded barred) t ss)) (λ t. some x) ≡ when (b && allNew (setBitAt named (s .name)) (map (λ s. s .name) ss)) x
+    go true ih = ih
+    go false ih = refl
+
+-- the names that may not be called, with the reserved ones
+withReserved : List ℕ → List Mark → List ℕ
+withReserved barred [] = barred
+withReserved barred (k ∷ ms) = withReserved (nowBarred k barred) ms
+
+marks-taken : (marked barred : List ℕ) (rest : List ℕ → Option Bool) (ms : List Mark)
+    → goes (folded markedBy structsEnded (marked, barred) ms) (λ t. rest (t .1)) ≡ pick (allNew marked (map markName ms)) (rest (withReserved barred ms)) none
+unfolding folded allNew withReserved
+marks-taken marked barred rest [] = refl
+marks-taken marked barred rest (k ∷ ms) = go (isNew marked (markName k)) (marks-taken (setBitAt marked (markName k)) (nowBarred k barred) rest ms)
+  where
+    go : (b : Bool) → goes (folded markedBy structsEnded (setBitAt marked (markName k), nowBarred k barred) ms) (λ t. rest (t .1)) ≡ pick (allNew (setBitAt marked (markName k)) (map markName ms)) (rest (withReserved (nowBarred k barred) ms)) none
+        → goes (goes (when b (setBitAt marked (markName k), nowBarred k barred)) (λ t. folded markedBy structsEnded t ms)) (λ t. rest (t .1)) ≡ pick (b && allNew (setBitAt marked (markName k)) (map markName ms)) (rest (withReserved (nowBarred k barred) ms)) none
+    go true ih = ih
+    go false ih = refl
+
+-- their bits
+same : (a b : ℕ) → eqb a b ≡ eqb b a
+same a b = by (eqb a b) refl
+  where
+    by : (t : Bool) → eqb a b ≡ t → t ≡ eqb b a
+    by true e = sym (eq-eqb b a (sym (eqb-true a b e)))
+    by false e = sym (ne-eqb b a (λ z. eqb-false a b e (sym z)))
+
+or-swap : (a b c : Bool) → (a || (b || c)) ≡ ((b || a) || c)
+or-swap true true c = refl
+or-swap true false c = refl
+or-swap false true c = refl
+or-swap false false c = refl
+
+reserved-bits : (n : ℕ) (barred : List ℕ) (ms : List Mark) → length barred ≡ n → AllBelow n (map markName ms) → (x : ℕ) → bitAt (withReserved barred ms) x ≡ (member x (reservedBy ms) || bitAt barred x)
+unfolding withReserved reservedBy member
+reserved-bits n barred [] e h x = refl
+reserved-bits n barred (Mark.defined y ∷ ms) e h x = reserved-bits n barred ms e (h .1) x
+reserved-bits n barred (Mark.reserved y ∷ ms) e h x =
+    reserved-bits n (setBitAt barred y) ms (length-set-bit barred y ∙ e) (h .1) x
+    ∙ rw (bit-set barred y x (rw e (h .0)), same y x) (or-swap (member x (reservedBy ms)) (eqb x y) (bitAt barred x))
 
 module _ (m : ℕ) (few : m ≤ 131072) where
   marks-below : (ms : List Mark) → Each (λ k. markName k < m) ms → AllBelow 2048 (map markName ms)
@@ -43,48 +107,88 @@ module _ (m : ℕ) (few : m ≤ 131072) where
   structs-below [] k = tt
   structs-below (s ∷ ss) k = (omega (arith, k .0 .0), structs-below ss (k .1))
 
-  once-is : (b : Book) → PartsLimits m b → onceBy (encode b) ≡ onceEach b
+  -- a book's marks and structs are taken exactly where each name is there once
+  parts-answer : (barred : List ℕ) → length barred ≡ 2048 → (b : Book) (n : ℕ) → PartsLimits m b
+      → partsFound barred (got (b .marks, (b .structs, b .function)) n) ≡ answered n (when (onceEach b) (forbiddenFunction (barredWith barred b) (b .function)))
   unfolding onceEach
-  once-is b k =
-      rw (mark-words b, struct-words b, new-distinct 2048 (map markName (b .marks)) (marks-below (b .marks) (k .0)), new-distinct 2048 (map (λ s. s .name) (b .structs)) (structs-below (b .structs) (k .1 .0)))
-
-  -- the lengths of the parts are those of the book
-  book-len : (es : List Entry) → lenOf (mapped bookOf (parts m) es) ≡ lenOf (parts m es)
-  unfolding mapped
-  book-len es = go (parts m es)
+  parts-answer barred e b n k =
+      ap (answered n)
+      (marks-taken (replicate 2048 0) barred (λ r. structsEnded (replicate 2048 0, r) (b .structs, b .function)) (b .marks)
+      ∙ rw (structs-taken (withReserved barred (b .marks)) (replicate 2048 0) (forbiddenFunction (bitAt (withReserved barred (b .marks))) (b .function)) (b .structs), new-distinct 2048 (map markName (b .marks)) (marks-below (b .marks) (k .0)), new-distinct 2048 (map (λ s. s .name) (b .structs)) (structs-below (b .structs) (k .1 .0)))
+      (go (distinct (map markName (b .marks))) (distinct (map (λ s. s .name) (b .structs))) (forbiddenFunction (bitAt (withReserved barred (b .marks))) (b .function)))
+      ∙ ap (λ t. when (distinct (map markName (b .marks)) && distinct (map (λ s. s .name) (b .structs))) (forbiddenFunction t (b .function))) (fun-ext λ x. reserved-bits 2048 barred (b .marks) e (marks-below (b .marks) (k .0)) x))
     where
-      go : (r : Read (List Mark × (List StructType × Function))) → lenOf (andThen r (λ a n. got (bookOf a) n)) ≡ lenOf r
-      go (got a n) = refl
-      go bad = refl
+      go : (p q x : Bool) → pick p (when q x) none ≡ when (p && q) x
+      go true q x = refl
+      go false q x = refl
 
-  module _ (es : List Entry) (l : Length) (el : l ≡ lenOf (parts m es)) where
-    book-is : lenOf (mapped bookOf (parts m) es) ≡ l
-    book-is = book-len es ∙ sym el
+  module _ (barred : List ℕ) (size : length barred ≡ 2048) (es : List Entry) (f : Found) (ef : f ≡ partsFound barred (parts m es)) where
+    -- what was read, as a book
+    book-read : (b : Book) (n : ℕ) → mapped bookOf (parts m) es ≡ got b n → f ≡ answered n (when (onceEach b) (forbiddenFunction (barredWith barred b) (b .function)))
+    unfolding mapped
+    book-read b n e = go (parts m es) refl
+      where
+        keeps : PartsLimits m b
+        keeps = agrees-book m .sound es b n e .keeps
 
-    pub decode-bad : l ≡ len.Bad → false ≡ there (decode m es)
+        go : (r : Read (List Mark × (List StructType × Function))) → parts m es ≡ r → f ≡ answered n (when (onceEach b) (forbiddenFunction (barredWith barred b) (b .function)))
+        go (got p k) h =
+            let eb : got (bookOf p) k ≡ got b n = sym (ap (λ r. andThen r (λ a n. got (bookOf a) n)) h) ∙ e in
+            let fb : bookOf p ≡ b = cc in
+            let fk : k ≡ n = cc in
+            ef ∙ ap (partsFound barred) h ∙ parts-answer barred size (bookOf p) k (subst (PartsLimits m) (sym fb) keeps) ∙ ap (λ c. answered k (when (onceEach c) (forbiddenFunction (barredWith barred c) (c .function)))) fb ∙ ap (λ i. answered i (when (onceEach b) (forbiddenFunction (barredWith barred b) (b .function)))) fk
+        go bad h = absurd (let z : bad ≡ got b n = sym (ap (λ r. andThen r (λ a n. got (bookOf a) n)) h) ∙ e in let y : _≡_ {A = ℕ} 0 1 = cc in omega arith)
+
+    none-read : mapped bookOf (parts m) es ≡ bad → partsFound barred (parts m es) ≡ found.Bad
+    unfolding mapped
+    none-read e = by (parts m es) refl
+      where
+        by : (r : Read (List Mark × (List StructType × Function))) → parts m es ≡ r → partsFound barred r ≡ found.Bad
+        by (got p k) z = absurd (let y : got (bookOf p) k ≡ bad = sym (ap (λ r. andThen r (λ a n. got (bookOf a) n)) z) ∙ e in let w : _≡_ {A = ℕ} 0 1 = cc in omega arith)
+        by bad z = refl
+
+    -- the answer by what the definition reads
+    reads : (q : Reading) → ((r : Read Book) → mapped bookOf (parts m) es ≡ r → q ≡ readingOf barred (whole es r)) → q ≡ readingOf barred (decode m es)
     unfolding decode
-    decode-bad h = sym (rw (len-bad (mapped bookOf (parts m) es) (book-is ∙ h)))
+    reads q h = h (mapped bookOf (parts m) es) refl
 
-    module _ (n : ℕ) (h : l ≡ len.Entries n) where
-      found : (b : Book) × (mapped bookOf (parts m) es ≡ got b n)
-      found = len-got (mapped bookOf (parts m) es) n (book-is ∙ h)
+    pub reading-bad : f ≡ found.Bad → reading.Bad ≡ readingOf barred (decode m es)
+    reading-bad h = reads reading.Bad go
+      where
+        go : (r : Read Book) → mapped bookOf (parts m) es ≡ r → reading.Bad ≡ readingOf barred (whole es r)
+        go (got b n) e = once (onceEach b) (sym h ∙ book-read b n e)
+          where
+            once : (t : Bool) → found.Bad ≡ answered n (when t (forbiddenFunction (barredWith barred b) (b .function))) → reading.Bad ≡ readingOf barred (when (eqb n (length es) && t) b)
+            once true z = absurd (let y : _≡_ {A = ℕ} 0 1 = cc in omega arith)
+            once false z = last (eqb n (length es))
+              where
+                last : (u : Bool) → reading.Bad ≡ readingOf barred (when (u && false) b)
+                last true = refl
+                last false = refl
+        go bad e = refl
 
-      pub decode-short : (n ≡ length es → ⊥) → false ≡ there (decode m es)
-      unfolding decode
-      decode-short d = sym (rw (found .1, ne-eqb n (length es) d))
-
-      pub decode-once : n ≡ length es → (b : Bool) → b ≡ onceBy es → b ≡ there (decode m es)
-      unfolding decode
-      decode-once e b eb =
-          let s : Begins encode (PartsLimits m) es (found .0) n = agrees-book m .sound es (found .0) n (found .1) in
-          let d : drop n es ≡ [] = ap (λ k. drop k es) e ∙ drop-length es in
-          let f : es ≡ encode (found .0) = s .here ∙ ap (λ r. encode (found .0) ++ r) d ∙ append-nil (encode (found .0)) in
-          let o : onceBy es ≡ onceEach (found .0) = ap onceBy f ∙ once-is (found .0) (s .keeps) in
-          eb ∙ o ∙ sym (rw (found .1, eq-eqb n (length es) e) (go (onceEach (found .0)) (found .0)))
+    module _ (n : ℕ) (x : Bool) (h : f ≡ found.Entries n x) where
+      pub reading-short : (n ≡ length es → ⊥) → reading.Bad ≡ readingOf barred (decode m es)
+      reading-short d = reads reading.Bad go
         where
-          go : (t : Bool) (b : Book) → there (when t b) ≡ t
-          go true b = refl
-          go false b = refl
+          go : (r : Read Book) → mapped bookOf (parts m) es ≡ r → reading.Bad ≡ readingOf barred (whole es r)
+          go (got b k) e = once (onceEach b) (sym h ∙ book-read b k e)
+            where
+              once : (t : Bool) → found.Entries n x ≡ answered k (when t (forbiddenFunction (barredWith barred b) (b .function))) → reading.Bad ≡ readingOf barred (when (eqb k (length es) && t) b)
+              once true z = let y : n ≡ k = cc in rw (ne-eqb k (length es) (λ q. d (y ∙ q)))
+              once false z = absurd (let y : _≡_ {A = ℕ} 0 1 = cc in omega arith)
+          go bad e = refl
+
+      pub reading-book : n ≡ length es → reading.Book x ≡ readingOf barred (decode m es)
+      reading-book l = reads (reading.Book x) go
+        where
+          go : (r : Read Book) → mapped bookOf (parts m) es ≡ r → reading.Book x ≡ readingOf barred (whole es r)
+          go (got b k) e = once (onceEach b) (sym h ∙ book-read b k e)
+            where
+              once : (t : Bool) → found.Entries n x ≡ answered k (when t (forbiddenFunction (barredWith barred b) (b .function))) → reading.Book x ≡ readingOf barred (when (eqb k (length es) && t) b)
+              once true z = let y : n ≡ k = cc in let v : x ≡ forbiddenFunction (barredWith barred b) (b .function) = cc in rw (eq-eqb k (length es) (sym y ∙ l)) (ap reading.Book v)
+              once false z = absurd (let y : _≡_ {A = ℕ} 0 1 = cc in omega arith)
+          go bad e = absurd (let y : found.Entries n x ≡ found.Bad = sym h ∙ ef ∙ none-read e in let w : _≡_ {A = ℕ} 0 1 = cc in omega arith)
 
 -- ---- the slice
 -- the kinds and words of a book slice, by its entry count
@@ -102,22 +206,22 @@ slice-at [] h = absurd (omega arith)
 slice-at (n ∷ []) h = absurd (omega arith)
 slice-at (n ∷ (m ∷ es)) h = refl
 
-pub slice-short : (s : List ℕ) → length s < 2 → false ≡ there (bookIn s)
+pub slice-short : (barred s : List ℕ) → length s < 2 → reading.Bad ≡ readingIn barred (bookIn s)
 unfolding bookIn
-slice-short [] h = refl
-slice-short (n ∷ []) h = refl
-slice-short (n ∷ (m ∷ es)) h = absurd (omega arith)
+slice-short barred [] h = refl
+slice-short barred (n ∷ []) h = refl
+slice-short barred (n ∷ (m ∷ es)) h = absurd (omega arith)
 
-module _ (s : List ℕ) (two : 2 ≤ length s) where
-  pub slice-entries : 1048576 < getD s 0 0 → false ≡ there (bookIn s)
+module _ (barred s : List ℕ) (two : 2 ≤ length s) where
+  pub slice-entries : 1048576 < getD s 0 0 → reading.Bad ≡ readingIn barred (bookIn s)
   slice-entries h = sym (rw (slice-at s two, lt-leb (getD s 0 0) 1048576 h))
 
   module _ (n : getD s 0 0 ≤ 1048576) where
-    pub slice-names : 131072 < getD s 1 0 → false ≡ there (bookIn s)
+    pub slice-names : 131072 < getD s 1 0 → reading.Bad ≡ readingIn barred (bookIn s)
     slice-names h = sym (rw (slice-at s two, le-leb (getD s 0 0) 1048576 n, lt-leb (getD s 1 0) 131072 h))
 
     module _ (m : getD s 1 0 ≤ 131072) where
-      pub slice-long : (length s ≡ 2 + 2 * getD s 0 0 → ⊥) → false ≡ there (bookIn s)
+      pub slice-long : (length s ≡ 2 + 2 * getD s 0 0 → ⊥) → reading.Bad ≡ readingIn barred (bookIn s)
       slice-long h =
           sym (rw (slice-at s two, le-leb (getD s 0 0) 1048576 n, le-leb (getD s 1 0) 131072 m, ne-eqb (length (drop 2 s)) (2 * getD s 0 0) (λ z. h (omega (arith, length-drop 2 s)))))
 
@@ -132,11 +236,11 @@ module _ (s : List ℕ) (two : 2 ≤ length s) where
             let e : 2 + getD s 0 0 - 2 ≡ getD s 0 0 = omega arith in
             rw (e, take-all (length s - (2 + getD s 0 0)) (drop (2 + getD s 0 0) s) (le-of-eq (length-drop (2 + getD s 0 0) s)), ← drop-drop (getD s 0 0) 2 s)
 
-        pub slice-ok : (b : Bool) → b ≡ there (decode (getD s 1 0) (entries (kindsIn s) (wordsIn s))) → b ≡ there (bookIn s)
+        pub slice-ok : (r : Reading) → r ≡ readingOf barred (decode (getD s 1 0) (entries (kindsIn s) (wordsIn s))) → r ≡ readingIn barred (bookIn s)
         unfolding counted
-        slice-ok b e = e ∙ sym (rw slice-book (go (decode (getD s 1 0) (entries (kindsIn s) (wordsIn s)))))
+        slice-ok r e = e ∙ sym (rw slice-book (go (decode (getD s 1 0) (entries (kindsIn s) (wordsIn s)))))
           where
-            go : (o : Option Book) → there (counted (getD s 1 0) o) ≡ there o
+            go : (o : Option Book) → readingIn barred (counted (getD s 1 0) o) ≡ readingOf barred o
             go none = refl
             go (some b) = refl
 

@@ -1,19 +1,22 @@
 // The whole check: whether a book slice, its names, a label counter and the length of a work slice are fit for
-// a translation, or the first of document 01's refusals 1 to 4.
+// a translation, or the first of document 01's refusals 1 to 4. It passes once over the names and once over the entries.
 mod parts;
 
+use blocks::Found;
 use parts::parts_len;
-use reader::Length;
-use scans::forbidden::forbidden_entries;
-use scans::marks::once_each;
+use spelling::Names;
 ghost use mathlib.Core.Path.{_≡_};
+ghost use mathlib.Core.Bool.{not};
 ghost use Prim.Native.Nat.{_≤_};
+ghost use lib.Dec.{leb};
+ghost use lib.ListN.{length, getD};
 ghost use Rattle.book.specs.Entry.{entries};
 ghost use Rattle.book.specs.Decode.{decode};
 ghost use Rattle.book.specs.Input.{bookIn};
-ghost use Rattle.book.specs.Check.{checked, refusalOf};
-ghost use Rattle.soundness.specs.Whole.{there};
-ghost use Rattle.soundness.specs.Verdict.{numberOf};
+ghost use Rattle.book.specs.Check.{checked, refusalOf, workFor};
+ghost use Rattle.soundness.specs.Reading.{readingOf};
+ghost use Rattle.soundness.specs.Whole.{there, readingIn};
+ghost use Rattle.soundness.specs.Verdict.{numberOf, verdictOf, intrinsicsIn};
 
 // The answer: a sound book, or the first refusal.
 pub enum Verdict {
@@ -24,62 +27,118 @@ pub enum Verdict {
     ShortWork,
 }
 
-// Whether the entries are a book's.
-fn check_entries(kinds: &[u64], words: &[u64], names: u64) -> bool
+// A book, with something forbidden in it or not; or none.
+enum Reading {
+    Book(bool),
+    Bad,
+}
+
+// The book of the entries. `barred` has a bit set for each name that may not be called, apart from the reserved ones.
+fn read_entries(kinds: &[u64], words: &[u64], names: u64, barred: &mut [u64]) -> Reading
     requires { ⌜ names ≤ 131072 ⌝ }
-    ensures { λ r. ⌜ r ≡ there (decode names (entries (now (kinds .entry)) (now (words .entry)))) ⌝ }
+    requires { ⌜ length (now barred) ≡ 2048 ⌝ }
+    ensures { λ r. ⌜ r ≡ readingOf (now (barred .entry)) (decode names (entries (now (kinds .entry)) (now (words .entry)))) ⌝ }
 {
-    let Length::Entries(n) = parts_len(kinds, words, names) else {
-        return false;
+    let Found::Entries(n, forbidden) = parts_len(kinds, words, names, barred) else {
+        return Reading::Bad;
     };
-    if n != reader::shorter(kinds, words) {
-        return false;
+    if n == reader::shorter(kinds, words) {
+        Reading::Book(forbidden)
+    } else {
+        Reading::Bad
     }
-    once_each(kinds, words)
+}
+
+// The book of the slice.
+fn read_book(book: &[u64], barred: &mut [u64]) -> Reading
+    requires { ⌜ length (now barred) ≡ 2048 ⌝ }
+    ensures { λ r. ⌜ r ≡ readingIn (now (barred .entry)) (bookIn (now (book .entry))) ⌝ }
+{
+    if book.len() < 2 {
+        return Reading::Bad;
+    }
+    let n = book[0];
+    let names = book[1];
+    if 1_048_576 < n {
+        return Reading::Bad;
+    }
+    if 131_072 < names {
+        return Reading::Bad;
+    }
+    let words = 2 + n as usize;
+    if book.len() != words + n as usize {
+        return Reading::Bad;
+    }
+    read_entries(&book[2..words], &book[words..], names, barred)
 }
 
 // Whether the slice is a book: refusal 1, but for the counter.
 pub fn check_book(book: &[u64]) -> bool
     ensures { λ r. ⌜ r ≡ there (bookIn (now (book .entry))) ⌝ }
 {
-    if book.len() < 2 {
+    let mut barred = [0u64; 2048];
+    match read_book(book, &mut barred) {
+        Reading::Book(_) => true,
+        Reading::Bad => false,
+    }
+}
+
+// The number of names that the slice says, 0 where it says none.
+fn name_count(book: &[u64]) -> u64
+    ensures { λ r. ⌜ r ≡ getD (now (book .entry)) 1 0 ⌝ }
+{
+    if book.len() < 2 { 0 } else { book[1] }
+}
+
+// Sets the bits of the names that start `llvm.`.
+fn bar_intrinsics(names: Names, barred: &mut [u64])
+    ensures { λ _. ⌜ now (barred .exit) ≡ intrinsicsIn names (now (barred .entry)) ⌝ }
+{
+    if let Names::Sorted(from, to) = names {
+        marks::mark_range(barred, from, to);
+    }
+}
+
+// Whether a work slice is long enough for so many names.
+fn work_fits(count: u64, work: usize) -> bool
+    ensures { λ r. ⌜ r ≡ leb (workFor count) work ⌝ }
+{
+    if work < 64 {
         return false;
     }
-    let n = book[0];
-    let names = book[1];
-    if 1_048_576 < n {
-        return false;
+    count as usize <= (work - 64) / 8
+}
+
+// The first refusal of 1 to 4, from what was read.
+fn judged(book: Reading, names: Names, counter: u64, count: u64, work: usize) -> Verdict
+    ensures { λ r. ⌜ r ≡ verdictOf book names counter count work ⌝ }
+{
+    let Reading::Book(forbidden) = book else {
+        return Verdict::BadBook;
+    };
+    if 0x1_0000_0000 < counter {
+        return Verdict::BadBook;
     }
-    if 131_072 < names {
-        return false;
+    let Names::Sorted(_, _) = names else {
+        return Verdict::BadNames;
+    };
+    if forbidden {
+        return Verdict::Barred;
     }
-    let words = 2 + n as usize;
-    if book.len() != words + n as usize {
-        return false;
+    if work_fits(count, work) {
+        Verdict::Sound
+    } else {
+        Verdict::ShortWork
     }
-    check_entries(&book[2..words], &book[words..], names)
 }
 
 // The first refusal of 1 to 4 that applies.
 pub fn check(book: &[u64], names: &[u8], counter: u64, work: usize) -> Verdict
     ensures { λ r. ⌜ numberOf r ≡ refusalOf (checked (now (book .entry)) (now (names .entry)) counter work) ⌝ }
 {
-    if !check_book(book) {
-        return Verdict::BadBook;
-    }
-    if 0x1_0000_0000 < counter {
-        return Verdict::BadBook;
-    }
-    let count = book[1];
-    if !spelling::check_names(names, count) {
-        return Verdict::BadNames;
-    }
-    let words = 2 + book[0] as usize;
-    if forbidden_entries(&book[2..words], &book[words..], count, names) {
-        return Verdict::Barred;
-    }
-    if work < 8 * count as usize + 64 {
-        return Verdict::ShortWork;
-    }
-    Verdict::Sound
+    let count = name_count(book);
+    let spelled = spelling::read_names(names, count, b"llvm.");
+    let mut barred = [0u64; 2048];
+    bar_intrinsics(spelled, &mut barred);
+    judged(read_book(book, &mut barred), spelled, counter, count, work)
 }

@@ -1,41 +1,35 @@
-// The parts of a book: marks, named structs, the function.
+// The parts of a book in one pass: marks, named structs, the function. Repeated marks and struct names are found by maps with a
+// bit for each name. `barred` has a bit set for each name that may not be called; reserved names are added to it before the
+// function is read.
+use blocks::Found;
+use blocks::Pass;
 use blocks::function_len;
+use blocks::last_pass;
+use blocks::then_found;
+use marks::mark_new;
 use reader::Front;
 use reader::Length;
-use reader::Step;
 use reader::entry_if;
 use reader::first_entry;
 use reader::items::word_len;
-use reader::last_step;
-use reader::next_step;
 use reader::shorter;
 use reader::then_len;
 use reader::types::TypeGroup;
 use reader::types::type_group;
 use reader::types::type_len;
 ghost use mathlib.Core.Path.{_≡_};
+ghost use mathlib.Core.Bool.{_&&_};
 ghost use lib.ListN.{length};
-ghost use lib.Dec.{leb};
+ghost use lib.Dec.{leb, eqb};
+ghost use Rattle.numbers.specs.Bits.{bitAt};
 ghost use Rattle.book.specs.Entry.{entries};
-ghost use Rattle.book.specs.Decode.{mark, structBody, structType, function, structsAndFunction, parts};
-ghost use Rattle.reader.specs.Length.{lenOf, stepOf};
-ghost use Rattle.soundness.specs.Parts.{markFront, isStructGroup};
-
-// A mark: kind 1 or 2, its word a name.
-fn mark_len(entry: Front, names: u64) -> Length
-    ensures { λ r. ⌜ r ≡ markFront names entry ⌝ }
-{
-    let Front::Entry(kind, word) = entry else {
-        return Length::Bad;
-    };
-    if kind == 1 {
-        return entry_if(word < names);
-    }
-    if kind == 2 {
-        return entry_if(word < names);
-    }
-    Length::Bad
-}
+ghost use Rattle.book.specs.Decode.{structBody, structType, function, structsAndFunction, parts};
+ghost use Rattle.book.specs.Forbidden.{forbiddenFunction};
+ghost use Rattle.reader.specs.Length.{lenOf};
+ghost use Rattle.marks.specs.Once.{setIf};
+ghost use Rattle.blocks.specs.Found.{passOf, never};
+ghost use Rattle.soundness.specs.Parts.{isStructGroup, plainPass};
+ghost use Rattle.soundness.specs.Reading.{markTaken, namedFound, structsFound, marksFound, partsFound};
 
 fn is_struct(group: TypeGroup) -> bool
     ensures { λ r. ⌜ r ≡ isStructGroup group ⌝ }
@@ -79,33 +73,46 @@ fn struct_len(kinds: &[u64], words: &[u64], names: u64) -> Length
     then_len(n, struct_body_len(&kinds[n..], &words[n..], names))
 }
 
+// A struct as the next step; nothing in it is forbidden.
+fn struct_pass(item: Length) -> Pass
+    ensures { λ r. ⌜ r ≡ plainPass item ⌝ }
+{
+    match item {
+        Length::Entries(n) => Pass::Next(n, false),
+        Length::Bad => Pass::Bad,
+    }
+}
+
 // What comes next behind the marks: a named struct or the function.
-fn struct_step(kinds: &[u64], words: &[u64], names: u64) -> Step
-    ensures { λ r. ⌜ r ≡ stepOf (leb 4) (structType names) (function names) (entries (now (kinds .entry)) (now (words .entry))) ⌝ }
+fn struct_step(kinds: &[u64], words: &[u64], names: u64, barred: &[u64]) -> Pass
+    ensures { λ r. ⌜ r ≡ passOf never (forbiddenFunction (bitAt (now (barred .entry)))) (leb 4) (structType names) (function names) (entries (now (kinds .entry)) (now (words .entry))) ⌝ }
 {
     let Front::Entry(kind, _) = first_entry(kinds, words) else {
-        return Step::Bad;
+        return Pass::Bad;
     };
     if 4 <= kind {
-        last_step(function_len(kinds, words, names))
+        last_pass(function_len(kinds, words, names, barred))
     } else {
-        next_step(struct_len(kinds, words, names))
+        struct_pass(struct_len(kinds, words, names))
     }
 }
 
-// Named structs and the function.
-fn structs_len(kinds: &[u64], words: &[u64], names: u64) -> Length
-    ensures { λ r. ⌜ r ≡ lenOf (structsAndFunction names (entries (now (kinds .entry)) (now (words .entry)))) ⌝ }
+// Named structs whose names are new, and the function.
+fn named_len(kinds: &[u64], words: &[u64], names: u64, barred: &[u64], named: &mut [u64]) -> Found
+    ensures { λ r. ⌜ r ≡ namedFound (now (barred .entry)) (now (named .entry)) (structsAndFunction names (entries (now (kinds .entry)) (now (words .entry)))) ⌝ }
 {
     let mut at: usize = 0;
     let mut left: usize = shorter(kinds, words);
     loop {
-        match struct_step(&kinds[at..], &words[at..], names) {
-            Step::Done(n) => return Length::Entries(at + n),
-            Step::Bad => return Length::Bad,
-            Step::Next(n) => {
+        match struct_step(&kinds[at..], &words[at..], names, barred) {
+            Pass::Done(n, forbidden) => return Found::Entries(at + n, forbidden),
+            Pass::Bad => return Found::Bad,
+            Pass::Next(n, _) => {
                 if left == 0 {
-                    return Length::Bad;
+                    return Found::Bad;
+                }
+                if !mark_new(named, words[at] as usize) {
+                    return Found::Bad;
                 }
                 at = at + n;
                 left = left - 1;
@@ -114,37 +121,69 @@ fn structs_len(kinds: &[u64], words: &[u64], names: u64) -> Length
     }
 }
 
-// What comes next in a book: a mark, or all that follows the marks.
-fn mark_step(kinds: &[u64], words: &[u64], names: u64) -> Step
-    ensures { λ r. ⌜ r ≡ stepOf (leb 3) (mark names) (structsAndFunction names) (entries (now (kinds .entry)) (now (words .entry))) ⌝ }
+// Named structs, each name once, and the function.
+fn structs_len(kinds: &[u64], words: &[u64], names: u64, barred: &[u64]) -> Found
+    ensures { λ r. ⌜ r ≡ structsFound (now (barred .entry)) (structsAndFunction names (entries (now (kinds .entry)) (now (words .entry)))) ⌝ }
 {
-    let Front::Entry(kind, word) = first_entry(kinds, words) else {
-        return Step::Bad;
-    };
-    if 3 <= kind {
-        last_step(structs_len(kinds, words, names))
-    } else {
-        next_step(mark_len(Front::Entry(kind, word), names))
-    }
+    let mut named = [0u64; 2048];
+    named_len(kinds, words, names, barred, &mut named)
 }
 
-// Marks, named structs and the function.
-pub fn parts_len(kinds: &[u64], words: &[u64], names: u64) -> Length
-    ensures { λ r. ⌜ r ≡ lenOf (parts names (entries (now (kinds .entry)) (now (words .entry)))) ⌝ }
+// Whether a name has its first mark here, kind 1 or 2; then it is marked, and barred if it is reserved.
+fn mark(kind: u64, word: u64, names: u64, marked: &mut [u64], barred: &mut [u64]) -> bool
+    requires { ⌜ length (now marked) ≡ length (now barred) ⌝ }
+    ensures { λ r. ⌜ r ≡ markTaken names (now (marked .entry)) kind word ⌝ }
+    ensures { λ r. ⌜ now (marked .exit) ≡ setIf r (now (marked .entry)) word ⌝ }
+    ensures { λ r. ⌜ now (barred .exit) ≡ setIf (r && eqb kind 2) (now (barred .entry)) word ⌝ }
 {
-    let mut at: usize = 0;
-    let mut left: usize = shorter(kinds, words);
-    loop {
-        match mark_step(&kinds[at..], &words[at..], names) {
-            Step::Done(n) => return Length::Entries(at + n),
-            Step::Bad => return Length::Bad,
-            Step::Next(n) => {
-                if left == 0 {
-                    return Length::Bad;
-                }
-                at = at + n;
-                left = left - 1;
-            }
-        }
+    if kind == 0 {
+        return false;
     }
+    if 2 < kind {
+        return false;
+    }
+    if names <= word {
+        return false;
+    }
+    if !mark_new(marked, word as usize) {
+        return false;
+    }
+    if kind == 2 {
+        numbers::bits::set_bit(barred, word as usize);
+    }
+    true
+}
+
+// Names that have their first mark here, then all that follows the marks.
+fn marks_len(
+    kinds: &[u64],
+    words: &[u64],
+    names: u64,
+    marked: &mut [u64],
+    barred: &mut [u64],
+) -> Found
+    requires { ⌜ length (now marked) ≡ length (now barred) ⌝ }
+    ensures { λ r. ⌜ r ≡ marksFound (now (marked .entry)) (now (barred .entry)) (parts names (entries (now (kinds .entry)) (now (words .entry)))) ⌝ }
+{
+    let n = shorter(kinds, words);
+    let mut at: usize = 0;
+    while at < n {
+        if 3 <= kinds[at] {
+            return then_found(at, structs_len(&kinds[at..], &words[at..], names, barred));
+        }
+        if !mark(kinds[at], words[at], names, marked, barred) {
+            return Found::Bad;
+        }
+        at += 1;
+    }
+    Found::Bad
+}
+
+// Marks, each name once, named structs and the function.
+pub fn parts_len(kinds: &[u64], words: &[u64], names: u64, barred: &mut [u64]) -> Found
+    requires { ⌜ length (now barred) ≡ 2048 ⌝ }
+    ensures { λ r. ⌜ r ≡ partsFound (now (barred .entry)) (parts names (entries (now (kinds .entry)) (now (words .entry)))) ⌝ }
+{
+    let mut marked = [0u64; 2048];
+    marks_len(kinds, words, names, &mut marked, barred)
 }

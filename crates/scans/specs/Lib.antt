@@ -1,4 +1,0 @@
-pub mod Words
-pub mod Once
-pub mod Scan
-pub mod Barred

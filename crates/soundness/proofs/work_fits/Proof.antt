@@ -1,0 +1,14 @@
+-- `soundness::work_fits` meets its contract: 64 words and eight for each name.
+use Rattle.soundness.specs.Verdict as verdict
+use borrow.Author.Needs.{needs}
+use Rattle.soundness.proofs.work_fits.Statement.{statement}
+use Rattle.soundness.proofs.work_fits.Tie as tie
+
+returns : tie.Need-returns
+returns c = verdict.work-short _ _ (c .if1 .taken)
+
+returns-2 : tie.Need-returns-2
+returns-2 c = verdict.work-test _ _ (c .if1 .left)
+
+pub work-fits-spec : {M : Type 1} → statement M
+work-fits-spec = tie.close (tie.spec returns returns-2)
