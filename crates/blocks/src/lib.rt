@@ -1,17 +1,22 @@
 // How many entries a block or the function takes at the front of the lent kinds and words, and whether something in it is
 // forbidden: a value of kind 37, or a call of a name whose bit is set in `barred`. `names` is the number of the book's names.
-mod forbidden;
+mod calls;
 
-use crate::forbidden::inst_found;
-use crate::forbidden::term_found;
+use crate::calls::call_len;
+use insts::term_len;
+use reader::Found;
 use reader::Front;
-use reader::Length;
 use reader::ListHead;
+use reader::Pass;
 use reader::first_entry;
 use reader::items::Item;
 use reader::items::list_len;
 use reader::items::word_len;
+use reader::join_found;
+use reader::last_pass;
 use reader::list_head;
+use reader::next_pass;
+use reader::plain;
 use reader::shorter;
 use reader::types::type_len;
 ghost use mathlib.Core.Path.{_≡_};
@@ -21,52 +26,9 @@ ghost use Rattle.book.specs.Entry.{entries};
 ghost use Rattle.book.specs.Read.{closing, isClosing, many, both};
 ghost use Rattle.book.specs.Fields.{Item as BookItem};
 ghost use Rattle.book.specs.Decode.{type as typeReader, item, inst, term, body, basicBlock, function};
-ghost use Rattle.book.specs.Forbidden.{any, otherTerm, forbiddenInst, forbiddenBlock, forbiddenFunction};
-ghost use Rattle.blocks.specs.Found.{foundOf, behindOf, FoundRoom, nextOf, lastOf, passOf, never, forbiddenBody};
-
-// How many entries something takes, and whether something in it is forbidden.
-pub enum Found {
-    Entries(usize, bool),
-    Bad,
-}
-
-// What comes next in a list: its end or an item, of so many entries, forbidden or not; or neither.
-pub enum Pass {
-    Done(usize, bool),
-    Next(usize, bool),
-    Bad,
-}
-
-// What was found behind entries that nothing is forbidden in.
-pub fn then_found(first: usize, second: Found) -> Found
-    requires { ⌜ FoundRoom first second ⌝ }
-    ensures { λ r. ⌜ r ≡ behindOf first second ⌝ }
-{
-    match second {
-        Found::Entries(n, barred) => Found::Entries(first + n, barred),
-        Found::Bad => Found::Bad,
-    }
-}
-
-// An item as the next step.
-pub fn next_pass(item: Found) -> Pass
-    ensures { λ r. ⌜ r ≡ nextOf item ⌝ }
-{
-    match item {
-        Found::Entries(n, barred) => Pass::Next(n, barred),
-        Found::Bad => Pass::Bad,
-    }
-}
-
-// An end as the last step.
-pub fn last_pass(end: Found) -> Pass
-    ensures { λ r. ⌜ r ≡ lastOf end ⌝ }
-{
-    match end {
-        Found::Entries(n, barred) => Pass::Done(n, barred),
-        Found::Bad => Pass::Bad,
-    }
-}
+ghost use Rattle.book.specs.Forbidden.{any, otherItem, otherTerm, forbiddenInst, forbiddenBlock, forbiddenFunction};
+ghost use Rattle.reader.specs.Found.{foundOf, passOf, pairTest, never};
+ghost use Rattle.blocks.specs.Calls.{forbiddenBody};
 
 // What comes next in a block: its terminator, or an instruction.
 fn body_step(kinds: &[u64], words: &[u64], names: u64, barred: &[u64]) -> Pass
@@ -76,9 +38,9 @@ fn body_step(kinds: &[u64], words: &[u64], names: u64, barred: &[u64]) -> Pass
         return Pass::Bad;
     };
     if 90 <= kind {
-        last_pass(term_found(kinds, words, names))
+        last_pass(term_len(kinds, words, names))
     } else {
-        next_pass(inst_found(kinds, words, names, barred))
+        next_pass(call_len(kinds, words, names, barred))
     }
 }
 
@@ -109,10 +71,10 @@ fn body_len(kinds: &[u64], words: &[u64], names: u64, barred: &[u64]) -> Found
 fn block_len(kinds: &[u64], words: &[u64], names: u64, barred: &[u64]) -> Found
     ensures { λ r. ⌜ r ≡ foundOf (forbiddenBlock (bitAt (now (barred .entry)))) (basicBlock names (entries (now (kinds .entry)) (now (words .entry)))) ⌝ }
 {
-    let Length::Entries(n) = word_len(first_entry(kinds, words), 7, names) else {
+    let Found::Entries(n, seen) = plain(word_len(first_entry(kinds, words), 7, names)) else {
         return Found::Bad;
     };
-    then_found(n, body_len(&kinds[n..], &words[n..], names, barred))
+    join_found(n, seen, body_len(&kinds[n..], &words[n..], names, barred))
 }
 
 // What comes next in a list of blocks.
@@ -151,24 +113,25 @@ fn blocks_len(kinds: &[u64], words: &[u64], names: u64, barred: &[u64]) -> Found
 
 // A function's parameters and blocks.
 fn params_and_blocks_len(kinds: &[u64], words: &[u64], names: u64, barred: &[u64]) -> Found
-    ensures { λ r. ⌜ r ≡ foundOf (λ p. any (forbiddenBlock (bitAt (now (barred .entry)))) (p .1)) (both (many (item names BookItem.param)) (many (basicBlock names)) (entries (now (kinds .entry)) (now (words .entry)))) ⌝ }
+    ensures { λ r. ⌜ r ≡ foundOf (pairTest (any (otherItem BookItem.param)) (any (forbiddenBlock (bitAt (now (barred .entry)))))) (both (many (item names BookItem.param)) (many (basicBlock names)) (entries (now (kinds .entry)) (now (words .entry)))) ⌝ }
 {
-    let Length::Entries(n) = list_len(kinds, words, names, Item::Param, shorter(kinds, words))
+    let Found::Entries(n, seen) = list_len(kinds, words, names, Item::Param, shorter(kinds, words))
     else {
         return Found::Bad;
     };
-    then_found(n, blocks_len(&kinds[n..], &words[n..], names, barred))
+    join_found(n, seen, blocks_len(&kinds[n..], &words[n..], names, barred))
 }
 
 // A function's return type, parameters and blocks.
 fn signature_and_blocks_len(kinds: &[u64], words: &[u64], names: u64, barred: &[u64]) -> Found
-    ensures { λ r. ⌜ r ≡ foundOf (λ p. any (forbiddenBlock (bitAt (now (barred .entry)))) (p .1 .1)) (both (typeReader names) (both (many (item names BookItem.param)) (many (basicBlock names))) (entries (now (kinds .entry)) (now (words .entry)))) ⌝ }
+    ensures { λ r. ⌜ r ≡ foundOf (pairTest never (pairTest (any (otherItem BookItem.param)) (any (forbiddenBlock (bitAt (now (barred .entry))))))) (both (typeReader names) (both (many (item names BookItem.param)) (many (basicBlock names))) (entries (now (kinds .entry)) (now (words .entry)))) ⌝ }
 {
-    let Length::Entries(n) = type_len(kinds, words, names, 64) else {
+    let Found::Entries(n, seen) = plain(type_len(kinds, words, names, 64)) else {
         return Found::Bad;
     };
-    then_found(
+    join_found(
         n,
+        seen,
         params_and_blocks_len(&kinds[n..], &words[n..], names, barred),
     )
 }
@@ -177,11 +140,12 @@ fn signature_and_blocks_len(kinds: &[u64], words: &[u64], names: u64, barred: &[
 pub fn function_len(kinds: &[u64], words: &[u64], names: u64, barred: &[u64]) -> Found
     ensures { λ r. ⌜ r ≡ foundOf (forbiddenFunction (bitAt (now (barred .entry)))) (function names (entries (now (kinds .entry)) (now (words .entry)))) ⌝ }
 {
-    let Length::Entries(n) = word_len(first_entry(kinds, words), 5, names) else {
+    let Found::Entries(n, seen) = plain(word_len(first_entry(kinds, words), 5, names)) else {
         return Found::Bad;
     };
-    then_found(
+    join_found(
         n,
+        seen,
         signature_and_blocks_len(&kinds[n..], &words[n..], names, barred),
     )
 }

@@ -153,7 +153,7 @@ module _ (m : ℕ) where
   pub agrees-items : (i : Item) → Agrees (many (item m i)) (closed (encItem i)) (Each (ItemLimits m i))
   agrees-items i = agrees-many (item m i) (encItem i) (ItemLimits m i) (λ a rest k. item-head isClosing not-closing i a rest) (agrees-item i)
 
-  agrees-field : (f : Field) → Agrees (field m f) (encField f) (FieldLimits m f)
+  pub agrees-field : (f : Field) → Agrees (field m f) (encField f) (FieldLimits m f)
   unfolding field
   agrees-field (Field.plain i) = agrees-item i
   agrees-field (Field.optional i) = agrees-optional (item m i) (encItem i) (ItemLimits m i) (λ a rest k. item-head isAbsent not-absent i a rest) (agrees-item i)

@@ -1,19 +1,17 @@
 -- The groups of instructions and terminators, and the fields of each.
-use Prim.Native.Nat.{_-_}
+use Prim.Native.Nat.{ℕ, zero, suc, _-_, _/_, _%_}
+use mathlib.Core.Bool.{Bool, true, false}
 use mathlib.Core.Option.{Option, none, some}
-use mathlib.Core.List.{List, [], _∷_, _++_}
+use mathlib.Core.List.{List, [], _∷_}
+use lib.ListN.{getD}
+use lib.Dec.{eqb}
 use Rattle.book.specs.Kinds.{InstTag, TermTag, instKind}
 use Rattle.book.specs.Ast.{BinOp, ConvOp, ICmpPred}
 use Rattle.book.specs.Fields as book
-use Rattle.reader.specs.Items.{itemOf}
-use Rattle.reader.specs.declared.items.Item.the-variants as item
 use Rattle.insts.specs.declared.InstGroup.{InstGroup}
 use Rattle.insts.specs.declared.InstGroup.the-variants as inst
 use Rattle.insts.specs.declared.TermGroup.{TermGroup}
 use Rattle.insts.specs.declared.TermGroup.the-variants as term
-use Rattle.insts.specs.declared.Field.{Field}
-use Rattle.insts.specs.declared.Field.the-variants as field
-use Rattle.insts.specs.declared.Fields.{Fields}
 use Rattle.insts.specs.declared.Shape.{Shape}
 use Rattle.insts.specs.declared.Shape.the-variants as shape
 
@@ -43,26 +41,41 @@ termGroupOf (some TermTag.br) = term.Br
 termGroupOf (some TermTag.switch) = term.Switch
 termGroupOf (some TermTag.unreachable) = term.Unreachable
 
--- a field in front of a list of fields
-abbrev pub fieldIn : Field → List book.Field
-fieldIn field.Nothing = []
-fieldIn (field.Plain i) = book.Field.plain (itemOf i) ∷ []
-fieldIn (field.Optional i) = book.Field.optional (itemOf i) ∷ []
-fieldIn (field.List i) = book.Field.list (itemOf i) ∷ []
-fieldIn (field.UpTo n i) = book.Field.upTo n (itemOf i) ∷ []
+-- the fields that digits stand for, from 0 on; any other digit is a type's
+unfoldable pub digitFields : List book.Field
+digitFields =
+    book.Field.plain book.Item.type
+    ∷ book.Field.plain book.Item.type
+    ∷ book.Field.plain book.Item.value
+    ∷ book.Field.plain book.Item.block
+    ∷ book.Field.plain book.Item.index
+    ∷ book.Field.optional book.Item.align
+    ∷ book.Field.optional book.Item.typed
+    ∷ book.Field.optional book.Item.value
+    ∷ book.Field.optional book.Item.block
+    ∷ book.Field.upTo 32 book.Item.gepIndex
+    ∷ book.Field.list book.Item.incoming
+    ∷ book.Field.list book.Item.typed
+    ∷ book.Field.list book.Item.case
+    ∷ []
 
-abbrev pub twoFields : Field → Field → List book.Field
-twoFields a b = fieldIn a ++ fieldIn b
+abbrev pub fieldOf : ℕ → book.Field
+fieldOf d = getD digitFields d (book.Field.plain book.Item.type)
 
--- a type and a value in front of two fields
-abbrev pub typedThen : Field → Field → List book.Field
-typedThen c d = twoFields (field.Plain item.Type) (field.Plain item.Value) ++ twoFields c d
+abbrev pickFields : Bool → List book.Field → List book.Field → List book.Field
+pickFields true a b = a
+pickFields false a b = b
 
-abbrev pub allFields : Fields → List book.Field
-allFields f = twoFields (f .a) (f .b) ++ twoFields (f .c) (f .d)
+-- the fields of a number: a digit to the base 16 for each, the first field in the last digit
+unfoldable pub fieldsTo : ℕ → ℕ → List book.Field
+fieldsTo zero r = []
+fieldsTo (suc n) r = pickFields (eqb r 0) [] (fieldOf (r % 16) ∷ fieldsTo n (r / 16))
+
+abbrev pub fieldsOf : ℕ → List book.Field
+fieldsOf r = fieldsTo 16 r
 
 abbrev pub shapeFields : Shape → Option (List book.Field)
-shapeFields (shape.Known f) = some (allFields f)
+shapeFields (shape.Known c) = some (fieldsOf c)
 shapeFields shape.Unknown = none
 
 -- the fields of a group are those of its tags

@@ -1,22 +1,21 @@
 // Instructions, kinds 40 to 82, and terminators, kinds 90 to 93: an entry and the fields of its kind.
+use reader::Found;
 use reader::Front;
-use reader::Length;
 use reader::first_entry;
 use reader::items::Item;
 use reader::items::item_len;
 use reader::items::list_len;
 use reader::items::optional_len;
+use reader::join_found;
 use reader::shorter;
-use reader::then_len;
 ghost use mathlib.Core.Path.{_≡_};
-ghost use mathlib.Core.List.{_++_};
-ghost use mathlib.Core.Option.{some};
 ghost use Prim.Native.Nat.{_≤_};
 ghost use Rattle.book.specs.Entry.{entries};
 ghost use Rattle.book.specs.Kinds.{instTag, termTag};
-ghost use Rattle.book.specs.Decode.{inst, term, fields as fieldsReader};
-ghost use Rattle.reader.specs.Length.{lenOf};
-ghost use Rattle.insts.specs.Insts.{instGroupOf, termGroupOf, instShape, termShape, shapeFields, fieldIn, twoFields, typedThen, allFields};
+ghost use Rattle.book.specs.Decode.{inst, term, field as fieldReader, fields as fieldsReader};
+ghost use Rattle.book.specs.Forbidden.{otherField, otherFields, otherInst, otherTerm};
+ghost use Rattle.reader.specs.Found.{foundOf};
+ghost use Rattle.insts.specs.Insts.{instGroupOf, termGroupOf, instShape, termShape, shapeFields, fieldOf, fieldsOf};
 
 // The group of an instruction's kind; the operations and predicates are numbered from 0 in the order of ast.rs.
 pub enum InstGroup {
@@ -100,72 +99,34 @@ pub fn term_group(kind: u64) -> TermGroup
     }
 }
 
-// A field: an item, an item or none, a list of items, of so many at most.
-pub enum Field {
-    Nothing,
-    Plain(Item),
-    Optional(Item),
-    List(Item),
-    UpTo(usize, Item),
-}
-
-// The fields of an instruction or terminator, in the order of ast.rs; no kind has more than four.
-pub struct Fields {
-    pub a: Field,
-    pub b: Field,
-    pub c: Field,
-    pub d: Field,
-}
-
-// The fields of a kind that has some.
+// The fields of a kind: a number with a digit to the base 16 for each, the first field in the last digit.
+// 1 a type, 2 a value, 3 a block's name, 4 an index, 5 an align or none, 6 a typed value or none, 7 a value or none,
+// 8 a block's name or none, 9 the indices of a getelementptr, 10 a phi's values, 11 arguments, 12 the cases of a switch.
 pub enum Shape {
-    Known(Fields),
+    Known(u64),
     Unknown,
 }
-
-fn four(a: Field, b: Field, c: Field, d: Field) -> Shape
-    ensures { λ r. ⌜ shapeFields r ≡ some (twoFields a b ++ twoFields c d) ⌝ }
-{
-    Shape::Known(Fields { a, b, c, d })
-}
-
-// A type and a value, then two more fields.
-fn typed_then(c: Field, d: Field) -> Shape
-    ensures { λ r. ⌜ shapeFields r ≡ some (typedThen c d) ⌝ }
-{
-    four(TYPE, VALUE, c, d)
-}
-
-const NONE: Field = Field::Nothing;
-
-const TYPE: Field = Field::Plain(Item::Type);
-
-const VALUE: Field = Field::Plain(Item::Value);
-
-const BLOCK: Field = Field::Plain(Item::Block);
-
-const ALIGN: Field = Field::Optional(Item::Align);
 
 pub fn inst_fields(group: InstGroup) -> Shape
     ensures { λ r. ⌜ shapeFields r ≡ instShape group ⌝ }
 {
     match group {
-        InstGroup::Bin(_) => typed_then(VALUE, NONE),
-        InstGroup::Conv(_) => typed_then(TYPE, NONE),
-        InstGroup::ICmp(_) => typed_then(VALUE, NONE),
-        InstGroup::Select => four(VALUE, TYPE, VALUE, VALUE),
-        InstGroup::Load => typed_then(ALIGN, NONE),
-        InstGroup::Store => typed_then(VALUE, ALIGN),
-        InstGroup::Alloca => four(TYPE, Field::Optional(Item::Typed), ALIGN, NONE),
-        InstGroup::GetElementPtr => typed_then(Field::UpTo(32, Item::GepIndex), NONE),
-        InstGroup::Phi => four(TYPE, Field::List(Item::Incoming), NONE, NONE),
-        InstGroup::Call => typed_then(Field::List(Item::Typed), NONE),
-        InstGroup::Freeze => typed_then(NONE, NONE),
-        InstGroup::AtomicLoad => typed_then(NONE, NONE),
-        InstGroup::AtomicStore => typed_then(VALUE, NONE),
-        InstGroup::Cmpxchg => typed_then(VALUE, VALUE),
-        InstGroup::ExtractValue => four(VALUE, Field::Plain(Item::Index), NONE, NONE),
-        InstGroup::Fence => four(NONE, NONE, NONE, NONE),
+        InstGroup::Bin(_) => Shape::Known(0x221),
+        InstGroup::Conv(_) => Shape::Known(0x121),
+        InstGroup::ICmp(_) => Shape::Known(0x221),
+        InstGroup::Select => Shape::Known(0x2212),
+        InstGroup::Load => Shape::Known(0x521),
+        InstGroup::Store => Shape::Known(0x5221),
+        InstGroup::Alloca => Shape::Known(0x561),
+        InstGroup::GetElementPtr => Shape::Known(0x921),
+        InstGroup::Phi => Shape::Known(0xA1),
+        InstGroup::Call => Shape::Known(0xB21),
+        InstGroup::Freeze => Shape::Known(0x21),
+        InstGroup::AtomicLoad => Shape::Known(0x21),
+        InstGroup::AtomicStore => Shape::Known(0x221),
+        InstGroup::Cmpxchg => Shape::Known(0x2221),
+        InstGroup::ExtractValue => Shape::Known(0x42),
+        InstGroup::Fence => Shape::Known(0),
         InstGroup::Other => Shape::Unknown,
     }
 }
@@ -174,84 +135,89 @@ pub fn term_fields(group: TermGroup) -> Shape
     ensures { λ r. ⌜ shapeFields r ≡ termShape group ⌝ }
 {
     match group {
-        TermGroup::Ret => four(Field::Optional(Item::Typed), NONE, NONE, NONE),
-        TermGroup::Br => four(
-            Field::Optional(Item::Value),
-            BLOCK,
-            Field::Optional(Item::Block),
-            NONE,
-        ),
-        TermGroup::Switch => four(TYPE, VALUE, BLOCK, Field::List(Item::Case)),
-        TermGroup::Unreachable => four(NONE, NONE, NONE, NONE),
+        TermGroup::Ret => Shape::Known(0x6),
+        TermGroup::Br => Shape::Known(0x837),
+        TermGroup::Switch => Shape::Known(0xC321),
+        TermGroup::Unreachable => Shape::Known(0),
         TermGroup::Other => Shape::Unknown,
     }
 }
 
-// One field.
-pub fn field_len(kinds: &[u64], words: &[u64], names: u64, field: Field) -> Length
-    ensures { λ r. ⌜ r ≡ lenOf (fieldsReader names (fieldIn field) (entries (now (kinds .entry)) (now (words .entry)))) ⌝ }
+// The field of a digit; a digit that is none of these stands for a type.
+pub fn field_len(kinds: &[u64], words: &[u64], names: u64, digit: u64) -> Found
+    ensures { λ r. ⌜ r ≡ foundOf (otherField (fieldOf digit)) (fieldReader names (fieldOf digit) (entries (now (kinds .entry)) (now (words .entry)))) ⌝ }
 {
-    match field {
-        Field::Nothing => Length::Entries(0),
-        Field::Plain(item) => item_len(kinds, words, names, item),
-        Field::Optional(item) => optional_len(kinds, words, names, item),
-        Field::List(item) => list_len(kinds, words, names, item, shorter(kinds, words)),
-        Field::UpTo(most, item) => list_len(kinds, words, names, item, most),
+    match digit {
+        2 => item_len(kinds, words, names, Item::Value),
+        3 => item_len(kinds, words, names, Item::Block),
+        4 => item_len(kinds, words, names, Item::Index),
+        5 => optional_len(kinds, words, names, Item::Align),
+        6 => optional_len(kinds, words, names, Item::Typed),
+        7 => optional_len(kinds, words, names, Item::Value),
+        8 => optional_len(kinds, words, names, Item::Block),
+        9 => list_len(kinds, words, names, Item::GepIndex, 32),
+        10 => list_len(kinds, words, names, Item::Incoming, shorter(kinds, words)),
+        11 => list_len(kinds, words, names, Item::Typed, shorter(kinds, words)),
+        12 => list_len(kinds, words, names, Item::Case, shorter(kinds, words)),
+        _ => item_len(kinds, words, names, Item::Type),
     }
-}
-
-// Two fields.
-fn two_len(kinds: &[u64], words: &[u64], names: u64, a: Field, b: Field) -> Length
-    ensures { λ r. ⌜ r ≡ lenOf (fieldsReader names (twoFields a b) (entries (now (kinds .entry)) (now (words .entry)))) ⌝ }
-{
-    let Length::Entries(n) = field_len(kinds, words, names, a) else {
-        return Length::Bad;
-    };
-    then_len(n, field_len(&kinds[n..], &words[n..], names, b))
 }
 
 // All fields.
-pub fn fields_len(kinds: &[u64], words: &[u64], names: u64, fields: Fields) -> Length
-    ensures { λ r. ⌜ r ≡ lenOf (fieldsReader names (allFields fields) (entries (now (kinds .entry)) (now (words .entry)))) ⌝ }
+pub fn fields_len(kinds: &[u64], words: &[u64], names: u64, fields: u64) -> Found
+    ensures { λ r. ⌜ r ≡ foundOf (otherFields (fieldsOf fields)) (fieldsReader names (fieldsOf fields) (entries (now (kinds .entry)) (now (words .entry)))) ⌝ }
 {
-    let a = fields.a;
-    let b = fields.b;
-    let c = fields.c;
-    let d = fields.d;
-    let Length::Entries(n) = two_len(kinds, words, names, a, b) else {
-        return Length::Bad;
-    };
-    then_len(n, two_len(&kinds[n..], &words[n..], names, c, d))
+    let mut at: usize = 0;
+    let mut rest = fields;
+    let mut seen = false;
+    while rest != 0 {
+        let Found::Entries(n, barred) = field_len(&kinds[at..], &words[at..], names, rest % 16)
+        else {
+            return Found::Bad;
+        };
+        at = at + n;
+        rest = rest / 16;
+        seen = seen | barred;
+    }
+    Found::Entries(at, seen)
 }
 
 // The instruction at the front.
-pub fn inst_len(kinds: &[u64], words: &[u64], names: u64) -> Length
-    ensures { λ r. ⌜ r ≡ lenOf (inst names (entries (now (kinds .entry)) (now (words .entry)))) ⌝ }
+pub fn inst_len(kinds: &[u64], words: &[u64], names: u64) -> Found
+    ensures { λ r. ⌜ r ≡ foundOf otherInst (inst names (entries (now (kinds .entry)) (now (words .entry)))) ⌝ }
 {
     let Front::Entry(kind, word) = first_entry(kinds, words) else {
-        return Length::Bad;
+        return Found::Bad;
     };
     if names < word {
-        return Length::Bad;
+        return Found::Bad;
     }
     let Shape::Known(fields) = inst_fields(inst_group(kind)) else {
-        return Length::Bad;
+        return Found::Bad;
     };
-    then_len(1, fields_len(&kinds[1..], &words[1..], names, fields))
+    join_found(
+        1,
+        false,
+        fields_len(&kinds[1..], &words[1..], names, fields),
+    )
 }
 
 // The terminator at the front.
-pub fn term_len(kinds: &[u64], words: &[u64], names: u64) -> Length
-    ensures { λ r. ⌜ r ≡ lenOf (term names (entries (now (kinds .entry)) (now (words .entry)))) ⌝ }
+pub fn term_len(kinds: &[u64], words: &[u64], names: u64) -> Found
+    ensures { λ r. ⌜ r ≡ foundOf otherTerm (term names (entries (now (kinds .entry)) (now (words .entry)))) ⌝ }
 {
     let Front::Entry(kind, word) = first_entry(kinds, words) else {
-        return Length::Bad;
+        return Found::Bad;
     };
     if word != 0 {
-        return Length::Bad;
+        return Found::Bad;
     }
     let Shape::Known(fields) = term_fields(term_group(kind)) else {
-        return Length::Bad;
+        return Found::Bad;
     };
-    then_len(1, fields_len(&kinds[1..], &words[1..], names, fields))
+    join_found(
+        1,
+        false,
+        fields_len(&kinds[1..], &words[1..], names, fields),
+    )
 }

@@ -20,6 +20,10 @@ use Rattle.book.specs.AgreeInst.{agrees-items, agrees-name}
 use Rattle.book.specs.Read.{Read, got, bad, Reader, andThen, one, word, both, mapped, many}
 use Rattle.book.specs.Decode.{name, type, typeTo, item, function}
 use Rattle.reader.specs.Length.{lenOf}
+use Rattle.reader.specs.Found.{foundOf}
+use Rattle.reader.specs.Passes.{found-got, found-bad}
+use Rattle.reader.specs.declared.Found.{Found}
+use Rattle.reader.specs.declared.Found.the-variants as answer
 use Rattle.reader.specs.Laws.{length-entries, entries-front, entries-part, lentFrom, len-got, len-fits}
 use Rattle.reader.specs.declared.Length.the-variants as len
 use Rattle.reader.specs.TypeLaws.{behindFront}
@@ -273,6 +277,13 @@ module _ (m : ℕ) (ks ws : List ℕ) (h : FunctionThere m ks ws) where
       }
 
 -- ---- a list of parameters, as the code counts it
+-- from what a list was found to be to its length
+pub found-len : {A : Type 0} (t : A → Bool) (r : Read A) (f : Found) (n : ℕ) (b : Bool) → f ≡ foundOf t r → f ≡ answer.Entries n b → len.Entries n ≡ lenOf r
+found-len t r f n b ef h = sym (ap lenOf (found-got t r n b (sym ef ∙ h) .1 .0))
+
+pub none-len : {A : Type 0} (t : A → Bool) (r : Read A) (f : Found) → f ≡ foundOf t r → f ≡ answer.Bad → len.Bad ≡ lenOf r
+none-len t r f ef h = sym (ap lenOf (found-bad t r (sym ef ∙ h)))
+
 module _ (m : ℕ) (ks ws : List ℕ) (h : There (many (item m Item.param) (entries ks ws))) where
   pub no-params : {X : Type 0} → len.Bad ≡ lenOf (many (item m Item.param) (entries ks ws)) → X
   no-params e = absurd (go (many (item m Item.param) (entries ks ws)) (h .got) e)

@@ -1,6 +1,7 @@
 // The function that the entries begin with: its name, its return type and its parameters, and the printing of its lines.
 use crate::passes::Printed;
 use crate::passes::print_known;
+use reader::Found;
 use reader::Length;
 use reader::items::Item;
 use reader::items::list_len;
@@ -40,7 +41,7 @@ fn list_params(kinds: &[u64], words: &[u64], names: u64) -> u64
     requires { ⌜ There (many (item names BookItem.param) (entries (now kinds) (now words))) ⌝ }
     ensures { λ r. ⌜ r ≡ readCount (many (item names BookItem.param) (entries (now (kinds .entry)) (now (words .entry)))) ⌝ }
 {
-    let Length::Entries(n) = list_len(kinds, words, names, Item::Param, shorter(kinds, words))
+    let Found::Entries(n, _) = list_len(kinds, words, names, Item::Param, shorter(kinds, words))
     else {
         return 0;
     };

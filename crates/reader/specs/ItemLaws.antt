@@ -1,51 +1,40 @@
--- Laws on values and items: what the entry in front says, and parts one after the other.
-use Prim.Native.Nat.{ℕ, zero, _+_, _-_, _≤_, _<_, _^_}
-use mathlib.Core.Path.{_≡_, refl, ap, sym, _∙_, subst}
-use mathlib.Core.Bool.{Bool, true, false, _||_}
+-- Laws on values and items: what the entry in front says, and items as parts one after the other.
+use Prim.Native.Nat.{ℕ, _+_, _-_, _≤_, _^_}
+use mathlib.Core.Path.{_≡_, refl, ap, sym, _∙_}
+use mathlib.Core.Bool.{Bool, true, false, _&&_, _||_, not}
 use mathlib.Core.Option.{Option, none, some}
-use mathlib.Core.List.{List, [], _∷_, _++_, append-assoc}
+use mathlib.Core.List.{List, [], _∷_}
 use native.Mathlib.Omega.{arith}
-use lib.ListN.{length, drop, take, length-append, length-take}
-use lib.Seq.{drop-at}
+use lib.ListN.{length, drop}
 use lib.Dec.{eqb, ltb, leb}
-use borrow.Author.Tests.{eqb-true, ne-eqb, le-leb}
+use borrow.Author.Tests.{eqb-true, eq-eqb, ne-eqb, le-leb}
 use Rattle.numbers.specs.Align.{isAlign}
 use Rattle.book.specs.Entry.{Entry, entries}
-use Rattle.book.specs.Ast.{Zero, Value, TypedVal}
+use Rattle.book.specs.Ast.{Zero, Ty, Value, TypedVal}
 use Rattle.book.specs.Rule.{when, pick}
-use Rattle.book.specs.Kinds.{ValTag, valTag}
+use Rattle.book.specs.Kinds.{ValTag, valTag, valKind}
 use Rattle.book.specs.Read.{Read, got, bad, Reader, andThen, taking, one, word, mapped, both, filtered, optional}
-use Rattle.book.specs.Decode.{maybeName, indexFits, align, value, valueAs, typedVal, gepIndex}
-use Rattle.book.specs.Encode.{encTy, encValue, encTyped, valueEntry}
-use Rattle.book.specs.Limits.{TypedLimits}
-use Rattle.book.specs.Agree.{Agrees, Begins}
-use Rattle.book.specs.AgreeTy.{agrees-typed}
-use Rattle.reader.specs.Length.{lenOf, further, lenIf, frontOf}
-use Rattle.reader.specs.Fit.{Room}
-use Rattle.reader.specs.Items.{valueGroupOf, valueOk, valueFront, pickLen, wordFront, alignFront, caseFront, paramFront, pickBool, indexFitsFront}
-use Rattle.reader.specs.Laws.{length-entries, entries-part, within-kinds, within-words, lentFrom, len-got, len-bad, len-fits, len-room}
+use Rattle.book.specs.Decode.{type, maybeName, indexFits, block, index, align, value, valueAs, typedVal, gepIndex, incoming, case, param}
+use Rattle.book.specs.Forbidden.{isOther, anyThere}
+use Rattle.book.specs.AgreeTy.{val-is}
+use Rattle.reader.specs.Length.{lenOf, lenIf, frontOf}
+use Rattle.reader.specs.Found.{foundOf, plainOf, oneIf, pairTest, never}
+use Rattle.reader.specs.Items as items
+use Rattle.reader.specs.Items.{valueGroupOf, valueOk, pickLen, wordFront, atomOk, atomFront, AtomMeaning, atomReader, atomTest}
+use Rattle.reader.specs.Passes.{or-false, found-ext, mapped-found, Within}
 use Rattle.reader.specs.declared.Length.{Length}
 use Rattle.reader.specs.declared.Length.the-variants as len
+use Rattle.reader.specs.declared.Found.{Found}
+use Rattle.reader.specs.declared.Found.the-variants as found
 use Rattle.reader.specs.declared.Front.{Front}
 use Rattle.reader.specs.declared.Front.the-variants as front
+use Rattle.reader.specs.declared.items.Atom.{Atom}
+use Rattle.reader.specs.declared.items.Atom.the-variants as atom
 
 -- ---- one entry
 when-len : {A : Type 0} (b : Bool) (a : A) → lenOf (taking 1 (when b a)) ≡ lenIf b
 when-len true a = refl
 when-len false a = refl
-
-pub value-front : (m : ℕ) (es : List Entry) → lenOf (value m es) ≡ valueFront m (frontOf es)
-unfolding value one frontOf valueAs
-value-front m [] = refl
-value-front m (e ∷ es) = go (valTag (e .kind))
-  where
-    go : (t : Option ValTag) → lenOf (taking 1 (valueAs m (e .word) t)) ≡ lenIf (valueOk m (e .word) (valueGroupOf t))
-    go none = refl
-    go (some ValTag.local) = when-len (ltb (e .word) m) (Value.local (e .word))
-    go (some ValTag.global) = when-len (ltb (e .word) m) (Value.global (e .word))
-    go (some ValTag.int) = refl
-    go (some (ValTag.zero z)) = when-len (eqb (e .word) 0) (Value.zero z)
-    go (some ValTag.other) = when-len (eqb (e .word) 0) Value.other
 
 -- an entry of kind k whose word passes a test
 word-len : (k : ℕ) (test : ℕ → Bool) (e : Entry) (es : List Entry) → lenOf (word k (λ w. when (test w) w) (e ∷ es)) ≡ pickLen (eqb (e .kind) k) (lenIf (test (e .word))) len.Bad
@@ -61,178 +50,189 @@ unfolding frontOf word one
 word-front k b [] = refl
 word-front k b (e ∷ es) = word-len k (λ w. ltb w b) e es
 
-pub align-front : (es : List Entry) → lenOf (align es) ≡ alignFront (frontOf es)
-unfolding frontOf align word one
-align-front [] = refl
-align-front (e ∷ es) = word-len 22 isAlign e es
+-- ---- atoms
+pub both-are : (x y p q : Bool) → x ≡ p → y ≡ q → (x && y) ≡ (p && q)
+both-are x y p q e f = rw (e, f)
 
-pub case-front : (es : List Entry) → lenOf (word 32 some es) ≡ caseFront (frontOf es)
-unfolding frontOf word one
-case-front [] = refl
-case-front (e ∷ es) = go (eqb (e .kind) 32)
+when-one : {A : Type 0} (t : A → Bool) (b : Bool) (a : A) (x : Bool) → t a ≡ x → foundOf t (taking 1 (when b a)) ≡ oneIf b x
+when-one t true a x e = ap (found.Entries 1) e
+when-one t false a x e = refl
+
+-- a value is any other exactly where its kind is 37
+value-one : (m : ℕ) (k w : ℕ) → foundOf isOther (taking 1 (valueAs m w (valTag k))) ≡ oneIf (valueOk m w (valueGroupOf (valTag k))) (eqb k 37)
+unfolding valueAs isOther
+value-one m k w = go (valTag k) refl
   where
-    go : (b : Bool) → lenOf (taking 1 (pick b (some (e .word)) none)) ≡ lenIf b
-    go true = refl
-    go false = refl
+    not-other : (t : ValTag) → valTag k ≡ some t → (valKind t ≡ 37 → ⊥) → false ≡ eqb k 37
+    not-other t e d = sym (ne-eqb k 37 (λ z. d (sym (val-is k t e) ∙ z)))
+
+    go : (t : Option ValTag) → valTag k ≡ t → foundOf isOther (taking 1 (valueAs m w t)) ≡ oneIf (valueOk m w (valueGroupOf t)) (eqb k 37)
+    go none e = refl
+    go (some ValTag.local) e = when-one isOther (ltb w m) (Value.local w) (eqb k 37) (not-other ValTag.local e (λ z. omega arith))
+    go (some ValTag.global) e = when-one isOther (ltb w m) (Value.global w) (eqb k 37) (not-other ValTag.global e (λ z. omega arith))
+    go (some ValTag.int) e = ap (found.Entries 1) (not-other ValTag.int e (λ z. omega arith))
+    go (some (ValTag.zero Zero.null)) e = when-one isOther (eqb w 0) (Value.zero Zero.null) (eqb k 37) (not-other (ValTag.zero Zero.null) e (λ z. omega arith))
+    go (some (ValTag.zero Zero.undef)) e = when-one isOther (eqb w 0) (Value.zero Zero.undef) (eqb k 37) (not-other (ValTag.zero Zero.undef) e (λ z. omega arith))
+    go (some (ValTag.zero Zero.poison)) e = when-one isOther (eqb w 0) (Value.zero Zero.poison) (eqb k 37) (not-other (ValTag.zero Zero.poison) e (λ z. omega arith))
+    go (some (ValTag.zero Zero.zeroInit)) e = when-one isOther (eqb w 0) (Value.zero Zero.zeroInit) (eqb k 37) (not-other (ValTag.zero Zero.zeroInit) e (λ z. omega arith))
+    go (some ValTag.other) e = when-one isOther (eqb w 0) Value.other (eqb k 37) (sym (eq-eqb k 37 (val-is k ValTag.other e)))
+
+-- of a value that an index may have
+fits-one : (m : ℕ) (k w : ℕ) → foundOf isOther (andThen (taking 1 (valueAs m w (valTag k))) (λ v n. taking n (when (indexFits v) v))) ≡ oneIf (valueOk m w (valueGroupOf (valTag k)) && items.indexFits k w) (eqb k 37)
+unfolding valueAs isOther indexFits
+fits-one m k w = go (valTag k) refl
+  where
+    not-int : (t : ValTag) → valTag k ≡ some t → (valKind t ≡ 32 → ⊥) → eqb k 32 ≡ false
+    not-int t e d = ne-eqb k 32 (λ z. d (sym (val-is k t e) ∙ z))
+
+    not-other : (t : ValTag) → valTag k ≡ some t → (valKind t ≡ 37 → ⊥) → eqb k 37 ≡ false
+    not-other t e d = ne-eqb k 37 (λ z. d (sym (val-is k t e) ∙ z))
+
+    passes : (b : Bool) (v : Value) (x : Bool) → indexFits v ≡ true → isOther v ≡ x → foundOf isOther (andThen (taking 1 (when b v)) (λ v n. taking n (when (indexFits v) v))) ≡ oneIf (b && true) x
+    passes true v x e f = rw (e, f)
+    passes false v x e f = refl
+
+    go : (t : Option ValTag) → valTag k ≡ t → foundOf isOther (andThen (taking 1 (valueAs m w t)) (λ v n. taking n (when (indexFits v) v))) ≡ oneIf (valueOk m w (valueGroupOf t) && items.indexFits k w) (eqb k 37)
+    go none e = refl
+    go (some ValTag.local) e = rw (not-int ValTag.local e (λ z. omega arith), not-other ValTag.local e (λ z. omega arith)) (passes (ltb w m) (Value.local w) false refl refl)
+    go (some ValTag.global) e = rw (not-int ValTag.global e (λ z. omega arith), not-other ValTag.global e (λ z. omega arith)) (passes (ltb w m) (Value.global w) false refl refl)
+    go (some ValTag.int) e = rw (eq-eqb k 32 (val-is k ValTag.int e), not-other ValTag.int e (λ z. omega arith)) (when-one isOther (ltb w (2 ^ 31) || leb (2 ^ 64 - 2 ^ 31) w) (Value.int w) false refl)
+    go (some (ValTag.zero Zero.null)) e = rw (not-int (ValTag.zero Zero.null) e (λ z. omega arith), not-other (ValTag.zero Zero.null) e (λ z. omega arith)) (passes (eqb w 0) (Value.zero Zero.null) false refl refl)
+    go (some (ValTag.zero Zero.undef)) e = rw (not-int (ValTag.zero Zero.undef) e (λ z. omega arith), not-other (ValTag.zero Zero.undef) e (λ z. omega arith)) (passes (eqb w 0) (Value.zero Zero.undef) false refl refl)
+    go (some (ValTag.zero Zero.poison)) e = rw (not-int (ValTag.zero Zero.poison) e (λ z. omega arith), not-other (ValTag.zero Zero.poison) e (λ z. omega arith)) (passes (eqb w 0) (Value.zero Zero.poison) false refl refl)
+    go (some (ValTag.zero Zero.zeroInit)) e = rw (not-int (ValTag.zero Zero.zeroInit) e (λ z. omega arith), not-other (ValTag.zero Zero.zeroInit) e (λ z. omega arith)) (passes (eqb w 0) (Value.zero Zero.zeroInit) false refl refl)
+    go (some ValTag.other) e = rw (not-int ValTag.other e (λ z. omega arith), eq-eqb k 37 (val-is k ValTag.other e)) (passes (eqb w 0) Value.other true refl refl)
+
+-- an entry of another kind, by a rule
+word-one : {A : Type 0} (j : ℕ) → (j ≡ 37 → ⊥) → (rule : ℕ → Option A) (test : ℕ → Bool) → ((w : ℕ) → foundOf {A = A} never (taking 1 (rule w)) ≡ oneIf (test w) false) → (e : Entry)
+    → foundOf {A = A} never (taking 1 (pick (eqb (e .kind) j) (rule (e .word)) none)) ≡ oneIf (eqb (e .kind) j && test (e .word)) (eqb (e .kind) 37)
+word-one {A} j d rule test h e = go (eqb (e .kind) j) refl
+  where
+    go : (b : Bool) → eqb (e .kind) j ≡ b → foundOf {A = A} never (taking 1 (pick b (rule (e .word)) none)) ≡ oneIf (b && test (e .word)) (eqb (e .kind) 37)
+    go true t = rw (ne-eqb (e .kind) 37 (λ z. d (sym (eqb-true (e .kind) j t) ∙ z))) (h (e .word))
+    go false t = refl
 
 -- name + 1, or 0: at most the number of names
-pub maybe-len : (m w : ℕ) → lenOf (taking 1 (maybeName m w)) ≡ lenIf (leb w m)
-maybe-len m w = go (eqb w 0) refl
+maybe-one : (m w : ℕ) → foundOf {A = Option ℕ} never (taking 1 (maybeName m w)) ≡ oneIf (leb w m) false
+maybe-one m w = go (eqb w 0) refl
   where
-    go : (b : Bool) → eqb w 0 ≡ b → lenOf (taking 1 (pick b (some none) (when (leb w m) (some (w - 1))))) ≡ lenIf (leb w m)
+    go : (b : Bool) → eqb w 0 ≡ b → foundOf {A = Option ℕ} never (taking 1 (pick b (some none) (when (leb w m) (some (w - 1))))) ≡ oneIf (leb w m) false
     go true e = rw (le-leb w m (omega (arith, eqb-true w 0 e)))
-    go false e = when-len (leb w m) (some (w - 1))
+    go false e = when-one {A = Option ℕ} never (leb w m) (some (w - 1)) false refl
 
-pub param-front : (m : ℕ) (es : List Entry) → lenOf (word 6 (maybeName m) es) ≡ paramFront m (frontOf es)
-unfolding frontOf word one
-param-front m [] = refl
-param-front m (e ∷ es) = go (eqb (e .kind) 6)
+pub atom-front : (m : ℕ) (a : Atom) (es : List Entry) → foundOf (atomTest a) (atomReader m a es) ≡ atomFront m a (frontOf es)
+unfolding value block index align filtered word one frontOf
+atom-front m atom.Value [] = refl
+atom-front m atom.Value (e ∷ es) = value-one m (e .kind) (e .word)
+atom-front m atom.GepValue [] = refl
+atom-front m atom.GepValue (e ∷ es) = fits-one m (e .kind) (e .word)
+atom-front m atom.Block [] = refl
+atom-front m atom.Block (e ∷ es) = word-one 23 (λ z. omega arith) (λ w. when (ltb w m) w) (λ w. ltb w m) (λ w. when-one {A = ℕ} never (ltb w m) w false refl) e
+atom-front m atom.Index [] = refl
+atom-front m atom.Index (e ∷ es) = word-one 22 (λ z. omega arith) (λ w. when (ltb w (2 ^ 32)) w) (λ w. ltb w (2 ^ 32)) (λ w. when-one {A = ℕ} never (ltb w (2 ^ 32)) w false refl) e
+atom-front m atom.Align [] = refl
+atom-front m atom.Align (e ∷ es) = word-one 22 (λ z. omega arith) (λ w. when (isAlign w) w) isAlign (λ w. when-one {A = ℕ} never (isAlign w) w false refl) e
+atom-front m atom.Case [] = refl
+atom-front m atom.Case (e ∷ es) = word-one 32 (λ z. omega arith) some (λ w. true) (λ w. refl) e ∙ go (eqb (e .kind) 32)
   where
-    go : (b : Bool) → lenOf (taking 1 (pick b (maybeName m (e .word)) none)) ≡ pickLen b (lenIf (leb (e .word) m)) len.Bad
-    go true = maybe-len m (e .word)
+    go : (b : Bool) → oneIf (b && true) (eqb (e .kind) 37) ≡ oneIf b (eqb (e .kind) 37)
+    go true = refl
     go false = refl
+atom-front m atom.Param [] = refl
+atom-front m atom.Param (e ∷ es) = word-one 6 (λ z. omega arith) (maybeName m) (λ w. leb w m) (maybe-one m) e
 
--- ---- one part after the other
-module _ {A B : Type 0} (p : Reader A) (q : Reader B) (ks ws : List ℕ) (r : Length) (er : r ≡ lenOf (p (entries ks ws))) where
-  pub both-bad : r ≡ len.Bad → len.Bad ≡ lenOf (both p q (entries ks ws))
-  unfolding both
-  both-bad h = sym (rw (len-bad (p (entries ks ws)) (sym er ∙ h)))
+-- the atom that the code finds
+module _ (m : ℕ) (a : Atom) (es : List Entry) (f : Front) (x : Found) (ef : f ≡ frontOf es) (ex : x ≡ atomFront m a f) where
+  pub atom-is : x ≡ foundOf (atomTest a) (atomReader m a es)
+  atom-is = ex ∙ ap (atomFront m a) ef ∙ sym (atom-front m a es)
 
-  mapped-len : {C : Type 0} (f : A × B → C) → lenOf (both p q (entries ks ws)) ≡ lenOf (mapped f (both p q) (entries ks ws))
-  unfolding mapped
-  mapped-len {C} f = go (both p q (entries ks ws))
+  pub atom-within : Within es x
+  unfolding frontOf
+  atom-within n b h = go es (sym (ex ∙ ap (atomFront m a) ef) ∙ h)
     where
-      go : (r : Read (A × B)) → lenOf r ≡ lenOf (andThen r (λ a n. got (f a) n))
-      go (got a n) = refl
-      go bad = refl
+      one-is : (t u : Bool) (es : List Entry) → oneIf t u ≡ found.Entries n b → n ≤ 1
+      one-is true u es e = let z : 1 ≡ n = cc in omega arith
+      one-is false u es e = absurd (let z : _≡_ {A = ℕ} 0 1 = cc in omega arith)
 
-  pub pair-bad : {C : Type 0} (f : A × B → C) → r ≡ len.Bad → len.Bad ≡ lenOf (mapped f (both p q) (entries ks ws))
-  pair-bad f h = both-bad h ∙ mapped-len f
+      go : (es : List Entry) → atomFront m a (frontOf es) ≡ found.Entries n b → n ≤ length es
+      go [] e = absurd (let z : _≡_ {A = ℕ} 0 1 = cc in omega arith)
+      go (e ∷ es) i = omega (arith, one-is (atomOk m (e .kind) (e .word) a) (eqb (e .kind) 37) es i)
 
-  module _ (n : ℕ) (h : r ≡ len.Entries n) where
-    pub both-arm : (x y : Length) → x ≡ lenOf (q (lentFrom ks ws n)) → y ≡ further n x → y ≡ lenOf (both p q (entries ks ws))
-    unfolding both
-    both-arm x y ex ey =
-        let g = len-got (p (entries ks ws)) n (sym er ∙ h) in
-        ey ∙ ap (further n) ex ∙ rw (g .1, entries-part n ks ws) (go (g .0) (q (drop n (entries ks ws))))
-      where
-        go : (a : A) (r : Read B) → further n (lenOf r) ≡ lenOf (andThen {A = B} {B = A × B} r (λ b m. got (a, b) (n + m)))
-        go a (got b m) = refl
-        go a bad = refl
+-- ---- items as parts one after the other
+module _ (m : ℕ) (es : List Entry) where
+  pub typed-pair : foundOf (pairTest never isOther) (both (type m) (value m) es) ≡ foundOf (λ v. isOther (v .val)) (typedVal m es)
+  unfolding typedVal
+  typed-pair = sym (mapped-found (λ v. isOther (v .val)) (λ p. record { ty = p .0; val = p .1 }) (both (type m) (value m)) es)
 
-    pub pair-arm : {C : Type 0} (f : A × B → C) (x y : Length) → x ≡ lenOf (q (lentFrom ks ws n)) → y ≡ further n x → y ≡ lenOf (mapped f (both p q) (entries ks ws))
-    pair-arm f x y ex ey = both-arm x y ex ey ∙ mapped-len f
+  pub index-pair : foundOf (pairTest never isOther) (both (type m) (filtered indexFits (value m)) es) ≡ foundOf (λ v. isOther (v .val)) (gepIndex m es)
+  unfolding gepIndex typedVal filtered mapped both
+  index-pair = first (type m es)
+    where
+      second : (t : Ty) (n : ℕ) (r : Read Value)
+          → foundOf (pairTest never isOther) (andThen {A = Value} {B = Ty × Value} (andThen r (λ v k. taking k (when (indexFits v) v))) (λ v k. got (t, v) (n + k)))
+          ≡ foundOf {A = TypedVal} (λ v. isOther (v .val)) (andThen (andThen (andThen {A = Value} {B = Ty × Value} r (λ v k. got (t, v) (n + k))) (λ p k. got (record { ty = p .0; val = p .1 }) k)) (λ i k. taking k (when (indexFits (i .val)) i)))
+      second t n (got v k) = go (indexFits v)
+        where
+          go : (b : Bool) → foundOf (pairTest never isOther) (andThen {A = Value} {B = Ty × Value} (taking k (when b v)) (λ v k. got (t, v) (n + k))) ≡ foundOf {A = TypedVal} (λ v. isOther (v .val)) (taking (n + k) (when b (record { ty = t; val = v })))
+          go true = refl
+          go false = refl
+      second t n bad = refl
 
-    -- the first part is there, and the second leaves room for it
-    module _ {w : A → List Entry} {K : A → Type 0} (s : Agrees p w K) where
-      pub pair-kinds : n ≤ length ks
-      pair-kinds = within-kinds n ks ws (len-fits s (entries ks ws) n (sym er ∙ h))
+      first : (r : Read Ty)
+          → foundOf (pairTest never isOther) (andThen {A = Ty} {B = Ty × Value} r (λ t n. andThen (andThen (value m (drop n es)) (λ v k. taking k (when (indexFits v) v))) (λ v k. got (t, v) (n + k))))
+          ≡ foundOf {A = TypedVal} (λ v. isOther (v .val)) (andThen (andThen (andThen {A = Ty} {B = Ty × Value} r (λ t n. andThen (value m (drop n es)) (λ v k. got (t, v) (n + k)))) (λ p k. got (record { ty = p .0; val = p .1 }) k)) (λ i k. taking k (when (indexFits (i .val)) i)))
+      first (got t n) = second t n (value m (drop n es))
+      first bad = refl
 
-      pub pair-words : n ≤ length ws
-      pair-words = within-words n ks ws (len-fits s (entries ks ws) n (sym er ∙ h))
+  pub incoming-pair : foundOf (pairTest isOther never) (both (value m) (block m) es) ≡ foundOf (λ i. isOther (i .val)) (incoming m es)
+  unfolding incoming
+  incoming-pair =
+      found-ext (pairTest isOther never) (λ p. isOther (p .0)) (λ p. or-false (isOther (p .0))) (both (value m) (block m) es)
+      ∙ sym (mapped-found (λ i. isOther (i .val)) (λ p. record { val = p .0; label = p .1 }) (both (value m) (block m)) es)
 
-      pub pair-room : {v : B → List Entry} {L : B → Type 0} → Agrees q v L → length ks < 2 ^ 64 → (x : Length) → x ≡ lenOf (q (lentFrom ks ws n)) → Room n x
-      pair-room t b x ex =
-          let g : n ≤ length ks = pair-kinds in
-          subst (Room n) (sym ex) (len-room t n (lentFrom ks ws n) (omega (arith, length-entries (take (length ks - n) (drop n ks)) (take (length ws - n) (drop n ws)), length-take (length ks - n) (drop n ks))))
+  pub case-pair : foundOf (pairTest never never) (both (word 32 some) (block m) es) ≡ foundOf never (case m es)
+  unfolding case
+  case-pair = sym (mapped-found never (λ p. record { value = p .0; label = p .1 }) (both (word 32 some) (block m)) es)
 
--- ---- an index of a getelementptr: its value is the last entry
-pub fits-front : (v : Value) → indexFits v ≡ indexFitsFront (front.Entry (valueEntry v .kind) (valueEntry v .word))
-unfolding indexFits valueEntry
-fits-front (Value.local x) = refl
-fits-front (Value.global x) = refl
-fits-front (Value.int c) = go (ltb c (2 ^ 31)) (leb (2 ^ 64 - 2 ^ 31) c)
-  where
-    go : (a b : Bool) → (a || b) ≡ pickBool a true b
-    go true b = refl
-    go false b = refl
-fits-front (Value.zero Zero.null) = refl
-fits-front (Value.zero Zero.undef) = refl
-fits-front (Value.zero Zero.poison) = refl
-fits-front (Value.zero Zero.zeroInit) = refl
-fits-front Value.other = refl
-
-module _ (m : ℕ) (ks ws : List ℕ) (r : Length) (er : r ≡ lenOf (typedVal m (entries ks ws))) where
-  pub index-bad : r ≡ len.Bad → len.Bad ≡ lenOf (gepIndex m (entries ks ws))
-  unfolding gepIndex filtered
-  index-bad h = sym (rw (len-bad (typedVal m (entries ks ws)) (sym er ∙ h)))
-
-  module _ (n : ℕ) (h : r ≡ len.Entries n) where
-    -- the value's entry
-    record Last (v : TypedVal) : Type 0 where
-      read : typedVal m (entries ks ws) ≡ got v n
-      some : 1 ≤ n
-      there : n ≤ length (entries ks ws)
-      last : frontOf (drop (n - 1) (entries ks ws)) ≡ front.Entry (valueEntry (v .val) .kind) (valueEntry (v .val) .word)
-
-    found : (v : TypedVal) × Last v
-    unfolding frontOf
-    found =
-        let g = len-got (typedVal m (entries ks ws)) n (sym er ∙ h) in
-        let v = g .0 in
-        let b : Begins encTyped (TypedLimits m) (entries ks ws) v n = agrees-typed m .sound (entries ks ws) v n (g .1) in
-        let k : n ≡ length (encTy (v .ty)) + 1 = b .size ∙ length-append (encTy (v .ty)) (encValue (v .val)) in
-        let e : entries ks ws ≡ encTy (v .ty) ++ (valueEntry (v .val) ∷ drop n (entries ks ws)) = b .here ∙ append-assoc (encTy (v .ty)) (encValue (v .val)) (drop n (entries ks ws)) in
-        let d : drop (n - 1) (entries ks ws) ≡ valueEntry (v .val) ∷ drop n (entries ks ws) =
-        ap (drop (n - 1)) e ∙ drop-at (encTy (v .ty)) (valueEntry (v .val) ∷ drop n (entries ks ws)) (n - 1) (omega arith) in
-        (v, record { read = g .1; some = omega arith; there = len-fits (agrees-typed m) (entries ks ws) n (sym er ∙ h); last = ap frontOf d })
-
-    pub index-some : 1 ≤ n
-    index-some = found .1 .some
-
-    pub index-kinds : n ≤ length ks
-    index-kinds = within-kinds n ks ws (found .1 .there)
-
-    pub index-words : n ≤ length ws
-    index-words = within-words n ks ws (found .1 .there)
-
-    module _ (f : Front) (t : Bool) (ef : f ≡ frontOf (lentFrom ks ws (n - 1))) (et : t ≡ indexFitsFront f) where
-      fits-is : indexFits (found .0 .val) ≡ t
-      fits-is = fits-front (found .0 .val) ∙ ap indexFitsFront (sym (ef ∙ ap frontOf (entries-part (n - 1) ks ws) ∙ found .1 .last)) ∙ sym et
-
-      pub index-ok : t ≡ true → len.Entries n ≡ lenOf (gepIndex m (entries ks ws))
-      unfolding gepIndex filtered
-      index-ok e = sym (rw (found .1 .read, fits-is, e))
-
-      pub index-out : t ≡ false → len.Bad ≡ lenOf (gepIndex m (entries ks ws))
-      unfolding gepIndex filtered
-      index-out e = sym (rw (found .1 .read, fits-is, e))
+  pub param-pair : foundOf (pairTest never never) (both (word 6 (maybeName m)) (type m) es) ≡ foundOf never (param m es)
+  unfolding param
+  param-pair = sym (mapped-found never (λ p. record { ty = p .1; name = p .0 }) (both (word 6 (maybeName m)) (type m)) es)
 
 -- ---- an item or none
-module _ {A : Type 0} (p : Reader A) (es : List Entry) (f : Front) (ef : f ≡ frontOf es) where
-  pub absent-none : f ≡ front.Nothing → len.Bad ≡ lenOf (optional p es)
+module _ {A : Type 0} (t : A → Bool) (p : Reader A) (es : List Entry) (f : Front) (ef : f ≡ frontOf es) where
+  pub absent-none : f ≡ front.Nothing → found.Bad ≡ foundOf (anyThere t) (optional p es)
   unfolding optional frontOf
   absent-none h = go es (sym ef ∙ h)
     where
-      go : (es : List Entry) → frontOf es ≡ front.Nothing → len.Bad ≡ lenOf (optional p es)
+      go : (es : List Entry) → frontOf es ≡ front.Nothing → found.Bad ≡ foundOf (anyThere t) (optional p es)
       go [] e = refl
       go (e ∷ es) i = absurd (let z : _≡_ {A = ℕ} 0 1 = cc in omega arith)
 
   module _ (k w : ℕ) (h : f ≡ front.Entry k w) where
-    pub absent-is : k ≡ 21 → (r : Length) → r ≡ lenIf (eqb w 0) → r ≡ lenOf (optional p es)
-    unfolding optional frontOf
-    absent-is h21 r er = er ∙ go es (sym ef ∙ h)
+    pub absent-is : k ≡ 21 → (l : Length) (r : Found) → l ≡ lenIf (eqb w 0) → r ≡ plainOf l → r ≡ foundOf (anyThere t) (optional p es)
+    unfolding optional frontOf anyThere
+    absent-is h21 l r el er = er ∙ ap plainOf el ∙ go es (sym ef ∙ h)
       where
-        none-len : (b : Bool) → lenIf b ≡ lenOf (taking {A = Option A} 1 (when b none))
+        none-len : (b : Bool) → plainOf (lenIf b) ≡ foundOf (anyThere t) (taking {A = Option A} 1 (when b none))
         none-len true = refl
         none-len false = refl
 
-        go : (es : List Entry) → frontOf es ≡ front.Entry k w → lenIf (eqb w 0) ≡ lenOf (optional p es)
+        go : (es : List Entry) → frontOf es ≡ front.Entry k w → plainOf (lenIf (eqb w 0)) ≡ foundOf (anyThere t) (optional p es)
         go [] e = absurd (let z : _≡_ {A = ℕ} 0 1 = cc in omega arith)
         go (e ∷ es) i =
             let ik : e .kind ≡ 21 = let z : e .kind ≡ k = cc in z ∙ h21 in
             let iw : e .word ≡ w = cc in
             rw (ik, iw) (none-len (eqb w 0))
 
-    pub absent-not : (k ≡ 21 → ⊥) → (r : Length) → r ≡ lenOf (p es) → r ≡ lenOf (optional p es)
-    unfolding optional frontOf
+    pub absent-not : (k ≡ 21 → ⊥) → (r : Found) → r ≡ foundOf t (p es) → r ≡ foundOf (anyThere t) (optional p es)
+    unfolding optional frontOf anyThere
     absent-not d r er = er ∙ go es (sym ef ∙ h)
       where
-        some-len : (r : Read A) → lenOf r ≡ lenOf (andThen r (λ a n. got (some a) n))
+        some-len : (r : Read A) → foundOf t r ≡ foundOf (anyThere t) (andThen r (λ a n. got (some a) n))
         some-len (got a n) = refl
         some-len bad = refl
 
-        go : (es : List Entry) → frontOf es ≡ front.Entry k w → lenOf (p es) ≡ lenOf (optional p es)
+        go : (es : List Entry) → frontOf es ≡ front.Entry k w → foundOf t (p es) ≡ foundOf (anyThere t) (optional p es)
         go [] e = absurd (let z : _≡_ {A = ℕ} 0 1 = cc in omega arith)
         go (e ∷ es) i =
             let ik : e .kind ≡ k = cc in

@@ -1,18 +1,28 @@
 -- The answers for values and for what fields hold.
 use Prim.Native.Nat.{ℕ, _^_, _-_}
-use mathlib.Core.Bool.{Bool, true, false}
+use mathlib.Core.Bool.{Bool, true, false, _&&_, _||_, not}
 use mathlib.Core.Option.{Option, none, some}
 use lib.Dec.{eqb, ltb, leb}
 use Rattle.numbers.specs.Align.{isAlign}
+use Rattle.book.specs.Ast as ast
 use Rattle.book.specs.Kinds.{ValTag, valTag}
 use Rattle.book.specs.Fields as book
+use Rattle.book.specs.Read.{Reader, word, filtered}
+use Rattle.book.specs.Decode.{value, block, index, align, maybeName}
+use Rattle.book.specs.Decode as decode
+use Rattle.book.specs.Forbidden.{isOther}
 use Rattle.reader.specs.Length.{lenIf}
+use Rattle.reader.specs.Found.{oneIf, never}
 use Rattle.reader.specs.declared.Length.{Length}
 use Rattle.reader.specs.declared.Length.the-variants as len
+use Rattle.reader.specs.declared.Found.{Found}
+use Rattle.reader.specs.declared.Found.the-variants as found
 use Rattle.reader.specs.declared.Front.{Front}
 use Rattle.reader.specs.declared.Front.the-variants as front
 use Rattle.reader.specs.declared.items.ValueGroup.{ValueGroup}
 use Rattle.reader.specs.declared.items.ValueGroup.the-variants as group
+use Rattle.reader.specs.declared.items.Atom.{Atom}
+use Rattle.reader.specs.declared.items.Atom.the-variants as atom
 use Rattle.reader.specs.declared.items.Item.{Item}
 use Rattle.reader.specs.declared.items.Item.the-variants.{«Type», Value, Block, Index, Align, Typed, GepIndex, Incoming, Case, Param}
 
@@ -33,10 +43,6 @@ valueOk m w group.Zero = eqb w 0
 valueOk m w group.Other = eqb w 0
 valueOk m w group.Bad = false
 
-abbrev pub valueFront : ℕ → Front → Length
-valueFront m front.Nothing = len.Bad
-valueFront m (front.Entry k w) = lenIf (valueOk m w (valueGroupOf (valTag k)))
-
 abbrev pub pickLen : Bool → Length → Length → Length
 pickLen true a b = a
 pickLen false a b = b
@@ -46,25 +52,50 @@ abbrev pub wordFront : ℕ → ℕ → Front → Length
 wordFront k b front.Nothing = len.Bad
 wordFront k b (front.Entry j w) = pickLen (eqb j k) (lenIf (ltb w b)) len.Bad
 
-abbrev pub alignFront : Front → Length
-alignFront front.Nothing = len.Bad
-alignFront (front.Entry k w) = pickLen (eqb k 22) (lenIf (isAlign w)) len.Bad
+-- ---- what may stand in one entry
+abbrev pub indexFits : ℕ → ℕ → Bool
+indexFits k w = (not (eqb k 32) || ltb w (2 ^ 31)) || leb (2 ^ 64 - 2 ^ 31) w
 
-abbrev pub caseFront : Front → Length
-caseFront front.Nothing = len.Bad
-caseFront (front.Entry k w) = lenIf (eqb k 32)
+abbrev pub atomOk : ℕ → ℕ → ℕ → Atom → Bool
+atomOk m k w atom.Value = valueOk m w (valueGroupOf (valTag k))
+atomOk m k w atom.GepValue = valueOk m w (valueGroupOf (valTag k)) && indexFits k w
+atomOk m k w atom.Block = eqb k 23 && ltb w m
+atomOk m k w atom.Index = eqb k 22 && ltb w (2 ^ 32)
+atomOk m k w atom.Align = eqb k 22 && isAlign w
+atomOk m k w atom.Case = eqb k 32
+atomOk m k w atom.Param = eqb k 6 && leb w m
 
-abbrev pub paramFront : ℕ → Front → Length
-paramFront m front.Nothing = len.Bad
-paramFront m (front.Entry k w) = pickLen (eqb k 6) (lenIf (leb w m)) len.Bad
+abbrev pub atomFront : ℕ → Atom → Front → Found
+atomFront m a front.Nothing = found.Bad
+atomFront m a (front.Entry k w) = oneIf (atomOk m k w a) (eqb k 37)
 
-abbrev pub pickBool : Bool → Bool → Bool → Bool
-pickBool true a b = a
-pickBool false a b = b
+-- by the definition
+abbrev pub AtomMeaning : Atom → Type 0
+AtomMeaning atom.Value = ast.Value
+AtomMeaning atom.GepValue = ast.Value
+AtomMeaning atom.Block = ℕ
+AtomMeaning atom.Index = ℕ
+AtomMeaning atom.Align = ℕ
+AtomMeaning atom.Case = ℕ
+AtomMeaning atom.Param = Option ℕ
 
-abbrev pub indexFitsFront : Front → Bool
-indexFitsFront front.Nothing = true
-indexFitsFront (front.Entry k w) = pickBool (eqb k 32) (pickBool (ltb w (2 ^ 31)) true (leb (2 ^ 64 - 2 ^ 31) w)) true
+abbrev pub atomReader : ℕ → (a : Atom) → Reader (AtomMeaning a)
+atomReader m atom.Value = value m
+atomReader m atom.GepValue = filtered decode.indexFits (value m)
+atomReader m atom.Block = block m
+atomReader m atom.Index = index
+atomReader m atom.Align = align
+atomReader m atom.Case = word 32 some
+atomReader m atom.Param = word 6 (maybeName m)
+
+abbrev pub atomTest : (a : Atom) → AtomMeaning a → Bool
+atomTest atom.Value = isOther
+atomTest atom.GepValue = isOther
+atomTest atom.Block = never
+atomTest atom.Index = never
+atomTest atom.Align = never
+atomTest atom.Case = never
+atomTest atom.Param = never
 
 abbrev pub itemOf : Item → book.Item
 itemOf «Type» = book.Item.type

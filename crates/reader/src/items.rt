@@ -1,23 +1,25 @@
 // Values, and what the fields of instructions and terminators hold.
+use crate::Found;
 use crate::Front;
 use crate::Length;
 use crate::ListHead;
-use crate::Step;
+use crate::Pass;
 use crate::entry_if;
 use crate::first_entry;
+use crate::join_found;
 use crate::list_head;
-use crate::next_step;
-use crate::then_len;
+use crate::next_pass;
+use crate::plain;
 use crate::types::type_len;
 ghost use mathlib.Core.Path.{_≡_};
-ghost use Prim.Native.Nat.{_≤_};
-ghost use lib.ListN.{length};
 ghost use Rattle.book.specs.Entry.{entries};
 ghost use Rattle.book.specs.Kinds.{valTag};
-ghost use Rattle.book.specs.Read.{closing, isClosing, optional, listOf, many};
-ghost use Rattle.book.specs.Decode.{value, typedVal, gepIndex, incoming, case, param, item as itemReader};
-ghost use Rattle.reader.specs.Length.{lenOf, stepOf};
-ghost use Rattle.reader.specs.Items.{valueGroupOf, valueOk, valueFront, wordFront, alignFront, caseFront, paramFront, indexFitsFront, itemOf};
+ghost use Rattle.book.specs.Read.{closing, isClosing, optional, listOf, both};
+ghost use Rattle.book.specs.Decode.{type as typeReader, item as itemReader};
+ghost use Rattle.book.specs.Forbidden.{any, anyThere, otherItem};
+ghost use Rattle.reader.specs.Found.{foundOf, passOf, never, pairTest};
+ghost use Rattle.reader.specs.declared.items.Atom.the-variants.{Block as AtomBlock, Param as AtomParam};
+ghost use Rattle.reader.specs.Items.{valueGroupOf, valueOk, wordFront, indexFits, atomOk, atomFront, atomReader, atomTest, itemOf};
 
 // The group of a value's kind: null, undef, poison and zeroinitializer are zeros.
 pub enum ValueGroup {
@@ -60,17 +62,7 @@ fn value_ok(group: ValueGroup, word: u64, names: u64) -> bool
     }
 }
 
-// The value in front.
-pub fn value_len(entry: Front, names: u64) -> Length
-    ensures { λ r. ⌜ r ≡ valueFront names entry ⌝ }
-{
-    match entry {
-        Front::Entry(kind, word) => entry_if(value_ok(value_group(kind), word, names)),
-        Front::Nothing => Length::Bad,
-    }
-}
-
-// An entry of one kind, its word below a limit: a block's name, an index.
+// An entry of one kind, its word below a limit: the name of a block, a function or a struct.
 pub fn word_len(entry: Front, kind: u64, below: u64) -> Length
     ensures { λ r. ⌜ r ≡ wordFront kind below entry ⌝ }
 {
@@ -84,118 +76,93 @@ pub fn word_len(entry: Front, kind: u64, below: u64) -> Length
     }
 }
 
-fn align_len(entry: Front) -> Length
-    ensures { λ r. ⌜ r ≡ alignFront entry ⌝ }
-{
-    let Front::Entry(k, w) = entry else {
-        return Length::Bad;
-    };
-    if k == 22 {
-        entry_if(numbers::align::is_align(w))
-    } else {
-        Length::Bad
-    }
-}
-
-fn case_value_len(entry: Front) -> Length
-    ensures { λ r. ⌜ r ≡ caseFront entry ⌝ }
-{
-    let Front::Entry(k, _) = entry else {
-        return Length::Bad;
-    };
-    entry_if(k == 32)
-}
-
-// A type and a value of it.
-pub fn typed_len(kinds: &[u64], words: &[u64], names: u64) -> Length
-    ensures { λ r. ⌜ r ≡ lenOf (typedVal names (entries (now (kinds .entry)) (now (words .entry)))) ⌝ }
-{
-    let Length::Entries(n) = type_len(kinds, words, names, 64) else {
-        return Length::Bad;
-    };
-    then_len(n, value_len(first_entry(&kinds[n..], &words[n..]), names))
+// What may stand in one entry: a value, a getelementptr's index, a block's name, an index, an align, a case's integer,
+// a parameter's name + 1 or 0.
+pub enum Atom {
+    Value,
+    GepValue,
+    Block,
+    Index,
+    Align,
+    Case,
+    Param,
 }
 
 // An integer index of a getelementptr fits a signed word of 32 bits.
-fn index_fits(entry: Front) -> bool
-    ensures { λ r. ⌜ r ≡ indexFitsFront entry ⌝ }
+fn index_fits(kind: u64, word: u64) -> bool
+    ensures { λ r. ⌜ r ≡ indexFits kind word ⌝ }
 {
-    let Front::Entry(k, w) = entry else {
-        return true;
-    };
-    if k == 32 {
-        if w < 0x8000_0000 {
-            true
-        } else {
-            0xFFFF_FFFF_8000_0000 <= w
-        }
-    } else {
-        true
+    (kind != 32) | (word < 0x8000_0000) | (0xFFFF_FFFF_8000_0000 <= word)
+}
+
+fn atom_ok(kind: u64, word: u64, names: u64, atom: Atom) -> bool
+    ensures { λ r. ⌜ r ≡ atomOk names kind word atom ⌝ }
+{
+    match atom {
+        Atom::Value => value_ok(value_group(kind), word, names),
+        Atom::GepValue => value_ok(value_group(kind), word, names) & index_fits(kind, word),
+        Atom::Block => (kind == 23) & (word < names),
+        Atom::Index => (kind == 22) & (word < 0x1_0000_0000),
+        Atom::Align => (kind == 22) & numbers::align::is_align(word),
+        Atom::Case => kind == 32,
+        Atom::Param => (kind == 6) & (word <= names),
     }
 }
 
-fn gep_index_len(kinds: &[u64], words: &[u64], names: u64) -> Length
-    ensures { λ r. ⌜ r ≡ lenOf (gepIndex names (entries (now (kinds .entry)) (now (words .entry)))) ⌝ }
+// The atom in front.
+pub fn atom_len(entry: Front, names: u64, atom: Atom) -> Found
+    ensures { λ r. ⌜ r ≡ atomFront names atom entry ⌝ }
 {
-    let Length::Entries(n) = typed_len(kinds, words, names) else {
-        return Length::Bad;
+    let Front::Entry(kind, word) = entry else {
+        return Found::Bad;
     };
-    let last = n - 1;
-    if index_fits(first_entry(&kinds[last..], &words[last..])) {
-        Length::Entries(n)
+    if atom_ok(kind, word, names, atom) {
+        Found::Entries(1, kind == 37)
     } else {
-        Length::Bad
+        Found::Bad
     }
 }
 
-// A value and the block that it comes from.
-fn incoming_len(kinds: &[u64], words: &[u64], names: u64) -> Length
-    ensures { λ r. ⌜ r ≡ lenOf (incoming names (entries (now (kinds .entry)) (now (words .entry)))) ⌝ }
+// A type, then an atom.
+fn typed_len(kinds: &[u64], words: &[u64], names: u64, atom: Atom) -> Found
+    ensures { λ r. ⌜ r ≡ foundOf (pairTest never (atomTest atom)) (both (typeReader names) (atomReader names atom) (entries (now (kinds .entry)) (now (words .entry)))) ⌝ }
 {
-    let Length::Entries(n) = value_len(first_entry(kinds, words), names) else {
-        return Length::Bad;
+    let Found::Entries(n, barred) = plain(type_len(kinds, words, names, 64)) else {
+        return Found::Bad;
     };
-    then_len(
+    join_found(
         n,
-        word_len(first_entry(&kinds[n..], &words[n..]), 23, names),
+        barred,
+        atom_len(first_entry(&kinds[n..], &words[n..]), names, atom),
     )
 }
 
-// A switch case: an integer and a block.
-fn case_len(kinds: &[u64], words: &[u64], names: u64) -> Length
-    ensures { λ r. ⌜ r ≡ lenOf (case names (entries (now (kinds .entry)) (now (words .entry)))) ⌝ }
+// An atom, then a block's name.
+fn pair_len(kinds: &[u64], words: &[u64], names: u64, atom: Atom) -> Found
+    ensures { λ r. ⌜ r ≡ foundOf (pairTest (atomTest atom) (atomTest AtomBlock)) (both (atomReader names atom) (atomReader names AtomBlock) (entries (now (kinds .entry)) (now (words .entry)))) ⌝ }
 {
-    let Length::Entries(n) = case_value_len(first_entry(kinds, words)) else {
-        return Length::Bad;
+    let Found::Entries(n, barred) = atom_len(first_entry(kinds, words), names, atom) else {
+        return Found::Bad;
     };
-    then_len(
+    join_found(
         n,
-        word_len(first_entry(&kinds[n..], &words[n..]), 23, names),
+        barred,
+        atom_len(first_entry(&kinds[n..], &words[n..]), names, Atom::Block),
     )
-}
-
-// A parameter's entry: its name + 1, or 0.
-fn param_name_len(entry: Front, names: u64) -> Length
-    ensures { λ r. ⌜ r ≡ paramFront names entry ⌝ }
-{
-    let Front::Entry(k, w) = entry else {
-        return Length::Bad;
-    };
-    if k == 6 {
-        entry_if(w <= names)
-    } else {
-        Length::Bad
-    }
 }
 
 // A parameter: its name and its type.
-fn param_len(kinds: &[u64], words: &[u64], names: u64) -> Length
-    ensures { λ r. ⌜ r ≡ lenOf (param names (entries (now (kinds .entry)) (now (words .entry)))) ⌝ }
+fn param_len(kinds: &[u64], words: &[u64], names: u64) -> Found
+    ensures { λ r. ⌜ r ≡ foundOf (pairTest (atomTest AtomParam) never) (both (atomReader names AtomParam) (typeReader names) (entries (now (kinds .entry)) (now (words .entry)))) ⌝ }
 {
-    let Length::Entries(n) = param_name_len(first_entry(kinds, words), names) else {
-        return Length::Bad;
+    let Found::Entries(n, barred) = atom_len(first_entry(kinds, words), names, Atom::Param) else {
+        return Found::Bad;
     };
-    then_len(n, type_len(&kinds[n..], &words[n..], names, 64))
+    join_found(
+        n,
+        barred,
+        plain(type_len(&kinds[n..], &words[n..], names, 64)),
+    )
 }
 
 // What may stand in a field or a list.
@@ -212,64 +179,66 @@ pub enum Item {
     Param,
 }
 
-pub fn item_len(kinds: &[u64], words: &[u64], names: u64, item: Item) -> Length
-    ensures { λ r. ⌜ r ≡ lenOf (itemReader names (itemOf item) (entries (now (kinds .entry)) (now (words .entry)))) ⌝ }
+pub fn item_len(kinds: &[u64], words: &[u64], names: u64, item: Item) -> Found
+    ensures { λ r. ⌜ r ≡ foundOf (otherItem (itemOf item)) (itemReader names (itemOf item) (entries (now (kinds .entry)) (now (words .entry)))) ⌝ }
 {
     match item {
-        Item::Type => type_len(kinds, words, names, 64),
-        Item::Value => value_len(first_entry(kinds, words), names),
-        Item::Block => word_len(first_entry(kinds, words), 23, names),
-        Item::Index => word_len(first_entry(kinds, words), 22, 0x1_0000_0000),
-        Item::Align => align_len(first_entry(kinds, words)),
-        Item::Typed => typed_len(kinds, words, names),
-        Item::GepIndex => gep_index_len(kinds, words, names),
-        Item::Incoming => incoming_len(kinds, words, names),
-        Item::Case => case_len(kinds, words, names),
+        Item::Type => plain(type_len(kinds, words, names, 64)),
+        Item::Value => atom_len(first_entry(kinds, words), names, Atom::Value),
+        Item::Block => atom_len(first_entry(kinds, words), names, Atom::Block),
+        Item::Index => atom_len(first_entry(kinds, words), names, Atom::Index),
+        Item::Align => atom_len(first_entry(kinds, words), names, Atom::Align),
+        Item::Typed => typed_len(kinds, words, names, Atom::Value),
+        Item::GepIndex => typed_len(kinds, words, names, Atom::GepValue),
+        Item::Incoming => pair_len(kinds, words, names, Atom::Value),
+        Item::Case => pair_len(kinds, words, names, Atom::Case),
         Item::Param => param_len(kinds, words, names),
     }
 }
 
 // An item, or kind 21 for none.
-pub fn optional_len(kinds: &[u64], words: &[u64], names: u64, item: Item) -> Length
-    ensures { λ r. ⌜ r ≡ lenOf (optional (itemReader names (itemOf item)) (entries (now (kinds .entry)) (now (words .entry)))) ⌝ }
+pub fn optional_len(kinds: &[u64], words: &[u64], names: u64, item: Item) -> Found
+    ensures { λ r. ⌜ r ≡ foundOf (anyThere (otherItem (itemOf item))) (optional (itemReader names (itemOf item)) (entries (now (kinds .entry)) (now (words .entry)))) ⌝ }
 {
     let Front::Entry(k, w) = first_entry(kinds, words) else {
-        return Length::Bad;
+        return Found::Bad;
     };
     if k == 21 {
-        entry_if(w == 0)
+        plain(entry_if(w == 0))
     } else {
         item_len(kinds, words, names, item)
     }
 }
 
 // What comes next in a list of items.
-fn item_step(kinds: &[u64], words: &[u64], names: u64, item: Item) -> Step
-    ensures { λ r. ⌜ r ≡ stepOf isClosing (itemReader names (itemOf item)) closing (entries (now (kinds .entry)) (now (words .entry))) ⌝ }
+fn item_step(kinds: &[u64], words: &[u64], names: u64, item: Item) -> Pass
+    ensures { λ r. ⌜ r ≡ passOf (otherItem (itemOf item)) never isClosing (itemReader names (itemOf item)) closing (entries (now (kinds .entry)) (now (words .entry))) ⌝ }
 {
     match list_head(first_entry(kinds, words)) {
-        ListHead::Closing => Step::Done(1),
-        ListHead::Item => next_step(item_len(kinds, words, names, item)),
-        ListHead::Bad => Step::Bad,
+        ListHead::Closing => Pass::Done(1, false),
+        ListHead::Item => next_pass(item_len(kinds, words, names, item)),
+        ListHead::Bad => Pass::Bad,
     }
 }
 
 // A list of at most so many items, its closing entry with it.
-pub fn list_len(kinds: &[u64], words: &[u64], names: u64, item: Item, most: usize) -> Length
-    ensures { λ r. ⌜ r ≡ lenOf (listOf most (itemReader names (itemOf item)) (entries (now (kinds .entry)) (now (words .entry)))) ⌝ }
+pub fn list_len(kinds: &[u64], words: &[u64], names: u64, item: Item, most: usize) -> Found
+    ensures { λ r. ⌜ r ≡ foundOf (any (otherItem (itemOf item))) (listOf most (itemReader names (itemOf item)) (entries (now (kinds .entry)) (now (words .entry)))) ⌝ }
 {
     let mut at: usize = 0;
     let mut left: usize = most;
+    let mut seen = false;
     loop {
         match item_step(&kinds[at..], &words[at..], names, item) {
-            Step::Done(n) => return Length::Entries(at + n),
-            Step::Bad => return Length::Bad,
-            Step::Next(n) => {
+            Pass::Done(n, last) => return Found::Entries(at + n, seen | last),
+            Pass::Bad => return Found::Bad,
+            Pass::Next(n, barred) => {
                 if left == 0 {
-                    return Length::Bad;
+                    return Found::Bad;
                 }
                 at = at + n;
                 left = left - 1;
+                seen = seen | barred;
             }
         }
     }

@@ -11,7 +11,8 @@ ghost use Prim.Native.Nat.{_+_, min};
 ghost use lib.ListN.{length};
 ghost use Rattle.book.specs.Entry.{entries};
 ghost use Rattle.reader.specs.Fit.{Room};
-ghost use Rattle.reader.specs.Length.{lenIf, further, stepOfLength, lastOfLength, frontOf, headOf};
+ghost use Rattle.reader.specs.Length.{lenIf, further, stepOfLength, frontOf, headOf};
+ghost use Rattle.reader.specs.Found.{plainOf, joined, FoundRoom, nextOf, lastOf};
 
 // How many entries something takes.
 pub enum Length {
@@ -54,13 +55,57 @@ pub fn next_step(item: Length) -> Step
     }
 }
 
+// How many entries something takes, and whether a forbidden value is among them: one of kind 37.
+pub enum Found {
+    Entries(usize, bool),
+    Bad,
+}
+
+// What comes next in a list: its end or an item, of so many entries, forbidden or not; or neither.
+pub enum Pass {
+    Done(usize, bool),
+    Next(usize, bool),
+    Bad,
+}
+
+// Entries in which nothing can be forbidden.
+pub fn plain(length: Length) -> Found
+    ensures { λ r. ⌜ r ≡ plainOf length ⌝ }
+{
+    match length {
+        Length::Entries(n) => Found::Entries(n, false),
+        Length::Bad => Found::Bad,
+    }
+}
+
+// Two parts one after the other, the second of them as read behind the first.
+pub fn join_found(first: usize, barred: bool, second: Found) -> Found
+    requires { ⌜ FoundRoom first second ⌝ }
+    ensures { λ r. ⌜ r ≡ joined first barred second ⌝ }
+{
+    match second {
+        Found::Entries(n, also) => Found::Entries(first + n, barred | also),
+        Found::Bad => Found::Bad,
+    }
+}
+
+// An item as the next step.
+pub fn next_pass(item: Found) -> Pass
+    ensures { λ r. ⌜ r ≡ nextOf item ⌝ }
+{
+    match item {
+        Found::Entries(n, barred) => Pass::Next(n, barred),
+        Found::Bad => Pass::Bad,
+    }
+}
+
 // An end as the last step.
-pub fn last_step(end: Length) -> Step
-    ensures { λ r. ⌜ r ≡ lastOfLength end ⌝ }
+pub fn last_pass(end: Found) -> Pass
+    ensures { λ r. ⌜ r ≡ lastOf end ⌝ }
 {
     match end {
-        Length::Entries(n) => Step::Done(n),
-        Length::Bad => Step::Bad,
+        Found::Entries(n, barred) => Pass::Done(n, barred),
+        Found::Bad => Pass::Bad,
     }
 }
 

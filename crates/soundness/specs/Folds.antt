@@ -12,18 +12,18 @@ use lib.Seq.{drop-drop}
 use Rattle.book.specs.Entry.{Entry, entries}
 use Rattle.book.specs.Read.{Read, got, bad, Reader, andThen, choose, stops, mapped, until}
 use Rattle.reader.specs.Laws.{entries-part, within-kinds, within-words, lentFrom}
-use Rattle.blocks.specs.Found.{foundOf, behindOf, nextOf, lastOf, pickPass, passOf}
-use Rattle.blocks.specs.declared.Found.{Found}
-use Rattle.blocks.specs.declared.Found.the-variants as found
-use Rattle.blocks.specs.declared.Pass.{Pass}
-use Rattle.blocks.specs.declared.Pass.the-variants as pass
+use Rattle.reader.specs.Found.{foundOf, joined, nextOf, lastOf, pickPass, passOf}
+use Rattle.reader.specs.declared.Found.{Found}
+use Rattle.reader.specs.declared.Found.the-variants as found
+use Rattle.reader.specs.declared.Pass.{Pass}
+use Rattle.reader.specs.declared.Pass.the-variants as pass
 use Rattle.soundness.specs.Reading.{goes, answered, folded, endFound, allFound}
 
-behind-behind : (a b : ℕ) (f : Found) → behindOf a (behindOf b f) ≡ behindOf (a + b) f
+behind-behind : (a b : ℕ) (f : Found) → joined a false (joined b false f) ≡ joined (a + b) false f
 behind-behind a b (found.Entries n r) = ap (λ k. found.Entries k r) (sym (add-assoc a b n))
 behind-behind a b found.Bad = refl
 
-behind-none : (f : Found) → behindOf 0 f ≡ f
+behind-none : (f : Found) → joined 0 false f ≡ f
 behind-none (found.Entries n r) = ap (λ k. found.Entries k r) (zero-add n)
 behind-none found.Bad = refl
 
@@ -72,19 +72,19 @@ module _ {S A B : Type 0} (taken : S → A → Option S) (ended : S → B → Op
           go zero = rw t
           go (suc n) = rw (t, e) (later (until stop item end n (drop k es)))
 
-      pub all-taken : (u : S) → taken s a ≡ some u → (n ≡ 0 → ⊥) → all s n es ≡ behindOf k (all u (n - 1) (drop k es))
+      pub all-taken : (u : S) → taken s a ≡ some u → (n ≡ 0 → ⊥) → all s n es ≡ joined k false (all u (n - 1) (drop k es))
       unfolding until folded
       all-taken u r z = go n z
         where
-          later : (q : Read (List A × B)) → allFound taken ended s (andThen q (λ y m. got (a ∷ y .0, y .1) (k + m))) ≡ behindOf k (allFound taken ended u q)
+          later : (q : Read (List A × B)) → allFound taken ended s (andThen q (λ y m. got (a ∷ y .0, y .1) (k + m))) ≡ joined k false (allFound taken ended u q)
           later (got y m) = rw r (shift (goes (folded taken ended u (y .0)) (λ t. ended t (y .1))))
             where
-              shift : (o : Option Bool) → answered (k + m) o ≡ behindOf k (answered m o)
+              shift : (o : Option Bool) → answered (k + m) o ≡ joined k false (answered m o)
               shift none = refl
               shift (some f) = refl
           later bad = refl
 
-          go : (n : ℕ) → (n ≡ 0 → ⊥) → all s n es ≡ behindOf k (all u (n - 1) (drop k es))
+          go : (n : ℕ) → (n ≡ 0 → ⊥) → all s n es ≡ joined k false (all u (n - 1) (drop k es))
           go zero z = absurd (z refl)
           go (suc n) z = rw (sub-one (suc n), t, e) (later (until stop item end n (drop k es)))
 
@@ -94,33 +94,33 @@ module _ {S A B : Type 0} (taken : S → A → Option S) (ended : S → B → Op
       pub kinds : a ≤ length ks
       pub words : a ≤ length ws
       pub there : a ≤ length (entries ks ws)
-      pub whole : all s₀ n (entries ks ws) ≡ behindOf a (all s left (drop a (entries ks ws)))
+      pub whole : all s₀ n (entries ks ws) ≡ joined a false (all s left (drop a (entries ks ws)))
 
-    fold : (a left : ℕ) (s : S) → a ≤ length (entries ks ws) → all s₀ n (entries ks ws) ≡ behindOf a (all s left (drop a (entries ks ws))) → Fold a left s
+    fold : (a left : ℕ) (s : S) → a ≤ length (entries ks ws) → all s₀ n (entries ks ws) ≡ joined a false (all s left (drop a (entries ks ws))) → Fold a left s
     fold a left s f e = record { kinds = within-kinds a ks ws f; words = within-words a ks ws f; there = f; whole = e }
 
     pub fold-start : (left : ℕ) → left ≡ n → Fold 0 left s₀
     fold-start left e = fold 0 left s₀ (omega arith) (rw e (sym (behind-none _)))
 
     module _ (a left : ℕ) (s : S) (l : Fold a left s) where
-      pub fold-end : stops stop (drop a (entries ks ws)) ≡ true → (r x : Found) → r ≡ endFound taken ended s (end (drop a (entries ks ws))) → x ≡ behindOf a r → x ≡ all s₀ n (entries ks ws)
-      fold-end t r x er ex = ex ∙ ap (behindOf a) (er ∙ sym (all-end s left (drop a (entries ks ws)) t)) ∙ sym (l .whole)
+      pub fold-end : stops stop (drop a (entries ks ws)) ≡ true → (r x : Found) → r ≡ endFound taken ended s (end (drop a (entries ks ws))) → x ≡ joined a false r → x ≡ all s₀ n (entries ks ws)
+      fold-end t r x er ex = ex ∙ ap (joined a false) (er ∙ sym (all-end s left (drop a (entries ks ws)) t)) ∙ sym (l .whole)
 
       module _ (t : stops stop (drop a (entries ks ws)) ≡ false) where
         pub fold-bad : item (drop a (entries ks ws)) ≡ bad → found.Bad ≡ all s₀ n (entries ks ws)
-        fold-bad e = sym (l .whole ∙ ap (behindOf a) (all-bad s left (drop a (entries ks ws)) t e))
+        fold-bad e = sym (l .whole ∙ ap (joined a false) (all-bad s left (drop a (entries ks ws)) t e))
 
         pub fold-full : left ≡ 0 → found.Bad ≡ all s₀ n (entries ks ws)
-        fold-full z = sym (l .whole ∙ ap (behindOf a) (all-full s left (drop a (entries ks ws)) t z))
+        fold-full z = sym (l .whole ∙ ap (joined a false) (all-full s left (drop a (entries ks ws)) t z))
 
         module _ (x : A) (k : ℕ) (e : item (drop a (entries ks ws)) ≡ got x k) where
           pub fold-refused : taken s x ≡ none → found.Bad ≡ all s₀ n (entries ks ws)
-          fold-refused r = sym (l .whole ∙ ap (behindOf a) (all-refused s left (drop a (entries ks ws)) t x k e r))
+          fold-refused r = sym (l .whole ∙ ap (joined a false) (all-refused s left (drop a (entries ks ws)) t x k e r))
 
           pub fold-next : (u : S) → taken s x ≡ some u → (left ≡ 0 → ⊥) → a + k ≤ length (entries ks ws) → Fold (a + k) (left - 1) u
           fold-next u r z f =
               fold (a + k) (left - 1) u f
-              (l .whole ∙ ap (behindOf a) (all-taken s left (drop a (entries ks ws)) t x k e u r z) ∙ behind-behind a k (all u (left - 1) (drop k (drop a (entries ks ws)))) ∙ ap (λ q. behindOf (a + k) (all u (left - 1) q)) (drop-drop k a (entries ks ws)))
+              (l .whole ∙ ap (joined a false) (all-taken s left (drop a (entries ks ws)) t x k e u r z) ∙ behind-behind a k (all u (left - 1) (drop k (drop a (entries ks ws)))) ∙ ap (λ q. joined (a + k) false (all u (left - 1) q)) (drop-drop k a (entries ks ws)))
 
 -- ---- from a step of a loop to what was read
 module _ {A B : Type 0} (ta : A → Bool) (tb : B → Bool) (stop : ℕ → Bool) (item : Reader A) (end : Reader B) (es : List Entry) where

@@ -34,12 +34,12 @@ use Rattle.reader.specs.declared.Front.the-variants as front
 use Rattle.reader.specs.declared.types.TypeGroup.{TypeGroup}
 use Rattle.reader.specs.declared.types.TypeGroup.the-variants as group
 use Rattle.marks.specs.Once.{isNew, setIf}
-use Rattle.blocks.specs.Found.{foundOf, behindOf, FoundRoom, nextOf, passOf, never}
-use Rattle.blocks.specs.Passes.{found-fits}
-use Rattle.blocks.specs.declared.Found.{Found}
-use Rattle.blocks.specs.declared.Found.the-variants as found
-use Rattle.blocks.specs.declared.Pass.{Pass}
-use Rattle.blocks.specs.declared.Pass.the-variants as pass
+use Rattle.reader.specs.Found.{foundOf, joined, FoundRoom, passOf, never}
+use Rattle.reader.specs.Passes.{found-fits}
+use Rattle.reader.specs.declared.Found.{Found}
+use Rattle.reader.specs.declared.Found.the-variants as found
+use Rattle.reader.specs.declared.Pass.{Pass}
+use Rattle.reader.specs.declared.Pass.the-variants as pass
 use Rattle.soundness.specs.Reading.{goes, answered, folded, endFound, structTaken, functionEnded, namedFound, structsFound, markedBy, structsEnded, marksFound, markTaken}
 use Rattle.soundness.specs.Folds.{Fold, fold-end, fold-bad, fold-full, fold-refused, fold-next, pass-done, pass-last, pass-next, pass-item-bad}
 
@@ -136,15 +136,6 @@ unfolding structsAndFunction until stops mapped function both word one
 no-structs m = refl
 
 -- ---- named structs
--- a struct as the next step; nothing in it is forbidden
-abbrev pub plainPass : Length → Pass
-plainPass (len.Entries n) = pass.Next n false
-plainPass len.Bad = pass.Bad
-
-pub plain-next : {A : Type 0} (r : Read A) → plainPass (lenOf r) ≡ nextOf (foundOf never r)
-plain-next (got a n) = refl
-plain-next bad = refl
-
 pub function-ended : (barred named : List ℕ) (r : Read Function) → endFound structTaken (functionEnded barred) named r ≡ foundOf (forbiddenFunction (bitAt barred)) r
 function-ended barred named (got f n) = refl
 function-ended barred named bad = refl
@@ -336,7 +327,7 @@ module _ (marked barred : List ℕ) (m : ℕ) (ks ws : List ℕ) (a : ℕ) (now 
     here : drop a (entries ks ws) ≡ entry (getD ks a 0) (getD ws a 0) ∷ drop (a + 1) (entries ks ws)
     here = entry-at ks ws a h
 
-    pub marks-end : 3 ≤ getD ks a 0 → (r x : Found) → r ≡ structsFound (now .1) (structsAndFunction m (lentFrom ks ws a)) → x ≡ behindOf a r → x ≡ wholeMarks
+    pub marks-end : 3 ≤ getD ks a 0 → (r x : Found) → r ≡ structsFound (now .1) (structsAndFunction m (lentFrom ks ws a)) → x ≡ joined a false r → x ≡ wholeMarks
     unfolding parts stops
     marks-end t r x er ex =
         fold-end markedBy structsEnded (leb 3) (mark m) (structsAndFunction m) (marked, barred) (length (entries ks ws)) ks ws a _ now l (rw here (le-leb 3 (getD ks a 0) t)) r x

@@ -12,8 +12,8 @@ use Rattle.book.specs.Read.{Read, got, bad}
 use Rattle.book.specs.Decode.{member, markName}
 use Rattle.book.specs.Forbidden.{reservedBy, forbiddenFunction}
 use Rattle.marks.specs.Once.{isNew}
-use Rattle.blocks.specs.declared.Found.{Found}
-use Rattle.blocks.specs.declared.Found.the-variants as found
+use Rattle.reader.specs.declared.Found.{Found}
+use Rattle.reader.specs.declared.Found.the-variants as found
 use Rattle.soundness.specs.declared.Reading.{Reading}
 use Rattle.soundness.specs.declared.Reading.the-variants as reading
 

@@ -25,7 +25,7 @@ use Rattle.book.specs.Input.{Counted, bookIn, namesIn}
 use Rattle.book.specs.Forbidden.{reservedBy, uncallable, forbiddenFunction, forbidden}
 use Rattle.book.specs.Check.{workFor, checked, refusalOf}
 use Rattle.marks.specs.Range.{markedRange, bit-range}
-use Rattle.blocks.specs.Passes.{or-false}
+use Rattle.reader.specs.Passes.{or-false}
 use Rattle.soundness.specs.Reading.{barredWith}
 use Rattle.soundness.specs.Whole.{there, readingIn, Holds, slice-holds}
 use Rattle.soundness.specs.declared.Reading.{Reading}

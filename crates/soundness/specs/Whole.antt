@@ -23,8 +23,8 @@ use Rattle.book.specs.AgreeBook.{PartsLimits, agrees-book}
 use Rattle.book.specs.AgreeInput.{slice, slice-sound, entries-back, length-kinds, length-words}
 use Rattle.book.specs.Input.{Counted, counted, bookIn}
 use Rattle.marks.specs.Once.{isNew, allNew, AllBelow, new-distinct, bit-set}
-use Rattle.blocks.specs.declared.Found.{Found}
-use Rattle.blocks.specs.declared.Found.the-variants as found
+use Rattle.reader.specs.declared.Found.{Found}
+use Rattle.reader.specs.declared.Found.the-variants as found
 use Rattle.soundness.specs.Reading.{goes, answered, folded, structTaken, functionEnded, nowBarred, markedBy, structsEnded, partsFound, barredWith, readingOf}
 use Rattle.soundness.specs.declared.Reading.{Reading}
 use Rattle.soundness.specs.declared.Reading.the-variants as reading

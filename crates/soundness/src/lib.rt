@@ -2,8 +2,8 @@
 // a translation, or the first of document 01's refusals 1 to 4. It passes once over the names and once over the entries.
 mod parts;
 
-use blocks::Found;
 use parts::parts_len;
+use reader::Found;
 use spelling::Names;
 ghost use mathlib.Core.Path.{_≡_};
 ghost use mathlib.Core.Bool.{not};

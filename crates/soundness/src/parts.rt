@@ -1,19 +1,20 @@
 // The parts of a book in one pass: marks, named structs, the function. Repeated marks and struct names are found by maps with a
 // bit for each name. `barred` has a bit set for each name that may not be called; reserved names are added to it before the
 // function is read.
-use blocks::Found;
-use blocks::Pass;
 use blocks::function_len;
-use blocks::last_pass;
-use blocks::then_found;
 use marks::mark_new;
+use reader::Found;
 use reader::Front;
 use reader::Length;
+use reader::Pass;
 use reader::entry_if;
 use reader::first_entry;
 use reader::items::word_len;
+use reader::join_found;
+use reader::last_pass;
+use reader::next_pass;
+use reader::plain;
 use reader::shorter;
-use reader::then_len;
 use reader::types::TypeGroup;
 use reader::types::type_group;
 use reader::types::type_len;
@@ -27,8 +28,8 @@ ghost use Rattle.book.specs.Decode.{structBody, structType, function, structsAn
 ghost use Rattle.book.specs.Forbidden.{forbiddenFunction};
 ghost use Rattle.reader.specs.Length.{lenOf};
 ghost use Rattle.marks.specs.Once.{setIf};
-ghost use Rattle.blocks.specs.Found.{passOf, never};
-ghost use Rattle.soundness.specs.Parts.{isStructGroup, plainPass};
+ghost use Rattle.reader.specs.Found.{foundOf, passOf, never};
+ghost use Rattle.soundness.specs.Parts.{isStructGroup};
 ghost use Rattle.soundness.specs.Reading.{markTaken, namedFound, structsFound, marksFound, partsFound};
 
 fn is_struct(group: TypeGroup) -> bool
@@ -64,23 +65,17 @@ fn struct_body_len(kinds: &[u64], words: &[u64], names: u64) -> Length
 }
 
 // A named struct: its name and its body.
-fn struct_len(kinds: &[u64], words: &[u64], names: u64) -> Length
-    ensures { λ r. ⌜ r ≡ lenOf (structType names (entries (now (kinds .entry)) (now (words .entry)))) ⌝ }
+fn struct_len(kinds: &[u64], words: &[u64], names: u64) -> Found
+    ensures { λ r. ⌜ r ≡ foundOf never (structType names (entries (now (kinds .entry)) (now (words .entry)))) ⌝ }
 {
-    let Length::Entries(n) = word_len(first_entry(kinds, words), 3, names) else {
-        return Length::Bad;
+    let Found::Entries(n, barred) = plain(word_len(first_entry(kinds, words), 3, names)) else {
+        return Found::Bad;
     };
-    then_len(n, struct_body_len(&kinds[n..], &words[n..], names))
-}
-
-// A struct as the next step; nothing in it is forbidden.
-fn struct_pass(item: Length) -> Pass
-    ensures { λ r. ⌜ r ≡ plainPass item ⌝ }
-{
-    match item {
-        Length::Entries(n) => Pass::Next(n, false),
-        Length::Bad => Pass::Bad,
-    }
+    join_found(
+        n,
+        barred,
+        plain(struct_body_len(&kinds[n..], &words[n..], names)),
+    )
 }
 
 // What comes next behind the marks: a named struct or the function.
@@ -93,7 +88,7 @@ fn struct_step(kinds: &[u64], words: &[u64], names: u64, barred: &[u64]) -> Pass
     if 4 <= kind {
         last_pass(function_len(kinds, words, names, barred))
     } else {
-        struct_pass(struct_len(kinds, words, names))
+        next_pass(struct_len(kinds, words, names))
     }
 }
 
@@ -169,7 +164,11 @@ fn marks_len(
     let mut at: usize = 0;
     while at < n {
         if 3 <= kinds[at] {
-            return then_found(at, structs_len(&kinds[at..], &words[at..], names, barred));
+            return join_found(
+                at,
+                false,
+                structs_len(&kinds[at..], &words[at..], names, barred),
+            );
         }
         if !mark(kinds[at], words[at], names, marked, barred) {
             return Found::Bad;

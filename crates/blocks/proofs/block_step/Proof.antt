@@ -2,14 +2,14 @@
 use Rattle.numbers.specs.Bits.{bitAt}
 use Rattle.book.specs.Decode.{basicBlock}
 use Rattle.book.specs.Forbidden.{forbiddenBlock}
-use Rattle.blocks.specs.Passes as passes
+use Rattle.reader.specs.Passes as passes
 use borrow.Author.Needs.{needs}
 use Rattle.blocks.proofs.block_step.Statement.{statement}
 use Rattle.blocks.proofs.block_step.Tie as tie
 use Rattle.blocks.proofs.block_len.Reads as block-len-reads
-use Rattle.blocks.proofs.next_pass.Reads as next-pass-reads
 use Rattle.reader.proofs.first_entry.Reads as first-entry-reads
 use Rattle.reader.proofs.list_head.Reads as list-head-reads
+use Rattle.reader.proofs.next_pass.Reads as next-pass-reads
 
 first-entry-requires : tie.Need-first-entry-requires
 first-entry-requires c κs = search needs

@@ -9,9 +9,9 @@ use Rattle.book.specs.Decode.{basicBlock}
 use Rattle.book.specs.Forbidden.{forbiddenBlock}
 use Rattle.book.specs.AgreeTy.{agrees-closing}
 use Rattle.book.specs.AgreeBook.{agrees-basicBlock}
-use Rattle.blocks.specs.Found.{never}
-use Rattle.blocks.specs.Passes.{Loop}
-use Rattle.blocks.specs.Passes as passes
+use Rattle.reader.specs.Found.{never}
+use Rattle.reader.specs.Passes.{Loop}
+use Rattle.reader.specs.Passes as passes
 use borrow.Author.Needs.{needs}
 use Rattle.blocks.proofs.blocks_len.Statement.{statement}
 use Rattle.blocks.proofs.blocks_len.Tie as tie

@@ -7,8 +7,8 @@ use Rattle.book.specs.Entry.{entries}
 use Rattle.book.specs.Decode.{inst, term, body}
 use Rattle.book.specs.Forbidden.{forbiddenInst, otherTerm}
 use Rattle.book.specs.AgreeInst.{agrees-inst, agrees-term}
-use Rattle.blocks.specs.Passes.{Loop}
-use Rattle.blocks.specs.Passes as passes
+use Rattle.reader.specs.Passes.{Loop}
+use Rattle.reader.specs.Passes as passes
 use borrow.Author.Needs.{needs}
 use Rattle.blocks.proofs.body_len.Statement.{statement}
 use Rattle.blocks.proofs.body_len.Tie as tie

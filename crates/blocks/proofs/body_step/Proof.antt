@@ -6,16 +6,16 @@ use Rattle.numbers.specs.Bits.{bitAt}
 use Rattle.book.specs.Entry.{entries}
 use Rattle.book.specs.Decode.{inst, term}
 use Rattle.book.specs.Forbidden.{forbiddenInst, otherTerm}
+use Rattle.reader.specs.Passes as passes
 use Rattle.insts.specs.InstLaws as insts
-use Rattle.blocks.specs.Passes as passes
 use borrow.Author.Needs.{needs}
 use Rattle.blocks.proofs.body_step.Statement.{statement}
 use Rattle.blocks.proofs.body_step.Tie as tie
-use Rattle.blocks.proofs.forbidden.inst_found.Reads as inst-found-reads
-use Rattle.blocks.proofs.forbidden.term_found.Reads as term-found-reads
-use Rattle.blocks.proofs.last_pass.Reads as last-pass-reads
-use Rattle.blocks.proofs.next_pass.Reads as next-pass-reads
+use Rattle.blocks.proofs.calls.call_len.Reads as call-len-reads
+use Rattle.insts.proofs.term_len.Reads as term-len-reads
 use Rattle.reader.proofs.first_entry.Reads as first-entry-reads
+use Rattle.reader.proofs.last_pass.Reads as last-pass-reads
+use Rattle.reader.proofs.next_pass.Reads as next-pass-reads
 
 first-entry-requires : tie.Need-first-entry-requires
 first-entry-requires c κs = search needs
@@ -31,14 +31,14 @@ returns c =
     let a = c .before .before .before .before .before .before .args in
     passes.pass-none (forbiddenInst (bitAt (a .barred .now))) otherTerm (leb 90) (inst (a .names)) (term (a .names)) (entries (a .kinds .now) (a .words .now)) (insts.no-term _) (sym (c .before .before .first-entry .ensures) ∙ c .enum-told .given .1)
 
-term-found-requires : tie.Need-term-found-requires
-term-found-requires c κs = search needs
+term-len-requires : tie.Need-term-len-requires
+term-len-requires c κs = search needs
 
 last-pass-requires : tie.Need-last-pass-requires
 last-pass-requires c κs = search needs
 
-inst-found-requires : tie.Need-inst-found-requires
-inst-found-requires c κs = search needs
+call-len-requires : tie.Need-call-len-requires
+call-len-requires c κs = search needs
 
 next-pass-requires : tie.Need-next-pass-requires
 next-pass-requires c κs = search needs
@@ -46,12 +46,12 @@ next-pass-requires c κs = search needs
 returns-2 : tie.Need-returns-2
 returns-2 c =
     let a = c .before .before .before .before .before .before .before .before .before .before .args in
-    passes.pass-end (forbiddenInst (bitAt (a .barred .now))) otherTerm (leb 90) (inst (a .names)) (term (a .names)) (entries (a .kinds .now) (a .words .now)) (passes.front-stops (forbiddenInst (bitAt (a .barred .now))) otherTerm (leb 90) (inst (a .names)) (term (a .names)) (entries (a .kinds .now) (a .words .now)) _ _ (sym (c .before .before .before .before .before .before .first-entry .ensures) ∙ c .before .before .before .before .kind .given .1) _ (le-leb _ _ (c .before .before .if1 .taken))) _ _ (c .before .term-found .ensures) (c .last-pass .ensures)
+    passes.pass-end (forbiddenInst (bitAt (a .barred .now))) otherTerm (leb 90) (inst (a .names)) (term (a .names)) (entries (a .kinds .now) (a .words .now)) (passes.front-stops (forbiddenInst (bitAt (a .barred .now))) otherTerm (leb 90) (inst (a .names)) (term (a .names)) (entries (a .kinds .now) (a .words .now)) _ _ (sym (c .before .before .before .before .before .before .first-entry .ensures) ∙ c .before .before .before .before .kind .given .1) _ (le-leb _ _ (c .before .before .if1 .taken))) _ _ (c .before .term-len .ensures) (c .last-pass .ensures)
 
 returns-3 : tie.Need-returns-3
 returns-3 c =
     let a = c .before .before .before .before .before .before .before .before .before .before .args in
-    passes.pass-item (forbiddenInst (bitAt (a .barred .now))) otherTerm (leb 90) (inst (a .names)) (term (a .names)) (entries (a .kinds .now) (a .words .now)) (passes.front-stops (forbiddenInst (bitAt (a .barred .now))) otherTerm (leb 90) (inst (a .names)) (term (a .names)) (entries (a .kinds .now) (a .words .now)) _ _ (sym (c .before .before .before .before .before .before .first-entry .ensures) ∙ c .before .before .before .before .kind .given .1) _ (lt-leb _ _ (c .before .before .if1 .left))) _ _ (c .before .inst-found .ensures) (c .next-pass .ensures)
+    passes.pass-item (forbiddenInst (bitAt (a .barred .now))) otherTerm (leb 90) (inst (a .names)) (term (a .names)) (entries (a .kinds .now) (a .words .now)) (passes.front-stops (forbiddenInst (bitAt (a .barred .now))) otherTerm (leb 90) (inst (a .names)) (term (a .names)) (entries (a .kinds .now) (a .words .now)) _ _ (sym (c .before .before .before .before .before .before .first-entry .ensures) ∙ c .before .before .before .before .kind .given .1) _ (lt-leb _ _ (c .before .before .if1 .left))) _ _ (c .before .call-len .ensures) (c .next-pass .ensures)
 
 pub body-step-spec : {M : Type 1} → statement M
 body-step-spec =
@@ -61,9 +61,9 @@ body-step-spec =
     enum-known-kind
     enum-told
     returns
-    term-found-requires
+    term-len-requires
     last-pass-requires
-    inst-found-requires
+    call-len-requires
     next-pass-requires
     returns-2
     returns-3)

@@ -1,21 +1,21 @@
 -- `blocks::params_and_blocks_len` meets its contract: the blocks are read behind the parameters.
-use mathlib.Core.Path.{_∙_, sym, ap}
 use native.Mathlib.Omega.{arith}
 use Rattle.numbers.specs.Bits.{bitAt}
+use Rattle.book.specs.Entry.{entries}
 use Rattle.book.specs.Read.{many}
 use Rattle.book.specs.Fields.{Item}
 use Rattle.book.specs.Decode.{item, basicBlock}
-use Rattle.book.specs.Forbidden.{any, forbiddenBlock}
+use Rattle.book.specs.Forbidden.{any, otherItem, forbiddenBlock}
 use Rattle.book.specs.AgreeInst.{agrees-items}
 use Rattle.book.specs.AgreeBook.{agrees-blocks}
-use Rattle.reader.specs.TypeLaws as types
-use Rattle.blocks.specs.Passes as passes
+use Rattle.reader.specs.Laws.{lentFrom}
+use Rattle.reader.specs.Passes as passes
 use borrow.Author.Needs.{needs}
 use Rattle.blocks.proofs.params_and_blocks_len.Statement.{statement}
 use Rattle.blocks.proofs.params_and_blocks_len.Tie as tie
 use Rattle.blocks.proofs.blocks_len.Reads as blocks-len-reads
-use Rattle.blocks.proofs.then_found.Reads as then-found-reads
 use Rattle.reader.proofs.items.list_len.Reads as list-len-reads
+use Rattle.reader.proofs.join_found.Reads as join-found-reads
 use Rattle.reader.proofs.shorter.Reads as shorter-reads
 
 shorter-requires : tie.Need-shorter-requires
@@ -33,22 +33,22 @@ enum-told c = search needs
 returns : tie.Need-returns
 returns c =
     let a = c .before .before .before .before .before .before .before .args in
-    passes.then-bad (many (item (a .names) Item.param)) (many (basicBlock (a .names))) (any (forbiddenBlock (bitAt (a .barred .now)))) (a .kinds .now) (a .words .now) _ (types.listed _ _ _ (c .before .before .list-len .ensures) (c .before .before .before .shorter .ensures)) (c .enum-told .given .1)
+    passes.both-bad (many (item (a .names) Item.param)) (many (basicBlock (a .names))) (any (otherItem Item.param)) (any (forbiddenBlock (bitAt (a .barred .now)))) (a .kinds .now) (a .words .now) _ (passes.listed (otherItem Item.param) (item (a .names) Item.param) (entries (a .kinds .now) (a .words .now)) _ _ (c .before .before .list-len .ensures) (c .before .before .before .shorter .ensures)) (c .enum-told .given .1)
 
 mul-blocks-len : tie.Need-mul-blocks-len
 mul-blocks-len c =
     let a = c .before .before .before .before .before .before .before .before .args in
-    omega (arith, passes.then-kinds (many (item (a .names) Item.param)) (many (basicBlock (a .names))) (any (forbiddenBlock (bitAt (a .barred .now)))) (a .kinds .now) (a .words .now) _ (types.listed _ _ _ (c .before .before .before .list-len .ensures) (c .before .before .before .before .shorter .ensures)) _ (c .before .n .given .1) (agrees-items _ Item.param), c .before .before .before .before .before .before .before .before .good)
+    omega (arith, passes.both-kinds (many (item (a .names) Item.param)) (many (basicBlock (a .names))) (any (otherItem Item.param)) (any (forbiddenBlock (bitAt (a .barred .now)))) (a .kinds .now) (a .words .now) _ (passes.listed (otherItem Item.param) (item (a .names) Item.param) (entries (a .kinds .now) (a .words .now)) _ _ (c .before .before .before .list-len .ensures) (c .before .before .before .before .shorter .ensures)) _ _ (c .before .n .given .1) (passes.within (any (otherItem Item.param)) (agrees-items _ Item.param) (entries (a .kinds .now) (a .words .now)) _ (passes.listed (otherItem Item.param) (item (a .names) Item.param) (entries (a .kinds .now) (a .words .now)) _ _ (c .before .before .before .list-len .ensures) (c .before .before .before .before .shorter .ensures))), c .before .before .before .before .before .before .before .before .good)
 
 sub-blocks-len : tie.Need-sub-blocks-len
 sub-blocks-len c =
     let a = c .before .before .before .before .before .before .before .before .args in
-    passes.then-kinds (many (item (a .names) Item.param)) (many (basicBlock (a .names))) (any (forbiddenBlock (bitAt (a .barred .now)))) (a .kinds .now) (a .words .now) _ (types.listed _ _ _ (c .before .before .before .list-len .ensures) (c .before .before .before .before .shorter .ensures)) _ (c .before .n .given .1) (agrees-items _ Item.param)
+    passes.both-kinds (many (item (a .names) Item.param)) (many (basicBlock (a .names))) (any (otherItem Item.param)) (any (forbiddenBlock (bitAt (a .barred .now)))) (a .kinds .now) (a .words .now) _ (passes.listed (otherItem Item.param) (item (a .names) Item.param) (entries (a .kinds .now) (a .words .now)) _ _ (c .before .before .before .list-len .ensures) (c .before .before .before .before .shorter .ensures)) _ _ (c .before .n .given .1) (passes.within (any (otherItem Item.param)) (agrees-items _ Item.param) (entries (a .kinds .now) (a .words .now)) _ (passes.listed (otherItem Item.param) (item (a .names) Item.param) (entries (a .kinds .now) (a .words .now)) _ _ (c .before .before .before .list-len .ensures) (c .before .before .before .before .shorter .ensures)))
 
 part-blocks-len-start : tie.Need-part-blocks-len-start
 part-blocks-len-start c =
     let a = c .before .before .before .before .before .before .before .before .args in
-    passes.then-kinds (many (item (a .names) Item.param)) (many (basicBlock (a .names))) (any (forbiddenBlock (bitAt (a .barred .now)))) (a .kinds .now) (a .words .now) _ (types.listed _ _ _ (c .before .before .before .list-len .ensures) (c .before .before .before .before .shorter .ensures)) _ (c .before .n .given .1) (agrees-items _ Item.param)
+    passes.both-kinds (many (item (a .names) Item.param)) (many (basicBlock (a .names))) (any (otherItem Item.param)) (any (forbiddenBlock (bitAt (a .barred .now)))) (a .kinds .now) (a .words .now) _ (passes.listed (otherItem Item.param) (item (a .names) Item.param) (entries (a .kinds .now) (a .words .now)) _ _ (c .before .before .before .list-len .ensures) (c .before .before .before .before .shorter .ensures)) _ _ (c .before .n .given .1) (passes.within (any (otherItem Item.param)) (agrees-items _ Item.param) (entries (a .kinds .now) (a .words .now)) _ (passes.listed (otherItem Item.param) (item (a .names) Item.param) (entries (a .kinds .now) (a .words .now)) _ _ (c .before .before .before .list-len .ensures) (c .before .before .before .before .shorter .ensures)))
 
 part-blocks-len-end : tie.Need-part-blocks-len-end
 part-blocks-len-end c = search needs
@@ -56,17 +56,17 @@ part-blocks-len-end c = search needs
 mul-blocks-len-2 : tie.Need-mul-blocks-len-2
 mul-blocks-len-2 c =
     let a = c .before .before .before .before .before .before .before .before .before .args in
-    omega (arith, passes.then-words (many (item (a .names) Item.param)) (many (basicBlock (a .names))) (any (forbiddenBlock (bitAt (a .barred .now)))) (a .kinds .now) (a .words .now) _ (types.listed _ _ _ (c .before .before .before .before .list-len .ensures) (c .before .before .before .before .before .shorter .ensures)) _ (c .before .before .n .given .1) (agrees-items _ Item.param), c .before .before .before .before .before .before .before .before .before .good)
+    omega (arith, passes.both-words (many (item (a .names) Item.param)) (many (basicBlock (a .names))) (any (otherItem Item.param)) (any (forbiddenBlock (bitAt (a .barred .now)))) (a .kinds .now) (a .words .now) _ (passes.listed (otherItem Item.param) (item (a .names) Item.param) (entries (a .kinds .now) (a .words .now)) _ _ (c .before .before .before .before .list-len .ensures) (c .before .before .before .before .before .shorter .ensures)) _ _ (c .before .before .n .given .1) (passes.within (any (otherItem Item.param)) (agrees-items _ Item.param) (entries (a .kinds .now) (a .words .now)) _ (passes.listed (otherItem Item.param) (item (a .names) Item.param) (entries (a .kinds .now) (a .words .now)) _ _ (c .before .before .before .before .list-len .ensures) (c .before .before .before .before .before .shorter .ensures))), c .before .before .before .before .before .before .before .before .before .good)
 
 sub-blocks-len-2 : tie.Need-sub-blocks-len-2
 sub-blocks-len-2 c =
     let a = c .before .before .before .before .before .before .before .before .before .args in
-    passes.then-words (many (item (a .names) Item.param)) (many (basicBlock (a .names))) (any (forbiddenBlock (bitAt (a .barred .now)))) (a .kinds .now) (a .words .now) _ (types.listed _ _ _ (c .before .before .before .before .list-len .ensures) (c .before .before .before .before .before .shorter .ensures)) _ (c .before .before .n .given .1) (agrees-items _ Item.param)
+    passes.both-words (many (item (a .names) Item.param)) (many (basicBlock (a .names))) (any (otherItem Item.param)) (any (forbiddenBlock (bitAt (a .barred .now)))) (a .kinds .now) (a .words .now) _ (passes.listed (otherItem Item.param) (item (a .names) Item.param) (entries (a .kinds .now) (a .words .now)) _ _ (c .before .before .before .before .list-len .ensures) (c .before .before .before .before .before .shorter .ensures)) _ _ (c .before .before .n .given .1) (passes.within (any (otherItem Item.param)) (agrees-items _ Item.param) (entries (a .kinds .now) (a .words .now)) _ (passes.listed (otherItem Item.param) (item (a .names) Item.param) (entries (a .kinds .now) (a .words .now)) _ _ (c .before .before .before .before .list-len .ensures) (c .before .before .before .before .before .shorter .ensures)))
 
 part-blocks-len-start-2 : tie.Need-part-blocks-len-start-2
 part-blocks-len-start-2 c =
     let a = c .before .before .before .before .before .before .before .before .before .args in
-    passes.then-words (many (item (a .names) Item.param)) (many (basicBlock (a .names))) (any (forbiddenBlock (bitAt (a .barred .now)))) (a .kinds .now) (a .words .now) _ (types.listed _ _ _ (c .before .before .before .before .list-len .ensures) (c .before .before .before .before .before .shorter .ensures)) _ (c .before .before .n .given .1) (agrees-items _ Item.param)
+    passes.both-words (many (item (a .names) Item.param)) (many (basicBlock (a .names))) (any (otherItem Item.param)) (any (forbiddenBlock (bitAt (a .barred .now)))) (a .kinds .now) (a .words .now) _ (passes.listed (otherItem Item.param) (item (a .names) Item.param) (entries (a .kinds .now) (a .words .now)) _ _ (c .before .before .before .before .list-len .ensures) (c .before .before .before .before .before .shorter .ensures)) _ _ (c .before .before .n .given .1) (passes.within (any (otherItem Item.param)) (agrees-items _ Item.param) (entries (a .kinds .now) (a .words .now)) _ (passes.listed (otherItem Item.param) (item (a .names) Item.param) (entries (a .kinds .now) (a .words .now)) _ _ (c .before .before .before .before .list-len .ensures) (c .before .before .before .before .before .shorter .ensures)))
 
 part-blocks-len-end-2 : tie.Need-part-blocks-len-end-2
 part-blocks-len-end-2 c = search needs
@@ -74,15 +74,15 @@ part-blocks-len-end-2 c = search needs
 blocks-len-requires : tie.Need-blocks-len-requires
 blocks-len-requires c κs = search needs
 
-then-found-requires : tie.Need-then-found-requires
-then-found-requires c κs =
+join-found-requires : tie.Need-join-found-requires
+join-found-requires c κs =
     let a = c .before .before .before .before .before .before .before .before .before .before .before .args in
-    passes.then-room (many (item (a .names) Item.param)) (many (basicBlock (a .names))) (any (forbiddenBlock (bitAt (a .barred .now)))) (a .kinds .now) (a .words .now) _ (types.listed _ _ _ (c .before .before .before .before .before .before .list-len .ensures) (c .before .before .before .before .before .before .before .shorter .ensures)) _ (c .before .before .before .before .n .given .1) (agrees-items _ Item.param) (agrees-blocks _) (omega arith) _ (c .blocks-len .ensures)
+    passes.both-room (many (item (a .names) Item.param)) (many (basicBlock (a .names))) (any (otherItem Item.param)) (any (forbiddenBlock (bitAt (a .barred .now)))) (a .kinds .now) (a .words .now) _ (passes.listed (otherItem Item.param) (item (a .names) Item.param) (entries (a .kinds .now) (a .words .now)) _ _ (c .before .before .before .before .before .before .list-len .ensures) (c .before .before .before .before .before .before .before .shorter .ensures)) _ _ (c .before .before .before .before .n .given .1) (passes.within (any (otherItem Item.param)) (agrees-items _ Item.param) (entries (a .kinds .now) (a .words .now)) _ (passes.listed (otherItem Item.param) (item (a .names) Item.param) (entries (a .kinds .now) (a .words .now)) _ _ (c .before .before .before .before .before .before .list-len .ensures) (c .before .before .before .before .before .before .before .shorter .ensures))) (omega arith) _ (passes.within (any (forbiddenBlock (bitAt (a .barred .now)))) (agrees-blocks _) (lentFrom (a .kinds .now) (a .words .now) (c .before .before .before .before .n .given .0 .0)) _ (c .blocks-len .ensures))
 
 returns-2 : tie.Need-returns-2
 returns-2 c =
     let a = c .before .before .before .before .before .before .before .before .before .before .before .before .args in
-    passes.then-arm (many (item (a .names) Item.param)) (many (basicBlock (a .names))) (any (forbiddenBlock (bitAt (a .barred .now)))) (a .kinds .now) (a .words .now) _ (types.listed _ _ _ (c .before .before .before .before .before .before .before .list-len .ensures) (c .before .before .before .before .before .before .before .before .shorter .ensures)) _ (c .before .before .before .before .before .n .given .1) _ _ (c .before .blocks-len .ensures) (c .then-found .ensures)
+    passes.both-arm (many (item (a .names) Item.param)) (many (basicBlock (a .names))) (any (otherItem Item.param)) (any (forbiddenBlock (bitAt (a .barred .now)))) (a .kinds .now) (a .words .now) _ (passes.listed (otherItem Item.param) (item (a .names) Item.param) (entries (a .kinds .now) (a .words .now)) _ _ (c .before .before .before .before .before .before .before .list-len .ensures) (c .before .before .before .before .before .before .before .before .shorter .ensures)) _ _ (c .before .before .before .before .before .n .given .1) _ _ (c .before .blocks-len .ensures) (c .join-found .ensures)
 
 pub params-and-blocks-len-spec : {M : Type 1} → statement M
 params-and-blocks-len-spec =
@@ -102,5 +102,5 @@ params-and-blocks-len-spec =
     part-blocks-len-start-2
     part-blocks-len-end-2
     blocks-len-requires
-    then-found-requires
+    join-found-requires
     returns-2)

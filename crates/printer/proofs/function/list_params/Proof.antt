@@ -1,10 +1,13 @@
 -- `list_params` meets its contract: in the entries of the list each parameter has one of kind 6.
-use mathlib.Core.Path.{sym, _∙_}
+use mathlib.Core.Path.{sym}
 use lib.Seq.{length-take-le}
 use Rattle.book.specs.Fields.{Item as BookItem}
 use Rattle.book.specs.Decode.{item}
-use Rattle.reader.specs.TypeLaws.{listed}
-use Rattle.printer.specs.Function.{no-params, list-fits, list-count}
+use Rattle.book.specs.Entry.{entries}
+use Rattle.book.specs.Read.{many}
+use Rattle.book.specs.Forbidden.{any, otherItem}
+use Rattle.reader.specs.Passes.{listed}
+use Rattle.printer.specs.Function.{found-len, none-len, no-params, list-fits, list-count}
 use borrow.Author.Needs.{needs}
 use Rattle.printer.proofs.function.list_params.Statement.{statement}
 use Rattle.printer.proofs.function.list_params.Tie as tie
@@ -25,16 +28,22 @@ enum-told : tie.Need-enum-told
 enum-told c = search needs
 
 returns : tie.Need-returns
-returns c = no-params (c .before .before .before .before .before .before .args .names) (c .before .before .before .before .before .before .args .kinds .now) (c .before .before .before .before .before .before .args .words .now) (c .before .before .before .before .before .before .pre) (sym (c .enum-told .given .1) ∙ listed (item (c .before .before .before .before .before .before .args .names) BookItem.param) _ _ (c .before .before .list-len .ensures) (c .before .before .before .shorter .ensures))
+returns c =
+    let a = c .before .before .before .before .before .before .args in
+    no-params (a .names) (a .kinds .now) (a .words .now) (c .before .before .before .before .before .before .pre) (none-len (any (otherItem BookItem.param)) (many (item (a .names) BookItem.param) (entries (a .kinds .now) (a .words .now))) _ (listed (otherItem BookItem.param) (item (a .names) BookItem.param) (entries (a .kinds .now) (a .words .now)) _ _ (c .before .before .list-len .ensures) (c .before .before .before .shorter .ensures)) (c .enum-told .given .1))
 
 slice-aggregate-count-params : tie.Need-slice-aggregate-count-params
-slice-aggregate-count-params c = sym (length-take-le _ _ (list-fits (c .before .before .before .before .before .before .before .before .args .names) (c .before .before .before .before .before .before .before .before .args .kinds .now) (c .before .before .before .before .before .before .before .before .args .words .now) (c .before .before .before .before .before .before .before .before .pre) _ (sym (c .before .before .n .given .1) ∙ listed (item (c .before .before .before .before .before .before .before .before .args .names) BookItem.param) _ _ (c .before .before .before .before .list-len .ensures) (c .before .before .before .before .before .shorter .ensures))))
+slice-aggregate-count-params c =
+    let a = c .before .before .before .before .before .before .before .before .args in
+    sym (length-take-le _ _ (list-fits (a .names) (a .kinds .now) (a .words .now) (c .before .before .before .before .before .before .before .before .pre) _ (found-len (any (otherItem BookItem.param)) (many (item (a .names) BookItem.param) (entries (a .kinds .now) (a .words .now))) _ _ _ (listed (otherItem BookItem.param) (item (a .names) BookItem.param) (entries (a .kinds .now) (a .words .now)) _ _ (c .before .before .before .before .list-len .ensures) (c .before .before .before .before .before .shorter .ensures)) (c .before .before .n .given .1))))
 
 count-params-requires : tie.Need-count-params-requires
 count-params-requires c κs = search needs
 
 returns-2 : tie.Need-returns-2
-returns-2 c = list-count (c .before .before .before .before .before .before .before .before .before .args .names) (c .before .before .before .before .before .before .before .before .before .args .kinds .now) (c .before .before .before .before .before .before .before .before .before .args .words .now) (c .before .before .before .before .before .before .before .before .before .pre) _ (sym (c .before .before .before .n .given .1) ∙ listed (item (c .before .before .before .before .before .before .before .before .before .args .names) BookItem.param) _ _ (c .before .before .before .before .before .list-len .ensures) (c .before .before .before .before .before .before .shorter .ensures)) _ (c .count-params .ensures)
+returns-2 c =
+    let a = c .before .before .before .before .before .before .before .before .before .args in
+    list-count (a .names) (a .kinds .now) (a .words .now) (c .before .before .before .before .before .before .before .before .before .pre) _ (found-len (any (otherItem BookItem.param)) (many (item (a .names) BookItem.param) (entries (a .kinds .now) (a .words .now))) _ _ _ (listed (otherItem BookItem.param) (item (a .names) BookItem.param) (entries (a .kinds .now) (a .words .now)) _ _ (c .before .before .before .before .before .list-len .ensures) (c .before .before .before .before .before .before .shorter .ensures)) (c .before .before .before .n .given .1)) _ (c .count-params .ensures)
 
 pub list-params-spec : {M : Type 1} → statement M
 list-params-spec =

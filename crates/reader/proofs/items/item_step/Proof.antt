@@ -1,14 +1,15 @@
 -- `reader::items::item_step` meets its contract: the entry in front closes the list, or an item is read.
 use Rattle.book.specs.Decode.{item}
+use Rattle.book.specs.Forbidden.{otherItem}
 use Rattle.reader.specs.Items.{itemOf}
-use Rattle.reader.specs.TypeLaws as types
+use Rattle.reader.specs.Passes as passes
 use borrow.Author.Needs.{needs}
 use Rattle.reader.proofs.items.item_step.Statement.{statement}
 use Rattle.reader.proofs.items.item_step.Tie as tie
 use Rattle.reader.proofs.first_entry.Reads as first-entry-reads
 use Rattle.reader.proofs.items.item_len.Reads as item-len-reads
 use Rattle.reader.proofs.list_head.Reads as list-head-reads
-use Rattle.reader.proofs.next_step.Reads as next-step-reads
+use Rattle.reader.proofs.next_pass.Reads as next-pass-reads
 
 first-entry-requires : tie.Need-first-entry-requires
 first-entry-requires c κs = search needs
@@ -25,8 +26,8 @@ enum-told-2 c = search needs
 item-len-requires : tie.Need-item-len-requires
 item-len-requires c κs = search needs
 
-next-step-requires : tie.Need-next-step-requires
-next-step-requires c κs = search needs
+next-pass-requires : tie.Need-next-pass-requires
+next-pass-requires c κs = search needs
 
 enum-told-3 : tie.Need-enum-told-3
 enum-told-3 c = search needs
@@ -34,17 +35,17 @@ enum-told-3 c = search needs
 returns : tie.Need-returns
 returns c =
     let a = c .before .before .before .before .before .before .args in
-    types.closing-arm (item (a .names) (itemOf (a .item))) (a .kinds .now) (a .words .now) _ _ (c .before .before .before .first-entry .ensures) (c .before .before .list-head .ensures) (c .enum-told .given .1)
+    passes.closing-arm (otherItem (itemOf (a .item))) (item (a .names) (itemOf (a .item))) (a .kinds .now) (a .words .now) _ _ (c .before .before .before .first-entry .ensures) (c .before .before .list-head .ensures) (c .enum-told .given .1)
 
 returns-2 : tie.Need-returns-2
 returns-2 c =
     let a = c .before .before .before .before .before .before .before .before .args in
-    types.item-arm (item (a .names) (itemOf (a .item))) (a .kinds .now) (a .words .now) _ _ (c .before .before .before .before .before .first-entry .ensures) (c .before .before .before .before .list-head .ensures) (c .before .before .enum-told2 .given .1) _ _ (c .before .item-len .ensures) (c .next-step .ensures)
+    passes.item-arm (otherItem (itemOf (a .item))) (item (a .names) (itemOf (a .item))) (a .kinds .now) (a .words .now) _ _ (c .before .before .before .before .before .first-entry .ensures) (c .before .before .before .before .list-head .ensures) (c .before .before .enum-told2 .given .1) _ _ (c .before .item-len .ensures) (c .next-pass .ensures)
 
 returns-3 : tie.Need-returns-3
 returns-3 c =
     let a = c .before .before .before .before .before .before .args in
-    types.none-arm (item (a .names) (itemOf (a .item))) (a .kinds .now) (a .words .now) _ _ (c .before .before .before .first-entry .ensures) (c .before .before .list-head .ensures) (c .enum-told3 .given .1)
+    passes.none-arm (otherItem (itemOf (a .item))) (item (a .names) (itemOf (a .item))) (a .kinds .now) (a .words .now) _ _ (c .before .before .before .first-entry .ensures) (c .before .before .list-head .ensures) (c .enum-told3 .given .1)
 
 pub item-step-spec : {M : Type 1} → statement M
 item-step-spec =
@@ -55,7 +56,7 @@ item-step-spec =
     enum-told
     enum-told-2
     item-len-requires
-    next-step-requires
+    next-pass-requires
     enum-told-3
     returns
     returns-2

@@ -1,30 +1,31 @@
--- `reader::items::list_len` meets its contract: the loop goes on by the list's next step, and what is left of the list is as long as the whole from there.
-use borrow.Author.Needs.{needs}
+-- `reader::items::list_len` meets its contract: the loop goes on by the list's next step, and what is left of the list tells what the whole is from there.
 use native.Mathlib.Omega.{arith}
 use mathlib.Core.Path.{refl, _∙_, sym}
 use Rattle.book.specs.Read.{closing, isClosing}
 use Rattle.book.specs.Decode.{item as itemReader}
+use Rattle.book.specs.Forbidden.{otherItem}
 use Rattle.book.specs.AgreeTy.{agrees-closing}
 use Rattle.book.specs.AgreeInst.{agrees-item}
 use Rattle.reader.specs.Items.{itemOf}
-use Rattle.reader.specs.Laws.{Loop}
-use Rattle.reader.specs.Laws as laws
-use Rattle.reader.specs.TypeLaws as types
+use Rattle.reader.specs.Found.{never}
+use Rattle.reader.specs.Passes.{Loop}
+use Rattle.reader.specs.Passes as passes
+use borrow.Author.Needs.{needs}
 use Rattle.reader.proofs.items.list_len.Statement.{statement}
 use Rattle.reader.proofs.items.list_len.Tie as tie
 use Rattle.reader.proofs.items.item_step.Reads as item-step-reads
 
 abbrev Inv-loop : tie.InvT-loop
-Inv-loop kinds words names item most at₀ left₀ at left =
-    Loop isClosing (itemReader names (itemOf item)) closing most kinds words at left
+Inv-loop kinds words names item most at₀ left₀ seen₀ at left seen =
+    Loop (otherItem (itemOf item)) never isClosing (itemReader names (itemOf item)) closing most kinds words at left seen
 
 abbrev μ-loop : tie.MeasureT-loop
-μ-loop kinds words names item most at₀ left₀ at left = left
+μ-loop kinds words names item most at₀ left₀ seen₀ at left seen = left
 
 loop-holds : tie.Need-loop-holds Inv-loop μ-loop
 loop-holds c =
     let a = c .before .before .args in
-    laws.loop-start isClosing (itemReader (a .names) (itemOf (a .item))) closing (a .most) (a .kinds .now) (a .words .now) _ refl
+    passes.loop-start (otherItem (itemOf (a .item))) never isClosing (itemReader (a .names) (itemOf (a .item))) closing (a .most) (a .kinds .now) (a .words .now) _ (refl)
 
 mul-item-step : tie.Need-mul-item-step Inv-loop μ-loop
 mul-item-step c = omega (arith, c .loop .inv .kinds, c .before .before .before .good)
@@ -56,15 +57,15 @@ item-step-requires c κs = search needs
 enum-known-n : tie.Need-enum-known-n Inv-loop μ-loop
 enum-known-n c = search needs
 
-add-t21 : tie.Need-add-t21 Inv-loop μ-loop
-add-t21 c =
+add-t24 : tie.Need-add-t24 Inv-loop μ-loop
+add-t24 c =
     let a = c .before .before .before .before .before .before .before .before .before .args in
-    omega (arith, laws.done-there isClosing (itemReader (a .names) (itemOf (a .item))) closing (a .most) (a .kinds .now) (a .words .now) _ _ (c .before .before .before .before .before .before .loop .inv) _ (c .before .before .before .item-step .ensures) (agrees-item (a .names) (itemOf (a .item))) agrees-closing _ (c .before .n .given .1), c .before .before .before .before .before .before .before .before .before .good)
+    omega (arith, passes.done-there (otherItem (itemOf (a .item))) never isClosing (itemReader (a .names) (itemOf (a .item))) closing (a .most) (a .kinds .now) (a .words .now) _ _ _ (c .before .before .before .before .before .before .loop .inv) _ (c .before .before .before .item-step .ensures) (agrees-item (a .names) (itemOf (a .item))) agrees-closing _ _ (c .before .n .given .1), c .before .before .before .before .before .before .before .before .before .good)
 
 returns : tie.Need-returns Inv-loop μ-loop
 returns c =
     let a = c .before .before .before .before .before .before .before .before .before .args in
-    laws.loop-done isClosing (itemReader (a .names) (itemOf (a .item))) closing (a .most) (a .kinds .now) (a .words .now) _ _ (c .before .before .before .before .before .before .loop .inv) _ (c .before .before .before .item-step .ensures) _ (c .before .n .given .1) ∙ sym (types.list-len _ _ _)
+    passes.loop-done (otherItem (itemOf (a .item))) never isClosing (itemReader (a .names) (itemOf (a .item))) closing (a .most) (a .kinds .now) (a .words .now) _ _ _ (c .before .before .before .before .before .before .loop .inv) _ (c .before .before .before .item-step .ensures) _ _ (c .before .n .given .1) ∙ sym (passes.list-found _ _ _ _)
 
 enum-told : tie.Need-enum-told Inv-loop μ-loop
 enum-told c = search needs
@@ -72,7 +73,7 @@ enum-told c = search needs
 returns-2 : tie.Need-returns-2 Inv-loop μ-loop
 returns-2 c =
     let a = c .before .before .before .before .before .before .before .before .args in
-    laws.loop-bad isClosing (itemReader (a .names) (itemOf (a .item))) closing (a .most) (a .kinds .now) (a .words .now) _ _ (c .before .before .before .before .before .loop .inv) _ (c .before .before .item-step .ensures) (c .enum-told .given .1) ∙ sym (types.list-len _ _ _)
+    passes.loop-bad (otherItem (itemOf (a .item))) never isClosing (itemReader (a .names) (itemOf (a .item))) closing (a .most) (a .kinds .now) (a .words .now) _ _ _ (c .before .before .before .before .before .loop .inv) _ (c .before .before .item-step .ensures) (c .enum-told .given .1) ∙ sym (passes.list-found _ _ _ _)
 
 enum-known-n-2 : tie.Need-enum-known-n-2 Inv-loop μ-loop
 enum-known-n-2 c = search needs
@@ -80,12 +81,12 @@ enum-known-n-2 c = search needs
 returns-3 : tie.Need-returns-3 Inv-loop μ-loop
 returns-3 c =
     let a = c .before .before .before .before .before .before .before .before .before .before .args in
-    laws.loop-full isClosing (itemReader (a .names) (itemOf (a .item))) closing (a .most) (a .kinds .now) (a .words .now) _ _ (c .before .before .before .before .before .before .before .loop .inv) _ (c .before .before .before .before .item-step .ensures) _ (c .before .before .n2 .given .1) (c .if1 .taken) ∙ sym (types.list-len _ _ _)
+    passes.loop-full (otherItem (itemOf (a .item))) never isClosing (itemReader (a .names) (itemOf (a .item))) closing (a .most) (a .kinds .now) (a .words .now) _ _ _ (c .before .before .before .before .before .before .before .loop .inv) _ (c .before .before .before .before .item-step .ensures) _ _ (c .before .before .n2 .given .1) (c .if1 .taken) ∙ sym (passes.list-found _ _ _ _)
 
 add-at : tie.Need-add-at Inv-loop μ-loop
 add-at c =
     let a = c .before .before .before .before .before .before .before .before .before .before .args in
-    omega (arith, laws.loop-next isClosing (itemReader (a .names) (itemOf (a .item))) closing (a .most) (a .kinds .now) (a .words .now) _ _ (c .before .before .before .before .before .before .before .loop .inv) _ (c .before .before .before .before .item-step .ensures) (agrees-item (a .names) (itemOf (a .item))) agrees-closing _ (c .before .before .n2 .given .1) (c .if1 .left) .kinds, c .before .before .before .before .before .before .before .before .before .before .good)
+    omega (arith, passes.loop-next (otherItem (itemOf (a .item))) never isClosing (itemReader (a .names) (itemOf (a .item))) closing (a .most) (a .kinds .now) (a .words .now) _ _ _ (c .before .before .before .before .before .before .before .loop .inv) _ (c .before .before .before .before .item-step .ensures) (agrees-item (a .names) (itemOf (a .item))) agrees-closing _ _ (c .before .before .n2 .given .1) (c .if1 .left) .kinds, c .before .before .before .before .before .before .before .before .before .before .good)
 
 sub-left : tie.Need-sub-left Inv-loop μ-loop
 sub-left c = search needs
@@ -96,7 +97,7 @@ loop-less c = search needs
 loop-again : tie.Need-loop-again Inv-loop μ-loop
 loop-again c =
     let a = c .before .before .before .before .before .before .before .before .before .before .args in
-    laws.loop-next isClosing (itemReader (a .names) (itemOf (a .item))) closing (a .most) (a .kinds .now) (a .words .now) _ _ (c .before .before .before .before .before .before .before .loop .inv) _ (c .before .before .before .before .item-step .ensures) (agrees-item (a .names) (itemOf (a .item))) agrees-closing _ (c .before .before .n2 .given .1) (c .if1 .left)
+    passes.loop-next (otherItem (itemOf (a .item))) never isClosing (itemReader (a .names) (itemOf (a .item))) closing (a .most) (a .kinds .now) (a .words .now) _ _ _ (c .before .before .before .before .before .before .before .loop .inv) _ (c .before .before .before .before .item-step .ensures) (agrees-item (a .names) (itemOf (a .item))) agrees-closing _ _ (c .before .before .n2 .given .1) (c .if1 .left)
 
 pub list-len-spec : {M : Type 1} → statement M
 list-len-spec =
@@ -115,7 +116,7 @@ list-len-spec =
     part-item-step-end-2
     item-step-requires
     enum-known-n
-    add-t21
+    add-t24
     returns
     enum-told
     returns-2

@@ -1,6 +1,7 @@
 -- `reader::items::optional_len` meets its contract: kind 21 is none, and else an item is read.
 use Rattle.book.specs.Entry.{entries}
 use Rattle.book.specs.Decode.{item}
+use Rattle.book.specs.Forbidden.{otherItem}
 use Rattle.reader.specs.Items.{itemOf}
 use Rattle.reader.specs.ItemLaws as items
 use borrow.Author.Needs.{needs}
@@ -9,6 +10,7 @@ use Rattle.reader.proofs.items.optional_len.Tie as tie
 use Rattle.reader.proofs.entry_if.Reads as entry-if-reads
 use Rattle.reader.proofs.first_entry.Reads as first-entry-reads
 use Rattle.reader.proofs.items.item_len.Reads as item-len-reads
+use Rattle.reader.proofs.plain.Reads as plain-reads
 
 first-entry-requires : tie.Need-first-entry-requires
 first-entry-requires c κs = search needs
@@ -22,23 +24,26 @@ enum-told c = search needs
 returns : tie.Need-returns
 returns c =
     let a = c .before .before .before .before .before .args in
-    items.absent-none (item (a .names) (itemOf (a .item))) (entries (a .kinds .now) (a .words .now)) _ (c .before .before .first-entry .ensures) (c .enum-told .given .1)
+    items.absent-none (otherItem (itemOf (a .item))) (item (a .names) (itemOf (a .item))) (entries (a .kinds .now) (a .words .now)) _ (c .before .before .first-entry .ensures) (c .enum-told .given .1)
 
 entry-if-requires : tie.Need-entry-if-requires
 entry-if-requires c κs = search needs
+
+plain-requires : tie.Need-plain-requires
+plain-requires c κs = search needs
 
 item-len-requires : tie.Need-item-len-requires
 item-len-requires c κs = search needs
 
 returns-2 : tie.Need-returns-2
 returns-2 c =
-    let a = c .before .before .before .before .before .before .before .before .args in
-    items.absent-is (item (a .names) (itemOf (a .item))) (entries (a .kinds .now) (a .words .now)) _ (c .before .before .before .before .before .first-entry .ensures) _ _ (c .before .before .before .k .given .1) (c .before .if1 .taken) _ (c .entry-if .ensures)
+    let a = c .before .before .before .before .before .before .before .before .before .args in
+    items.absent-is (otherItem (itemOf (a .item))) (item (a .names) (itemOf (a .item))) (entries (a .kinds .now) (a .words .now)) _ (c .before .before .before .before .before .before .first-entry .ensures) _ _ (c .before .before .before .before .k .given .1) (c .before .before .if1 .taken) _ _ (c .before .entry-if .ensures) (c .plain .ensures)
 
 returns-3 : tie.Need-returns-3
 returns-3 c =
     let a = c .before .before .before .before .before .before .before .before .args in
-    items.absent-not (item (a .names) (itemOf (a .item))) (entries (a .kinds .now) (a .words .now)) _ (c .before .before .before .before .before .first-entry .ensures) _ _ (c .before .before .before .k .given .1) (c .before .if1 .left) _ (c .item-len .ensures)
+    items.absent-not (otherItem (itemOf (a .item))) (item (a .names) (itemOf (a .item))) (entries (a .kinds .now) (a .words .now)) _ (c .before .before .before .before .before .first-entry .ensures) _ _ (c .before .before .before .k .given .1) (c .before .if1 .left) _ (c .item-len .ensures)
 
 pub optional-len-spec : {M : Type 1} → statement M
 optional-len-spec =
@@ -49,6 +54,7 @@ optional-len-spec =
     enum-told
     returns
     entry-if-requires
+    plain-requires
     item-len-requires
     returns-2
     returns-3)

@@ -1,25 +1,28 @@
--- `reader::items::param_len` meets its contract: a type is read behind the name.
-use mathlib.Core.Path.{_∙_, sym, ap}
+-- `reader::items::param_len` meets its contract: the type is read behind the name.
 use native.Mathlib.Omega.{arith}
-use Rattle.book.specs.Read.{word}
-use Rattle.book.specs.Decode.{maybeName, type, param}
+use Rattle.book.specs.Entry.{entries}
+use Rattle.book.specs.Decode.{type}
 use Rattle.book.specs.AgreeTy.{agrees-type}
-use Rattle.book.specs.AgreeInst.{agrees-maybeName}
-use Rattle.reader.specs.Items.{paramFront}
+use Rattle.reader.specs.Laws.{lentFrom}
+use Rattle.reader.specs.Found.{never}
+use Rattle.reader.specs.Items.{atomReader, atomTest}
+use Rattle.reader.specs.Passes as passes
 use Rattle.reader.specs.ItemLaws as items
+use Rattle.reader.specs.declared.items.Atom.the-variants.{Param}
 use borrow.Author.Needs.{needs}
 use Rattle.reader.proofs.items.param_len.Statement.{statement}
 use Rattle.reader.proofs.items.param_len.Tie as tie
 use Rattle.reader.proofs.first_entry.Reads as first-entry-reads
-use Rattle.reader.proofs.items.param_name_len.Reads as param-name-len-reads
-use Rattle.reader.proofs.then_len.Reads as then-len-reads
+use Rattle.reader.proofs.items.atom_len.Reads as atom-len-reads
+use Rattle.reader.proofs.join_found.Reads as join-found-reads
+use Rattle.reader.proofs.plain.Reads as plain-reads
 use Rattle.reader.proofs.types.type_len.Reads as type-len-reads
 
 first-entry-requires : tie.Need-first-entry-requires
 first-entry-requires c κs = search needs
 
-param-name-len-requires : tie.Need-param-name-len-requires
-param-name-len-requires c κs = search needs
+atom-len-requires : tie.Need-atom-len-requires
+atom-len-requires c κs = search needs
 
 enum-known-n : tie.Need-enum-known-n
 enum-known-n c = search needs
@@ -28,25 +31,24 @@ enum-told : tie.Need-enum-told
 enum-told c = search needs
 
 returns : tie.Need-returns
-unfolding param
 returns c =
     let a = c .before .before .before .before .before .before .args in
-    items.pair-bad (word 6 (maybeName (a .names))) (type (a .names)) (a .kinds .now) (a .words .now) _ (c .before .before .param-name-len .ensures ∙ ap (paramFront _) (c .before .before .before .first-entry .ensures) ∙ sym (items.param-front _ _)) (λ p. record { ty = p .1; name = p .0 }) (c .enum-told .given .1)
+    passes.both-bad (atomReader (a .names) Param) (type (a .names)) (atomTest Param) never (a .kinds .now) (a .words .now) _ (items.atom-is (a .names) Param (entries (a .kinds .now) (a .words .now)) _ _ (c .before .before .before .first-entry .ensures) (c .before .before .atom-len .ensures)) (c .enum-told .given .1)
 
 mul-type-len : tie.Need-mul-type-len
 mul-type-len c =
     let a = c .before .before .before .before .before .before .before .args in
-    omega (arith, items.pair-kinds (word 6 (maybeName (a .names))) (type (a .names)) (a .kinds .now) (a .words .now) _ (c .before .before .before .param-name-len .ensures ∙ ap (paramFront _) (c .before .before .before .before .first-entry .ensures) ∙ sym (items.param-front _ _)) _ (c .before .n .given .1) (agrees-maybeName _ 6), c .before .before .before .before .before .before .before .good)
+    omega (arith, passes.both-kinds (atomReader (a .names) Param) (type (a .names)) (atomTest Param) never (a .kinds .now) (a .words .now) _ (items.atom-is (a .names) Param (entries (a .kinds .now) (a .words .now)) _ _ (c .before .before .before .before .first-entry .ensures) (c .before .before .before .atom-len .ensures)) _ _ (c .before .n .given .1) (items.atom-within (a .names) Param (entries (a .kinds .now) (a .words .now)) _ _ (c .before .before .before .before .first-entry .ensures) (c .before .before .before .atom-len .ensures)), c .before .before .before .before .before .before .before .good)
 
 sub-type-len : tie.Need-sub-type-len
 sub-type-len c =
     let a = c .before .before .before .before .before .before .before .args in
-    items.pair-kinds (word 6 (maybeName (a .names))) (type (a .names)) (a .kinds .now) (a .words .now) _ (c .before .before .before .param-name-len .ensures ∙ ap (paramFront _) (c .before .before .before .before .first-entry .ensures) ∙ sym (items.param-front _ _)) _ (c .before .n .given .1) (agrees-maybeName _ 6)
+    passes.both-kinds (atomReader (a .names) Param) (type (a .names)) (atomTest Param) never (a .kinds .now) (a .words .now) _ (items.atom-is (a .names) Param (entries (a .kinds .now) (a .words .now)) _ _ (c .before .before .before .before .first-entry .ensures) (c .before .before .before .atom-len .ensures)) _ _ (c .before .n .given .1) (items.atom-within (a .names) Param (entries (a .kinds .now) (a .words .now)) _ _ (c .before .before .before .before .first-entry .ensures) (c .before .before .before .atom-len .ensures))
 
 part-type-len-start : tie.Need-part-type-len-start
 part-type-len-start c =
     let a = c .before .before .before .before .before .before .before .args in
-    items.pair-kinds (word 6 (maybeName (a .names))) (type (a .names)) (a .kinds .now) (a .words .now) _ (c .before .before .before .param-name-len .ensures ∙ ap (paramFront _) (c .before .before .before .before .first-entry .ensures) ∙ sym (items.param-front _ _)) _ (c .before .n .given .1) (agrees-maybeName _ 6)
+    passes.both-kinds (atomReader (a .names) Param) (type (a .names)) (atomTest Param) never (a .kinds .now) (a .words .now) _ (items.atom-is (a .names) Param (entries (a .kinds .now) (a .words .now)) _ _ (c .before .before .before .before .first-entry .ensures) (c .before .before .before .atom-len .ensures)) _ _ (c .before .n .given .1) (items.atom-within (a .names) Param (entries (a .kinds .now) (a .words .now)) _ _ (c .before .before .before .before .first-entry .ensures) (c .before .before .before .atom-len .ensures))
 
 part-type-len-end : tie.Need-part-type-len-end
 part-type-len-end c = search needs
@@ -54,17 +56,17 @@ part-type-len-end c = search needs
 mul-type-len-2 : tie.Need-mul-type-len-2
 mul-type-len-2 c =
     let a = c .before .before .before .before .before .before .before .before .args in
-    omega (arith, items.pair-words (word 6 (maybeName (a .names))) (type (a .names)) (a .kinds .now) (a .words .now) _ (c .before .before .before .before .param-name-len .ensures ∙ ap (paramFront _) (c .before .before .before .before .before .first-entry .ensures) ∙ sym (items.param-front _ _)) _ (c .before .before .n .given .1) (agrees-maybeName _ 6), c .before .before .before .before .before .before .before .before .good)
+    omega (arith, passes.both-words (atomReader (a .names) Param) (type (a .names)) (atomTest Param) never (a .kinds .now) (a .words .now) _ (items.atom-is (a .names) Param (entries (a .kinds .now) (a .words .now)) _ _ (c .before .before .before .before .before .first-entry .ensures) (c .before .before .before .before .atom-len .ensures)) _ _ (c .before .before .n .given .1) (items.atom-within (a .names) Param (entries (a .kinds .now) (a .words .now)) _ _ (c .before .before .before .before .before .first-entry .ensures) (c .before .before .before .before .atom-len .ensures)), c .before .before .before .before .before .before .before .before .good)
 
 sub-type-len-2 : tie.Need-sub-type-len-2
 sub-type-len-2 c =
     let a = c .before .before .before .before .before .before .before .before .args in
-    items.pair-words (word 6 (maybeName (a .names))) (type (a .names)) (a .kinds .now) (a .words .now) _ (c .before .before .before .before .param-name-len .ensures ∙ ap (paramFront _) (c .before .before .before .before .before .first-entry .ensures) ∙ sym (items.param-front _ _)) _ (c .before .before .n .given .1) (agrees-maybeName _ 6)
+    passes.both-words (atomReader (a .names) Param) (type (a .names)) (atomTest Param) never (a .kinds .now) (a .words .now) _ (items.atom-is (a .names) Param (entries (a .kinds .now) (a .words .now)) _ _ (c .before .before .before .before .before .first-entry .ensures) (c .before .before .before .before .atom-len .ensures)) _ _ (c .before .before .n .given .1) (items.atom-within (a .names) Param (entries (a .kinds .now) (a .words .now)) _ _ (c .before .before .before .before .before .first-entry .ensures) (c .before .before .before .before .atom-len .ensures))
 
 part-type-len-start-2 : tie.Need-part-type-len-start-2
 part-type-len-start-2 c =
     let a = c .before .before .before .before .before .before .before .before .args in
-    items.pair-words (word 6 (maybeName (a .names))) (type (a .names)) (a .kinds .now) (a .words .now) _ (c .before .before .before .before .param-name-len .ensures ∙ ap (paramFront _) (c .before .before .before .before .before .first-entry .ensures) ∙ sym (items.param-front _ _)) _ (c .before .before .n .given .1) (agrees-maybeName _ 6)
+    passes.both-words (atomReader (a .names) Param) (type (a .names)) (atomTest Param) never (a .kinds .now) (a .words .now) _ (items.atom-is (a .names) Param (entries (a .kinds .now) (a .words .now)) _ _ (c .before .before .before .before .before .first-entry .ensures) (c .before .before .before .before .atom-len .ensures)) _ _ (c .before .before .n .given .1) (items.atom-within (a .names) Param (entries (a .kinds .now) (a .words .now)) _ _ (c .before .before .before .before .before .first-entry .ensures) (c .before .before .before .before .atom-len .ensures))
 
 part-type-len-end-2 : tie.Need-part-type-len-end-2
 part-type-len-end-2 c = search needs
@@ -72,23 +74,25 @@ part-type-len-end-2 c = search needs
 type-len-requires : tie.Need-type-len-requires
 type-len-requires c κs = search needs
 
-then-len-requires : tie.Need-then-len-requires
-then-len-requires c κs =
-    let a = c .before .before .before .before .before .before .before .before .before .before .args in
-    items.pair-room (word 6 (maybeName (a .names))) (type (a .names)) (a .kinds .now) (a .words .now) _ (c .before .before .before .before .before .before .param-name-len .ensures ∙ ap (paramFront _) (c .before .before .before .before .before .before .before .first-entry .ensures) ∙ sym (items.param-front _ _)) _ (c .before .before .before .before .n .given .1) (agrees-maybeName _ 6) (agrees-type _) (omega arith) _ (c .type-len .ensures)
+plain-requires : tie.Need-plain-requires
+plain-requires c κs = search needs
+
+join-found-requires : tie.Need-join-found-requires
+join-found-requires c κs =
+    let a = c .before .before .before .before .before .before .before .before .before .before .before .args in
+    passes.both-room (atomReader (a .names) Param) (type (a .names)) (atomTest Param) never (a .kinds .now) (a .words .now) _ (items.atom-is (a .names) Param (entries (a .kinds .now) (a .words .now)) _ _ (c .before .before .before .before .before .before .before .before .first-entry .ensures) (c .before .before .before .before .before .before .before .atom-len .ensures)) _ _ (c .before .before .before .before .before .n .given .1) (items.atom-within (a .names) Param (entries (a .kinds .now) (a .words .now)) _ _ (c .before .before .before .before .before .before .before .before .first-entry .ensures) (c .before .before .before .before .before .before .before .atom-len .ensures)) (omega arith) _ (passes.within never (agrees-type _) (lentFrom (a .kinds .now) (a .words .now) (c .before .before .before .before .before .n .given .0 .0)) _ (passes.plain-is (type (a .names) (lentFrom (a .kinds .now) (a .words .now) (c .before .before .before .before .before .n .given .0 .0))) _ _ (c .before .type-len .ensures) (c .plain .ensures)))
 
 returns-2 : tie.Need-returns-2
-unfolding param
 returns-2 c =
-    let a = c .before .before .before .before .before .before .before .before .before .before .before .args in
-    items.pair-arm (word 6 (maybeName (a .names))) (type (a .names)) (a .kinds .now) (a .words .now) _ (c .before .before .before .before .before .before .before .param-name-len .ensures ∙ ap (paramFront _) (c .before .before .before .before .before .before .before .before .first-entry .ensures) ∙ sym (items.param-front _ _)) _ (c .before .before .before .before .before .n .given .1) (λ p. record { ty = p .1; name = p .0 }) _ _ (c .before .type-len .ensures) (c .then-len .ensures)
+    let a = c .before .before .before .before .before .before .before .before .before .before .before .before .args in
+    passes.both-arm (atomReader (a .names) Param) (type (a .names)) (atomTest Param) never (a .kinds .now) (a .words .now) _ (items.atom-is (a .names) Param (entries (a .kinds .now) (a .words .now)) _ _ (c .before .before .before .before .before .before .before .before .before .first-entry .ensures) (c .before .before .before .before .before .before .before .before .atom-len .ensures)) _ _ (c .before .before .before .before .before .before .n .given .1) _ _ (passes.plain-is (type (a .names) (lentFrom (a .kinds .now) (a .words .now) (c .before .before .before .before .before .before .n .given .0 .0))) _ _ (c .before .before .type-len .ensures) (c .before .plain .ensures)) (c .join-found .ensures)
 
 pub param-len-spec : {M : Type 1} → statement M
 param-len-spec =
     tie.close
     (tie.spec
     first-entry-requires
-    param-name-len-requires
+    atom-len-requires
     enum-known-n
     enum-told
     returns
@@ -101,5 +105,6 @@ param-len-spec =
     part-type-len-start-2
     part-type-len-end-2
     type-len-requires
-    then-len-requires
+    plain-requires
+    join-found-requires
     returns-2)

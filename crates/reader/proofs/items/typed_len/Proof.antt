@@ -1,20 +1,27 @@
--- `reader::items::typed_len` meets its contract: a value is read behind the type.
-use mathlib.Core.Path.{_∙_, sym, ap}
+-- `reader::items::typed_len` meets its contract: an atom is read behind the type.
 use native.Mathlib.Omega.{arith}
-use Rattle.book.specs.Decode.{type, typedVal, value}
-use Rattle.book.specs.AgreeTy.{agrees-type, agrees-value}
-use Rattle.reader.specs.Items.{valueFront}
+use Rattle.book.specs.Entry.{entries}
+use Rattle.book.specs.Decode.{type}
+use Rattle.book.specs.AgreeTy.{agrees-type}
+use Rattle.reader.specs.Laws.{lentFrom}
+use Rattle.reader.specs.Found.{never}
+use Rattle.reader.specs.Items.{atomReader, atomTest}
+use Rattle.reader.specs.Passes as passes
 use Rattle.reader.specs.ItemLaws as items
 use borrow.Author.Needs.{needs}
 use Rattle.reader.proofs.items.typed_len.Statement.{statement}
 use Rattle.reader.proofs.items.typed_len.Tie as tie
 use Rattle.reader.proofs.first_entry.Reads as first-entry-reads
-use Rattle.reader.proofs.items.value_len.Reads as value-len-reads
-use Rattle.reader.proofs.then_len.Reads as then-len-reads
+use Rattle.reader.proofs.items.atom_len.Reads as atom-len-reads
+use Rattle.reader.proofs.join_found.Reads as join-found-reads
+use Rattle.reader.proofs.plain.Reads as plain-reads
 use Rattle.reader.proofs.types.type_len.Reads as type-len-reads
 
 type-len-requires : tie.Need-type-len-requires
 type-len-requires c κs = search needs
+
+plain-requires : tie.Need-plain-requires
+plain-requires c κs = search needs
 
 enum-known-n : tie.Need-enum-known-n
 enum-known-n c = search needs
@@ -23,43 +30,42 @@ enum-told : tie.Need-enum-told
 enum-told c = search needs
 
 returns : tie.Need-returns
-unfolding typedVal
 returns c =
-    let a = c .before .before .before .before .before .args in
-    items.pair-bad (type (a .names)) (value (a .names)) (a .kinds .now) (a .words .now) _ (c .before .before .type-len .ensures) (λ p. record { ty = p .0; val = p .1 }) (c .enum-told .given .1)
+    let a = c .before .before .before .before .before .before .args in
+    passes.both-bad (type (a .names)) (atomReader (a .names) (a .atom)) never (atomTest (a .atom)) (a .kinds .now) (a .words .now) _ (passes.plain-is (type (a .names) (entries (a .kinds .now) (a .words .now))) _ _ (c .before .before .before .type-len .ensures) (c .before .before .plain .ensures)) (c .enum-told .given .1)
 
 mul-first-entry : tie.Need-mul-first-entry
 mul-first-entry c =
-    let a = c .before .before .before .before .before .before .args in
-    omega (arith, items.pair-kinds (type (a .names)) (value (a .names)) (a .kinds .now) (a .words .now) _ (c .before .before .before .type-len .ensures) _ (c .before .n .given .1) (agrees-type _), c .before .before .before .before .before .before .good)
+    let a = c .before .before .before .before .before .before .before .args in
+    omega (arith, passes.both-kinds (type (a .names)) (atomReader (a .names) (a .atom)) never (atomTest (a .atom)) (a .kinds .now) (a .words .now) _ (passes.plain-is (type (a .names) (entries (a .kinds .now) (a .words .now))) _ _ (c .before .before .before .before .type-len .ensures) (c .before .before .before .plain .ensures)) _ _ (c .before .n .given .1) (passes.within never (agrees-type _) (entries (a .kinds .now) (a .words .now)) _ (passes.plain-is (type (a .names) (entries (a .kinds .now) (a .words .now))) _ _ (c .before .before .before .before .type-len .ensures) (c .before .before .before .plain .ensures))), c .before .before .before .before .before .before .before .good)
 
 sub-first-entry : tie.Need-sub-first-entry
 sub-first-entry c =
-    let a = c .before .before .before .before .before .before .args in
-    items.pair-kinds (type (a .names)) (value (a .names)) (a .kinds .now) (a .words .now) _ (c .before .before .before .type-len .ensures) _ (c .before .n .given .1) (agrees-type _)
+    let a = c .before .before .before .before .before .before .before .args in
+    passes.both-kinds (type (a .names)) (atomReader (a .names) (a .atom)) never (atomTest (a .atom)) (a .kinds .now) (a .words .now) _ (passes.plain-is (type (a .names) (entries (a .kinds .now) (a .words .now))) _ _ (c .before .before .before .before .type-len .ensures) (c .before .before .before .plain .ensures)) _ _ (c .before .n .given .1) (passes.within never (agrees-type _) (entries (a .kinds .now) (a .words .now)) _ (passes.plain-is (type (a .names) (entries (a .kinds .now) (a .words .now))) _ _ (c .before .before .before .before .type-len .ensures) (c .before .before .before .plain .ensures)))
 
 part-first-entry-start : tie.Need-part-first-entry-start
 part-first-entry-start c =
-    let a = c .before .before .before .before .before .before .args in
-    items.pair-kinds (type (a .names)) (value (a .names)) (a .kinds .now) (a .words .now) _ (c .before .before .before .type-len .ensures) _ (c .before .n .given .1) (agrees-type _)
+    let a = c .before .before .before .before .before .before .before .args in
+    passes.both-kinds (type (a .names)) (atomReader (a .names) (a .atom)) never (atomTest (a .atom)) (a .kinds .now) (a .words .now) _ (passes.plain-is (type (a .names) (entries (a .kinds .now) (a .words .now))) _ _ (c .before .before .before .before .type-len .ensures) (c .before .before .before .plain .ensures)) _ _ (c .before .n .given .1) (passes.within never (agrees-type _) (entries (a .kinds .now) (a .words .now)) _ (passes.plain-is (type (a .names) (entries (a .kinds .now) (a .words .now))) _ _ (c .before .before .before .before .type-len .ensures) (c .before .before .before .plain .ensures)))
 
 part-first-entry-end : tie.Need-part-first-entry-end
 part-first-entry-end c = search needs
 
 mul-first-entry-2 : tie.Need-mul-first-entry-2
 mul-first-entry-2 c =
-    let a = c .before .before .before .before .before .before .before .args in
-    omega (arith, items.pair-words (type (a .names)) (value (a .names)) (a .kinds .now) (a .words .now) _ (c .before .before .before .before .type-len .ensures) _ (c .before .before .n .given .1) (agrees-type _), c .before .before .before .before .before .before .before .good)
+    let a = c .before .before .before .before .before .before .before .before .args in
+    omega (arith, passes.both-words (type (a .names)) (atomReader (a .names) (a .atom)) never (atomTest (a .atom)) (a .kinds .now) (a .words .now) _ (passes.plain-is (type (a .names) (entries (a .kinds .now) (a .words .now))) _ _ (c .before .before .before .before .before .type-len .ensures) (c .before .before .before .before .plain .ensures)) _ _ (c .before .before .n .given .1) (passes.within never (agrees-type _) (entries (a .kinds .now) (a .words .now)) _ (passes.plain-is (type (a .names) (entries (a .kinds .now) (a .words .now))) _ _ (c .before .before .before .before .before .type-len .ensures) (c .before .before .before .before .plain .ensures))), c .before .before .before .before .before .before .before .before .good)
 
 sub-first-entry-2 : tie.Need-sub-first-entry-2
 sub-first-entry-2 c =
-    let a = c .before .before .before .before .before .before .before .args in
-    items.pair-words (type (a .names)) (value (a .names)) (a .kinds .now) (a .words .now) _ (c .before .before .before .before .type-len .ensures) _ (c .before .before .n .given .1) (agrees-type _)
+    let a = c .before .before .before .before .before .before .before .before .args in
+    passes.both-words (type (a .names)) (atomReader (a .names) (a .atom)) never (atomTest (a .atom)) (a .kinds .now) (a .words .now) _ (passes.plain-is (type (a .names) (entries (a .kinds .now) (a .words .now))) _ _ (c .before .before .before .before .before .type-len .ensures) (c .before .before .before .before .plain .ensures)) _ _ (c .before .before .n .given .1) (passes.within never (agrees-type _) (entries (a .kinds .now) (a .words .now)) _ (passes.plain-is (type (a .names) (entries (a .kinds .now) (a .words .now))) _ _ (c .before .before .before .before .before .type-len .ensures) (c .before .before .before .before .plain .ensures)))
 
 part-first-entry-start-2 : tie.Need-part-first-entry-start-2
 part-first-entry-start-2 c =
-    let a = c .before .before .before .before .before .before .before .args in
-    items.pair-words (type (a .names)) (value (a .names)) (a .kinds .now) (a .words .now) _ (c .before .before .before .before .type-len .ensures) _ (c .before .before .n .given .1) (agrees-type _)
+    let a = c .before .before .before .before .before .before .before .before .args in
+    passes.both-words (type (a .names)) (atomReader (a .names) (a .atom)) never (atomTest (a .atom)) (a .kinds .now) (a .words .now) _ (passes.plain-is (type (a .names) (entries (a .kinds .now) (a .words .now))) _ _ (c .before .before .before .before .before .type-len .ensures) (c .before .before .before .before .plain .ensures)) _ _ (c .before .before .n .given .1) (passes.within never (agrees-type _) (entries (a .kinds .now) (a .words .now)) _ (passes.plain-is (type (a .names) (entries (a .kinds .now) (a .words .now))) _ _ (c .before .before .before .before .before .type-len .ensures) (c .before .before .before .before .plain .ensures)))
 
 part-first-entry-end-2 : tie.Need-part-first-entry-end-2
 part-first-entry-end-2 c = search needs
@@ -67,25 +73,25 @@ part-first-entry-end-2 c = search needs
 first-entry-requires : tie.Need-first-entry-requires
 first-entry-requires c κs = search needs
 
-value-len-requires : tie.Need-value-len-requires
-value-len-requires c κs = search needs
+atom-len-requires : tie.Need-atom-len-requires
+atom-len-requires c κs = search needs
 
-then-len-requires : tie.Need-then-len-requires
-then-len-requires c κs =
-    let a = c .before .before .before .before .before .before .before .before .before .before .args in
-    items.pair-room (type (a .names)) (value (a .names)) (a .kinds .now) (a .words .now) _ (c .before .before .before .before .before .before .before .type-len .ensures) _ (c .before .before .before .before .before .n .given .1) (agrees-type _) (agrees-value _) (omega arith) _ (c .value-len .ensures ∙ ap (valueFront _) (c .before .first-entry .ensures) ∙ sym (items.value-front _ _))
+join-found-requires : tie.Need-join-found-requires
+join-found-requires c κs =
+    let a = c .before .before .before .before .before .before .before .before .before .before .before .args in
+    passes.both-room (type (a .names)) (atomReader (a .names) (a .atom)) never (atomTest (a .atom)) (a .kinds .now) (a .words .now) _ (passes.plain-is (type (a .names) (entries (a .kinds .now) (a .words .now))) _ _ (c .before .before .before .before .before .before .before .before .type-len .ensures) (c .before .before .before .before .before .before .before .plain .ensures)) _ _ (c .before .before .before .before .before .n .given .1) (passes.within never (agrees-type _) (entries (a .kinds .now) (a .words .now)) _ (passes.plain-is (type (a .names) (entries (a .kinds .now) (a .words .now))) _ _ (c .before .before .before .before .before .before .before .before .type-len .ensures) (c .before .before .before .before .before .before .before .plain .ensures))) (omega arith) _ (items.atom-within (a .names) (a .atom) (lentFrom (a .kinds .now) (a .words .now) (c .before .before .before .before .before .n .given .0 .0)) _ _ (c .before .first-entry .ensures) (c .atom-len .ensures))
 
 returns-2 : tie.Need-returns-2
-unfolding typedVal
 returns-2 c =
-    let a = c .before .before .before .before .before .before .before .before .before .before .before .args in
-    items.pair-arm (type (a .names)) (value (a .names)) (a .kinds .now) (a .words .now) _ (c .before .before .before .before .before .before .before .before .type-len .ensures) _ (c .before .before .before .before .before .before .n .given .1) (λ p. record { ty = p .0; val = p .1 }) _ _ (c .before .value-len .ensures ∙ ap (valueFront _) (c .before .before .first-entry .ensures) ∙ sym (items.value-front _ _)) (c .then-len .ensures)
+    let a = c .before .before .before .before .before .before .before .before .before .before .before .before .args in
+    passes.both-arm (type (a .names)) (atomReader (a .names) (a .atom)) never (atomTest (a .atom)) (a .kinds .now) (a .words .now) _ (passes.plain-is (type (a .names) (entries (a .kinds .now) (a .words .now))) _ _ (c .before .before .before .before .before .before .before .before .before .type-len .ensures) (c .before .before .before .before .before .before .before .before .plain .ensures)) _ _ (c .before .before .before .before .before .before .n .given .1) _ _ (items.atom-is (a .names) (a .atom) (lentFrom (a .kinds .now) (a .words .now) (c .before .before .before .before .before .before .n .given .0 .0)) _ _ (c .before .before .first-entry .ensures) (c .before .atom-len .ensures)) (c .join-found .ensures)
 
 pub typed-len-spec : {M : Type 1} → statement M
 typed-len-spec =
     tie.close
     (tie.spec
     type-len-requires
+    plain-requires
     enum-known-n
     enum-told
     returns
@@ -98,6 +104,6 @@ typed-len-spec =
     part-first-entry-start-2
     part-first-entry-end-2
     first-entry-requires
-    value-len-requires
-    then-len-requires
+    atom-len-requires
+    join-found-requires
     returns-2)

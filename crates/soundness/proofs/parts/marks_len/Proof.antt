@@ -14,7 +14,7 @@ use Rattle.soundness.specs.Parts as parts
 use borrow.Author.Needs.{needs}
 use Rattle.soundness.proofs.parts.marks_len.Statement.{statement}
 use Rattle.soundness.proofs.parts.marks_len.Tie as tie
-use Rattle.blocks.proofs.then_found.Reads as then-found-reads
+use Rattle.reader.proofs.join_found.Reads as join-found-reads
 use Rattle.reader.proofs.shorter.Reads as shorter-reads
 use Rattle.soundness.proofs.parts.mark.Reads as mark-reads
 use Rattle.soundness.proofs.parts.structs_len.Reads as structs-len-reads
@@ -71,8 +71,8 @@ part-structs-len-end-2 c = search needs
 structs-len-requires : tie.Need-structs-len-requires Inv-loop μ-loop
 structs-len-requires c κs = search needs
 
-then-found-requires : tie.Need-then-found-requires Inv-loop μ-loop
-then-found-requires c κs =
+join-found-requires : tie.Need-join-found-requires Inv-loop μ-loop
+join-found-requires c κs =
     let a = c .before .before .before .before .before .before .before .before .before .before .before .before .before .args in
     parts.structs-room (c .before .before .before .before .before .before .before .loop .barred) (a .names) (a .kinds .now) (a .words .now) _ _ (c .structs-len .ensures) (c .before .before .before .before .before .before .before .loop .inv .0 .kinds) (omega (arith, c .before .before .before .before .before .before .before .before .before .before .before .before .before .good))
 
@@ -85,7 +85,7 @@ same-length-2 c = c .before .before .before .before .before .before .before .bef
 returns : tie.Need-returns Inv-loop μ-loop
 returns c =
     let a = c .before .before .before .before .before .before .before .before .before .before .before .before .before .before .args in
-    parts.marks-end (a .marked .now) (a .barred .now) (a .names) (a .kinds .now) (a .words .now) _ _ (c .before .before .before .before .before .before .before .before .loop .inv .0) (omega (arith, c .before .before .before .before .before .before .before .loop-test .taken, c .before .before .before .before .before .before .before .before .before .shorter .ensures)) (c .before .before .before .before .before .if1 .taken) _ _ (c .before .structs-len .ensures) (c .then-found .ensures)
+    parts.marks-end (a .marked .now) (a .barred .now) (a .names) (a .kinds .now) (a .words .now) _ _ (c .before .before .before .before .before .before .before .before .loop .inv .0) (omega (arith, c .before .before .before .before .before .before .before .loop-test .taken, c .before .before .before .before .before .before .before .before .before .shorter .ensures)) (c .before .before .before .before .before .if1 .taken) _ _ (c .before .structs-len .ensures) (c .join-found .ensures)
 
 mul-mark : tie.Need-mul-mark Inv-loop μ-loop
 mul-mark c =
@@ -164,7 +164,7 @@ marks-len-spec =
     part-structs-len-start-2
     part-structs-len-end-2
     structs-len-requires
-    then-found-requires
+    join-found-requires
     same-length
     same-length-2
     returns

@@ -1,23 +1,22 @@
 -- `soundness::parts::struct_step` meets its contract: a kind from 4 on is the function's, any other a struct's.
-use mathlib.Core.Path.{refl, _∙_, sym, ap}
+use mathlib.Core.Path.{_∙_, sym}
 use borrow.Author.Tests.{le-leb, lt-leb}
 use lib.Dec.{leb}
 use Rattle.numbers.specs.Bits.{bitAt}
 use Rattle.book.specs.Entry.{entries}
 use Rattle.book.specs.Decode.{structType, function}
 use Rattle.book.specs.Forbidden.{forbiddenFunction}
-use Rattle.blocks.specs.Found.{never}
-use Rattle.blocks.specs.Passes as passes
-use Rattle.soundness.specs.Parts.{plainPass}
+use Rattle.reader.specs.Found.{never}
+use Rattle.reader.specs.Passes as passes
 use Rattle.soundness.specs.Parts as parts
 use borrow.Author.Needs.{needs}
 use Rattle.soundness.proofs.parts.struct_step.Statement.{statement}
 use Rattle.soundness.proofs.parts.struct_step.Tie as tie
 use Rattle.blocks.proofs.function_len.Reads as function-len-reads
-use Rattle.blocks.proofs.last_pass.Reads as last-pass-reads
 use Rattle.reader.proofs.first_entry.Reads as first-entry-reads
+use Rattle.reader.proofs.last_pass.Reads as last-pass-reads
+use Rattle.reader.proofs.next_pass.Reads as next-pass-reads
 use Rattle.soundness.proofs.parts.struct_len.Reads as struct-len-reads
-use Rattle.soundness.proofs.parts.struct_pass.Reads as struct-pass-reads
 
 first-entry-requires : tie.Need-first-entry-requires
 first-entry-requires c κs = search needs
@@ -42,8 +41,8 @@ last-pass-requires c κs = search needs
 struct-len-requires : tie.Need-struct-len-requires
 struct-len-requires c κs = search needs
 
-struct-pass-requires : tie.Need-struct-pass-requires
-struct-pass-requires c κs = search needs
+next-pass-requires : tie.Need-next-pass-requires
+next-pass-requires c κs = search needs
 
 returns-2 : tie.Need-returns-2
 returns-2 c =
@@ -53,7 +52,7 @@ returns-2 c =
 returns-3 : tie.Need-returns-3
 returns-3 c =
     let a = c .before .before .before .before .before .before .before .before .before .before .args in
-    passes.pass-item never (forbiddenFunction (bitAt (a .barred .now))) (leb 4) (structType (a .names)) (function (a .names)) (entries (a .kinds .now) (a .words .now)) (passes.front-stops never (forbiddenFunction (bitAt (a .barred .now))) (leb 4) (structType (a .names)) (function (a .names)) (entries (a .kinds .now) (a .words .now)) _ _ (sym (c .before .before .before .before .before .before .first-entry .ensures) ∙ c .before .before .before .before .kind .given .1) _ (lt-leb _ _ (c .before .before .if1 .left))) _ _ refl (c .struct-pass .ensures ∙ ap plainPass (c .before .struct-len .ensures) ∙ parts.plain-next (structType (a .names) (entries (a .kinds .now) (a .words .now))))
+    passes.pass-item never (forbiddenFunction (bitAt (a .barred .now))) (leb 4) (structType (a .names)) (function (a .names)) (entries (a .kinds .now) (a .words .now)) (passes.front-stops never (forbiddenFunction (bitAt (a .barred .now))) (leb 4) (structType (a .names)) (function (a .names)) (entries (a .kinds .now) (a .words .now)) _ _ (sym (c .before .before .before .before .before .before .first-entry .ensures) ∙ c .before .before .before .before .kind .given .1) _ (lt-leb _ _ (c .before .before .if1 .left))) _ _ (c .before .struct-len .ensures) (c .next-pass .ensures)
 
 pub struct-step-spec : {M : Type 1} → statement M
 struct-step-spec =
@@ -66,6 +65,6 @@ struct-step-spec =
     function-len-requires
     last-pass-requires
     struct-len-requires
-    struct-pass-requires
+    next-pass-requires
     returns-2
     returns-3)
