@@ -1,5 +1,2 @@
-pub mod Parts
-pub mod Reading
-pub mod Folds
 pub mod Whole
 pub mod Verdict

@@ -26,8 +26,7 @@ use Rattle.book.specs.Forbidden.{reservedBy, uncallable, forbiddenFunction, for
 use Rattle.book.specs.Check.{workFor, checked, refusalOf}
 use Rattle.marks.specs.Range.{markedRange, bit-range}
 use Rattle.reader.specs.Passes.{or-false}
-use Rattle.soundness.specs.Reading.{barredWith}
-use Rattle.soundness.specs.Whole.{there, readingIn, Holds, slice-holds}
+use Rattle.soundness.specs.Whole.{there, barredWith, readingIn, Holds, slice-holds}
 use Rattle.soundness.specs.declared.Reading.{Reading}
 use Rattle.soundness.specs.declared.Reading.the-variants as reading
 use Rattle.soundness.specs.declared.Verdict.{Verdict}

@@ -25,9 +25,17 @@ use Rattle.book.specs.Input.{Counted, counted, bookIn}
 use Rattle.marks.specs.Once.{isNew, allNew, AllBelow, new-distinct, bit-set}
 use Rattle.reader.specs.declared.Found.{Found}
 use Rattle.reader.specs.declared.Found.the-variants as found
-use Rattle.soundness.specs.Reading.{goes, answered, folded, structTaken, functionEnded, nowBarred, markedBy, structsEnded, partsFound, barredWith, readingOf}
+use Rattle.parts.specs.Reading.{goes, answered, folded, structTaken, functionEnded, nowBarred, markedBy, structsEnded, partsFound}
 use Rattle.soundness.specs.declared.Reading.{Reading}
 use Rattle.soundness.specs.declared.Reading.the-variants as reading
+
+-- ---- a book, and whether something in it is forbidden where the names of a map may not be called
+abbrev pub barredWith : List ℕ → Book → ℕ → Bool
+barredWith barred b x = member x (reservedBy (b .marks)) || bitAt barred x
+
+abbrev pub readingOf : List ℕ → Option Book → Reading
+readingOf barred none = reading.Bad
+readingOf barred (some b) = reading.Book (forbiddenFunction (barredWith barred b) (b .function))
 
 -- whether there is one
 abbrev pub there : {A : Type 0} → Option A → Bool

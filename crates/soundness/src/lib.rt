@@ -1,7 +1,5 @@
 // The whole check: whether a book slice, its names, a label counter and the length of a work slice are fit for
 // a translation, or the first of document 01's refusals 1 to 4. It passes once over the names and once over the entries.
-mod parts;
-
 use parts::parts_len;
 use reader::Found;
 use spelling::Names;
@@ -14,8 +12,7 @@ ghost use Rattle.book.specs.Entry.{entries};
 ghost use Rattle.book.specs.Decode.{decode};
 ghost use Rattle.book.specs.Input.{bookIn};
 ghost use Rattle.book.specs.Check.{checked, refusalOf, workFor};
-ghost use Rattle.soundness.specs.Reading.{readingOf};
-ghost use Rattle.soundness.specs.Whole.{there, readingIn};
+ghost use Rattle.soundness.specs.Whole.{there, readingOf, readingIn};
 ghost use Rattle.soundness.specs.Verdict.{numberOf, verdictOf, intrinsicsIn};
 
 // The answer: a sound book, or the first refusal.

@@ -3,7 +3,7 @@ use mathlib.Core.Path.{_∙_, ap}
 use native.Mathlib.Omega.{arith}
 use lib.ListN.{getD}
 use Rattle.book.specs.Decode.{decode}
-use Rattle.soundness.specs.Reading.{readingOf}
+use Rattle.soundness.specs.Whole.{readingOf}
 use Rattle.soundness.specs.Whole as whole
 use borrow.Author.Needs.{needs}
 use Rattle.soundness.proofs.read_book.Statement.{statement}

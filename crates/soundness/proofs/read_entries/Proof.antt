@@ -6,7 +6,7 @@ use borrow.Author.Needs.{needs}
 use Rattle.soundness.proofs.read_entries.Statement.{statement}
 use Rattle.soundness.proofs.read_entries.Tie as tie
 use Rattle.reader.proofs.shorter.Reads as shorter-reads
-use Rattle.soundness.proofs.parts.parts_len.Reads as parts-len-reads
+use Rattle.parts.proofs.parts_len.Reads as parts-len-reads
 
 parts-len-requires : tie.Need-parts-len-requires
 parts-len-requires c κs = c .before .before .before .before .pre .1

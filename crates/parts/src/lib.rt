@@ -29,8 +29,8 @@ ghost use Rattle.book.specs.Forbidden.{forbiddenFunction};
 ghost use Rattle.reader.specs.Length.{lenOf};
 ghost use Rattle.marks.specs.Once.{setIf};
 ghost use Rattle.reader.specs.Found.{foundOf, passOf, never};
-ghost use Rattle.soundness.specs.Parts.{isStructGroup};
-ghost use Rattle.soundness.specs.Reading.{markTaken, namedFound, structsFound, marksFound, partsFound};
+ghost use Rattle.parts.specs.Parts.{isStructGroup};
+ghost use Rattle.parts.specs.Reading.{markTaken, namedFound, structsFound, marksFound, partsFound};
 
 fn is_struct(group: TypeGroup) -> bool
     ensures { λ r. ⌜ r ≡ isStructGroup group ⌝ }

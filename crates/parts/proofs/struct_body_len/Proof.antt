@@ -1,14 +1,14 @@
--- `soundness::parts::struct_body_len` meets its contract: kind 4 is opaque, and else a struct type is read.
+-- `parts::struct_body_len` meets its contract: kind 4 is opaque, and else a struct type is read.
 use Rattle.book.specs.Entry.{entries}
-use Rattle.soundness.specs.Parts as parts
+use Rattle.parts.specs.Parts as parts
 use borrow.Author.Needs.{needs}
-use Rattle.soundness.proofs.parts.struct_body_len.Statement.{statement}
-use Rattle.soundness.proofs.parts.struct_body_len.Tie as tie
+use Rattle.parts.proofs.struct_body_len.Statement.{statement}
+use Rattle.parts.proofs.struct_body_len.Tie as tie
 use Rattle.reader.proofs.entry_if.Reads as entry-if-reads
 use Rattle.reader.proofs.first_entry.Reads as first-entry-reads
 use Rattle.reader.proofs.types.type_group.Reads as type-group-reads
 use Rattle.reader.proofs.types.type_len.Reads as type-len-reads
-use Rattle.soundness.proofs.parts.is_struct.Reads as is-struct-reads
+use Rattle.parts.proofs.is_struct.Reads as is-struct-reads
 
 first-entry-requires : tie.Need-first-entry-requires
 first-entry-requires c κs = search needs

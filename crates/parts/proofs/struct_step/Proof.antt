@@ -1,4 +1,4 @@
--- `soundness::parts::struct_step` meets its contract: a kind from 4 on is the function's, any other a struct's.
+-- `parts::struct_step` meets its contract: a kind from 4 on is the function's, any other a struct's.
 use mathlib.Core.Path.{_∙_, sym}
 use borrow.Author.Tests.{le-leb, lt-leb}
 use lib.Dec.{leb}
@@ -8,15 +8,15 @@ use Rattle.book.specs.Decode.{structType, function}
 use Rattle.book.specs.Forbidden.{forbiddenFunction}
 use Rattle.reader.specs.Found.{never}
 use Rattle.reader.specs.Passes as passes
-use Rattle.soundness.specs.Parts as parts
+use Rattle.parts.specs.Parts as parts
 use borrow.Author.Needs.{needs}
-use Rattle.soundness.proofs.parts.struct_step.Statement.{statement}
-use Rattle.soundness.proofs.parts.struct_step.Tie as tie
+use Rattle.parts.proofs.struct_step.Statement.{statement}
+use Rattle.parts.proofs.struct_step.Tie as tie
 use Rattle.blocks.proofs.function_len.Reads as function-len-reads
 use Rattle.reader.proofs.first_entry.Reads as first-entry-reads
 use Rattle.reader.proofs.last_pass.Reads as last-pass-reads
 use Rattle.reader.proofs.next_pass.Reads as next-pass-reads
-use Rattle.soundness.proofs.parts.struct_len.Reads as struct-len-reads
+use Rattle.parts.proofs.struct_len.Reads as struct-len-reads
 
 first-entry-requires : tie.Need-first-entry-requires
 first-entry-requires c κs = search needs

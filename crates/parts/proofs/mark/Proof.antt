@@ -1,11 +1,11 @@
--- `soundness::parts::mark` meets its contract: the tests are the definition's, and a reserved name is barred.
+-- `parts::mark` meets its contract: the tests are the definition's, and a reserved name is barred.
 use mathlib.Core.Path.{refl, _∙_, sym, ap}
 use borrow.Author.Tests.{not-true, not-false, eq-eqb, ne-eqb}
 use Rattle.marks.specs.Once.{setIf}
-use Rattle.soundness.specs.Parts as parts
+use Rattle.parts.specs.Parts as parts
 use borrow.Author.Needs.{needs}
-use Rattle.soundness.proofs.parts.mark.Statement.{statement}
-use Rattle.soundness.proofs.parts.mark.Tie as tie
+use Rattle.parts.proofs.mark.Statement.{statement}
+use Rattle.parts.proofs.mark.Tie as tie
 use Rattle.marks.proofs.mark_new.Reads as mark-new-reads
 use Rattle.numbers.proofs.bits.set_bit.Reads as set-bit-reads
 

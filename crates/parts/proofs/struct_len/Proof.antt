@@ -1,4 +1,4 @@
--- `soundness::parts::struct_len` meets its contract: the body is read behind the name.
+-- `parts::struct_len` meets its contract: the body is read behind the name.
 use mathlib.Core.Path.{_∙_, sym, ap}
 use native.Mathlib.Omega.{arith}
 use Rattle.book.specs.Entry.{entries}
@@ -12,13 +12,13 @@ use Rattle.reader.specs.Items.{wordFront}
 use Rattle.reader.specs.ItemLaws as items
 use Rattle.reader.specs.Passes as passes
 use borrow.Author.Needs.{needs}
-use Rattle.soundness.proofs.parts.struct_len.Statement.{statement}
-use Rattle.soundness.proofs.parts.struct_len.Tie as tie
+use Rattle.parts.proofs.struct_len.Statement.{statement}
+use Rattle.parts.proofs.struct_len.Tie as tie
 use Rattle.reader.proofs.first_entry.Reads as first-entry-reads
 use Rattle.reader.proofs.items.word_len.Reads as word-len-reads
 use Rattle.reader.proofs.join_found.Reads as join-found-reads
 use Rattle.reader.proofs.plain.Reads as plain-reads
-use Rattle.soundness.proofs.parts.struct_body_len.Reads as struct-body-len-reads
+use Rattle.parts.proofs.struct_body_len.Reads as struct-body-len-reads
 
 first-entry-requires : tie.Need-first-entry-requires
 first-entry-requires c κs = search needs

@@ -1,4 +1,4 @@
--- `soundness::parts::marks_len` meets its contract: a mark is passed where its name is new, and the structs follow the last.
+-- `parts::marks_len` meets its contract: a mark is passed where its name is new, and the structs follow the last.
 use Prim.Native.Nat.{_-_}
 use mathlib.Core.Path.{_≡_, refl, _∙_, sym}
 use native.Mathlib.Omega.{arith}
@@ -8,16 +8,16 @@ use lib.Dec.{leb}
 use Rattle.book.specs.Entry.{entries}
 use Rattle.book.specs.Decode.{mark, structsAndFunction}
 use Rattle.reader.specs.Laws.{length-entries}
-use Rattle.soundness.specs.Reading.{markedBy, structsEnded}
-use Rattle.soundness.specs.Folds.{Fold, fold-start}
-use Rattle.soundness.specs.Parts as parts
+use Rattle.parts.specs.Reading.{markedBy, structsEnded}
+use Rattle.parts.specs.Folds.{Fold, fold-start}
+use Rattle.parts.specs.Parts as parts
 use borrow.Author.Needs.{needs}
-use Rattle.soundness.proofs.parts.marks_len.Statement.{statement}
-use Rattle.soundness.proofs.parts.marks_len.Tie as tie
+use Rattle.parts.proofs.marks_len.Statement.{statement}
+use Rattle.parts.proofs.marks_len.Tie as tie
 use Rattle.reader.proofs.join_found.Reads as join-found-reads
 use Rattle.reader.proofs.shorter.Reads as shorter-reads
-use Rattle.soundness.proofs.parts.mark.Reads as mark-reads
-use Rattle.soundness.proofs.parts.structs_len.Reads as structs-len-reads
+use Rattle.parts.proofs.mark.Reads as mark-reads
+use Rattle.parts.proofs.structs_len.Reads as structs-len-reads
 
 abbrev Inv-loop : tie.InvT-loop
 Inv-loop kinds words names marked₀ barred₀ n at₀ marked barred at =

@@ -1,4 +1,4 @@
--- `soundness::parts::named_len` meets its contract: a struct whose name is new is passed, and the function ends the loop.
+-- `parts::named_len` meets its contract: a struct whose name is new is passed, and the function ends the loop.
 use mathlib.Core.Path.{_≡_, refl, _∙_}
 use native.Mathlib.Omega.{arith}
 use borrow.Author.Tests.{not-true, not-false}
@@ -7,15 +7,15 @@ use lib.Dec.{leb}
 use Rattle.book.specs.Entry.{entries}
 use Rattle.book.specs.Decode.{structType, function, structsAndFunction}
 use Rattle.reader.specs.Laws.{length-entries}
-use Rattle.soundness.specs.Reading.{structTaken, functionEnded}
-use Rattle.soundness.specs.Folds.{Fold, fold-start}
-use Rattle.soundness.specs.Parts as parts
+use Rattle.parts.specs.Reading.{structTaken, functionEnded}
+use Rattle.parts.specs.Folds.{Fold, fold-start}
+use Rattle.parts.specs.Parts as parts
 use borrow.Author.Needs.{needs}
-use Rattle.soundness.proofs.parts.named_len.Statement.{statement}
-use Rattle.soundness.proofs.parts.named_len.Tie as tie
+use Rattle.parts.proofs.named_len.Statement.{statement}
+use Rattle.parts.proofs.named_len.Tie as tie
 use Rattle.marks.proofs.mark_new.Reads as mark-new-reads
 use Rattle.reader.proofs.shorter.Reads as shorter-reads
-use Rattle.soundness.proofs.parts.struct_step.Reads as struct-step-reads
+use Rattle.parts.proofs.struct_step.Reads as struct-step-reads
 
 abbrev Inv-loop : tie.InvT-loop
 Inv-loop kinds words names barred named₀ at₀ left₀ named at left =

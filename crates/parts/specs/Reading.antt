@@ -14,8 +14,6 @@ use Rattle.book.specs.Forbidden.{reservedBy, forbiddenFunction}
 use Rattle.marks.specs.Once.{isNew}
 use Rattle.reader.specs.declared.Found.{Found}
 use Rattle.reader.specs.declared.Found.the-variants as found
-use Rattle.soundness.specs.declared.Reading.{Reading}
-use Rattle.soundness.specs.declared.Reading.the-variants as reading
 
 abbrev pub goes : {A B : Type 0} → Option A → (A → Option B) → Option B
 goes none k = none
@@ -74,11 +72,3 @@ partsFound barred = marksFound (replicate 2048 0) barred
 -- whether the entry is a name's first mark
 abbrev pub markTaken : ℕ → List ℕ → ℕ → ℕ → Bool
 markTaken m marked k w = (leb 1 k && leb k 2) && (ltb w m && isNew marked w)
-
--- ---- a book, and whether something in it is forbidden where the names of a map may not be called
-abbrev pub barredWith : List ℕ → Book → ℕ → Bool
-barredWith barred b x = member x (reservedBy (b .marks)) || bitAt barred x
-
-abbrev pub readingOf : List ℕ → Option Book → Reading
-readingOf barred none = reading.Bad
-readingOf barred (some b) = reading.Book (forbiddenFunction (barredWith barred b) (b .function))

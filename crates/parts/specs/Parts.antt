@@ -40,8 +40,8 @@ use Rattle.reader.specs.declared.Found.{Found}
 use Rattle.reader.specs.declared.Found.the-variants as found
 use Rattle.reader.specs.declared.Pass.{Pass}
 use Rattle.reader.specs.declared.Pass.the-variants as pass
-use Rattle.soundness.specs.Reading.{goes, answered, folded, endFound, structTaken, functionEnded, namedFound, structsFound, markedBy, structsEnded, marksFound, markTaken}
-use Rattle.soundness.specs.Folds.{Fold, fold-end, fold-bad, fold-full, fold-refused, fold-next, pass-done, pass-last, pass-next, pass-item-bad}
+use Rattle.parts.specs.Reading.{goes, answered, folded, endFound, structTaken, functionEnded, namedFound, structsFound, markedBy, structsEnded, marksFound, markTaken}
+use Rattle.parts.specs.Folds.{Fold, fold-end, fold-bad, fold-full, fold-refused, fold-next, pass-done, pass-last, pass-next, pass-item-bad}
 
 no : false ≡ true → ⊥
 no e = let z : _≡_ {A = ℕ} 0 1 = cc in omega arith

@@ -17,7 +17,7 @@ use Rattle.reader.specs.declared.Found.{Found}
 use Rattle.reader.specs.declared.Found.the-variants as found
 use Rattle.reader.specs.declared.Pass.{Pass}
 use Rattle.reader.specs.declared.Pass.the-variants as pass
-use Rattle.soundness.specs.Reading.{goes, answered, folded, endFound, allFound}
+use Rattle.parts.specs.Reading.{goes, answered, folded, endFound, allFound}
 
 behind-behind : (a b : ℕ) (f : Found) → joined a false (joined b false f) ≡ joined (a + b) false f
 behind-behind a b (found.Entries n r) = ap (λ k. found.Entries k r) (sym (add-assoc a b n))
