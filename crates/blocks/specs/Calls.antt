@@ -1,7 +1,7 @@
 -- The callee of a call: whether it may not be called, by the entries and by the definition.
-use Prim.Native.Nat.{ℕ, _≤_}
+use Prim.Native.Nat.{ℕ}
 use mathlib.Core.Path.{_≡_, refl, ap, sym, _∙_}
-use mathlib.Core.Bool.{Bool, true, false, _&&_, _||_}
+use mathlib.Core.Bool.{Bool, false, _&&_, _||_}
 use mathlib.Core.Option.{Option, some}
 use mathlib.Core.List.{List, [], _∷_, _++_, append-assoc}
 use native.Mathlib.Omega.{arith}
@@ -9,10 +9,10 @@ use borrow.Author.Tests.{eq-eqb, ne-eqb}
 use lib.ListN.{drop}
 use lib.Seq.{drop-append-seam}
 use lib.Dec.{eqb}
-use Rattle.book.specs.Entry.{Entry, entry, entries}
+use Rattle.book.specs.Entry.{Entry, entries}
 use Rattle.book.specs.Ast.{Zero, Ty, Value, InstKind, Inst, Terminator, BasicBlock, Param}
 use Rattle.book.specs.Kinds.{InstTag, instKind, instTag}
-use Rattle.book.specs.Fields.{Item, instTagOf}
+use Rattle.book.specs.Fields.{Item}
 use Rattle.book.specs.Shape.{shape}
 use Rattle.book.specs.Read.{Read, got, bad}
 use Rattle.book.specs.Decode.{type, inst}

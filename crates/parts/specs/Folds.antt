@@ -1,5 +1,5 @@
 -- Laws on items that each change a state or are refused, and on the loops over named structs and marks.
-use Prim.Native.Nat.{ℕ, zero, suc, _+_, _-_, _≤_, _<_}
+use Prim.Native.Nat.{ℕ, zero, suc, _+_, _-_, _≤_}
 use mathlib.Core.Path.{_≡_, refl, ap, sym, _∙_}
 use mathlib.Core.Bool.{Bool, true, false}
 use mathlib.Core.Option.{Option, none, some}
@@ -10,8 +10,8 @@ use native.Mathlib.Omega.{arith}
 use lib.ListN.{length, drop}
 use lib.Seq.{drop-drop}
 use Rattle.book.specs.Entry.{Entry, entries}
-use Rattle.book.specs.Read.{Read, got, bad, Reader, andThen, choose, stops, mapped, until}
-use Rattle.reader.specs.Laws.{entries-part, within-kinds, within-words, lentFrom}
+use Rattle.book.specs.Read.{Read, got, bad, Reader, andThen, stops, mapped, until}
+use Rattle.reader.specs.Laws.{within-kinds, within-words}
 use Rattle.reader.specs.Found.{foundOf, joined, nextOf, lastOf, pickPass, passOf}
 use Rattle.reader.specs.declared.Found.{Found}
 use Rattle.reader.specs.declared.Found.the-variants as found

@@ -12,8 +12,8 @@ use lib.ListN.{length, getD, drop, take, replicate, length-append, length-drop, 
 use lib.Dec.{eqb, leb, ltb}
 use Rattle.numbers.specs.Bits.{bitAt, setBitAt}
 use Rattle.book.specs.Entry.{Entry, entry, entries}
-use Rattle.book.specs.Ast.{Sizeless, Ty, Mark, StructBody, StructType, Function}
-use Rattle.book.specs.Rule.{when, pick}
+use Rattle.book.specs.Ast.{Ty, Mark, StructBody, StructType, Function}
+use Rattle.book.specs.Rule.{when}
 use Rattle.book.specs.Kinds.{TyTag, tyTag}
 use Rattle.book.specs.Read.{Read, got, bad, andThen, taking, one, stops, mapped, both, until, word}
 use Rattle.book.specs.Decode.{type, markAs, mark, bodyOf, structBody, structType, function, structsAndFunction, parts}

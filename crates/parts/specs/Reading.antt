@@ -1,16 +1,16 @@
 -- What a pass over a book's entries finds: items that each change a state or are refused, then an end.
 use Prim.Native.Nat.{ℕ}
-use mathlib.Core.Bool.{Bool, true, false, _&&_, _||_}
+use mathlib.Core.Bool.{Bool, _&&_}
 use mathlib.Core.Option.{Option, none, some}
 use mathlib.Core.List.{List, [], _∷_}
 use lib.ListN.{replicate}
-use lib.Dec.{eqb, leb, ltb}
+use lib.Dec.{leb, ltb}
 use Rattle.numbers.specs.Bits.{bitAt, setBitAt}
-use Rattle.book.specs.Ast.{Mark, StructType, Function, Book}
+use Rattle.book.specs.Ast.{Mark, StructType, Function}
 use Rattle.book.specs.Rule.{when}
 use Rattle.book.specs.Read.{Read, got, bad}
-use Rattle.book.specs.Decode.{member, markName}
-use Rattle.book.specs.Forbidden.{reservedBy, forbiddenFunction}
+use Rattle.book.specs.Decode.{markName}
+use Rattle.book.specs.Forbidden.{forbiddenFunction}
 use Rattle.marks.specs.Once.{isNew}
 use Rattle.reader.specs.declared.Found.{Found}
 use Rattle.reader.specs.declared.Found.the-variants as found

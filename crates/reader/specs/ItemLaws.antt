@@ -1,7 +1,7 @@
 -- Laws on values and items: what the entry in front says, and items as parts one after the other.
 use Prim.Native.Nat.{ℕ, _+_, _-_, _≤_, _^_}
 use mathlib.Core.Path.{_≡_, refl, ap, sym, _∙_}
-use mathlib.Core.Bool.{Bool, true, false, _&&_, _||_, not}
+use mathlib.Core.Bool.{Bool, true, false, _&&_, _||_}
 use mathlib.Core.Option.{Option, none, some}
 use mathlib.Core.List.{List, [], _∷_}
 use native.Mathlib.Omega.{arith}
@@ -9,7 +9,7 @@ use lib.ListN.{length, drop}
 use lib.Dec.{eqb, ltb, leb}
 use borrow.Author.Tests.{eqb-true, eq-eqb, ne-eqb, le-leb}
 use Rattle.numbers.specs.Align.{isAlign}
-use Rattle.book.specs.Entry.{Entry, entries}
+use Rattle.book.specs.Entry.{Entry}
 use Rattle.book.specs.Ast.{Zero, Ty, Value, TypedVal}
 use Rattle.book.specs.Rule.{when, pick}
 use Rattle.book.specs.Kinds.{ValTag, valTag, valKind}
@@ -20,7 +20,7 @@ use Rattle.book.specs.AgreeTy.{val-is}
 use Rattle.reader.specs.Length.{lenOf, lenIf, frontOf}
 use Rattle.reader.specs.Found.{foundOf, plainOf, oneIf, pairTest, never}
 use Rattle.reader.specs.Items as items
-use Rattle.reader.specs.Items.{valueGroupOf, valueOk, pickLen, wordFront, atomOk, atomFront, AtomMeaning, atomReader, atomTest}
+use Rattle.reader.specs.Items.{valueGroupOf, valueOk, pickLen, wordFront, atomOk, atomFront, atomReader, atomTest}
 use Rattle.reader.specs.Passes.{or-false, found-ext, mapped-found, Within}
 use Rattle.reader.specs.declared.Length.{Length}
 use Rattle.reader.specs.declared.Length.the-variants as len

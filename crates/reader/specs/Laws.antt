@@ -1,21 +1,19 @@
 -- Laws that the readers' proofs cite: entries of slices and of their parts, and lists of items.
 use Prim.Native.Nat.{ℕ, zero, suc, _+_, _-_, _≤_, _<_, _^_, min}
-use mathlib.Core.Path.{_≡_, refl, ap, sym, _∙_}
+use mathlib.Core.Path.{_≡_, refl, ap}
 use mathlib.Core.Bool.{Bool, true, false}
 use mathlib.Core.List.{List, [], _∷_}
-use native.Mathlib.Numerals.{sub-one}
-use native.Mathlib.Nat.{le-of-eq, add-assoc, zero-add}
+use native.Mathlib.Nat.{le-of-eq}
 use native.Mathlib.Omega.{arith}
 use lib.ListN.{length, getD, drop, take, length-append, length-drop}
-use lib.Seq.{drop-drop, take-all}
+use lib.Seq.{take-all}
 use Rattle.book.specs.Entry.{Entry, entry, entries}
-use Rattle.book.specs.Read.{Read, got, bad, Reader, andThen, choose, stops, mapped, until}
+use Rattle.book.specs.Read.{Read, got, bad, Reader, stops}
 use Rattle.book.specs.Agree.{Agrees, Begins}
-use Rattle.reader.specs.Length.{lenOf, further, stepOf, stepOfLength, lastOfLength, pickStep, frontOf}
+use Rattle.reader.specs.Length.{lenOf, stepOf, stepOfLength, lastOfLength, pickStep, frontOf}
 use Rattle.reader.specs.Fit.{Room}
 use Rattle.reader.specs.declared.Length.{Length}
 use Rattle.reader.specs.declared.Length.the-variants as len
-use Rattle.reader.specs.declared.Step.{Step}
 use Rattle.reader.specs.declared.Step.the-variants as step
 use Rattle.reader.specs.declared.Front.the-variants as front
 
@@ -68,19 +66,16 @@ pub front-of : (ks ws : List ℕ) → (length ks ≡ 0 → ⊥) → (length ws �
 unfolding frontOf
 front-of ks ws p q = rw (entries-front ks ws p q)
 
+pub front-there : (es : List Entry) (k w : ℕ) → frontOf es ≡ front.Entry k w → 1 ≤ length es
+unfolding frontOf
+front-there [] k w h = absurd (let z : _≡_ {A = ℕ} 0 1 = cc in omega arith)
+front-there (e ∷ es) k w h = omega arith
+
 pub front-none : (es : List Entry) → es ≡ [] → front.Nothing ≡ frontOf es
 unfolding frontOf
 front-none es h = rw h
 
 -- ---- lengths
-pub further-further : (a b : ℕ) (l : Length) → further a (further b l) ≡ further (a + b) l
-further-further a b (len.Entries n) = ap len.Entries (sym (add-assoc a b n))
-further-further a b len.Bad = refl
-
-pub further-none : (l : Length) → further 0 l ≡ l
-further-none (len.Entries n) = ap len.Entries (zero-add n)
-further-none len.Bad = refl
-
 module _ {A : Type 0} where
   -- from an answer to what was read
   pub len-got : (r : Read A) (n : ℕ) → lenOf r ≡ len.Entries n → (a : A) × (r ≡ got a n)
@@ -106,134 +101,39 @@ module _ {A : Type 0} where
         go (len.Entries n) e = omega (arith, len-fits es n e)
         go len.Bad e = tt
 
--- ---- items and an end
-module _ {A B : Type 0} (stop : ℕ → Bool) (item : Reader A) (end : Reader B) where
-  abbrev stepped : ℕ → List Entry → Step → Length
-  stepped n es (step.Done m) = len.Entries m
-  stepped zero es (step.Next k) = len.Bad
-  stepped (suc n) es (step.Next k) = further k (lenOf (until stop item end n (drop k es)))
-  stepped n es step.Bad = len.Bad
-
-  shifted : (a : A) (k : ℕ) (r : Read (List A × B)) → lenOf {A = List A × B} (andThen r (λ y m. got (a ∷ y .0, y .1) (k + m))) ≡ further k (lenOf r)
-  shifted a k (got y m) = refl
-  shifted a k bad = refl
-
-  -- a list goes on by its next step
-  until-step : (n : ℕ) (es : List Entry) → lenOf (until stop item end n es) ≡ stepped n es (stepOf stop item end es)
-  unfolding until mapped
-  until-step zero es = go (stops stop es) (end es) (item es)
+-- ---- items and an end: what comes next is there
+module _ {A B : Type 0} (stop : ℕ → Bool) (item : Reader A) (end : Reader B) {w : A → List Entry} {K : A → Type 0} {v : B → List Entry} {L : B → Type 0} (s : Agrees item w K) (t : Agrees end v L) where
+  step-cases : (es : List Entry) (b : Bool) → stops stop es ≡ b → (k : ℕ) → pickStep b (lastOfLength (lenOf (end es))) (stepOfLength (lenOf (item es))) ≡ step.Next k → k ≤ length es
+  step-cases es true e k h = absurd (last (lenOf (end es)) h)
     where
-      go : (b : Bool) (r : Read B) (q : Read A) → lenOf {A = List A × B} (choose b (andThen r (λ b m. got ([], b) m)) bad) ≡ stepped zero es (pickStep b (lastOfLength (lenOf r)) (stepOfLength (lenOf q)))
-      go true (got b m) q = refl
-      go true bad q = refl
-      go false r (got a k) = refl
-      go false r bad = refl
-  until-step (suc n) es = go (stops stop es) (end es) (item es)
+      last : (l : Length) → lastOfLength l ≡ step.Next k → ⊥
+      last (len.Entries n) h = let z : _≡_ {A = ℕ} 0 1 = cc in omega arith
+      last len.Bad h = let z : _≡_ {A = ℕ} 0 1 = cc in omega arith
+  step-cases es false e k h = len-fits s es k (next (lenOf (item es)) h)
     where
-      go : (b : Bool) (r : Read B) (q : Read A)
-          → lenOf {A = List A × B} (choose b (andThen r (λ b m. got ([], b) m)) (andThen q (λ a k. andThen (until stop item end n (drop k es)) (λ y m. got (a ∷ y .0, y .1) (k + m)))))
-          ≡ stepped (suc n) es (pickStep b (lastOfLength (lenOf r)) (stepOfLength (lenOf q)))
-      go true (got b m) q = refl
-      go true bad q = refl
-      go false r (got a k) = shifted a k (until stop item end n (drop k es))
-      go false r bad = refl
+      next : (l : Length) → stepOfLength l ≡ step.Next k → l ≡ len.Entries k
+      next (len.Entries n) h = ap len.Entries (cc)
+      next len.Bad h = absurd (let z : _≡_ {A = ℕ} 0 1 = cc in omega arith)
 
-  -- the loop over a list, at the place a with n items left: what the whole list's length is from here
-  abbrev pub Rest : ℕ → List Entry → ℕ → Length
-  Rest n es a = further a (lenOf (until stop item end n (drop a es)))
+  done-cases : (es : List Entry) (b : Bool) → stops stop es ≡ b → (k : ℕ) → pickStep b (lastOfLength (lenOf (end es))) (stepOfLength (lenOf (item es))) ≡ step.Done k → k ≤ length es
+  done-cases es true e k h = len-fits t es k (last (lenOf (end es)) h)
+    where
+      last : (l : Length) → lastOfLength l ≡ step.Done k → l ≡ len.Entries k
+      last (len.Entries n) h = ap len.Entries (cc)
+      last len.Bad h = absurd (let z : _≡_ {A = ℕ} 0 1 = cc in omega arith)
+  done-cases es false e k h = absurd (next (lenOf (item es)) h)
+    where
+      next : (l : Length) → stepOfLength l ≡ step.Done k → ⊥
+      next (len.Entries n) h = let z : _≡_ {A = ℕ} 0 1 = cc in omega arith
+      next len.Bad h = let z : _≡_ {A = ℕ} 0 1 = cc in omega arith
 
-  pub rest-start : (n : ℕ) (es : List Entry) → lenOf (until stop item end n es) ≡ Rest n es 0
-  rest-start n es = sym (further-none _)
+  -- what comes next is there
+  pub next-fits : (es : List Entry) (a k : ℕ) → a ≤ length es → stepOf stop item end (drop a es) ≡ step.Next k → a + k ≤ length es
+  next-fits es a k f h = omega (arith, step-cases (drop a es) (stops stop (drop a es)) refl k h, length-drop a es)
 
-  pub rest-done : (n : ℕ) (es : List Entry) (a m : ℕ) → stepOf stop item end (drop a es) ≡ step.Done m → Rest n es a ≡ len.Entries (a + m)
-  rest-done zero es a m h = rw (until-step zero (drop a es), h)
-  rest-done (suc n) es a m h = rw (until-step (suc n) (drop a es), h)
+  pub done-fits : (es : List Entry) (a k : ℕ) → a ≤ length es → stepOf stop item end (drop a es) ≡ step.Done k → a + k ≤ length es
+  done-fits es a k f h = omega (arith, done-cases (drop a es) (stops stop (drop a es)) refl k h, length-drop a es)
 
-  pub rest-bad : (n : ℕ) (es : List Entry) (a : ℕ) → stepOf stop item end (drop a es) ≡ step.Bad → Rest n es a ≡ len.Bad
-  rest-bad zero es a h = rw (until-step zero (drop a es), h)
-  rest-bad (suc n) es a h = rw (until-step (suc n) (drop a es), h)
-
-  pub rest-full : (n : ℕ) (es : List Entry) (a k : ℕ) → n ≡ 0 → stepOf stop item end (drop a es) ≡ step.Next k → Rest n es a ≡ len.Bad
-  rest-full zero es a k z h = rw (until-step zero (drop a es), h)
-  rest-full (suc n) es a k z h = absurd (omega arith)
-
-  pub rest-next : (n : ℕ) (es : List Entry) (a k : ℕ) → (n ≡ 0 → ⊥) → stepOf stop item end (drop a es) ≡ step.Next k → Rest n es a ≡ Rest (n - 1) es (a + k)
-  rest-next zero es a k z h = absurd (z refl)
-  rest-next (suc n) es a k z h =
-      rw (until-step (suc n) (drop a es), h, sub-one (suc n), drop-drop k a es) (further-further a k (lenOf (until stop item end n (drop (a + k) es))))
-
-  module _ {w : A → List Entry} {K : A → Type 0} {v : B → List Entry} {L : B → Type 0} (s : Agrees item w K) (t : Agrees end v L) where
-    step-cases : (es : List Entry) (b : Bool) → stops stop es ≡ b → (k : ℕ) → pickStep b (lastOfLength (lenOf (end es))) (stepOfLength (lenOf (item es))) ≡ step.Next k → k ≤ length es
-    step-cases es true e k h = absurd (last (lenOf (end es)) h)
-      where
-        last : (l : Length) → lastOfLength l ≡ step.Next k → ⊥
-        last (len.Entries n) h = let z : _≡_ {A = ℕ} 0 1 = cc in omega arith
-        last len.Bad h = let z : _≡_ {A = ℕ} 0 1 = cc in omega arith
-    step-cases es false e k h = len-fits s es k (next (lenOf (item es)) h)
-      where
-        next : (l : Length) → stepOfLength l ≡ step.Next k → l ≡ len.Entries k
-        next (len.Entries n) h = ap len.Entries (cc)
-        next len.Bad h = absurd (let z : _≡_ {A = ℕ} 0 1 = cc in omega arith)
-
-    done-cases : (es : List Entry) (b : Bool) → stops stop es ≡ b → (k : ℕ) → pickStep b (lastOfLength (lenOf (end es))) (stepOfLength (lenOf (item es))) ≡ step.Done k → k ≤ length es
-    done-cases es true e k h = len-fits t es k (last (lenOf (end es)) h)
-      where
-        last : (l : Length) → lastOfLength l ≡ step.Done k → l ≡ len.Entries k
-        last (len.Entries n) h = ap len.Entries (cc)
-        last len.Bad h = absurd (let z : _≡_ {A = ℕ} 0 1 = cc in omega arith)
-    done-cases es false e k h = absurd (next (lenOf (item es)) h)
-      where
-        next : (l : Length) → stepOfLength l ≡ step.Done k → ⊥
-        next (len.Entries n) h = let z : _≡_ {A = ℕ} 0 1 = cc in omega arith
-        next len.Bad h = let z : _≡_ {A = ℕ} 0 1 = cc in omega arith
-
-    -- what comes next is there
-    pub next-fits : (es : List Entry) (a k : ℕ) → a ≤ length es → stepOf stop item end (drop a es) ≡ step.Next k → a + k ≤ length es
-    next-fits es a k f h = omega (arith, step-cases (drop a es) (stops stop (drop a es)) refl k h, length-drop a es)
-
-    pub done-fits : (es : List Entry) (a k : ℕ) → a ≤ length es → stepOf stop item end (drop a es) ≡ step.Done k → a + k ≤ length es
-    done-fits es a k f h = omega (arith, done-cases (drop a es) (stops stop (drop a es)) refl k h, length-drop a es)
-
--- ---- a loop over a list, on slices
--- the entries from a on, as the loop lends them
+-- the entries from a on, as a loop lends them
 abbrev pub lentFrom : List ℕ → List ℕ → ℕ → List Entry
 lentFrom ks ws a = entries (take (length ks - a) (drop a ks)) (take (length ws - a) (drop a ws))
-
-module _ {A B : Type 0} (stop : ℕ → Bool) (item : Reader A) (end : Reader B) (n : ℕ) (ks ws : List ℕ) where
-  abbrev pub whole : Length
-  whole = lenOf (until stop item end n (entries ks ws))
-
-  -- at the place a, with so many items left
-  pub record Loop (a left : ℕ) : Type 0 where
-    pub kinds : a ≤ length ks
-    pub words : a ≤ length ws
-    pub there : a ≤ length (entries ks ws)
-    pub goes : whole ≡ Rest stop item end left (entries ks ws) a
-
-  loop : (a left : ℕ) → a ≤ length (entries ks ws) → whole ≡ Rest stop item end left (entries ks ws) a → Loop a left
-  loop a left f e = record { kinds = within-kinds a ks ws f; words = within-words a ks ws f; there = f; goes = e }
-
-  pub loop-start : (left : ℕ) → left ≡ n → Loop 0 left
-  loop-start left e = loop 0 left (omega arith) (rw e (rest-start stop item end n (entries ks ws)))
-
-  module _ (a left : ℕ) (l : Loop a left) (s : Step) (e : s ≡ stepOf stop item end (lentFrom ks ws a)) where
-    step-is : (t : Step) → s ≡ t → stepOf stop item end (drop a (entries ks ws)) ≡ t
-    step-is t h = sym (rw (entries-part a ks ws) at e) ∙ h
-
-    pub loop-done : (k : ℕ) → s ≡ step.Done k → len.Entries (a + k) ≡ whole
-    loop-done k h = sym (l .goes ∙ rest-done stop item end left (entries ks ws) a k (step-is (step.Done k) h))
-
-    pub loop-bad : s ≡ step.Bad → len.Bad ≡ whole
-    loop-bad h = sym (l .goes ∙ rest-bad stop item end left (entries ks ws) a (step-is step.Bad h))
-
-    pub loop-full : (k : ℕ) → s ≡ step.Next k → left ≡ 0 → len.Bad ≡ whole
-    loop-full k h z = sym (l .goes ∙ rest-full stop item end left (entries ks ws) a k z (step-is (step.Next k) h))
-
-    module _ {w : A → List Entry} {K : A → Type 0} {v : B → List Entry} {L : B → Type 0} (p : Agrees item w K) (q : Agrees end v L) where
-      pub done-there : (k : ℕ) → s ≡ step.Done k → a + k ≤ length ks
-      done-there k h = within-kinds (a + k) ks ws (done-fits stop item end p q (entries ks ws) a k (l .there) (step-is (step.Done k) h))
-
-      pub loop-next : (k : ℕ) → s ≡ step.Next k → (left ≡ 0 → ⊥) → Loop (a + k) (left - 1)
-      loop-next k h z =
-          loop (a + k) (left - 1) (next-fits stop item end p q (entries ks ws) a k (l .there) (step-is (step.Next k) h))
-          (l .goes ∙ rest-next stop item end left (entries ks ws) a k z (step-is (step.Next k) h))

@@ -8,4 +8,3 @@ pub mod Laws
 pub mod TypeLaws
 pub mod Passes
 pub mod ItemLaws
-pub mod Steps

@@ -320,3 +320,52 @@ module _ {A : Type 0} (ta : A → Bool) (item : Reader A) where
 
     pub item-arm : h ≡ head.Item → (r : Found) (s : Pass) → r ≡ foundOf ta (item (entries ks ws)) → s ≡ nextOf r → s ≡ passOf ta never isClosing item closing (entries ks ws)
     item-arm e r s er es = es ∙ ap nextOf er ∙ sym (next-is ∙ rw e)
+
+-- ---- the loop over a list in which nothing can be forbidden, as types are
+module _ {A B : Type 0} (stop : ℕ → Bool) (item : Reader A) (end : Reader B) where
+  abbrev passOfStep : Step → Pass
+  passOfStep (step.Done m) = pass.Done m false
+  passOfStep (step.Next k) = pass.Next k false
+  passOfStep step.Bad = pass.Bad
+
+  plain-pass : (es : List Entry) → passOfStep (stepOf stop item end es) ≡ passOf never never stop item end es
+  plain-pass es = go (stops stop es) (end es) (item es)
+    where
+      go : (b : Bool) (r : Read B) (q : Read A) → passOfStep (pickStep b (lastOfLength (lenOf r)) (stepOfLength (lenOf q))) ≡ pickPass b (lastOf (foundOf never r)) (nextOf (foundOf never q))
+      go true (got b m) q = refl
+      go true bad q = refl
+      go false r (got a k) = refl
+      go false r bad = refl
+
+  module _ (n : ℕ) (ks ws : List ℕ) where
+    abbrev pub PlainLoop : ℕ → ℕ → Type 0
+    PlainLoop a left = Loop never never stop item end n ks ws a left false
+
+    abbrev plainWhole : Length
+    plainWhole = lenOf (until stop item end n (entries ks ws))
+
+    sized : (f : Found) → f ≡ foundOf (allTest never never) (until stop item end n (entries ks ws)) → sizeOf f ≡ plainWhole
+    sized f e = ap sizeOf e ∙ size-of (allTest never never) (until stop item end n (entries ks ws))
+
+    pub plain-start : (left : ℕ) → left ≡ n → PlainLoop 0 left
+    plain-start left e = loop-start never never stop item end n ks ws left e
+
+    module _ (a left : ℕ) (l : PlainLoop a left) (s : Step) (e : s ≡ stepOf stop item end (lentFrom ks ws a)) where
+      as-pass : passOfStep s ≡ passOf never never stop item end (lentFrom ks ws a)
+      as-pass = ap passOfStep e ∙ plain-pass (lentFrom ks ws a)
+
+      pub plain-done : (k : ℕ) → s ≡ step.Done k → len.Entries (a + k) ≡ plainWhole
+      plain-done k h = sized (found.Entries (a + k) false) (loop-done never never stop item end n ks ws a left false l (passOfStep s) as-pass k false (ap passOfStep h))
+
+      pub plain-bad : s ≡ step.Bad → len.Bad ≡ plainWhole
+      plain-bad h = sized found.Bad (loop-bad never never stop item end n ks ws a left false l (passOfStep s) as-pass (ap passOfStep h))
+
+      pub plain-full : (k : ℕ) → s ≡ step.Next k → left ≡ 0 → len.Bad ≡ plainWhole
+      plain-full k h z = sized found.Bad (loop-full never never stop item end n ks ws a left false l (passOfStep s) as-pass k false (ap passOfStep h) z)
+
+      module _ {w : A → List Entry} {K : A → Type 0} {v : B → List Entry} {L : B → Type 0} (p : Agrees item w K) (q : Agrees end v L) where
+        pub plain-there : (k : ℕ) → s ≡ step.Done k → a + k ≤ length ks
+        plain-there k h = done-there never never stop item end n ks ws a left false l (passOfStep s) as-pass p q k false (ap passOfStep h)
+
+        pub plain-next : (k : ℕ) → s ≡ step.Next k → (left ≡ 0 → ⊥) → PlainLoop (a + k) (left - 1)
+        plain-next k h z = loop-next never never stop item end n ks ws a left false l (passOfStep s) as-pass p q k false (ap passOfStep h) z

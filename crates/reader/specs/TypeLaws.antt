@@ -60,14 +60,6 @@ many-len {A} item es = go (until isClosing item closing (length es) es)
     go (got a n) = refl
     go bad = refl
 
-pub list-len : {A : Type 0} (n : ℕ) (item : Reader A) (es : List Entry) → lenOf (listOf n item es) ≡ lenOf (until isClosing item closing n es)
-unfolding listOf mapped
-list-len {A} n item es = go (until isClosing item closing n es)
-  where
-    go : (r : Read (List A × Unit {0})) → lenOf (andThen r (λ a n. got (a .0) n)) ≡ lenOf r
-    go (got a n) = refl
-    go bad = refl
-
 -- ---- types
 abbrev pub typeLen : TypeHead → Length → Length → Length
 typeLen ty.Leaf a s = len.Entries 1
@@ -175,8 +167,3 @@ module _ {A : Type 0} (item : Reader A) (ks ws : List ℕ) (f : Front) (h : List
 
   pub item-arm : h ≡ head.Item → (r : Length) (s : Step) → r ≡ lenOf (item (entries ks ws)) → s ≡ stepOfLength r → s ≡ stepOf isClosing item closing (entries ks ws)
   item-arm e r s er es = es ∙ ap stepOfLength er ∙ sym (next-is ∙ rw e)
-
--- a list bounded by the entries that there are
-pub listed : {A : Type 0} (item : Reader A) (es : List Entry) (n : ℕ) {r : Length} → r ≡ lenOf (listOf n item es) → n ≡ length es → r ≡ lenOf (many item es)
-unfolding many
-listed item es n e h = e ∙ ap (λ k. lenOf (listOf k item es)) h

@@ -6,8 +6,7 @@ pub mod items;
 pub mod types;
 
 ghost use mathlib.Core.Path.{_≡_};
-ghost use mathlib.Core.Bool.{Bool};
-ghost use Prim.Native.Nat.{_+_, min};
+ghost use Prim.Native.Nat.{_+_};
 ghost use lib.ListN.{length};
 ghost use Rattle.book.specs.Entry.{entries};
 ghost use Rattle.reader.specs.Fit.{Room};

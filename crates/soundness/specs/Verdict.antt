@@ -1,5 +1,5 @@
 -- The answer of the whole check, and the laws that lead to it.
-use Prim.Native.Nat.{ℕ, _-_, _*_, _/_, _≤_, _<_, _^_}
+use Prim.Native.Nat.{ℕ, _-_, _/_, _≤_, _<_, _^_}
 use mathlib.Core.Path.{_≡_, refl, ap, sym, _∙_, fun-ext}
 use mathlib.Core.Bool.{Bool, true, false, _&&_, _||_}
 use mathlib.Core.Option.{Option, none, some}
@@ -8,7 +8,7 @@ use native.Mathlib.Omega.{arith}
 use borrow.Author.Tests.{le-leb, lt-leb, eq-eqb, leb-true, leb-false, ltb-true, ltb-false, le-ltb}
 use lib.ListN.{length, replicate, getD, length-replicate, List·getD-eq-default}
 use lib.Dec.{leb, ltb}
-use Rattle.numbers.specs.Bits.{bitAt, bit-none}
+use Rattle.numbers.specs.Bits.{bit-none}
 use Rattle.names.specs.Text.{bytes, starts}
 use Rattle.names.specs.Name.{nameAt, namesOf, lines, counts, accepted}
 use Rattle.names.specs.Spelling.{isIntrinsic}

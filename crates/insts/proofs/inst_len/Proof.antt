@@ -6,8 +6,7 @@ use Rattle.book.specs.Kinds.{instTag}
 use Rattle.book.specs.Fields.{instFields, instOf}
 use Rattle.book.specs.Decode.{inst, maybeName}
 use Rattle.book.specs.Forbidden.{otherInst}
-use Rattle.reader.specs.Laws.{within-kinds, within-words}
-use Rattle.reader.specs.Steps.{front-there}
+use Rattle.reader.specs.Laws.{within-kinds, within-words, front-there}
 use Rattle.insts.specs.Insts.{instShape}
 use Rattle.insts.specs.InstLaws as laws
 use borrow.Author.Needs.{needs}

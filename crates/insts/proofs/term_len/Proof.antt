@@ -7,8 +7,7 @@ use Rattle.book.specs.Kinds.{termTag}
 use Rattle.book.specs.Fields.{termFields, termOf}
 use Rattle.book.specs.Decode.{term}
 use Rattle.book.specs.Forbidden.{otherTerm}
-use Rattle.reader.specs.Laws.{within-kinds, within-words}
-use Rattle.reader.specs.Steps.{front-there}
+use Rattle.reader.specs.Laws.{within-kinds, within-words, front-there}
 use Rattle.insts.specs.Insts.{termShape}
 use Rattle.insts.specs.InstLaws as laws
 use borrow.Author.Needs.{needs}

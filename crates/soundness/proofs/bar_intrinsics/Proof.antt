@@ -1,6 +1,5 @@
 -- `soundness::bar_intrinsics` meets its contract: a range is marked where there is one.
 use mathlib.Core.Path.{_∙_, sym, ap}
-use Rattle.marks.specs.Range as range
 use Rattle.soundness.specs.Verdict.{intrinsicsIn}
 use borrow.Author.Needs.{needs}
 use Rattle.soundness.proofs.bar_intrinsics.Statement.{statement}

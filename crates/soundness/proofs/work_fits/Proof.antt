@@ -1,6 +1,5 @@
 -- `soundness::work_fits` meets its contract: 64 words and eight for each name.
 use Rattle.soundness.specs.Verdict as verdict
-use borrow.Author.Needs.{needs}
 use Rattle.soundness.proofs.work_fits.Statement.{statement}
 use Rattle.soundness.proofs.work_fits.Tie as tie
 

@@ -1,5 +1,5 @@
 -- `blocks::calls::behind_type` meets its contract: the callee is looked at behind the type.
-use mathlib.Core.Path.{_∙_, sym, ap}
+use mathlib.Core.Path.{_∙_, sym}
 use native.Mathlib.Omega.{arith}
 use Rattle.book.specs.Entry.{entries}
 use Rattle.book.specs.AgreeTy.{agrees-type}

@@ -2,8 +2,7 @@
 use mathlib.Core.Path.{_∙_, sym, ap}
 use Rattle.numbers.specs.Bits.{bitAt}
 use Rattle.book.specs.Entry.{entries}
-use Rattle.reader.specs.Laws.{entries-part, within-kinds, within-words}
-use Rattle.reader.specs.Steps.{front-there}
+use Rattle.reader.specs.Laws.{entries-part, within-kinds, within-words, front-there}
 use Rattle.blocks.specs.Calls.{behindCall}
 use Rattle.blocks.specs.Calls as calls
 use borrow.Author.Needs.{needs}

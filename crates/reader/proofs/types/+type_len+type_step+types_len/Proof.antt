@@ -7,7 +7,8 @@ use Rattle.book.specs.Entry.{entries}
 use Rattle.book.specs.Read.{closing, isClosing}
 use Rattle.book.specs.Decode.{typeTo}
 use Rattle.book.specs.AgreeTy.{agrees-closing, agrees-typeTo}
-use Rattle.reader.specs.Laws.{Loop}
+use Rattle.reader.specs.Passes.{PlainLoop}
+use Rattle.reader.specs.Passes as passes
 use Rattle.reader.specs.Laws as laws
 use Rattle.reader.specs.TypeLaws as types
 use borrow.Fn.Kinds.{In}
@@ -661,7 +662,7 @@ type-step-returns-3 t c =
 
 abbrev types-len-Inv-loop : types-len-lts.InvT-loop
 types-len-Inv-loop kinds words names level at₀ left₀ at left =
-    Loop isClosing (typeTo names level) closing (length (entries kinds words)) kinds words at left
+    PlainLoop isClosing (typeTo names level) closing (length (entries kinds words)) kinds words at left
 
 abbrev types-len-μ-loop : types-len-lts.MeasureT-loop
 types-len-μ-loop kinds words names level at₀ left₀ at left = left
@@ -684,7 +685,7 @@ types-len-loop-holds : (t : ℕ) → types-len-lts.Need-loop-holds (
 ) (types-len-at t) types-len.Post types-len-Inv-loop types-len-μ-loop
 types-len-loop-holds t c =
     let a = c .before .before .before .args in
-    laws.loop-start isClosing (typeTo (a .names) (a .level)) closing (length (entries (a .kinds .now) (a .words .now))) (a .kinds .now) (a .words .now) _ (c .shorter .ensures)
+    passes.plain-start isClosing (typeTo (a .names) (a .level)) closing (length (entries (a .kinds .now) (a .words .now))) (a .kinds .now) (a .words .now) _ (c .shorter .ensures)
 
 -- src/types.rt:134:25
 types-len-mul-type-step : (t : ℕ) → types-len-lts.Need-mul-type-step (
@@ -785,7 +786,7 @@ types-len-add-t20 : (t : ℕ) → types-len-lts.Need-add-t20 (
 ) (types-len-at t) types-len.Post types-len-Inv-loop types-len-μ-loop
 types-len-add-t20 t c =
     let a = c .before .before .before .before .before .before .before .before .before .before .args in
-    omega (arith, laws.done-there isClosing (typeTo (a .names) (a .level)) closing (length (entries (a .kinds .now) (a .words .now))) (a .kinds .now) (a .words .now) _ _ (c .before .before .before .before .before .before .loop .inv) _ (c .before .before .before .type-step .ensures) (agrees-typeTo _ _) agrees-closing _ (c .before .n .given .1), c .before .before .before .before .before .before .before .before .before .before .good)
+    omega (arith, passes.plain-there isClosing (typeTo (a .names) (a .level)) closing (length (entries (a .kinds .now) (a .words .now))) (a .kinds .now) (a .words .now) _ _ (c .before .before .before .before .before .before .loop .inv) _ (c .before .before .before .type-step .ensures) (agrees-typeTo _ _) agrees-closing _ (c .before .n .given .1), c .before .before .before .before .before .before .before .before .before .before .good)
 
 -- src/types.rt:135:30
 types-len-returns : (t : ℕ) → types-len-lts.Need-returns (
@@ -796,7 +797,7 @@ types-len-returns : (t : ℕ) → types-len-lts.Need-returns (
 ) (types-len-at t) types-len.Post types-len-Inv-loop types-len-μ-loop
 types-len-returns t c =
     let a = c .before .before .before .before .before .before .before .before .before .before .args in
-    laws.loop-done isClosing (typeTo (a .names) (a .level)) closing (length (entries (a .kinds .now) (a .words .now))) (a .kinds .now) (a .words .now) _ _ (c .before .before .before .before .before .before .loop .inv) _ (c .before .before .before .type-step .ensures) _ (c .before .n .given .1) ∙ sym (types.many-len _ _)
+    passes.plain-done isClosing (typeTo (a .names) (a .level)) closing (length (entries (a .kinds .now) (a .words .now))) (a .kinds .now) (a .words .now) _ _ (c .before .before .before .before .before .before .loop .inv) _ (c .before .before .before .type-step .ensures) _ (c .before .n .given .1) ∙ sym (types.many-len _ _)
 
 -- src/types.rt:136:26
 types-len-enum-told : (t : ℕ) → types-len-lts.Need-enum-told (
@@ -816,7 +817,7 @@ types-len-returns-2 : (t : ℕ) → types-len-lts.Need-returns-2 (
 ) (types-len-at t) types-len.Post types-len-Inv-loop types-len-μ-loop
 types-len-returns-2 t c =
     let a = c .before .before .before .before .before .before .before .before .before .args in
-    laws.loop-bad isClosing (typeTo (a .names) (a .level)) closing (length (entries (a .kinds .now) (a .words .now))) (a .kinds .now) (a .words .now) _ _ (c .before .before .before .before .before .loop .inv) _ (c .before .before .type-step .ensures) (c .enum-told .given .1) ∙ sym (types.many-len _ _)
+    passes.plain-bad isClosing (typeTo (a .names) (a .level)) closing (length (entries (a .kinds .now) (a .words .now))) (a .kinds .now) (a .words .now) _ _ (c .before .before .before .before .before .loop .inv) _ (c .before .before .type-step .ensures) (c .enum-told .given .1) ∙ sym (types.many-len _ _)
 
 -- src/types.rt:137:24
 types-len-enum-known-n-2 : (t : ℕ) → types-len-lts.Need-enum-known-n-2 (
@@ -836,7 +837,7 @@ types-len-returns-3 : (t : ℕ) → types-len-lts.Need-returns-3 (
 ) (types-len-at t) types-len.Post types-len-Inv-loop types-len-μ-loop
 types-len-returns-3 t c =
     let a = c .before .before .before .before .before .before .before .before .before .before .before .args in
-    laws.loop-full isClosing (typeTo (a .names) (a .level)) closing (length (entries (a .kinds .now) (a .words .now))) (a .kinds .now) (a .words .now) _ _ (c .before .before .before .before .before .before .before .loop .inv) _ (c .before .before .before .before .type-step .ensures) _ (c .before .before .n2 .given .1) (c .if1 .taken) ∙ sym (types.many-len _ _)
+    passes.plain-full isClosing (typeTo (a .names) (a .level)) closing (length (entries (a .kinds .now) (a .words .now))) (a .kinds .now) (a .words .now) _ _ (c .before .before .before .before .before .before .before .loop .inv) _ (c .before .before .before .before .type-step .ensures) _ (c .before .before .n2 .given .1) (c .if1 .taken) ∙ sym (types.many-len _ _)
 
 -- src/types.rt:141:22
 types-len-add-at : (t : ℕ) → types-len-lts.Need-add-at (
@@ -847,7 +848,7 @@ types-len-add-at : (t : ℕ) → types-len-lts.Need-add-at (
 ) (types-len-at t) types-len.Post types-len-Inv-loop types-len-μ-loop
 types-len-add-at t c =
     let a = c .before .before .before .before .before .before .before .before .before .before .before .args in
-    omega (arith, laws.loop-next isClosing (typeTo (a .names) (a .level)) closing (length (entries (a .kinds .now) (a .words .now))) (a .kinds .now) (a .words .now) _ _ (c .before .before .before .before .before .before .before .loop .inv) _ (c .before .before .before .before .type-step .ensures) (agrees-typeTo _ _) agrees-closing _ (c .before .before .n2 .given .1) (c .if1 .left) .kinds, c .before .before .before .before .before .before .before .before .before .before .before .good)
+    omega (arith, passes.plain-next isClosing (typeTo (a .names) (a .level)) closing (length (entries (a .kinds .now) (a .words .now))) (a .kinds .now) (a .words .now) _ _ (c .before .before .before .before .before .before .before .loop .inv) _ (c .before .before .before .before .type-step .ensures) (agrees-typeTo _ _) agrees-closing _ (c .before .before .n2 .given .1) (c .if1 .left) .kinds, c .before .before .before .before .before .before .before .before .before .before .before .good)
 
 -- src/types.rt:142:24
 types-len-sub-left : (t : ℕ) → types-len-lts.Need-sub-left (
@@ -876,7 +877,7 @@ types-len-loop-again : (t : ℕ) → types-len-lts.Need-loop-again (
 ) (types-len-at t) types-len.Post types-len-Inv-loop types-len-μ-loop
 types-len-loop-again t c =
     let a = c .before .before .before .before .before .before .before .before .before .before .before .args in
-    laws.loop-next isClosing (typeTo (a .names) (a .level)) closing (length (entries (a .kinds .now) (a .words .now))) (a .kinds .now) (a .words .now) _ _ (c .before .before .before .before .before .before .before .loop .inv) _ (c .before .before .before .before .type-step .ensures) (agrees-typeTo _ _) agrees-closing _ (c .before .before .n2 .given .1) (c .if1 .left)
+    passes.plain-next isClosing (typeTo (a .names) (a .level)) closing (length (entries (a .kinds .now) (a .words .now))) (a .kinds .now) (a .words .now) _ _ (c .before .before .before .before .before .before .before .loop .inv) _ (c .before .before .before .before .type-step .ensures) (agrees-typeTo _ _) agrees-closing _ (c .before .before .n2 .given .1) (c .if1 .left)
 
 pub +type-len+type-step+types-len-spec : {M : Type 1} → statement M
 +type-len+type-step+types-len-spec =
