@@ -60,7 +60,7 @@ pub bit-range : (m : List ℕ) (from to : ℕ) → to ≤ 64 * length m → (x :
 bit-range m from to h x = bit-run (to - from) m from to refl h x
 
 -- ---- bit by bit
-set-past : (m : List ℕ) (x : ℕ) → length m ≤ x / 64 → setBitAt m x ≡ m
+pub set-past : (m : List ℕ) (x : ℕ) → length m ≤ x / 64 → setBitAt m x ≡ m
 unfolding setBitAt
 set-past m x h = set-out m (x / 64) _ h
 

@@ -1,5 +1,6 @@
 // Maps with a bit for each name: whether a name was seen before, and the names of a range.
 ghost use mathlib.Core.Path.{_≡_};
+ghost use Rattle.numbers.specs.Bits.{setBitAt};
 ghost use Rattle.marks.specs.Once.{isNew, setIf};
 ghost use Rattle.marks.specs.Range.{markedRange};
 
@@ -16,6 +17,15 @@ pub fn mark_new(map: &mut [u64], x: usize) -> bool
     }
     numbers::bits::set_bit(map, x);
     true
+}
+
+// Sets the bit of a number, where the map has it.
+pub fn mark_bit(map: &mut [u64], x: usize)
+    ensures { λ _. ⌜ now (map .exit) ≡ setBitAt (now (map .entry)) x ⌝ }
+{
+    if x / 64 < map.len() {
+        numbers::bits::set_bit(map, x);
+    }
 }
 
 // Sets the bits of the numbers from `from` up to and without `to`, of those that the map has.

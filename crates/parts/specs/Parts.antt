@@ -1,13 +1,13 @@
 -- The answers for marks and named structs, and the laws that their proofs cite.
-use Prim.Native.Nat.{ℕ, zero, suc, _+_, _-_, _/_, _≤_, _<_, _^_}
+use Prim.Native.Nat.{ℕ, zero, suc, _+_, _-_, _≤_, _<_, _^_}
 use mathlib.Core.Path.{_≡_, refl, ap, sym, _∙_, subst}
 use mathlib.Core.Logic.{_⊎_, inl, inr, ⊎-elim}
-use mathlib.Core.Bool.{Bool, true, false, _&&_, not}
+use mathlib.Core.Bool.{Bool, true, false, _&&_}
 use mathlib.Core.Option.{Option, none, some}
 use mathlib.Core.List.{List, [], _∷_, _++_}
 use native.Mathlib.Numerals.{add-one}
 use native.Mathlib.Omega.{arith}
-use borrow.Author.Tests.{eq-eqb, ne-eqb, le-leb, lt-leb, le-ltb, lt-ltb, ltb-true}
+use borrow.Author.Tests.{eq-eqb, ne-eqb, le-leb, lt-leb, le-ltb, lt-ltb}
 use lib.ListN.{length, getD, drop, take, replicate, length-append, length-drop, length-take, drop-of-length-le}
 use lib.Dec.{eqb, leb, ltb}
 use Rattle.numbers.specs.Bits.{bitAt, setBitAt}
@@ -302,14 +302,6 @@ module _ (m : ℕ) (marked : List ℕ) (k w : ℕ) where
 
   pub mark-first : (k ≡ 0 → ⊥) → k ≤ 2 → w < m → (r : Bool) → r ≡ isNew marked w → r ≡ true → true ≡ markTaken m marked k w
   mark-first z h l r er t = sym (rw (le-leb 1 k (omega (arith, z)), le-leb k 2 h, lt-ltb w m l, sym er ∙ t))
-
-  -- a bit that the map has
-  pub mark-fits : (barred : List ℕ) (r : Bool) → r ≡ isNew marked w → r ≡ true → length marked ≡ length barred → w / 64 < length barred
-  mark-fits barred r er t e = rw e at (ltb-true (w / 64) (length marked) (both-left (ltb (w / 64) (length marked)) (not (bitAt marked w)) (sym er ∙ t)))
-    where
-      both-left : (a b : Bool) → (a && b) ≡ true → a ≡ true
-      both-left true b h = refl
-      both-left false b h = absurd (no h)
 
 -- the loop over the marks, at the place a
 module _ (marked barred : List ℕ) (m : ℕ) (ks ws : List ℕ) (a : ℕ) (now : List ℕ × List ℕ)

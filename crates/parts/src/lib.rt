@@ -2,6 +2,7 @@
 // bit for each name. `barred` has a bit set for each name that may not be called; reserved names are added to it before the
 // function is read.
 use blocks::function_len;
+use marks::mark_bit;
 use marks::mark_new;
 use reader::Found;
 use reader::Front;
@@ -20,7 +21,6 @@ use reader::types::type_group;
 use reader::types::type_len;
 ghost use mathlib.Core.Path.{_≡_};
 ghost use mathlib.Core.Bool.{_&&_};
-ghost use lib.ListN.{length};
 ghost use lib.Dec.{leb, eqb};
 ghost use Rattle.numbers.specs.Bits.{bitAt};
 ghost use Rattle.book.specs.Entry.{entries};
@@ -126,7 +126,6 @@ fn structs_len(kinds: &[u64], words: &[u64], names: u64, barred: &[u64]) -> Foun
 
 // Whether a name has its first mark here, kind 1 or 2; then it is marked, and barred if it is reserved.
 fn mark(kind: u64, word: u64, names: u64, marked: &mut [u64], barred: &mut [u64]) -> bool
-    requires { ⌜ length (now marked) ≡ length (now barred) ⌝ }
     ensures { λ r. ⌜ r ≡ markTaken names (now (marked .entry)) kind word ⌝ }
     ensures { λ r. ⌜ now (marked .exit) ≡ setIf r (now (marked .entry)) word ⌝ }
     ensures { λ r. ⌜ now (barred .exit) ≡ setIf (r && eqb kind 2) (now (barred .entry)) word ⌝ }
@@ -144,7 +143,7 @@ fn mark(kind: u64, word: u64, names: u64, marked: &mut [u64], barred: &mut [u64]
         return false;
     }
     if kind == 2 {
-        numbers::bits::set_bit(barred, word as usize);
+        mark_bit(barred, word as usize);
     }
     true
 }
@@ -157,7 +156,6 @@ fn marks_len(
     marked: &mut [u64],
     barred: &mut [u64],
 ) -> Found
-    requires { ⌜ length (now marked) ≡ length (now barred) ⌝ }
     ensures { λ r. ⌜ r ≡ marksFound (now (marked .entry)) (now (barred .entry)) (parts names (entries (now (kinds .entry)) (now (words .entry)))) ⌝ }
 {
     let n = shorter(kinds, words);
@@ -180,7 +178,6 @@ fn marks_len(
 
 // Marks, each name once, named structs and the function.
 pub fn parts_len(kinds: &[u64], words: &[u64], names: u64, barred: &mut [u64]) -> Found
-    requires { ⌜ length (now barred) ≡ 2048 ⌝ }
     ensures { λ r. ⌜ r ≡ partsFound (now (barred .entry)) (parts names (entries (now (kinds .entry)) (now (words .entry)))) ⌝ }
 {
     let mut marked = [0u64; 2048];

@@ -7,7 +7,7 @@ use borrow.Author.Needs.{needs}
 use Rattle.parts.proofs.mark.Statement.{statement}
 use Rattle.parts.proofs.mark.Tie as tie
 use Rattle.marks.proofs.mark_new.Reads as mark-new-reads
-use Rattle.numbers.proofs.bits.set_bit.Reads as set-bit-reads
+use Rattle.marks.proofs.mark_bit.Reads as mark-bit-reads
 
 returns : tie.Need-returns
 returns c =
@@ -35,10 +35,8 @@ returns-4 c =
     let a = c .before .before .before .before .before .before .before .before .before .before .args in
     (parts.mark-old (a .names) (a .marked .now) (a .kind) (a .word) _ (c .before .before .before .mark-new .ensures .0) (not-true (c .before .before .before .mark-new .result) (c .if4 .taken)), (c .before .before .before .mark-new .ensures .1 ∙ ap (λ t. setIf t (a .marked .now) (a .word)) (not-true (c .before .before .before .mark-new .result) (c .if4 .taken)), refl))
 
-set-bit-requires : tie.Need-set-bit-requires
-set-bit-requires c κs =
-    let a = c .before .before .before .before .before .before .before .before .before .before .before .before .args in
-    parts.mark-fits (a .names) (a .marked .now) (a .kind) (a .word) (a .barred .now) _ (c .before .before .before .before .before .mark-new .ensures .0) (not-false _ (c .before .before .if4 .left)) (c .before .before .before .before .before .before .before .before .before .before .before .before .pre)
+mark-bit-requires : tie.Need-mark-bit-requires
+mark-bit-requires c κs = search needs
 
 same-length-2 : tie.Need-same-length-2
 same-length-2 c = search needs
@@ -49,7 +47,7 @@ same-length-3 c = search needs
 returns-5 : tie.Need-returns-5
 returns-5 c =
     let a = c .before .before .before .before .before .before .before .before .before .before .before .before .before .before .before .args in
-    (parts.mark-first (a .names) (a .marked .now) (a .kind) (a .word) (c .before .before .before .before .before .before .before .before .before .before .before .before .if1 .left) (c .before .before .before .before .before .before .before .before .before .before .before .if2 .left) (c .before .before .before .before .before .before .before .before .before .before .if3 .left) _ (c .before .before .before .before .before .before .before .before .mark-new .ensures .0) (not-false (c .before .before .before .before .before .before .before .before .mark-new .result) (c .before .before .before .before .before .if4 .left)), (c .before .before .before .before .before .before .before .before .mark-new .ensures .1 ∙ ap (λ t. setIf t (a .marked .now) (a .word)) (not-false (c .before .before .before .before .before .before .before .before .mark-new .result) (c .before .before .before .before .before .if4 .left)), c .before .before .set-bit .ensures ∙ sym (ap (λ t. setIf t (a .barred .now) (a .word)) (eq-eqb _ _ (c .before .before .before .before .if5 .taken)))))
+    (parts.mark-first (a .names) (a .marked .now) (a .kind) (a .word) (c .before .before .before .before .before .before .before .before .before .before .before .before .if1 .left) (c .before .before .before .before .before .before .before .before .before .before .before .if2 .left) (c .before .before .before .before .before .before .before .before .before .before .if3 .left) _ (c .before .before .before .before .before .before .before .before .mark-new .ensures .0) (not-false (c .before .before .before .before .before .before .before .before .mark-new .result) (c .before .before .before .before .before .if4 .left)), (c .before .before .before .before .before .before .before .before .mark-new .ensures .1 ∙ ap (λ t. setIf t (a .marked .now) (a .word)) (not-false (c .before .before .before .before .before .before .before .before .mark-new .result) (c .before .before .before .before .before .if4 .left)), c .before .before .mark-bit .ensures ∙ sym (ap (λ t. setIf t (a .barred .now) (a .word)) (eq-eqb _ _ (c .before .before .before .before .if5 .taken)))))
 
 same-length-4 : tie.Need-same-length-4
 same-length-4 c = search needs
@@ -69,7 +67,7 @@ mark-spec =
     mark-new-requires
     same-length
     returns-4
-    set-bit-requires
+    mark-bit-requires
     same-length-2
     same-length-3
     returns-5

@@ -1,6 +1,6 @@
 -- `parts::marks_len` meets its contract: a mark is passed where its name is new, and the structs follow the last.
 use Prim.Native.Nat.{_-_}
-use mathlib.Core.Path.{_≡_, refl, _∙_, sym}
+use mathlib.Core.Path.{_≡_, refl, _∙_}
 use native.Mathlib.Omega.{arith}
 use borrow.Author.Tests.{not-true, not-false}
 use lib.ListN.{length}
@@ -108,7 +108,7 @@ shared-slice-read-mark-2 c =
     omega (arith, c .before .before .before .before .loop-test .taken, c .before .before .before .before .before .before .shorter .ensures, length-entries (a .kinds .now) (a .words .now))
 
 mark-requires : tie.Need-mark-requires Inv-loop μ-loop
-mark-requires c κs = c .before .before .before .before .before .before .before .loop .inv .1 ∙ c .before .before .before .before .before .before .before .before .before .before .before .before .before .pre ∙ sym (c .before .before .before .before .before .before .before .loop .inv .2)
+mark-requires c κs = search needs
 
 same-length-3 : tie.Need-same-length-3 Inv-loop μ-loop
 same-length-3 c = c .before .before .before .before .before .mark .kept .1 .1 .1 .0 ∙ c .before .before .before .before .before .before .before .before .before .before .before .before .before .loop .inv .1

@@ -9,7 +9,7 @@ use Rattle.reader.proofs.shorter.Reads as shorter-reads
 use Rattle.parts.proofs.parts_len.Reads as parts-len-reads
 
 parts-len-requires : tie.Need-parts-len-requires
-parts-len-requires c κs = c .before .before .before .before .pre .1
+parts-len-requires c κs = search needs
 
 enum-known-n : tie.Need-enum-known-n
 enum-known-n c = search needs
