@@ -67,7 +67,7 @@ pub fn print_booked(
     ensures { λ r. ⌜ printing r (now (text .exit)) ≡ print (now (book .entry)) (now (names .entry)) (now («line_kinds» .entry)) (now (operands .entry)) (now (text .entry)) ⌝ }
 {
     let count = book[1];
-    if !spelling::check_names(names, count) {
+    if !roll::check_names(names, count) {
         return Printed::Refused(2);
     }
     let middle = book[0] as usize + 2;

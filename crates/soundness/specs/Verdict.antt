@@ -15,9 +15,9 @@ use Rattle.names.specs.Spelling.{isIntrinsic}
 use Rattle.names.specs.Prefix.{firstWith, pastWith}
 use Rattle.names.specs.Lines.{accepted-iff, names-lines}
 use Rattle.names.specs.Ranges.{range-test, range-order}
-use Rattle.spelling.specs.Read.{namesRead}
-use Rattle.spelling.specs.declared.Names.{Names}
-use Rattle.spelling.specs.declared.Names.the-variants as names
+use Rattle.roll.specs.Read.{namesRead}
+use Rattle.roll.specs.declared.Names.{Names}
+use Rattle.roll.specs.declared.Names.the-variants as names
 use Rattle.book.specs.Ast.{Book}
 use Rattle.book.specs.Decode.{member}
 use Rattle.book.specs.Result.{bind, okOr, given, require}

@@ -2,7 +2,7 @@
 // a translation, or the first of document 01's refusals 1 to 4. It passes once over the names and once over the entries.
 use parts::parts_len;
 use reader::Found;
-use spelling::Names;
+use roll::Names;
 ghost use mathlib.Core.Path.{_≡_};
 ghost use mathlib.Core.Bool.{not};
 ghost use Prim.Native.Nat.{_≤_};
@@ -134,7 +134,7 @@ pub fn check(book: &[u64], names: &[u8], counter: u64, work: usize) -> Verdict
     ensures { λ r. ⌜ numberOf r ≡ refusalOf (checked (now (book .entry)) (now (names .entry)) counter work) ⌝ }
 {
     let count = name_count(book);
-    let spelled = spelling::read_names(names, count, b"llvm.");
+    let spelled = roll::read_names(names, count, b"llvm.");
     let mut barred = [0u64; 2048];
     bar_intrinsics(spelled, &mut barred);
     judged(read_book(book, &mut barred), spelled, counter, count, work)

@@ -7,7 +7,7 @@ use Rattle.soundness.proofs.bar_intrinsics.Reads as bar-intrinsics-read
 use Rattle.soundness.proofs.judged.Reads as judged-reads
 use Rattle.soundness.proofs.name_count.Reads as name-count-reads
 use Rattle.soundness.proofs.read_book.Reads as read-book-reads
-use Rattle.spelling.proofs.read_names.Reads as read-names-reads
+use Rattle.roll.proofs.read_names.Reads as read-names-reads
 
 name-count-requires : tie.Need-name-count-requires
 name-count-requires c κs = search needs

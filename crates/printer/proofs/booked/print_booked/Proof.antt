@@ -6,7 +6,7 @@ use Rattle.printer.specs.Book.{book-long, middle-inside, book-decoded, b
 use borrow.Author.Needs.{needs}
 use Rattle.printer.proofs.booked.print_booked.Statement.{statement}
 use Rattle.printer.proofs.booked.print_booked.Tie as tie
-use Rattle.spelling.proofs.check_names.Reads as check-names-reads
+use Rattle.roll.proofs.check_names.Reads as check-names-reads
 use Rattle.printer.proofs.booked.print_entries.Reads as print-entries-reads
 
 shared-slice-read-count : tie.Need-shared-slice-read-count

@@ -5,9 +5,9 @@ use mathlib.Core.Bool.{not}
 use lib.ListN.{length, drop}
 use borrow.Author.Needs.{needs}
 use Rattle.names.specs.Name.{barred, front}
 use Rattle.spelling.proofs.Scan.{reach-past, reach-stop, reach-pass}
-use Rattle.spelling.proofs.front_end.Statement.{statement}
-use Rattle.spelling.proofs.front_end.Tie as tie
+use Rattle.roll.proofs.front_end.Statement.{statement}
+use Rattle.roll.proofs.front_end.Tie as tie
 
 abbrev Inv-loop : tie.InvT-loop
 Inv-loop names at i₀ i = at + length (front (drop at names)) ≡ i + length (front (drop i names))

@@ -6,10 +6,10 @@ use borrow.Author.Tests.{not-true, not-false, eq-eqb, ne-eqb}
 use lib.ListN.{length, take, drop}
 use borrow.Author.Needs.{needs}
 use Rattle.names.specs.Name.{accepted, lines}
-use Rattle.spelling.proofs.Check.{going, going-start, going-over, going-open, going-barred, going-unordered, going-ordered, line-named}
+use Rattle.roll.proofs.Check.{going, going-start, going-over, going-open, going-barred, going-unordered, going-ordered, line-named}
 use Rattle.spelling.proofs.Tally.{Passed, lines-past, passed-start, passed-end, passed-hit, passed-skip, passed-stop, passed-behind}
-use Rattle.spelling.proofs.read_names.Statement.{statement}
-use Rattle.spelling.proofs.read_names.Tie as tie
+use Rattle.roll.proofs.read_names.Statement.{statement}
+use Rattle.roll.proofs.read_names.Tie as tie
 
 abbrev Inv-loop : tie.InvT-loop
 Inv-loop names count prefix seen₀ from₀ to₀ last₀ last-end₀ at₀ seen from to last last-end at =

@@ -1,9 +1,9 @@
 -- `check_names` meets its contract: the slice is a list of names where the pass over it answers with a range.
 use mathlib.Core.Path.{sym, ap, _∙_}
 use borrow.Author.Needs.{needs}
-use Rattle.spelling.specs.Read.{isSorted, sorted-read}
-use Rattle.spelling.proofs.check_names.Statement.{statement}
-use Rattle.spelling.proofs.check_names.Tie as tie
+use Rattle.roll.specs.Read.{isSorted, sorted-read}
+use Rattle.roll.proofs.check_names.Statement.{statement}
+use Rattle.roll.proofs.check_names.Tie as tie
 
 slice-aggregate-read-names : tie.Need-slice-aggregate-read-names
 slice-aggregate-read-names c = search needs

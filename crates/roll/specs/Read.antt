@@ -2,8 +2,8 @@
 use Prim.Native.Nat.{ℕ}
 use mathlib.Core.Path.{_≡_, refl}
 use mathlib.Core.Bool.{Bool, true, false}
-use Rattle.spelling.specs.declared.Names.{Names}
-use Rattle.spelling.specs.declared.Names.the-variants.{Sorted, Bad}
+use Rattle.roll.specs.declared.Names.{Names}
+use Rattle.roll.specs.declared.Names.the-variants.{Sorted, Bad}
 
 -- where the slice is a list of names: the range of those that start with a prefix
 abbrev pub namesRead : Bool → ℕ → ℕ → Names

@@ -4,9 +4,9 @@ use mathlib.Core.Path.{_≡_, sym, _∙_}
 use lib.ListN.{length, drop}
 use borrow.Author.Needs.{needs}
 use Rattle.names.specs.Name.{before}
 use Rattle.spelling.proofs.Spell.{before-short, before-over, before-equal, before-differ}
-use Rattle.spelling.proofs.name_before.Statement.{statement}
-use Rattle.spelling.proofs.name_before.Tie as tie
+use Rattle.roll.proofs.name_before.Statement.{statement}
+use Rattle.roll.proofs.name_before.Tie as tie
 
 abbrev Inv-loop : tie.InvT-loop
 Inv-loop a b i₀ i = (i ≤ length a) × (i ≤ length b) × (before a b ≡ before (drop i a) (drop i b))
