@@ -4,14 +4,14 @@ mod calls;
 
 use crate::calls::call_len;
 use insts::term_len;
+use items::Item;
+use items::list_len;
+use items::word_len;
 use reader::Found;
 use reader::Front;
 use reader::ListHead;
 use reader::Pass;
 use reader::first_entry;
-use reader::items::Item;
-use reader::items::list_len;
-use reader::items::word_len;
 use reader::join_found;
 use reader::last_pass;
 use reader::list_head;

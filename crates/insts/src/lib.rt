@@ -1,11 +1,11 @@
 // Instructions, kinds 40 to 82, and terminators, kinds 90 to 93: an entry and the fields of its kind.
+use items::Item;
+use items::item_len;
+use items::list_len;
+use items::optional_len;
 use reader::Found;
 use reader::Front;
 use reader::first_entry;
-use reader::items::Item;
-use reader::items::item_len;
-use reader::items::list_len;
-use reader::items::optional_len;
 use reader::join_found;
 use reader::shorter;
 ghost use mathlib.Core.Path.{_≡_};

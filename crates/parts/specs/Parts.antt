@@ -25,7 +25,7 @@ use Rattle.book.specs.AgreeTy.{agrees-type, ty-found}
 use Rattle.book.specs.AgreeBook.{agrees-function, agrees-structType, agrees-structs}
 use Rattle.reader.specs.Length.{lenOf, lenIf, frontOf}
 use Rattle.reader.specs.Groups.{typeGroupOf}
-use Rattle.reader.specs.Items.{pickLen}
+use Rattle.items.specs.Items.{pickLen}
 use Rattle.reader.specs.Laws.{length-entries, entries-part, within-kinds, lentFrom, len-fits}
 use Rattle.reader.specs.declared.Length.{Length}
 use Rattle.reader.specs.declared.Length.the-variants as len

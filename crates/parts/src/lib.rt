@@ -2,6 +2,7 @@
 // bit for each name. `barred` has a bit set for each name that may not be called; reserved names are added to it before the
 // function is read.
 use blocks::function_len;
+use items::word_len;
 use marks::mark_bit;
 use marks::mark_new;
 use reader::Found;
@@ -10,7 +11,6 @@ use reader::Length;
 use reader::Pass;
 use reader::entry_if;
 use reader::first_entry;
-use reader::items::word_len;
 use reader::join_found;
 use reader::last_pass;
 use reader::next_pass;

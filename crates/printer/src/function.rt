@@ -1,10 +1,10 @@
 // The function that the entries begin with: its name, its return type and its parameters, and the printing of its lines.
 use crate::passes::Printed;
 use crate::passes::print_known;
+use items::Item;
+use items::list_len;
 use reader::Found;
 use reader::Length;
-use reader::items::Item;
-use reader::items::list_len;
 use reader::shorter;
 use reader::types::type_len;
 use typetext::starts::note_starts;

@@ -2,9 +2,7 @@ pub mod Length
 pub mod Fit
 pub mod Groups
 pub mod Found
-pub mod Items
 pub mod Tables
 pub mod Laws
 pub mod TypeLaws
 pub mod Passes
-pub mod ItemLaws

@@ -2,7 +2,6 @@
 // of the lent kinds and words, or that none stands there. A reader is lent the rest of the entries from its
 // start; where one slice is longer than the other, what it has more does not count. `names` is the number of
 // the book's names.
-pub mod items;
 pub mod types;
 
 ghost use mathlib.Core.Path.{_≡_};

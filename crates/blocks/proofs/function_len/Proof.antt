@@ -11,8 +11,8 @@ use Rattle.book.specs.AgreeInst.{agrees-name}
 use Rattle.book.specs.AgreeBook.{agrees-signature-and-blocks}
 use Rattle.reader.specs.Laws.{lentFrom}
 use Rattle.reader.specs.Found.{pairTest, never}
-use Rattle.reader.specs.Items.{wordFront}
-use Rattle.reader.specs.ItemLaws as items
+use Rattle.items.specs.Items.{wordFront}
+use Rattle.items.specs.ItemLaws as items
 use Rattle.reader.specs.Passes as passes
 use Rattle.blocks.specs.Calls as calls
 use borrow.Author.Needs.{needs}
@@ -20,7 +20,7 @@ use Rattle.blocks.proofs.function_len.Statement.{statement}
 use Rattle.blocks.proofs.function_len.Tie as tie
 use Rattle.blocks.proofs.signature_and_blocks_len.Reads as signature-and-blocks-len-reads
 use Rattle.reader.proofs.first_entry.Reads as first-entry-reads
-use Rattle.reader.proofs.items.word_len.Reads as word-len-reads
+use Rattle.items.proofs.word_len.Reads as word-len-reads
 use Rattle.reader.proofs.join_found.Reads as join-found-reads
 use Rattle.reader.proofs.plain.Reads as plain-reads
 

@@ -14,7 +14,7 @@ use borrow.Author.Needs.{needs}
 use Rattle.blocks.proofs.params_and_blocks_len.Statement.{statement}
 use Rattle.blocks.proofs.params_and_blocks_len.Tie as tie
 use Rattle.blocks.proofs.blocks_len.Reads as blocks-len-reads
-use Rattle.reader.proofs.items.list_len.Reads as list-len-reads
+use Rattle.items.proofs.list_len.Reads as list-len-reads
 use Rattle.reader.proofs.join_found.Reads as join-found-reads
 use Rattle.reader.proofs.shorter.Reads as shorter-reads
 

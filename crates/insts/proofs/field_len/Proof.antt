@@ -11,9 +11,9 @@ use Rattle.insts.specs.InstLaws as laws
 use borrow.Author.Needs.{needs}
 use Rattle.insts.proofs.field_len.Statement.{statement}
 use Rattle.insts.proofs.field_len.Tie as tie
-use Rattle.reader.proofs.items.item_len.Reads as item-len-reads
-use Rattle.reader.proofs.items.list_len.Reads as list-len-reads
-use Rattle.reader.proofs.items.optional_len.Reads as optional-len-reads
+use Rattle.items.proofs.item_len.Reads as item-len-reads
+use Rattle.items.proofs.list_len.Reads as list-len-reads
+use Rattle.items.proofs.optional_len.Reads as optional-len-reads
 use Rattle.reader.proofs.shorter.Reads as shorter-reads
 
 item-len-requires : tie.Need-item-len-requires

@@ -12,7 +12,7 @@ use borrow.Author.Needs.{needs}
 use Rattle.printer.proofs.function.list_params.Statement.{statement}
 use Rattle.printer.proofs.function.list_params.Tie as tie
 use Rattle.printer.proofs.function.count_params.Reads as count-params-reads
-use Rattle.reader.proofs.items.list_len.Reads as list-len-reads
+use Rattle.items.proofs.list_len.Reads as list-len-reads
 use Rattle.reader.proofs.shorter.Reads as shorter-reads
 
 shorter-requires : tie.Need-shorter-requires

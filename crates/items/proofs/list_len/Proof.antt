@@ -1,4 +1,4 @@
--- `reader::items::list_len` meets its contract: the loop goes on by the list's next step, and what is left of the list tells what the whole is from there.
+-- `items::list_len` meets its contract: the loop goes on by the list's next step, and what is left of the list tells what the whole is from there.
 use native.Mathlib.Omega.{arith}
 use mathlib.Core.Path.{refl, _∙_, sym}
 use Rattle.book.specs.Read.{closing, isClosing}
@@ -6,14 +6,14 @@ use Rattle.book.specs.Decode.{item as itemReader}
 use Rattle.book.specs.Forbidden.{otherItem}
 use Rattle.book.specs.AgreeTy.{agrees-closing}
 use Rattle.book.specs.AgreeInst.{agrees-item}
-use Rattle.reader.specs.Items.{itemOf}
+use Rattle.items.specs.Items.{itemOf}
 use Rattle.reader.specs.Found.{never}
 use Rattle.reader.specs.Passes.{Loop}
 use Rattle.reader.specs.Passes as passes
 use borrow.Author.Needs.{needs}
-use Rattle.reader.proofs.items.list_len.Statement.{statement}
-use Rattle.reader.proofs.items.list_len.Tie as tie
-use Rattle.reader.proofs.items.item_step.Reads as item-step-reads
+use Rattle.items.proofs.list_len.Statement.{statement}
+use Rattle.items.proofs.list_len.Tie as tie
+use Rattle.items.proofs.item_step.Reads as item-step-reads
 
 abbrev Inv-loop : tie.InvT-loop
 Inv-loop kinds words names item most at₀ left₀ seen₀ at left seen =

@@ -1,16 +1,16 @@
--- `reader::items::optional_len` meets its contract: kind 21 is none, and else an item is read.
+-- `items::optional_len` meets its contract: kind 21 is none, and else an item is read.
 use Rattle.book.specs.Entry.{entries}
 use Rattle.book.specs.Decode.{item}
 use Rattle.book.specs.Forbidden.{otherItem}
-use Rattle.reader.specs.Items.{itemOf}
-use Rattle.reader.specs.ItemLaws as items
+use Rattle.items.specs.Items.{itemOf}
+use Rattle.items.specs.ItemLaws as items
 use borrow.Author.Needs.{needs}
-use Rattle.reader.proofs.items.optional_len.Statement.{statement}
-use Rattle.reader.proofs.items.optional_len.Tie as tie
+use Rattle.items.proofs.optional_len.Statement.{statement}
+use Rattle.items.proofs.optional_len.Tie as tie
 use Rattle.reader.proofs.entry_if.Reads as entry-if-reads
 use Rattle.reader.proofs.first_entry.Reads as first-entry-reads
-use Rattle.reader.proofs.items.item_len.Reads as item-len-reads
+use Rattle.items.proofs.item_len.Reads as item-len-reads
 use Rattle.reader.proofs.plain.Reads as plain-reads
 
 first-entry-requires : tie.Need-first-entry-requires
 first-entry-requires c κs = search needs

@@ -11,20 +11,20 @@ use Rattle.book.specs.Read.{Reader, word, filtered}
 use Rattle.book.specs.Decode.{value, block, index, align, maybeName}
 use Rattle.book.specs.Decode as decode
 use Rattle.book.specs.Forbidden.{isOther}
 use Rattle.reader.specs.Length.{lenIf}
 use Rattle.reader.specs.Found.{oneIf, never}
 use Rattle.reader.specs.declared.Length.{Length}
 use Rattle.reader.specs.declared.Length.the-variants as len
 use Rattle.reader.specs.declared.Found.{Found}
 use Rattle.reader.specs.declared.Found.the-variants as found
 use Rattle.reader.specs.declared.Front.{Front}
 use Rattle.reader.specs.declared.Front.the-variants as front
-use Rattle.reader.specs.declared.items.ValueGroup.{ValueGroup}
-use Rattle.reader.specs.declared.items.ValueGroup.the-variants as group
-use Rattle.reader.specs.declared.items.Atom.{Atom}
-use Rattle.reader.specs.declared.items.Atom.the-variants as atom
-use Rattle.reader.specs.declared.items.Item.{Item}
-use Rattle.reader.specs.declared.items.Item.the-variants.{«Type», Value, Block, Index, Align, Typed, GepIndex, Incoming, Case, Param}
+use Rattle.items.specs.declared.ValueGroup.{ValueGroup}
+use Rattle.items.specs.declared.ValueGroup.the-variants as group
+use Rattle.items.specs.declared.Atom.{Atom}
+use Rattle.items.specs.declared.Atom.the-variants as atom
+use Rattle.items.specs.declared.Item.{Item}
+use Rattle.items.specs.declared.Item.the-variants.{«Type», Value, Block, Index, Align, Typed, GepIndex, Incoming, Case, Param}
 
 abbrev pub valueGroupOf : Option ValTag → ValueGroup
 valueGroupOf none = group.Bad

@@ -1,22 +1,22 @@
--- `reader::items::param_len` meets its contract: the type is read behind the name.
+-- `items::param_len` meets its contract: the type is read behind the name.
 use native.Mathlib.Omega.{arith}
 use Rattle.book.specs.Entry.{entries}
 use Rattle.book.specs.Decode.{type}
 use Rattle.book.specs.AgreeTy.{agrees-type}
 use Rattle.reader.specs.Laws.{lentFrom}
 use Rattle.reader.specs.Found.{never}
-use Rattle.reader.specs.Items.{atomReader, atomTest}
+use Rattle.items.specs.Items.{atomReader, atomTest}
 use Rattle.reader.specs.Passes as passes
-use Rattle.reader.specs.ItemLaws as items
-use Rattle.reader.specs.declared.items.Atom.the-variants.{Param}
+use Rattle.items.specs.ItemLaws as items
+use Rattle.items.specs.declared.Atom.the-variants.{Param}
 use borrow.Author.Needs.{needs}
-use Rattle.reader.proofs.items.param_len.Statement.{statement}
-use Rattle.reader.proofs.items.param_len.Tie as tie
+use Rattle.items.proofs.param_len.Statement.{statement}
+use Rattle.items.proofs.param_len.Tie as tie
 use Rattle.reader.proofs.first_entry.Reads as first-entry-reads
-use Rattle.reader.proofs.items.atom_len.Reads as atom-len-reads
+use Rattle.items.proofs.atom_len.Reads as atom-len-reads
 use Rattle.reader.proofs.join_found.Reads as join-found-reads
 use Rattle.reader.proofs.plain.Reads as plain-reads
 use Rattle.reader.proofs.types.type_len.Reads as type-len-reads
 
 first-entry-requires : tie.Need-first-entry-requires
 first-entry-requires c κs = search needs

@@ -1,9 +1,9 @@
--- `reader::items::atom_len` meets its contract: the test is the definition's.
+-- `items::atom_len` meets its contract: the test is the definition's.
 use mathlib.Core.Path.{_∙_, sym}
 use borrow.Author.Needs.{needs}
-use Rattle.reader.proofs.items.atom_len.Statement.{statement}
-use Rattle.reader.proofs.items.atom_len.Tie as tie
-use Rattle.reader.proofs.items.atom_ok.Reads as atom-ok-reads
+use Rattle.items.proofs.atom_len.Statement.{statement}
+use Rattle.items.proofs.atom_len.Tie as tie
+use Rattle.items.proofs.atom_ok.Reads as atom-ok-reads
 
 enum-known-entry : tie.Need-enum-known-entry
 enum-known-entry c = search needs

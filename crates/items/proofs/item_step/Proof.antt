@@ -1,15 +1,15 @@
--- `reader::items::item_step` meets its contract: the entry in front closes the list, or an item is read.
+-- `items::item_step` meets its contract: the entry in front closes the list, or an item is read.
 use Rattle.book.specs.Decode.{item}
 use Rattle.book.specs.Forbidden.{otherItem}
-use Rattle.reader.specs.Items.{itemOf}
+use Rattle.items.specs.Items.{itemOf}
 use Rattle.reader.specs.Passes as passes
 use borrow.Author.Needs.{needs}
-use Rattle.reader.proofs.items.item_step.Statement.{statement}
-use Rattle.reader.proofs.items.item_step.Tie as tie
+use Rattle.items.proofs.item_step.Statement.{statement}
+use Rattle.items.proofs.item_step.Tie as tie
 use Rattle.reader.proofs.first_entry.Reads as first-entry-reads
-use Rattle.reader.proofs.items.item_len.Reads as item-len-reads
+use Rattle.items.proofs.item_len.Reads as item-len-reads
 use Rattle.reader.proofs.list_head.Reads as list-head-reads
 use Rattle.reader.proofs.next_pass.Reads as next-pass-reads
 
 first-entry-requires : tie.Need-first-entry-requires
 first-entry-requires c κs = search needs

@@ -1,14 +1,14 @@
--- `reader::items::value_group` meets its contract: each kind is looked up, and what is below or above the table is not in it.
+-- `items::value_group` meets its contract: each kind is looked up, and what is below or above the table is not in it.
 use Prim.Native.Nat.{ℕ, suc-le-suc}
 use mathlib.Core.Path.{_≡_, refl, sym, ap}
 use native.Mathlib.Omega.{arith}
 use Rattle.book.specs.Rule.{find}
 use Rattle.book.specs.Kinds.{valTag, valTags, valKind}
-use Rattle.reader.specs.Items.{valueGroupOf}
+use Rattle.items.specs.Items.{valueGroupOf}
 use Rattle.reader.specs.Tables.{find-below, find-above, in-range}
-use Rattle.reader.specs.declared.items.ValueGroup.the-variants.{Zero}
-use Rattle.reader.proofs.items.value_group.Statement.{statement}
-use Rattle.reader.proofs.items.value_group.Tie as tie
+use Rattle.items.specs.declared.ValueGroup.the-variants.{Zero}
+use Rattle.items.proofs.value_group.Statement.{statement}
+use Rattle.items.proofs.value_group.Tie as tie
 
 returns : tie.Need-returns
 unfolding valTag valTags

@@ -1,25 +1,25 @@
 // Values, and what the fields of instructions and terminators hold.
-use crate::Found;
-use crate::Front;
-use crate::Length;
-use crate::ListHead;
-use crate::Pass;
-use crate::entry_if;
-use crate::first_entry;
-use crate::join_found;
-use crate::list_head;
-use crate::next_pass;
-use crate::plain;
-use crate::types::type_len;
+use reader::Found;
+use reader::Front;
+use reader::Length;
+use reader::ListHead;
+use reader::Pass;
+use reader::entry_if;
+use reader::first_entry;
+use reader::join_found;
+use reader::list_head;
+use reader::next_pass;
+use reader::plain;
+use reader::types::type_len;
 ghost use mathlib.Core.Path.{_≡_};
 ghost use Rattle.book.specs.Entry.{entries};
 ghost use Rattle.book.specs.Kinds.{valTag};
 ghost use Rattle.book.specs.Read.{closing, isClosing, optional, listOf, both};
 ghost use Rattle.book.specs.Decode.{type as typeReader, item as itemReader};
 ghost use Rattle.book.specs.Forbidden.{any, anyThere, otherItem};
 ghost use Rattle.reader.specs.Found.{foundOf, passOf, never, pairTest};
-ghost use Rattle.reader.specs.declared.items.Atom.the-variants.{Block as AtomBlock, Param as AtomParam};
-ghost use Rattle.reader.specs.Items.{valueGroupOf, valueOk, wordFront, indexFits, atomOk, atomFront, atomReader, atomTest, itemOf};
+ghost use Rattle.items.specs.declared.Atom.the-variants.{Block as AtomBlock, Param as AtomParam};
+ghost use Rattle.items.specs.Items.{valueGroupOf, valueOk, wordFront, indexFits, atomOk, atomFront, atomReader, atomTest, itemOf};
 
 // The group of a value's kind: null, undef, poison and zeroinitializer are zeros.
 pub enum ValueGroup {

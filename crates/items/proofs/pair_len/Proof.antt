@@ -1,17 +1,17 @@
--- `reader::items::pair_len` meets its contract: a block's name is read behind the atom.
+-- `items::pair_len` meets its contract: a block's name is read behind the atom.
 use native.Mathlib.Omega.{arith}
 use Rattle.book.specs.Entry.{entries}
 use Rattle.reader.specs.Laws.{lentFrom}
-use Rattle.reader.specs.Items.{atomReader, atomTest}
+use Rattle.items.specs.Items.{atomReader, atomTest}
 use Rattle.reader.specs.Passes as passes
-use Rattle.reader.specs.ItemLaws as items
-use Rattle.reader.specs.declared.items.Atom.the-variants.{Block}
+use Rattle.items.specs.ItemLaws as items
+use Rattle.items.specs.declared.Atom.the-variants.{Block}
 use borrow.Author.Needs.{needs}
-use Rattle.reader.proofs.items.pair_len.Statement.{statement}
-use Rattle.reader.proofs.items.pair_len.Tie as tie
+use Rattle.items.proofs.pair_len.Statement.{statement}
+use Rattle.items.proofs.pair_len.Tie as tie
 use Rattle.reader.proofs.first_entry.Reads as first-entry-reads
-use Rattle.reader.proofs.items.atom_len.Reads as atom-len-reads
+use Rattle.items.proofs.atom_len.Reads as atom-len-reads
 use Rattle.reader.proofs.join_found.Reads as join-found-reads
 
 first-entry-requires : tie.Need-first-entry-requires
 first-entry-requires c κs = search needs

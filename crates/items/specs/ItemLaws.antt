@@ -17,19 +17,19 @@ use Rattle.book.specs.Read.{Read, got, bad, Reader, andThen, taking, one, word,
 use Rattle.book.specs.Decode.{type, maybeName, indexFits, block, index, align, value, valueAs, typedVal, gepIndex, incoming, case, param}
 use Rattle.book.specs.Forbidden.{isOther, anyThere}
 use Rattle.book.specs.AgreeTy.{val-is}
 use Rattle.reader.specs.Length.{lenOf, lenIf, frontOf}
 use Rattle.reader.specs.Found.{foundOf, plainOf, oneIf, pairTest, never}
-use Rattle.reader.specs.Items as items
-use Rattle.reader.specs.Items.{valueGroupOf, valueOk, pickLen, wordFront, atomOk, atomFront, atomReader, atomTest}
+use Rattle.items.specs.Items as items
+use Rattle.items.specs.Items.{valueGroupOf, valueOk, pickLen, wordFront, atomOk, atomFront, atomReader, atomTest}
 use Rattle.reader.specs.Passes.{or-false, found-ext, mapped-found, Within}
 use Rattle.reader.specs.declared.Length.{Length}
 use Rattle.reader.specs.declared.Length.the-variants as len
 use Rattle.reader.specs.declared.Found.{Found}
 use Rattle.reader.specs.declared.Found.the-variants as found
 use Rattle.reader.specs.declared.Front.{Front}
 use Rattle.reader.specs.declared.Front.the-variants as front
-use Rattle.reader.specs.declared.items.Atom.{Atom}
-use Rattle.reader.specs.declared.items.Atom.the-variants as atom
+use Rattle.items.specs.declared.Atom.{Atom}
+use Rattle.items.specs.declared.Atom.the-variants as atom
 
 -- ---- one entry
 when-len : {A : Type 0} (b : Bool) (a : A) → lenOf (taking 1 (when b a)) ≡ lenIf b

@@ -1,23 +1,23 @@
--- `reader::items::item_len` meets its contract: each arm reads what its item is.
+-- `items::item_len` meets its contract: each arm reads what its item is.
 use mathlib.Core.Path.{_∙_, sym, ap}
 use Rattle.book.specs.Entry.{entries}
 use Rattle.book.specs.Decode.{type, item}
 use Rattle.book.specs.Forbidden.{otherItem}
 use Rattle.reader.specs.Found.{foundOf}
-use Rattle.reader.specs.Items.{itemOf}
+use Rattle.items.specs.Items.{itemOf}
 use Rattle.reader.specs.Passes as passes
-use Rattle.reader.specs.ItemLaws as items
-use Rattle.reader.specs.declared.items.Atom.the-variants as atom
+use Rattle.items.specs.ItemLaws as items
+use Rattle.items.specs.declared.Atom.the-variants as atom
 use borrow.Author.Needs.{needs}
-use Rattle.reader.proofs.items.item_len.Statement.{statement}
-use Rattle.reader.proofs.items.item_len.Tie as tie
+use Rattle.items.proofs.item_len.Statement.{statement}
+use Rattle.items.proofs.item_len.Tie as tie
 use Rattle.reader.proofs.first_entry.Reads as first-entry-reads
-use Rattle.reader.proofs.items.atom_len.Reads as atom-len-reads
-use Rattle.reader.proofs.items.pair_len.Reads as pair-len-reads
-use Rattle.reader.proofs.items.param_len.Reads as param-len-reads
-use Rattle.reader.proofs.items.typed_len.Reads as typed-len-reads
+use Rattle.items.proofs.atom_len.Reads as atom-len-reads
+use Rattle.items.proofs.pair_len.Reads as pair-len-reads
+use Rattle.items.proofs.param_len.Reads as param-len-reads
+use Rattle.items.proofs.typed_len.Reads as typed-len-reads
 use Rattle.reader.proofs.plain.Reads as plain-reads
 use Rattle.reader.proofs.types.type_len.Reads as type-len-reads
 
 enum-told : tie.Need-enum-told
 enum-told c = search needs

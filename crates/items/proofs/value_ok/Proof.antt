@@ -1,9 +1,9 @@
--- `reader::items::value_ok` meets its contract: each arm is the definition's.
+-- `items::value_ok` meets its contract: each arm is the definition's.
 use mathlib.Core.Path.{sym, ap}
-use Rattle.reader.specs.Items.{valueOk}
+use Rattle.items.specs.Items.{valueOk}
 use borrow.Author.Needs.{needs}
-use Rattle.reader.proofs.items.value_ok.Statement.{statement}
-use Rattle.reader.proofs.items.value_ok.Tie as tie
+use Rattle.items.proofs.value_ok.Statement.{statement}
+use Rattle.items.proofs.value_ok.Tie as tie
 
 enum-told : tie.Need-enum-told
 enum-told c = search needs

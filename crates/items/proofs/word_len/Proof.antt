@@ -1,10 +1,10 @@
--- `reader::items::word_len` meets its contract: the two tests are the definition's.
+-- `items::word_len` meets its contract: the two tests are the definition's.
 use mathlib.Core.Path.{_∙_, sym}
 use borrow.Author.Tests.{eq-eqb, ne-eqb}
 use borrow.Author.Needs.{needs}
-use Rattle.reader.proofs.items.word_len.Statement.{statement}
-use Rattle.reader.proofs.items.word_len.Tie as tie
+use Rattle.items.proofs.word_len.Statement.{statement}
+use Rattle.items.proofs.word_len.Tie as tie
 use Rattle.reader.proofs.entry_if.Reads as entry-if-reads
 
 enum-known-entry : tie.Need-enum-known-entry
 enum-known-entry c = search needs

@@ -1,15 +1,15 @@
--- `reader::items::atom_ok` meets its contract: each arm is the definition's.
+-- `items::atom_ok` meets its contract: each arm is the definition's.
 use mathlib.Core.Path.{refl, _∙_, sym, ap}
 use lib.Dec.{eqb}
-use Rattle.reader.specs.Items.{valueOk, atomOk}
-use Rattle.reader.specs.ItemLaws as items
+use Rattle.items.specs.Items.{valueOk, atomOk}
+use Rattle.items.specs.ItemLaws as items
 use borrow.Author.Needs.{needs}
-use Rattle.reader.proofs.items.atom_ok.Statement.{statement}
-use Rattle.reader.proofs.items.atom_ok.Tie as tie
+use Rattle.items.proofs.atom_ok.Statement.{statement}
+use Rattle.items.proofs.atom_ok.Tie as tie
 use Rattle.numbers.proofs.align.is_align.Reads as is-align-reads
-use Rattle.reader.proofs.items.index_fits.Reads as index-fits-reads
-use Rattle.reader.proofs.items.value_group.Reads as value-group-reads
-use Rattle.reader.proofs.items.value_ok.Reads as value-ok-reads
+use Rattle.items.proofs.index_fits.Reads as index-fits-reads
+use Rattle.items.proofs.value_group.Reads as value-group-reads
+use Rattle.items.proofs.value_ok.Reads as value-ok-reads
 
 enum-told : tie.Need-enum-told
 enum-told c = search needs
