@@ -5,6 +5,7 @@ use blocks::function_len;
 use items::word_len;
 use marks::mark_bit;
 use marks::mark_new;
+use marks::mark_range;
 use reader::Found;
 use reader::Front;
 use reader::Length;
@@ -22,12 +23,14 @@ use reader::types::type_len;
 ghost use mathlib.Core.Path.{_≡_};
 ghost use mathlib.Core.Bool.{_&&_};
 ghost use lib.Dec.{leb, eqb};
+ghost use lib.ListN.{replicate};
 ghost use Rattle.numbers.specs.Bits.{bitAt};
 ghost use Rattle.book.specs.Entry.{entries};
 ghost use Rattle.book.specs.Decode.{structBody, structType, function, structsAndFunction, parts};
 ghost use Rattle.book.specs.Forbidden.{forbiddenFunction};
 ghost use Rattle.reader.specs.Length.{lenOf};
 ghost use Rattle.marks.specs.Once.{setIf};
+ghost use Rattle.marks.specs.Range.{markedRange};
 ghost use Rattle.reader.specs.Found.{foundOf, passOf, never};
 ghost use Rattle.parts.specs.Parts.{isStructGroup};
 ghost use Rattle.parts.specs.Reading.{markTaken, namedFound, structsFound, marksFound, partsFound};
@@ -176,10 +179,13 @@ fn marks_len(
     Found::Bad
 }
 
-// Marks, each name once, named structs and the function.
-pub fn parts_len(kinds: &[u64], words: &[u64], names: u64, barred: &mut [u64]) -> Found
-    ensures { λ r. ⌜ r ≡ partsFound (now (barred .entry)) (parts names (entries (now (kinds .entry)) (now (words .entry)))) ⌝ }
+// Marks, each name once, named structs and the function. The names from `from` up to and without `to` may not be called, nor may
+// the reserved ones.
+pub fn parts_len(kinds: &[u64], words: &[u64], names: u64, from: u64, to: u64) -> Found
+    ensures { λ r. ⌜ r ≡ partsFound (markedRange (replicate 2048 0) from to) (parts names (entries (now (kinds .entry)) (now (words .entry)))) ⌝ }
 {
     let mut marked = [0u64; 2048];
-    marks_len(kinds, words, names, &mut marked, barred)
+    let mut barred = [0u64; 2048];
+    mark_range(&mut barred, from, to);
+    marks_len(kinds, words, names, &mut marked, &mut barred)
 }

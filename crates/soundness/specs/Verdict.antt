@@ -24,9 +24,9 @@ use Rattle.book.specs.Result.{bind, okOr, given, require}
 use Rattle.book.specs.Input.{Counted, bookIn, namesIn}
 use Rattle.book.specs.Forbidden.{reservedBy, uncallable, forbiddenFunction, forbidden}
 use Rattle.book.specs.Check.{workFor, checked, refusalOf}
-use Rattle.marks.specs.Range.{markedRange, bit-range}
+use Rattle.marks.specs.Range.{bit-range}
 use Rattle.reader.specs.Passes.{or-false}
-use Rattle.soundness.specs.Whole.{there, barredWith, readingIn, Holds, slice-holds}
+use Rattle.soundness.specs.Whole.{there, barredWith, barredRange, readingIn, Holds, slice-holds}
 use Rattle.soundness.specs.declared.Reading.{Reading}
 use Rattle.soundness.specs.declared.Reading.the-variants as reading
 use Rattle.soundness.specs.declared.Verdict.{Verdict}
@@ -45,18 +45,13 @@ abbrev pub pickVerdict : Bool → Verdict → Verdict → Verdict
 pickVerdict true a b = a
 pickVerdict false a b = b
 
-abbrev pub namesVerdict : Names → Bool → ℕ → ℕ → Verdict
-namesVerdict names.Bad x m work = verdict.BadNames
-namesVerdict (names.Sorted from to) x m work = pickVerdict x verdict.Barred (pickVerdict (leb (workFor m) work) verdict.Sound verdict.ShortWork)
+abbrev pub namesVerdict : Bool → Bool → ℕ → ℕ → Verdict
+namesVerdict false x m work = verdict.BadNames
+namesVerdict true x m work = pickVerdict x verdict.Barred (pickVerdict (leb (workFor m) work) verdict.Sound verdict.ShortWork)
 
-abbrev pub verdictOf : Reading → Names → ℕ → ℕ → ℕ → Verdict
-verdictOf reading.Bad ns counter m work = verdict.BadBook
-verdictOf (reading.Book x) ns counter m work = pickVerdict (leb counter (2 ^ 32)) (namesVerdict ns x m work) verdict.BadBook
-
--- the map with the names that start `llvm.`
-abbrev pub intrinsicsIn : Names → List ℕ → List ℕ
-intrinsicsIn names.Bad barred = barred
-intrinsicsIn (names.Sorted from to) barred = markedRange barred from to
+abbrev pub verdictOf : Reading → Bool → ℕ → ℕ → ℕ → Verdict
+verdictOf reading.Bad named counter m work = verdict.BadBook
+verdictOf (reading.Book x) named counter m work = pickVerdict (leb counter (2 ^ 32)) (namesVerdict named x m work) verdict.BadBook
 
 abbrev pub intrinsic : List ℕ
 intrinsic = 108 ∷ 108 ∷ 118 ∷ 109 ∷ 46 ∷ []
@@ -87,13 +82,13 @@ module _ (bs : List ℕ) (ns : List (List ℕ)) (en : namesOf bs ≡ some ns) wh
           rw (le-ltb x to (omega (arith, past-fits)), List·getD-eq-default ns [] l) (none-after (leb from x))
 
   -- by their bits
-  uncallable-bits : length ns ≤ 131072 → (b : Book) (x : ℕ) → barredWith (markedRange (replicate 2048 0) from to) b x ≡ uncallable ns (b .marks) x
+  uncallable-bits : length ns ≤ 131072 → (b : Book) (x : ℕ) → barredWith (barredRange from to) b x ≡ uncallable ns (b .marks) x
   unfolding uncallable
   uncallable-bits few b x =
       ap (λ t. member x (reservedBy (b .marks)) || t)
       (bit-range (replicate 2048 0) from to (omega (arith, past-fits, length-replicate {A = ℕ} 2048 0)) x ∙ rw (in-range x, bit-none 2048 x) (or-false (isIntrinsic (nameAt ns x))))
 
-  pub book-forbidden : length ns ≤ 131072 → (b : Book) → forbiddenFunction (barredWith (markedRange (replicate 2048 0) from to) b) (b .function) ≡ forbidden ns b
+  pub book-forbidden : length ns ≤ 131072 → (b : Book) → forbiddenFunction (barredWith (barredRange from to) b) (b .function) ≡ forbidden ns b
   unfolding forbidden
   book-forbidden few b = ap (λ t. forbiddenFunction t (b .function)) (fun-ext (uncallable-bits few b))
 
@@ -140,12 +135,6 @@ module _ (s bs : List ℕ) (counter work : ℕ) where
 
 -- ---- the whole answer
 module _ (s bs : List ℕ) (counter work : ℕ) where
-  abbrev pub spelled : Names
-  spelled = namesRead (accepted bs (getD s 1 0)) (firstWith intrinsic (lines bs)) (pastWith intrinsic (lines bs))
-
-  abbrev pub read : Reading
-  read = readingIn (intrinsicsIn spelled (replicate 2048 0)) (bookIn s)
-
   module _ (c : Counted) (ec : bookIn s ≡ some c) (fits : counter ≤ 2 ^ 32) where
     holds : Holds s c
     holds = slice-holds s c ec
@@ -156,24 +145,29 @@ module _ (s bs : List ℕ) (counter work : ℕ) where
     sized ns en el false ev true et = says-sound s bs counter work c ec fits ns en el ev (rw (holds .count) (leb-true _ _ et))
     sized ns en el false ev false et = says-work s bs counter work c ec fits ns en el ev (rw (holds .count) (leb-false _ _ et))
 
-    by-names : (u : Bool) → accepted bs (getD s 1 0) ≡ u
-        → says s bs counter work (numberOf (namesVerdict (namesRead u (firstWith intrinsic (lines bs)) (pastWith intrinsic (lines bs))) (forbiddenFunction (barredWith (intrinsicsIn (namesRead u (firstWith intrinsic (lines bs)) (pastWith intrinsic (lines bs))) (replicate 2048 0)) (c .book)) (c .book .function)) (getD s 1 0) work))
-    by-names true eu =
+    listed : accepted bs (getD s 1 0) ≡ true
+        → says s bs counter work (numberOf (namesVerdict true (forbiddenFunction (barredWith (barredRange (firstWith intrinsic (lines bs)) (pastWith intrinsic (lines bs))) (c .book)) (c .book .function)) (getD s 1 0) work))
+    listed eu =
         let n = accepted-iff bs (getD s 1 0) .0 eu in
         let el : length (n .0) ≡ c .count = n .2 ∙ sym (holds .count) in
         let f = book-forbidden bs (n .0) (n .1) (omega (arith, el, holds .few)) (c .book) in
         sized (n .0) (n .1) el _ (sym f) (leb (workFor (getD s 1 0)) work) refl
-    by-names false eu = says-names s bs counter work c ec fits (ap (accepted bs) (holds .count) ∙ eu)
 
-  pub check-number : says s bs counter work (numberOf (verdictOf read spelled counter (getD s 1 0) work))
-  check-number = book (bookIn s) refl
+    not-listed : accepted bs (getD s 1 0) ≡ false → says s bs counter work 2
+    not-listed eu = says-names s bs counter work c ec fits (ap (accepted bs) (holds .count) ∙ eu)
+
+  -- a book or none, with a counter or another
+  by-book : (named : Bool) (from to : ℕ)
+      → ((c : Counted) → bookIn s ≡ some c → counter ≤ 2 ^ 32 → says s bs counter work (numberOf (namesVerdict named (forbiddenFunction (barredWith (barredRange from to) (c .book)) (c .book .function)) (getD s 1 0) work)))
+      → says s bs counter work (numberOf (verdictOf (readingIn (barredRange from to) (bookIn s)) named counter (getD s 1 0) work))
+  by-book named from to next = book (bookIn s) refl
     where
-      book : (o : Option Counted) → bookIn s ≡ o → says s bs counter work (numberOf (verdictOf (readingIn (intrinsicsIn spelled (replicate 2048 0)) o) spelled counter (getD s 1 0) work))
+      book : (o : Option Counted) → bookIn s ≡ o → says s bs counter work (numberOf (verdictOf (readingIn (barredRange from to) o) named counter (getD s 1 0) work))
       book none e = says-book s bs counter work (ap there e)
       book (some c) e = counted (leb counter (2 ^ 32)) refl
         where
-          counted : (t : Bool) → leb counter (2 ^ 32) ≡ t → says s bs counter work (numberOf (pickVerdict t (namesVerdict spelled (forbiddenFunction (barredWith (intrinsicsIn spelled (replicate 2048 0)) (c .book)) (c .book .function)) (getD s 1 0) work) verdict.BadBook))
-          counted true et = by-names c e (leb-true counter (2 ^ 32) et) (accepted bs (getD s 1 0)) refl
+          counted : (t : Bool) → leb counter (2 ^ 32) ≡ t → says s bs counter work (numberOf (pickVerdict t (namesVerdict named (forbiddenFunction (barredWith (barredRange from to) (c .book)) (c .book .function)) (getD s 1 0) work) verdict.BadBook))
+          counted true et = next c e (leb-true counter (2 ^ 32) et)
           counted false et = says-counter s bs counter work c e (leb-false counter (2 ^ 32) et)
 
 -- ---- the arms of the code
@@ -194,13 +188,31 @@ no-count (n ∷ []) h = refl
 no-count (n ∷ (m ∷ es)) h = absurd (omega arith)
 
 -- the whole, over what the code has at hand
-pub check-arm : (s bs : List ℕ) (counter work count : ℕ) (nm : Names) (map : List ℕ) (rd : Reading) (v : Verdict)
-    → count ≡ getD s 1 0 → nm ≡ namesRead (accepted bs count) (firstWith intrinsic (lines bs)) (pastWith intrinsic (lines bs)) → map ≡ intrinsicsIn nm (replicate 2048 0)
-    → rd ≡ readingIn map (bookIn s) → v ≡ verdictOf rd nm counter count work → says s bs counter work (numberOf v)
-check-arm s bs counter work count nm map rd v ec en em er ev =
-    let sp : nm ≡ spelled s bs counter work = en ∙ ap (λ n. namesRead (accepted bs n) (firstWith intrinsic (lines bs)) (pastWith intrinsic (lines bs))) ec in
-    ap numberOf
-    (ev ∙ ap (λ r. verdictOf r nm counter count work) (er ∙ ap (λ m. readingIn m (bookIn s)) em)
-    ∙ ap (λ n. verdictOf (readingIn (intrinsicsIn n (replicate 2048 0)) (bookIn s)) n counter count work) sp
-    ∙ ap (λ n. verdictOf (read s bs counter work) (spelled s bs counter work) counter n work) ec)
-    ∙ check-number s bs counter work
+module _ (s bs : List ℕ) (counter work count : ℕ) (ec : count ≡ getD s 1 0) (nm : Names)
+    (en : nm ≡ namesRead (accepted bs count) (firstWith intrinsic (lines bs)) (pastWith intrinsic (lines bs))) where
+  named : nm ≡ namesRead (accepted bs (getD s 1 0)) (firstWith intrinsic (lines bs)) (pastWith intrinsic (lines bs))
+  named = en ∙ ap (λ n. namesRead (accepted bs n) (firstWith intrinsic (lines bs)) (pastWith intrinsic (lines bs))) ec
+
+  -- which of the two it is
+  list-is : (u : Bool) (f t from to : ℕ) → namesRead u f t ≡ names.Sorted from to → (u ≡ true) × ((from ≡ f) × (to ≡ t))
+  list-is true f t from to e = (refl, (cc, cc))
+  list-is false f t from to e = absurd (let z : _≡_ {A = ℕ} 0 1 = cc in omega arith)
+
+  none-is : (u : Bool) (f t : ℕ) → namesRead u f t ≡ names.Bad → u ≡ false
+  none-is true f t e = absurd (let z : _≡_ {A = ℕ} 0 1 = cc in omega arith)
+  none-is false f t e = refl
+
+  at-count : (r : Reading) (b : Bool) (v : Verdict) → v ≡ verdictOf r b counter count work → v ≡ verdictOf r b counter (getD s 1 0) work
+  at-count r b v ev = ev ∙ ap (λ n. verdictOf r b counter n work) ec
+
+  pub check-sorted : (from to : ℕ) → nm ≡ names.Sorted from to → (rd : Reading) → rd ≡ readingIn (barredRange from to) (bookIn s) → (v : Verdict) → v ≡ verdictOf rd true counter count work → says s bs counter work (numberOf v)
+  check-sorted from to h rd er v ev =
+      let l = list-is (accepted bs (getD s 1 0)) (firstWith intrinsic (lines bs)) (pastWith intrinsic (lines bs)) from to (sym named ∙ h) in
+      let r : rd ≡ readingIn (barredRange (firstWith intrinsic (lines bs)) (pastWith intrinsic (lines bs))) (bookIn s) = er ∙ ap (λ x. readingIn (barredRange x to) (bookIn s)) (l .1 .0) ∙ ap (λ x. readingIn (barredRange (firstWith intrinsic (lines bs)) x) (bookIn s)) (l .1 .1) in
+      ap numberOf (at-count rd true v ev ∙ ap (λ x. verdictOf x true counter (getD s 1 0) work) r)
+      ∙ by-book s bs counter work true (firstWith intrinsic (lines bs)) (pastWith intrinsic (lines bs)) (λ c e f. listed s bs counter work c e f (l .0))
+
+  pub check-bad : nm ≡ names.Bad → (rd : Reading) → rd ≡ readingIn (barredRange 0 0) (bookIn s) → (v : Verdict) → v ≡ verdictOf rd false counter count work → says s bs counter work (numberOf v)
+  check-bad h rd er v ev =
+      ap numberOf (at-count rd false v ev ∙ ap (λ x. verdictOf x false counter (getD s 1 0) work) er)
+      ∙ by-book s bs counter work false 0 0 (λ c e f. not-listed s bs counter work c e f (none-is (accepted bs (getD s 1 0)) (firstWith intrinsic (lines bs)) (pastWith intrinsic (lines bs)) (sym named ∙ h)))

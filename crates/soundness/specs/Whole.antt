@@ -7,7 +7,7 @@ use mathlib.Core.List.{List, [], _∷_, map}
 use native.Mathlib.Nat.{le-of-eq}
 use native.Mathlib.Omega.{arith}
 use borrow.Author.Tests.{eqb-true, eqb-false, eq-eqb, ne-eqb, le-leb, lt-leb}
-use lib.ListN.{length, getD, drop, take, replicate, length-append, length-drop}
+use lib.ListN.{length, getD, drop, take, replicate, length-append, length-drop, length-replicate}
 use lib.Seq.{take-all, drop-drop, take-at, drop-at}
 use lib.Dec.{eqb, leb}
 use Rattle.numbers.specs.Bits.{bitAt, setBitAt, length-set-bit}
@@ -22,6 +22,7 @@ use Rattle.book.specs.Forbidden.{reservedBy, forbiddenFunction}
 use Rattle.book.specs.AgreeBook.{PartsLimits, agrees-book}
 use Rattle.book.specs.AgreeInput.{slice, slice-sound, entries-back, length-kinds, length-words}
 use Rattle.book.specs.Input.{Counted, counted, bookIn}
+use Rattle.marks.specs.Range.{markedRange, length-range}
 use Rattle.marks.specs.Once.{isNew, allNew, AllBelow, new-distinct, bit-set}
 use Rattle.reader.specs.declared.Found.{Found}
 use Rattle.reader.specs.declared.Found.the-variants as found
@@ -36,6 +37,13 @@ barredWith barred b x = member x (reservedBy (b .marks)) || bitAt barred x
 abbrev pub readingOf : List ℕ → Option Book → Reading
 readingOf barred none = reading.Bad
 readingOf barred (some b) = reading.Book (forbiddenFunction (barredWith barred b) (b .function))
+
+-- the map of the names from one number to another, with a bit for each of 131,072
+abbrev pub barredRange : ℕ → ℕ → List ℕ
+barredRange from to = markedRange (replicate 2048 0) from to
+
+pub range-size : (from to : ℕ) → length (barredRange from to) ≡ 2048
+range-size from to = length-range (replicate 2048 0) from to ∙ length-replicate {A = ℕ} 2048 0
 
 -- whether there is one
 abbrev pub there : {A : Type 0} → Option A → Bool

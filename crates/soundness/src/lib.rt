@@ -4,16 +4,15 @@ use parts::parts_len;
 use reader::Found;
 use roll::Names;
 ghost use mathlib.Core.Path.{_≡_};
-ghost use mathlib.Core.Bool.{not};
 ghost use Prim.Native.Nat.{_≤_};
 ghost use lib.Dec.{leb};
-ghost use lib.ListN.{length, getD};
+ghost use lib.ListN.{getD};
 ghost use Rattle.book.specs.Entry.{entries};
 ghost use Rattle.book.specs.Decode.{decode};
 ghost use Rattle.book.specs.Input.{bookIn};
 ghost use Rattle.book.specs.Check.{checked, refusalOf, workFor};
-ghost use Rattle.soundness.specs.Whole.{there, readingOf, readingIn};
-ghost use Rattle.soundness.specs.Verdict.{numberOf, verdictOf, intrinsicsIn};
+ghost use Rattle.soundness.specs.Whole.{there, readingOf, readingIn, barredRange};
+ghost use Rattle.soundness.specs.Verdict.{numberOf, verdictOf};
 
 // The answer: a sound book, or the first refusal.
 pub enum Verdict {
@@ -30,13 +29,12 @@ enum Reading {
     Bad,
 }
 
-// The book of the entries. `barred` has a bit set for each name that may not be called, apart from the reserved ones.
-fn read_entries(kinds: &[u64], words: &[u64], names: u64, barred: &mut [u64]) -> Reading
+// The book of the entries. The names from `from` up to and without `to` may not be called, nor may the reserved ones.
+fn read_entries(kinds: &[u64], words: &[u64], names: u64, from: u64, to: u64) -> Reading
     requires { ⌜ names ≤ 131072 ⌝ }
-    requires { ⌜ length (now barred) ≡ 2048 ⌝ }
-    ensures { λ r. ⌜ r ≡ readingOf (now (barred .entry)) (decode names (entries (now (kinds .entry)) (now (words .entry)))) ⌝ }
+    ensures { λ r. ⌜ r ≡ readingOf (barredRange from to) (decode names (entries (now (kinds .entry)) (now (words .entry)))) ⌝ }
 {
-    let Found::Entries(n, forbidden) = parts_len(kinds, words, names, barred) else {
+    let Found::Entries(n, forbidden) = parts_len(kinds, words, names, from, to) else {
         return Reading::Bad;
     };
     if n == reader::shorter(kinds, words) {
@@ -47,9 +45,8 @@ fn read_entries(kinds: &[u64], words: &[u64], names: u64, barred: &mut [u64]) ->
 }
 
 // The book of the slice.
-fn read_book(book: &[u64], barred: &mut [u64]) -> Reading
-    requires { ⌜ length (now barred) ≡ 2048 ⌝ }
-    ensures { λ r. ⌜ r ≡ readingIn (now (barred .entry)) (bookIn (now (book .entry))) ⌝ }
+fn read_book(book: &[u64], from: u64, to: u64) -> Reading
+    ensures { λ r. ⌜ r ≡ readingIn (barredRange from to) (bookIn (now (book .entry))) ⌝ }
 {
     if book.len() < 2 {
         return Reading::Bad;
@@ -66,15 +63,14 @@ fn read_book(book: &[u64], barred: &mut [u64]) -> Reading
     if book.len() != words + n as usize {
         return Reading::Bad;
     }
-    read_entries(&book[2..words], &book[words..], names, barred)
+    read_entries(&book[2..words], &book[words..], names, from, to)
 }
 
 // Whether the slice is a book: refusal 1, but for the counter.
 pub fn check_book(book: &[u64]) -> bool
     ensures { λ r. ⌜ r ≡ there (bookIn (now (book .entry))) ⌝ }
 {
-    let mut barred = [0u64; 2048];
-    match read_book(book, &mut barred) {
+    match read_book(book, 0, 0) {
         Reading::Book(_) => true,
         Reading::Bad => false,
     }
@@ -87,15 +83,6 @@ fn name_count(book: &[u64]) -> u64
     if book.len() < 2 { 0 } else { book[1] }
 }
 
-// Sets the bits of the names that start `llvm.`.
-fn bar_intrinsics(names: Names, barred: &mut [u64])
-    ensures { λ _. ⌜ now (barred .exit) ≡ intrinsicsIn names (now (barred .entry)) ⌝ }
-{
-    if let Names::Sorted(from, to) = names {
-        marks::mark_range(barred, from, to);
-    }
-}
-
 // Whether a work slice is long enough for so many names.
 fn work_fits(count: u64, work: usize) -> bool
     ensures { λ r. ⌜ r ≡ leb (workFor count) work ⌝ }
@@ -106,9 +93,9 @@ fn work_fits(count: u64, work: usize) -> bool
     count as usize <= (work - 64) / 8
 }
 
-// The first refusal of 1 to 4, from what was read.
-fn judged(book: Reading, names: Names, counter: u64, count: u64, work: usize) -> Verdict
-    ensures { λ r. ⌜ r ≡ verdictOf book names counter count work ⌝ }
+// The first refusal of 1 to 4, from what was read and whether the names are a list.
+fn judged(book: Reading, named: bool, counter: u64, count: u64, work: usize) -> Verdict
+    ensures { λ r. ⌜ r ≡ verdictOf book named counter count work ⌝ }
 {
     let Reading::Book(forbidden) = book else {
         return Verdict::BadBook;
@@ -116,9 +103,9 @@ fn judged(book: Reading, names: Names, counter: u64, count: u64, work: usize) ->
     if 0x1_0000_0000 < counter {
         return Verdict::BadBook;
     }
-    let Names::Sorted(_, _) = names else {
+    if !named {
         return Verdict::BadNames;
-    };
+    }
     if forbidden {
         return Verdict::Barred;
     }
@@ -134,8 +121,8 @@ pub fn check(book: &[u64], names: &[u8], counter: u64, work: usize) -> Verdict
     ensures { λ r. ⌜ numberOf r ≡ refusalOf (checked (now (book .entry)) (now (names .entry)) counter work) ⌝ }
 {
     let count = name_count(book);
-    let spelled = roll::read_names(names, count, b"llvm.");
-    let mut barred = [0u64; 2048];
-    bar_intrinsics(spelled, &mut barred);
-    judged(read_book(book, &mut barred), spelled, counter, count, work)
+    match roll::read_names(names, count, b"llvm.") {
+        Names::Sorted(from, to) => judged(read_book(book, from, to), true, counter, count, work),
+        Names::Bad => judged(read_book(book, 0, 0), false, counter, count, work),
+    }
 }

@@ -1,15 +1,11 @@
 -- `soundness::check_book` meets its contract: there is a book exactly where one is read.
 use mathlib.Core.Path.{_∙_, sym, ap}
-use lib.ListN.{replicate}
 use Rattle.book.specs.Input.{bookIn}
 use Rattle.soundness.specs.Whole as whole
 use borrow.Author.Needs.{needs}
 use Rattle.soundness.proofs.check_book.Statement.{statement}
 use Rattle.soundness.proofs.check_book.Tie as tie
 use Rattle.soundness.proofs.read_book.Reads as read-book-reads
-
-slice-aggregate-read-book : tie.Need-slice-aggregate-read-book
-slice-aggregate-read-book c = search needs
 
 read-book-requires : tie.Need-read-book-requires
 read-book-requires c κs = search needs
@@ -22,15 +18,13 @@ enum-told-2 c = search needs
 
 returns : tie.Need-returns
 returns c =
-    let a = c .before .before .before .before .before .before .args in
-    sym (ap whole.isBook (c .enum-told .given .1)) ∙ ap whole.isBook (c .before .before .before .read-book .ensures) ∙ whole.book-there (replicate 2048 0) (bookIn (a .book .now))
+    let a = c .before .before .before .before .args in
+    sym (ap whole.isBook (c .enum-told .given .1)) ∙ ap whole.isBook (c .before .before .read-book .ensures) ∙ whole.book-there (whole.barredRange 0 0) (bookIn (a .book .now))
 
 returns-2 : tie.Need-returns-2
 returns-2 c =
-    let a = c .before .before .before .before .before .before .args in
-    sym (ap whole.isBook (c .enum-told2 .given .1)) ∙ ap whole.isBook (c .before .before .before .read-book .ensures) ∙ whole.book-there (replicate 2048 0) (bookIn (a .book .now))
+    let a = c .before .before .before .before .args in
+    sym (ap whole.isBook (c .enum-told2 .given .1)) ∙ ap whole.isBook (c .before .before .read-book .ensures) ∙ whole.book-there (whole.barredRange 0 0) (bookIn (a .book .now))
 
 pub check-book-spec : {M : Type 1} → statement M
-check-book-spec =
-    tie.close
-    (tie.spec slice-aggregate-read-book read-book-requires enum-told enum-told-2 returns returns-2)
+check-book-spec = tie.close (tie.spec read-book-requires enum-told enum-told-2 returns returns-2)

@@ -1,6 +1,6 @@
 -- `soundness::judged` meets its contract: the tests come in document 01's order.
 use mathlib.Core.Path.{_∙_, sym}
-use borrow.Author.Tests.{le-leb, lt-leb}
+use borrow.Author.Tests.{le-leb, lt-leb, not-true, not-false}
 use borrow.Author.Needs.{needs}
 use Rattle.soundness.proofs.judged.Statement.{statement}
 use Rattle.soundness.proofs.judged.Tie as tie
@@ -18,26 +18,20 @@ returns c = search needs
 returns-2 : tie.Need-returns-2
 returns-2 c = sym (rw (c .before .before .book .given .1, lt-leb _ _ (c .if1 .taken)))
 
-enum-told-2 : tie.Need-enum-told-2
-enum-told-2 c = search needs
-
-enum-told-3 : tie.Need-enum-told-3
-enum-told-3 c = search needs
-
 returns-3 : tie.Need-returns-3
-returns-3 c = sym (rw (c .before .before .before .before .book .given .1, le-leb _ _ (c .before .before .if1 .left), c .enum-told3 .given .1))
+returns-3 c = sym (rw (c .before .before .before .book .given .1, le-leb _ _ (c .before .if1 .left), not-true (c .before .before .before .before .before .args .named) (c .if2 .taken)))
 
 returns-4 : tie.Need-returns-4
-returns-4 c = sym (rw (c .before .before .before .before .before .book .given .1, le-leb _ _ (c .before .before .before .if1 .left), c .before .enum-told2 .given .1, c .if2 .taken))
+returns-4 c = sym (rw (c .before .before .before .before .book .given .1, le-leb _ _ (c .before .before .if1 .left), not-false (c .before .before .before .before .before .before .args .named) (c .before .if2 .left), c .if3 .taken))
 
 work-fits-requires : tie.Need-work-fits-requires
 work-fits-requires c κs = search needs
 
 returns-5 : tie.Need-returns-5
-returns-5 c = sym (rw (c .before .before .before .before .before .before .before .book .given .1, le-leb _ _ (c .before .before .before .before .before .if1 .left), c .before .before .before .enum-told2 .given .1, c .before .before .if2 .left, sym (c .before .work-fits .ensures) ∙ c .if3 .taken))
+returns-5 c = sym (rw (c .before .before .before .before .before .before .book .given .1, le-leb _ _ (c .before .before .before .before .if1 .left), not-false (c .before .before .before .before .before .before .before .before .args .named) (c .before .before .before .if2 .left), c .before .before .if3 .left, sym (c .before .work-fits .ensures) ∙ c .if4 .taken))
 
 returns-6 : tie.Need-returns-6
-returns-6 c = sym (rw (c .before .before .before .before .before .before .before .book .given .1, le-leb _ _ (c .before .before .before .before .before .if1 .left), c .before .before .before .enum-told2 .given .1, c .before .before .if2 .left, sym (c .before .work-fits .ensures) ∙ c .if3 .left))
+returns-6 c = sym (rw (c .before .before .before .before .before .before .book .given .1, le-leb _ _ (c .before .before .before .before .if1 .left), not-false (c .before .before .before .before .before .before .before .before .args .named) (c .before .before .before .if2 .left), c .before .before .if3 .left, sym (c .before .work-fits .ensures) ∙ c .if4 .left))
 
 pub judged-spec : {M : Type 1} → statement M
 judged-spec =
@@ -47,8 +41,6 @@ judged-spec =
     enum-told
     returns
     returns-2
-    enum-told-2
-    enum-told-3
     returns-3
     returns-4
     work-fits-requires

@@ -3,7 +3,7 @@ use mathlib.Core.Path.{_∙_, ap}
 use native.Mathlib.Omega.{arith}
 use lib.ListN.{getD}
 use Rattle.book.specs.Decode.{decode}
-use Rattle.soundness.specs.Whole.{readingOf}
+use Rattle.soundness.specs.Whole.{readingOf, barredRange}
 use Rattle.soundness.specs.Whole as whole
 use borrow.Author.Needs.{needs}
 use Rattle.soundness.proofs.read_book.Statement.{statement}
@@ -12,8 +12,8 @@ use Rattle.soundness.proofs.read_entries.Reads as read-entries-reads
 
 returns : tie.Need-returns
 returns c =
-    let a = c .before .before .before .args in
-    whole.slice-short (a .barred .now) (a .book .now) (c .if1 .taken)
+    let a = c .before .before .args in
+    whole.slice-short (barredRange (a .from) (a .to)) (a .book .now) (c .if1 .taken)
 
 shared-slice-read-n : tie.Need-shared-slice-read-n
 shared-slice-read-n c = search needs
@@ -23,13 +23,13 @@ shared-slice-read-names c = search needs
 
 returns-2 : tie.Need-returns-2
 returns-2 c =
-    let a = c .before .before .before .before .before .before .args in
-    whole.slice-entries (a .barred .now) (a .book .now) (c .before .before .before .if1 .left) (c .if2 .taken)
+    let a = c .before .before .before .before .before .args in
+    whole.slice-entries (barredRange (a .from) (a .to)) (a .book .now) (c .before .before .before .if1 .left) (c .if2 .taken)
 
 returns-3 : tie.Need-returns-3
 returns-3 c =
-    let a = c .before .before .before .before .before .before .before .args in
-    whole.slice-names (a .barred .now) (a .book .now) (c .before .before .before .before .if1 .left) (c .before .if2 .left) (c .if3 .taken)
+    let a = c .before .before .before .before .before .before .args in
+    whole.slice-names (barredRange (a .from) (a .to)) (a .book .now) (c .before .before .before .before .if1 .left) (c .before .if2 .left) (c .if3 .taken)
 
 add-words : tie.Need-add-words
 add-words c = search needs
@@ -39,8 +39,8 @@ add-if4 c = search needs
 
 returns-4 : tie.Need-returns-4
 returns-4 c =
-    let a = c .before .before .before .before .before .before .before .before .args in
-    whole.slice-long (a .barred .now) (a .book .now) (c .before .before .before .before .before .if1 .left) (c .before .before .if2 .left) (c .before .if3 .left) (λ e. c .if4 .taken (omega arith))
+    let a = c .before .before .before .before .before .before .before .args in
+    whole.slice-long (barredRange (a .from) (a .to)) (a .book .now) (c .before .before .before .before .before .if1 .left) (c .before .before .if2 .left) (c .before .if3 .left) (λ e. c .if4 .taken (omega arith))
 
 sub-read-entries : tie.Need-sub-read-entries
 sub-read-entries c = search needs
@@ -64,15 +64,12 @@ part-read-entries-end-2 : tie.Need-part-read-entries-end-2
 part-read-entries-end-2 c = search needs
 
 read-entries-requires : tie.Need-read-entries-requires
-read-entries-requires c κs = (c .before .before .before .before .if3 .left, c .before .before .before .before .before .before .before .before .before .before .before .pre)
-
-same-length : tie.Need-same-length
-same-length c = search needs
+read-entries-requires c κs = search needs
 
 returns-5 : tie.Need-returns-5
 returns-5 c =
-    let a = c .before .before .before .before .before .before .before .before .before .before .before .before .before .before .args in
-    whole.slice-ok (a .barred .now) (a .book .now) (c .before .before .before .before .before .before .before .before .before .before .before .if1 .left) (c .before .before .before .before .before .before .before .before .if2 .left) (c .before .before .before .before .before .before .before .if3 .left) (omega (arith, c .before .before .before .before .before .before .if4 .left)) _ (c .before .before .read-entries .ensures ∙ ap (λ es. readingOf (a .barred .now) (decode (getD (a .book .now) 1 0) es)) (whole.slice-parts (a .barred .now) (a .book .now) (c .before .before .before .before .before .before .before .before .before .before .before .if1 .left) (c .before .before .before .before .before .before .before .before .if2 .left) (c .before .before .before .before .before .before .before .if3 .left) (omega (arith, c .before .before .before .before .before .before .if4 .left))))
+    let a = c .before .before .before .before .before .before .before .before .before .before .args in
+    whole.slice-ok (barredRange (a .from) (a .to)) (a .book .now) (c .before .before .before .before .before .before .before .before .if1 .left) (c .before .before .before .before .before .if2 .left) (c .before .before .before .before .if3 .left) (omega (arith, c .before .before .before .if4 .left)) _ (c .read-entries .ensures ∙ ap (λ es. readingOf (barredRange (a .from) (a .to)) (decode (getD (a .book .now) 1 0) es)) (whole.slice-parts (barredRange (a .from) (a .to)) (a .book .now) (c .before .before .before .before .before .before .before .before .if1 .left) (c .before .before .before .before .before .if2 .left) (c .before .before .before .before .if3 .left) (omega (arith, c .before .before .before .if4 .left))))
 
 pub read-book-spec : {M : Type 1} → statement M
 read-book-spec =
@@ -94,5 +91,4 @@ read-book-spec =
     part-read-entries-start-2
     part-read-entries-end-2
     read-entries-requires
-    same-length
     returns-5)

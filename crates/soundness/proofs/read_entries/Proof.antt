@@ -1,12 +1,13 @@
 -- `soundness::read_entries` meets its contract: the parts take all entries.
 use mathlib.Core.Path.{_∙_, sym}
 use Rattle.book.specs.Entry.{entries}
+use Rattle.soundness.specs.Whole.{barredRange}
 use Rattle.soundness.specs.Whole as whole
 use borrow.Author.Needs.{needs}
 use Rattle.soundness.proofs.read_entries.Statement.{statement}
 use Rattle.soundness.proofs.read_entries.Tie as tie
-use Rattle.reader.proofs.shorter.Reads as shorter-reads
 use Rattle.parts.proofs.parts_len.Reads as parts-len-reads
+use Rattle.reader.proofs.shorter.Reads as shorter-reads
 
 parts-len-requires : tie.Need-parts-len-requires
 parts-len-requires c κs = search needs
@@ -17,32 +18,23 @@ enum-known-n c = search needs
 enum-told : tie.Need-enum-told
 enum-told c = search needs
 
-same-length : tie.Need-same-length
-same-length c = search needs
-
 returns : tie.Need-returns
 returns c =
-    let a = c .before .before .before .before .before .before .before .before .before .args in
-    whole.reading-bad (a .names) (c .before .before .before .before .before .before .before .before .before .pre .0) (a .barred .now) (c .before .before .before .before .before .before .before .before .before .pre .1) (entries (a .kinds .now) (a .words .now)) _ (c .before .before .before .before .parts-len .ensures) (c .enum-told .given .1)
+    let a = c .before .before .before .before .before .args in
+    whole.reading-bad (a .names) (c .before .before .before .before .before .pre) (barredRange (a .from) (a .to)) (whole.range-size (a .from) (a .to)) (entries (a .kinds .now) (a .words .now)) _ (c .before .before .parts-len .ensures) (c .enum-told .given .1)
 
 shorter-requires : tie.Need-shorter-requires
 shorter-requires c κs = search needs
 
-same-length-2 : tie.Need-same-length-2
-same-length-2 c = search needs
-
 returns-2 : tie.Need-returns-2
 returns-2 c =
-    let a = c .before .before .before .before .before .before .before .before .before .before .before .before .args in
-    whole.reading-book (a .names) (c .before .before .before .before .before .before .before .before .before .before .before .before .pre .0) (a .barred .now) (c .before .before .before .before .before .before .before .before .before .before .before .before .pre .1) (entries (a .kinds .now) (a .words .now)) _ (c .before .before .before .before .before .before .before .parts-len .ensures) _ _ (c .before .before .before .n .given .1) (c .if1 .taken ∙ c .before .shorter .ensures)
-
-same-length-3 : tie.Need-same-length-3
-same-length-3 c = search needs
+    let a = c .before .before .before .before .before .before .before .before .args in
+    whole.reading-book (a .names) (c .before .before .before .before .before .before .before .before .pre) (barredRange (a .from) (a .to)) (whole.range-size (a .from) (a .to)) (entries (a .kinds .now) (a .words .now)) _ (c .before .before .before .before .before .parts-len .ensures) _ _ (c .before .before .before .n .given .1) (c .if1 .taken ∙ c .before .shorter .ensures)
 
 returns-3 : tie.Need-returns-3
 returns-3 c =
-    let a = c .before .before .before .before .before .before .before .before .before .before .before .before .args in
-    whole.reading-short (a .names) (c .before .before .before .before .before .before .before .before .before .before .before .before .pre .0) (a .barred .now) (c .before .before .before .before .before .before .before .before .before .before .before .before .pre .1) (entries (a .kinds .now) (a .words .now)) _ (c .before .before .before .before .before .before .before .parts-len .ensures) _ _ (c .before .before .before .n .given .1) (λ e. c .if1 .left (e ∙ sym (c .before .shorter .ensures)))
+    let a = c .before .before .before .before .before .before .before .before .args in
+    whole.reading-short (a .names) (c .before .before .before .before .before .before .before .before .pre) (barredRange (a .from) (a .to)) (whole.range-size (a .from) (a .to)) (entries (a .kinds .now) (a .words .now)) _ (c .before .before .before .before .before .parts-len .ensures) _ _ (c .before .before .before .n .given .1) (λ e. c .if1 .left (e ∙ sym (c .before .shorter .ensures)))
 
 pub read-entries-spec : {M : Type 1} → statement M
 read-entries-spec =
@@ -51,10 +43,7 @@ read-entries-spec =
     parts-len-requires
     enum-known-n
     enum-told
-    same-length
     returns
     shorter-requires
-    same-length-2
     returns-2
-    same-length-3
     returns-3)
