@@ -1,7 +1,7 @@
 -- Laws on instructions, terminators and their fields.
 use Prim.Native.Nat.{ℕ, zero, suc, _+_, _-_, _/_, _%_, _≤_, _<_, _^_}
 use mathlib.Core.Path.{_≡_, refl, ap, sym, _∙_, subst}
-use mathlib.Core.Bool.{Bool, true, false, _||_}
+use mathlib.Core.Bool.{Bool, true, false, _||_, or-false}
 use mathlib.Core.Option.{Option, none, some}
 use mathlib.Core.List.{List, [], _∷_}
 use native.Mathlib.Nat.{zero-add, add-zero, pow-zero, pow-suc}
@@ -23,7 +23,7 @@ use Rattle.reader.specs.Found.{foundOf, joined, FoundRoom}
 use Rattle.reader.specs.Laws.{length-entries, entries-part, within-kinds, within-words, lentFrom}
 use Rattle.reader.specs.Tables.{in-range}
 use Rattle.reader.specs.TypeLaws.{behindFront}
-use Rattle.reader.specs.Passes.{or-false, joined-joined, found-got, found-bad, found-fits, found-room}
+use Rattle.reader.specs.Passes.{joined-joined, found-got, found-bad, found-fits, found-room}
 use Rattle.insts.specs.Insts.{instGroupOf, termGroupOf, instShape, termShape, digitFields, fieldOf, fieldsTo, fieldsOf, shapeFields}
 use Rattle.insts.specs.declared.Shape.{Shape}
 use Rattle.insts.specs.declared.Shape.the-variants as shape

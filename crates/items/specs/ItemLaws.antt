@@ -1,7 +1,7 @@
 -- Laws on values and items: what the entry in front says, and items as parts one after the other.
 use Prim.Native.Nat.{ℕ, _+_, _-_, _≤_, _^_}
 use mathlib.Core.Path.{_≡_, refl, ap, sym, _∙_}
-use mathlib.Core.Bool.{Bool, true, false, _&&_, _||_}
+use mathlib.Core.Bool.{Bool, true, false, _&&_, _||_, and-true, or-false}
 use mathlib.Core.Option.{Option, none, some}
 use mathlib.Core.List.{List, [], _∷_}
 use native.Mathlib.Omega.{arith}
@@ -21,7 +21,7 @@ use Rattle.reader.specs.Length.{lenOf, lenIf, frontOf}
 use Rattle.reader.specs.Found.{foundOf, plainOf, oneIf, pairTest, never}
 use Rattle.items.specs.Items as items
 use Rattle.items.specs.Items.{valueGroupOf, valueOk, pickLen, wordFront, atomOk, atomFront, atomReader, atomTest}
-use Rattle.reader.specs.Passes.{or-false, found-ext, mapped-found, Within}
+use Rattle.reader.specs.Passes.{found-ext, mapped-found, Within}
 use Rattle.reader.specs.declared.Length.{Length}
 use Rattle.reader.specs.declared.Length.the-variants as len
 use Rattle.reader.specs.declared.Found.{Found}
@@ -133,11 +133,7 @@ atom-front m atom.Index (e ∷ es) = word-one 22 (λ z. omega arith) (λ w. when
 atom-front m atom.Align [] = refl
 atom-front m atom.Align (e ∷ es) = word-one 22 (λ z. omega arith) (λ w. when (isAlign w) w) isAlign (λ w. when-one {A = ℕ} never (isAlign w) w false refl) e
 atom-front m atom.Case [] = refl
-atom-front m atom.Case (e ∷ es) = word-one 32 (λ z. omega arith) some (λ w. true) (λ w. refl) e ∙ go (eqb (e .kind) 32)
-  where
-    go : (b : Bool) → oneIf (b && true) (eqb (e .kind) 37) ≡ oneIf b (eqb (e .kind) 37)
-    go true = refl
-    go false = refl
+atom-front m atom.Case (e ∷ es) = word-one 32 (λ z. omega arith) some (λ w. true) (λ w. refl) e ∙ ap (λ b. oneIf b (eqb (e .kind) 37)) (and-true (eqb (e .kind) 32))
 atom-front m atom.Param [] = refl
 atom-front m atom.Param (e ∷ es) = word-one 6 (λ z. omega arith) (maybeName m) (λ w. leb w m) (maybe-one m) e
 

@@ -1,7 +1,7 @@
 -- Numbers that occur once, found by a map of bits.
 use Prim.Native.Nat.{ℕ, _/_, _<_}
 use mathlib.Core.Path.{_≡_, refl, ap, sym, _∙_}
-use mathlib.Core.Bool.{Bool, true, false, _&&_, _||_, not}
+use mathlib.Core.Bool.{Bool, true, false, _&&_, _||_, not, and-true}
 use mathlib.Core.List.{List, [], _∷_}
 use borrow.Author.Tests.{eqb-true, eqb-false, lt-ltb}
 use lib.ListN.{length, replicate, length-replicate}
@@ -74,10 +74,6 @@ unfolding apart
 apart-none n [] = refl
 apart-none n (x ∷ xs) = rw (bit-none n x, apart-none n xs)
 
-true-right : (b : Bool) → (b && true) ≡ b
-true-right true = refl
-true-right false = refl
-
 -- from an empty map
 pub new-distinct : (n : ℕ) (xs : List ℕ) → AllBelow n xs → allNew (replicate n 0) xs ≡ distinct xs
-new-distinct n xs h = all-new (replicate n 0) xs (rw (length-replicate {A = ℕ} n 0) h) ∙ rw (apart-none n xs) (true-right (distinct xs))
+new-distinct n xs h = all-new (replicate n 0) xs (rw (length-replicate {A = ℕ} n 0) h) ∙ rw (apart-none n xs) (and-true (distinct xs))

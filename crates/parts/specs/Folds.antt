@@ -32,18 +32,17 @@ module _ {S A B : Type 0} (taken : S → A → Option S) (ended : S → B → Op
   all s n es = allFound taken ended s (until stop item end n es)
 
   -- the end
-  pub all-end : (s : S) (n : ℕ) (es : List Entry) → stops stop es ≡ true → all s n es ≡ endFound taken ended s (end es)
+  pub all-end : (s : S) (n : ℕ) (es : List Entry) → stops stop es ≡ true → all s n es ≡ endFound ended s (end es)
   unfolding until mapped folded
-  all-end s zero es t = rw t (go (end es))
+  all-end s n es t = by n
     where
-      go : (r : Read B) → allFound taken ended s (andThen r (λ b m. got ([], b) m)) ≡ endFound taken ended s r
+      go : (r : Read B) → allFound taken ended s (andThen r (λ b m. got ([], b) m)) ≡ endFound ended s r
       go (got b m) = refl
       go bad = refl
-  all-end s (suc n) es t = rw t (go (end es))
-    where
-      go : (r : Read B) → allFound taken ended s (andThen r (λ b m. got ([], b) m)) ≡ endFound taken ended s r
-      go (got b m) = refl
-      go bad = refl
+
+      by : (n : ℕ) → all s n es ≡ endFound ended s (end es)
+      by zero = rw t (go (end es))
+      by (suc n) = rw t (go (end es))
 
   -- an item
   module _ (s : S) (n : ℕ) (es : List Entry) (t : stops stop es ≡ false) where
@@ -77,7 +76,7 @@ module _ {S A B : Type 0} (taken : S → A → Option S) (ended : S → B → Op
       all-taken u r z = go n z
         where
           later : (q : Read (List A × B)) → allFound taken ended s (andThen q (λ y m. got (a ∷ y .0, y .1) (k + m))) ≡ joined k false (allFound taken ended u q)
-          later (got y m) = rw r (shift (goes (folded taken ended u (y .0)) (λ t. ended t (y .1))))
+          later (got y m) = rw r (shift (goes (folded taken u (y .0)) (λ t. ended t (y .1))))
             where
               shift : (o : Option Bool) → answered (k + m) o ≡ joined k false (answered m o)
               shift none = refl
@@ -103,7 +102,7 @@ module _ {S A B : Type 0} (taken : S → A → Option S) (ended : S → B → Op
     fold-start left e = fold 0 left s₀ (omega arith) (rw e (sym (behind-none _)))
 
     module _ (a left : ℕ) (s : S) (l : Fold a left s) where
-      pub fold-end : stops stop (drop a (entries ks ws)) ≡ true → (r x : Found) → r ≡ endFound taken ended s (end (drop a (entries ks ws))) → x ≡ joined a false r → x ≡ all s₀ n (entries ks ws)
+      pub fold-end : stops stop (drop a (entries ks ws)) ≡ true → (r x : Found) → r ≡ endFound ended s (end (drop a (entries ks ws))) → x ≡ joined a false r → x ≡ all s₀ n (entries ks ws)
       fold-end t r x er ex = ex ∙ ap (joined a false) (er ∙ sym (all-end s left (drop a (entries ks ws)) t)) ∙ sym (l .whole)
 
       module _ (t : stops stop (drop a (entries ks ws)) ≡ false) where

@@ -2,7 +2,7 @@
 use Prim.Native.Nat.{ℕ, zero, suc, _+_, _-_, _≤_, _<_, _^_}
 use mathlib.Core.Path.{_≡_, refl, ap, sym, _∙_, subst}
 use mathlib.Core.Logic.{_⊎_, inl, inr, ⊎-elim}
-use mathlib.Core.Bool.{Bool, true, false, _&&_}
+use mathlib.Core.Bool.{Bool, true, false, _&&_, and-false}
 use mathlib.Core.Option.{Option, none, some}
 use mathlib.Core.List.{List, [], _∷_, _++_}
 use native.Mathlib.Numerals.{add-one}
@@ -136,7 +136,7 @@ unfolding structsAndFunction until stops mapped function both word one
 no-structs m = refl
 
 -- ---- named structs
-pub function-ended : (barred named : List ℕ) (r : Read Function) → endFound structTaken (functionEnded barred) named r ≡ foundOf (forbiddenFunction (bitAt barred)) r
+pub function-ended : (barred named : List ℕ) (r : Read Function) → endFound (functionEnded barred) named r ≡ foundOf (forbiddenFunction (bitAt barred)) r
 function-ended barred named (got f n) = refl
 function-ended barred named bad = refl
 
@@ -225,7 +225,7 @@ module _ (barred named : List ℕ) (m n : ℕ) (ks ws : List ℕ) (a left : ℕ)
           (rw (new-is, f) (ap some (ap (setBitAt now) (sym name-is) ∙ sym (el ∙ ap (λ t. setIf t now (getD ws a 0)) f)))) z named-there
 
 -- ---- marks
-structs-ended : (marked barred : List ℕ) (r : Read (List StructType × Function)) → endFound markedBy structsEnded (marked, barred) r ≡ structsFound barred r
+structs-ended : (marked barred : List ℕ) (r : Read (List StructType × Function)) → endFound structsEnded (marked, barred) r ≡ structsFound barred r
 structs-ended marked barred (got p n) = refl
 structs-ended marked barred bad = refl
 
@@ -238,7 +238,7 @@ structs-room barred m ks ws a x ex f g = subst (FoundRoom a) (sym ex) (go (struc
     sized k (some b) h = omega (arith, length-entries (take (length ks - a) (drop a ks)) (take (length ws - a) (drop a ws)), length-take (length ks - a) (drop a ks))
 
     go : (r : Read (List StructType × Function)) → structsAndFunction m (lentFrom ks ws a) ≡ r → FoundRoom a (structsFound barred r)
-    go (got p k) e = sized k (goes (folded structTaken (functionEnded barred) (replicate 2048 0) (p .0)) (λ t. functionEnded barred t (p .1))) (len-fits (agrees-structs m) (lentFrom ks ws a) k (ap lenOf e))
+    go (got p k) e = sized k (goes (folded structTaken (replicate 2048 0) (p .0)) (λ t. functionEnded barred t (p .1))) (len-fits (agrees-structs m) (lentFrom ks ws a) k (ap lenOf e))
     go bad e = tt
 
 module _ (m : ℕ) (marked barred : List ℕ) (k w : ℕ) (es : List Entry) (low : k < 3) where
@@ -275,30 +275,17 @@ module _ (m : ℕ) (marked barred : List ℕ) (k w : ℕ) (es : List Entry) (low
 
 -- the tests of the code
 module _ (m : ℕ) (marked : List ℕ) (k w : ℕ) where
-  last-false : (a b : Bool) → false ≡ (a && (b && false))
-  last-false true true = refl
-  last-false true false = refl
-  last-false false b = refl
-
   pub mark-zero : k ≡ 0 → false ≡ markTaken m marked k w
   mark-zero e = sym (rw e)
 
   pub mark-high : 2 < k → false ≡ markTaken m marked k w
-  mark-high h = sym (rw (lt-leb k 2 h) (go (leb 1 k)))
-    where
-      go : (a : Bool) → ((a && false) && (ltb w m && isNew marked w)) ≡ false
-      go true = refl
-      go false = refl
+  mark-high h = sym (rw (lt-leb k 2 h, and-false (leb 1 k)))
 
   pub mark-name : m ≤ w → false ≡ markTaken m marked k w
-  mark-name h = sym (rw (le-ltb w m h) (go (leb 1 k && leb k 2)))
-    where
-      go : (a : Bool) → (a && false) ≡ false
-      go true = refl
-      go false = refl
+  mark-name h = sym (rw (le-ltb w m h) (and-false (leb 1 k && leb k 2)))
 
   pub mark-old : (r : Bool) → r ≡ isNew marked w → r ≡ false → false ≡ markTaken m marked k w
-  mark-old r er f = sym (rw (sym er ∙ f) (sym (last-false (leb 1 k && leb k 2) (ltb w m))))
+  mark-old r er f = sym (rw (sym er ∙ f, and-false (ltb w m)) (and-false (leb 1 k && leb k 2)))
 
   pub mark-first : (k ≡ 0 → ⊥) → k ≤ 2 → w < m → (r : Bool) → r ≡ isNew marked w → r ≡ true → true ≡ markTaken m marked k w
   mark-first z h l r er t = sym (rw (le-leb 1 k (omega (arith, z)), le-leb k 2 h, lt-ltb w m l, sym er ∙ t))
@@ -313,7 +300,7 @@ module _ (marked barred : List ℕ) (m : ℕ) (ks ws : List ℕ) (a : ℕ) (now 
   unfolding parts stops
   marks-over h =
       let e : drop a (entries ks ws) ≡ [] = drop-of-length-le (entries ks ws) h in
-      fold-end markedBy structsEnded (leb 3) (mark m) (structsAndFunction m) (marked, barred) (length (entries ks ws)) ks ws a _ now l (rw e) found.Bad _ (sym (ap (λ es. endFound markedBy structsEnded now (structsAndFunction m es)) e ∙ ap (endFound markedBy structsEnded now) (no-structs m))) refl
+      fold-end markedBy structsEnded (leb 3) (mark m) (structsAndFunction m) (marked, barred) (length (entries ks ws)) ks ws a _ now l (rw e) found.Bad _ (sym (ap (λ es. endFound structsEnded now (structsAndFunction m es)) e ∙ ap (endFound structsEnded now) (no-structs m))) refl
 
   module _ (h : a < length (entries ks ws)) where
     here : drop a (entries ks ws) ≡ entry (getD ks a 0) (getD ws a 0) ∷ drop (a + 1) (entries ks ws)

@@ -24,18 +24,17 @@ abbrev pub answered : ℕ → Option Bool → Found
 answered n none = found.Bad
 answered n (some f) = found.Entries n f
 
-module _ {S A B : Type 0} (taken : S → A → Option S) (ended : S → B → Option Bool) where
-  unfoldable pub folded : S → List A → Option S
-  folded s [] = some s
-  folded s (a ∷ as′) = goes (taken s a) (λ t. folded t as′)
+unfoldable pub folded : {S A : Type 0} → (S → A → Option S) → S → List A → Option S
+folded taken s [] = some s
+folded taken s (a ∷ as′) = goes (taken s a) (λ t. folded taken t as′)
 
-  abbrev pub endFound : S → Read B → Found
-  endFound s (got b n) = answered n (ended s b)
-  endFound s bad = found.Bad
+abbrev pub endFound : {S B : Type 0} → (S → B → Option Bool) → S → Read B → Found
+endFound ended s (got b n) = answered n (ended s b)
+endFound ended s bad = found.Bad
 
-  abbrev pub allFound : S → Read (List A × B) → Found
-  allFound s (got r n) = answered n (goes (folded s (r .0)) (λ t. ended t (r .1)))
-  allFound s bad = found.Bad
+abbrev pub allFound : {S A B : Type 0} → (S → A → Option S) → (S → B → Option Bool) → S → Read (List A × B) → Found
+allFound taken ended s (got r n) = answered n (goes (folded taken s (r .0)) (λ t. ended t (r .1)))
+allFound taken ended s bad = found.Bad
 
 -- ---- named structs: the state is the map of the names that occurred
 abbrev pub structTaken : List ℕ → StructType → Option (List ℕ)
@@ -61,7 +60,7 @@ abbrev pub markedBy : List ℕ × List ℕ → Mark → Option (List ℕ × List
 markedBy s k = when (isNew (s .0) (markName k)) (setBitAt (s .0) (markName k), nowBarred k (s .1))
 
 abbrev pub structsEnded : List ℕ × List ℕ → List StructType × Function → Option Bool
-structsEnded s r = goes (folded structTaken (functionEnded (s .1)) (replicate 2048 0) (r .0)) (λ t. functionEnded (s .1) t (r .1))
+structsEnded s r = goes (folded structTaken (replicate 2048 0) (r .0)) (λ t. functionEnded (s .1) t (r .1))
 
 abbrev pub marksFound : List ℕ → List ℕ → Read (List Mark × (List StructType × Function)) → Found
 marksFound marked barred = allFound markedBy structsEnded (marked, barred)

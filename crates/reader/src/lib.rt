@@ -33,7 +33,7 @@ pub fn entry_if(ok: bool) -> Length
 }
 
 // Two parts one after the other, the second of them as read behind the first.
-pub fn then_len(first: usize, second: Length) -> Length
+fn then_len(first: usize, second: Length) -> Length
     requires { ⌜ Room first second ⌝ }
     ensures { λ r. ⌜ r ≡ further first second ⌝ }
 {
@@ -44,7 +44,7 @@ pub fn then_len(first: usize, second: Length) -> Length
 }
 
 // An item as the next step.
-pub fn next_step(item: Length) -> Step
+fn next_step(item: Length) -> Step
     ensures { λ r. ⌜ r ≡ stepOfLength item ⌝ }
 {
     match item {

@@ -1,7 +1,7 @@
 -- The answer of the whole check, and the laws that lead to it.
 use Prim.Native.Nat.{ℕ, _-_, _/_, _≤_, _<_, _^_}
 use mathlib.Core.Path.{_≡_, refl, ap, sym, _∙_, fun-ext}
-use mathlib.Core.Bool.{Bool, true, false, _&&_, _||_}
+use mathlib.Core.Bool.{Bool, true, false, _&&_, _||_, and-false, or-false}
 use mathlib.Core.Option.{Option, none, some}
 use mathlib.Core.List.{List, [], _∷_}
 use native.Mathlib.Omega.{arith}
@@ -25,7 +25,6 @@ use Rattle.book.specs.Input.{Counted, bookIn, namesIn}
 use Rattle.book.specs.Forbidden.{reservedBy, uncallable, forbiddenFunction, forbidden}
 use Rattle.book.specs.Check.{workFor, checked, refusalOf}
 use Rattle.marks.specs.Range.{bit-range}
-use Rattle.reader.specs.Passes.{or-false}
 use Rattle.soundness.specs.Whole.{there, barredWith, barredRange, readingIn, Holds, slice-holds}
 use Rattle.soundness.specs.declared.Reading.{Reading}
 use Rattle.soundness.specs.declared.Reading.the-variants as reading
@@ -53,6 +52,7 @@ abbrev pub verdictOf : Reading → Bool → ℕ → ℕ → ℕ → Verdict
 verdictOf reading.Bad named counter m work = verdict.BadBook
 verdictOf (reading.Book x) named counter m work = pickVerdict (leb counter (2 ^ 32)) (namesVerdict named x m work) verdict.BadBook
 
+-- the bytes of `llvm.`
 abbrev pub intrinsic : List ℕ
 intrinsic = 108 ∷ 108 ∷ 118 ∷ 109 ∷ 46 ∷ []
 
@@ -71,15 +71,11 @@ module _ (bs : List ℕ) (ns : List (List ℕ)) (en : namesOf bs ≡ some ns) wh
   unfolding isIntrinsic bytes nameAt starts
   in-range x = go (ltb x (length ns)) refl
     where
-      none-after : (b : Bool) → (b && false) ≡ false
-      none-after true = refl
-      none-after false = refl
-
       go : (t : Bool) → ltb x (length ns) ≡ t → (leb from x && ltb x to) ≡ isIntrinsic (nameAt ns x)
       go true e = range-test intrinsic bs ns _ _ en (record { first = refl; past = refl }) x (ltb-true x (length ns) e)
       go false e =
           let l : length ns ≤ x = ltb-false x (length ns) e in
-          rw (le-ltb x to (omega (arith, past-fits)), List·getD-eq-default ns [] l) (none-after (leb from x))
+          rw (le-ltb x to (omega (arith, past-fits)), List·getD-eq-default ns [] l) (and-false (leb from x))
 
   -- by their bits
   uncallable-bits : length ns ≤ 131072 → (b : Book) (x : ℕ) → barredWith (barredRange from to) b x ≡ uncallable ns (b .marks) x

@@ -26,7 +26,7 @@ use Rattle.marks.specs.Range.{markedRange, length-range}
 use Rattle.marks.specs.Once.{isNew, allNew, AllBelow, new-distinct, bit-set}
 use Rattle.reader.specs.declared.Found.{Found}
 use Rattle.reader.specs.declared.Found.the-variants as found
-use Rattle.parts.specs.Reading.{goes, answered, folded, structTaken, functionEnded, nowBarred, markedBy, structsEnded, partsFound}
+use Rattle.parts.specs.Reading.{goes, answered, folded, structTaken, nowBarred, markedBy, structsEnded, partsFound}
 use Rattle.soundness.specs.declared.Reading.{Reading}
 use Rattle.soundness.specs.declared.Reading.the-variants as reading
 
@@ -65,14 +65,14 @@ book-there barred (some c) = refl
 
 -- ---- what the pass finds, by the definition
 -- structs are taken exactly where their names are new, one after the other
-structs-taken : (barred named : List ℕ) (x : Bool) (ss : List StructType)
-    → goes (folded structTaken (functionEnded barred) named ss) (λ t. some x) ≡ when (allNew named (map (λ s. s .name) ss)) x
+structs-taken : (named : List ℕ) (x : Bool) (ss : List StructType)
+    → goes (folded structTaken named ss) (λ t. some x) ≡ when (allNew named (map (λ s. s .name) ss)) x
 unfolding folded allNew
-structs-taken barred named x [] = refl
-structs-taken barred named x (s ∷ ss) = go (isNew named (s .name)) (structs-taken barred (setBitAt named (s .name)) x ss)
+structs-taken named x [] = refl
+structs-taken named x (s ∷ ss) = go (isNew named (s .name)) (structs-taken (setBitAt named (s .name)) x ss)
   where
-    go : (b : Bool) → goes (folded structTaken (functionEnded barred) (setBitAt named (s .name)) ss) (λ t. some x) ≡ when (allNew (setBitAt named (s .name)) (map (λ s. s .name) ss)) x
-        → goes (goes (when b (setBitAt named (s .name))) (λ t. folded structTaken (functionEnded barred) t ss)) (λ t. some x) ≡ when (b && allNew (setBitAt named (s .name)) (map (λ s. s .name) ss)) x
+    go : (b : Bool) → goes (folded structTaken (setBitAt named (s .name)) ss) (λ t. some x) ≡ when (allNew (setBitAt named (s .name)) (map (λ s. s .name) ss)) x
+        → goes (goes (when b (setBitAt named (s .name))) (λ t. folded structTaken t ss)) (λ t. some x) ≡ when (b && allNew (setBitAt named (s .name)) (map (λ s. s .name) ss)) x
     go true ih = ih
     go false ih = refl
 
@@ -82,13 +82,13 @@ withReserved barred [] = barred
 withReserved barred (k ∷ ms) = withReserved (nowBarred k barred) ms
 
 marks-taken : (marked barred : List ℕ) (rest : List ℕ → Option Bool) (ms : List Mark)
-    → goes (folded markedBy structsEnded (marked, barred) ms) (λ t. rest (t .1)) ≡ pick (allNew marked (map markName ms)) (rest (withReserved barred ms)) none
+    → goes (folded markedBy (marked, barred) ms) (λ t. rest (t .1)) ≡ pick (allNew marked (map markName ms)) (rest (withReserved barred ms)) none
 unfolding folded allNew withReserved
 marks-taken marked barred rest [] = refl
 marks-taken marked barred rest (k ∷ ms) = go (isNew marked (markName k)) (marks-taken (setBitAt marked (markName k)) (nowBarred k barred) rest ms)
   where
-    go : (b : Bool) → goes (folded markedBy structsEnded (setBitAt marked (markName k), nowBarred k barred) ms) (λ t. rest (t .1)) ≡ pick (allNew (setBitAt marked (markName k)) (map markName ms)) (rest (withReserved (nowBarred k barred) ms)) none
-        → goes (goes (when b (setBitAt marked (markName k), nowBarred k barred)) (λ t. folded markedBy structsEnded t ms)) (λ t. rest (t .1)) ≡ pick (b && allNew (setBitAt marked (markName k)) (map markName ms)) (rest (withReserved (nowBarred k barred) ms)) none
+    go : (b : Bool) → goes (folded markedBy (setBitAt marked (markName k), nowBarred k barred) ms) (λ t. rest (t .1)) ≡ pick (allNew (setBitAt marked (markName k)) (map markName ms)) (rest (withReserved (nowBarred k barred) ms)) none
+        → goes (goes (when b (setBitAt marked (markName k), nowBarred k barred)) (λ t. folded markedBy t ms)) (λ t. rest (t .1)) ≡ pick (b && allNew (setBitAt marked (markName k)) (map markName ms)) (rest (withReserved (nowBarred k barred) ms)) none
     go true ih = ih
     go false ih = refl
 
@@ -130,7 +130,7 @@ module _ (m : ℕ) (few : m ≤ 131072) where
   parts-answer barred e b n k =
       ap (answered n)
       (marks-taken (replicate 2048 0) barred (λ r. structsEnded (replicate 2048 0, r) (b .structs, b .function)) (b .marks)
-      ∙ rw (structs-taken (withReserved barred (b .marks)) (replicate 2048 0) (forbiddenFunction (bitAt (withReserved barred (b .marks))) (b .function)) (b .structs), new-distinct 2048 (map markName (b .marks)) (marks-below (b .marks) (k .0)), new-distinct 2048 (map (λ s. s .name) (b .structs)) (structs-below (b .structs) (k .1 .0)))
+      ∙ rw (structs-taken (replicate 2048 0) (forbiddenFunction (bitAt (withReserved barred (b .marks))) (b .function)) (b .structs), new-distinct 2048 (map markName (b .marks)) (marks-below (b .marks) (k .0)), new-distinct 2048 (map (λ s. s .name) (b .structs)) (structs-below (b .structs) (k .1 .0)))
       (go (distinct (map markName (b .marks))) (distinct (map (λ s. s .name) (b .structs))) (forbiddenFunction (bitAt (withReserved barred (b .marks))) (b .function)))
       ∙ ap (λ t. when (distinct (map markName (b .marks)) && distinct (map (λ s. s .name) (b .structs))) (forbiddenFunction t (b .function))) (fun-ext λ x. reserved-bits 2048 barred (b .marks) e (marks-below (b .marks) (k .0)) x))
     where
