@@ -2,6 +2,8 @@
 mod book;
 mod cases;
 mod check;
+#[cfg(proved)]
+mod checking;
 mod damage;
 mod definitions;
 mod expect;
@@ -24,8 +26,6 @@ mod rng;
 mod runs;
 mod scratch;
 mod show;
-#[cfg(proved)]
-mod soundness;
 mod stats;
 mod table;
 mod two_runs;
@@ -52,7 +52,7 @@ const USAGE: &str = "usage:
   compare runs SEED COUNT            whether a function's run by the manual and the run of its lines on the machine agree, by
                                      two interpreters and by computation of the definitions, on random functions
   compare table SEED COUNT FILE      random books with the Rust's answers as a checked table of crates/lowering
-  compare soundness SEED COUNT       whether the proved check of a book answers as ours does; built in where the
+  compare checking SEED COUNT        whether the proved check of a book answers as ours does; built in where the
                                      static library of the crate `exports` stands
   compare printing SEED LINES NAMES  whether the proved printer prints random lines of every kind as docs/LINES.md says, and
                                      its time; built in as above
@@ -101,11 +101,11 @@ fn run(args: &[&str]) -> Result<(), String> {
         ["runs", seed, count] => two_runs::compare(number(seed)?, number(count)?),
         ["table", seed, count, file] => table::write(number(seed)?, number(count)?, file),
         #[cfg(proved)]
-        ["soundness", seed, count] => soundness::compare(number(seed)?, number(count)?),
+        ["checking", seed, count] => checking::compare(number(seed)?, number(count)?),
         #[cfg(proved)]
         ["printing", seed, count, names] => printing::compare(number(seed)?, number(count)?, number(names)?),
         #[cfg(not(proved))]
-        ["soundness" | "printing", ..] => Err("built without the static library of the crate `exports`: see README.md".to_string()),
+        ["checking" | "printing", ..] => Err("built without the static library of the crate `exports`: see README.md".to_string()),
         ["test"] => cases::test(),
         _ => Err(USAGE.to_string()),
     }

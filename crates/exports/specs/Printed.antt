@@ -3,9 +3,9 @@ use Prim.Native.Nat.{ℕ}
 use mathlib.Core.Path.{_≡_, sym, ap, _∙_}
 use mathlib.Core.List.{List}
 use Rattle.assembly.specs.Printer.{Printing, printedNumber, printedBytes}
-use Rattle.printer.specs.Passes.{printing, replyOf}
-use Rattle.printer.specs.declared.passes.Printed.{Printed}
-use Rattle.printer.specs.declared.passes.Printed.the-variants.{Accepted, Refused}
+use Rattle.print.specs.Passes.{printing, replyOf}
+use Rattle.print.specs.declared.passes.Printed.{Printed}
+use Rattle.print.specs.declared.passes.Printed.the-variants.{Accepted, Refused}
 
 module _ (r : Printed) (y : List ℕ) (p : Printing) (e : printing r y ≡ p) where
   pub accepted-is : (n : ℕ) → r ≡ Accepted n → (0 ≡ printedNumber (p .reply)) × ((n ≡ printedBytes (p .reply)) × (y ≡ p .text))

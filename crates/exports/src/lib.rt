@@ -1,9 +1,9 @@
 // The boundary for C and Rust: each function lends its slices on and gives document 01's numbers.
-use printer::passes::Printed;
-use soundness::Verdict;
+use print::passes::Printed;
+use book_check::Verdict;
 ghost use mathlib.Core.Path.{_≡_};
 ghost use Rattle.book.specs.Check.{checked, refusalOf};
-ghost use Rattle.soundness.specs.Verdict.{numberOf};
+ghost use Rattle.book_check.specs.Verdict.{numberOf};
 ghost use Rattle.assembly.specs.Printer.{print, printedNumber, printedBytes};
 
 // Document 01's number of an answer.
@@ -25,7 +25,7 @@ fn number(verdict: Verdict) -> u64
 pub extern "C" fn mivolanjy_check(book: &[u64], names: &[u8], counter: u64, work: usize) -> u64
     ensures { λ r. ⌜ r ≡ refusalOf (checked (now (book .entry)) (now (names .entry)) counter work) ⌝ }
 {
-    number(soundness::check(book, names, counter, work))
+    number(book_check::check(book, names, counter, work))
 }
 
 // Prints the lines of the lent book into the text. The answer is the refusal's number, 0 where there is none; the count is that of the
@@ -43,7 +43,7 @@ pub extern "C" fn mivolanjy_print(
     ensures { λ r. ⌜ now (count .exit) ≡ printedBytes (print (now (book .entry)) (now (names .entry)) (now («line_kinds» .entry)) (now (operands .entry)) (now (text .entry)) .reply) ⌝ }
     ensures { λ r. ⌜ now (text .exit) ≡ print (now (book .entry)) (now (names .entry)) (now («line_kinds» .entry)) (now (operands .entry)) (now (text .entry)) .text ⌝ }
 {
-    match printer::print(book, names, line_kinds, operands, text) {
+    match print::print(book, names, line_kinds, operands, text) {
         Printed::Accepted(n) => {
             *count = n as u64;
             0

@@ -3,7 +3,7 @@ use borrow.Author.Needs.{needs}
 use Rattle.exports.specs.Printed.{accepted-is, refused-is}
 use Rattle.exports.proofs.mivolanjy_print.Statement.{statement}
 use Rattle.exports.proofs.mivolanjy_print.Tie as tie
-use Rattle.printer.proofs.print.Reads as print-reads
+use Rattle.print.proofs.print.Reads as print-reads
 
 print-requires : tie.Need-print-requires
 print-requires c κs = search needs

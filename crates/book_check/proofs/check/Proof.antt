@@ -1,0 +1,62 @@
+-- `book_check::check` meets its contract: what was read decides, in document 01's order.
+use Rattle.book_check.specs.Verdict as verdict
+use borrow.Author.Needs.{needs}
+use Rattle.book_check.proofs.check.Statement.{statement}
+use Rattle.book_check.proofs.check.Tie as tie
+use Rattle.names_check.proofs.read_names.Reads as read-names-reads
+use Rattle.book_check.proofs.judged.Reads as judged-reads
+use Rattle.book_check.proofs.name_count.Reads as name-count-reads
+use Rattle.book_check.proofs.read_book.Reads as read-book-reads
+
+name-count-requires : tie.Need-name-count-requires
+name-count-requires c κs = search needs
+
+slice-aggregate-read-names : tie.Need-slice-aggregate-read-names
+slice-aggregate-read-names c = search needs
+
+read-names-requires : tie.Need-read-names-requires
+read-names-requires c κs = search needs
+
+enum-known-from : tie.Need-enum-known-from
+enum-known-from c = search needs
+
+read-book-requires : tie.Need-read-book-requires
+read-book-requires c κs = search needs
+
+judged-requires : tie.Need-judged-requires
+judged-requires c κs = search needs
+
+enum-told : tie.Need-enum-told
+enum-told c = search needs
+
+read-book-requires-2 : tie.Need-read-book-requires-2
+read-book-requires-2 c κs = search needs
+
+judged-requires-2 : tie.Need-judged-requires-2
+judged-requires-2 c κs = search needs
+
+returns : tie.Need-returns
+returns c =
+    let a = c .before .before .before .before .before .before .before .before .before .before .args in
+    verdict.check-sorted (a .book .now) (a .names .now) (a .counter) (a .work) _ (c .before .before .before .before .before .before .before .name-count .ensures) _ (c .before .before .before .before .before .read-names .ensures) _ _ (c .before .before .before .from .given .1) _ (c .before .read-book .ensures) _ (c .judged .ensures)
+
+returns-2 : tie.Need-returns-2
+returns-2 c =
+    let a = c .before .before .before .before .before .before .before .before .before .args in
+    verdict.check-bad (a .book .now) (a .names .now) (a .counter) (a .work) _ (c .before .before .before .before .before .before .name-count .ensures) _ (c .before .before .before .before .read-names .ensures) (c .before .before .enum-told .given .1) _ (c .before .read-book2 .ensures) _ (c .judged2 .ensures)
+
+pub check-spec : {M : Type 1} → statement M
+check-spec =
+    tie.close
+    (tie.spec
+    name-count-requires
+    slice-aggregate-read-names
+    read-names-requires
+    enum-known-from
+    read-book-requires
+    judged-requires
+    enum-told
+    read-book-requires-2
+    judged-requires-2
+    returns
+    returns-2)

@@ -1,0 +1,123 @@
+-- `book_insts::term_len` meets its contract: the kind says which fields are read behind the entry.
+use mathlib.Core.Path.{_∙_, sym, ap}
+use native.Mathlib.Omega.{arith}
+use Rattle.book.specs.Entry.{entries}
+use Rattle.book.specs.Rule.{unmentioned}
+use Rattle.book.specs.Kinds.{termTag}
+use Rattle.book.specs.Fields.{termFields, termOf}
+use Rattle.book.specs.Decode.{term}
+use Rattle.book.specs.Forbidden.{otherTerm}
+use Rattle.book_types.specs.Laws.{within-kinds, within-words, front-there}
+use Rattle.book_insts.specs.Insts.{termShape}
+use Rattle.book_insts.specs.InstLaws as laws
+use borrow.Author.Needs.{needs}
+use Rattle.book_insts.proofs.term_len.Statement.{statement}
+use Rattle.book_insts.proofs.term_len.Tie as tie
+use Rattle.book_insts.proofs.fields_len.Reads as fields-len-reads
+use Rattle.book_insts.proofs.term_fields.Reads as term-fields-reads
+use Rattle.book_insts.proofs.term_group.Reads as term-group-reads
+use Rattle.book_types.proofs.first_entry.Reads as first-entry-reads
+use Rattle.book_types.proofs.join_found.Reads as join-found-reads
+
+first-entry-requires : tie.Need-first-entry-requires
+first-entry-requires c κs = search needs
+
+enum-known-kind : tie.Need-enum-known-kind
+enum-known-kind c = search needs
+
+enum-told : tie.Need-enum-told
+enum-told c = search needs
+
+returns : tie.Need-returns
+unfolding term
+returns c =
+    let a = c .before .before .before .before .before .args in
+    laws.node-none (a .names) termFields termTag unmentioned (λ x. termOf (x .1 .0) (x .1 .1)) otherTerm laws.same-term (entries (a .kinds .now) (a .words .now)) (sym (c .before .before .first-entry .ensures) ∙ c .enum-told .given .1)
+
+returns-2 : tie.Need-returns-2
+unfolding term
+returns-2 c =
+    let a = c .before .before .before .before .before .before .before .args in
+    laws.node-rule (a .names) termFields termTag unmentioned (λ x. termOf (x .1 .0) (x .1 .1)) otherTerm laws.same-term (entries (a .kinds .now) (a .words .now)) _ _ (sym (c .before .before .before .before .first-entry .ensures) ∙ c .before .before .kind .given .1) (laws.mentioned _ (c .if1 .taken))
+
+term-group-requires : tie.Need-term-group-requires
+term-group-requires c κs = search needs
+
+term-fields-requires : tie.Need-term-fields-requires
+term-fields-requires c κs = search needs
+
+enum-known-fields : tie.Need-enum-known-fields
+enum-known-fields c = search needs
+
+enum-told-2 : tie.Need-enum-told-2
+enum-told-2 c = search needs
+
+returns-3 : tie.Need-returns-3
+unfolding term
+returns-3 c =
+    let a = c .before .before .before .before .before .before .before .before .before .before .before .args in
+    laws.shape-none (a .names) termFields termTag unmentioned (λ x. termOf (x .1 .0) (x .1 .1)) otherTerm laws.same-term (a .kinds .now) (a .words .now) _ _ (sym (c .before .before .before .before .before .before .before .before .first-entry .ensures) ∙ c .before .before .before .before .before .before .kind .given .1) _ (c .before .before .term-fields .ensures ∙ ap termShape (c .before .before .before .term-group .ensures) ∙ laws.term-shape (termTag (c .before .before .before .before .before .before .kind .given .0 .0))) (c .enum-told2 .given .1)
+
+sub-fields-len : tie.Need-sub-fields-len
+sub-fields-len c =
+    let a = c .before .before .before .before .before .before .before .before .before .before .before .before .args in
+    within-kinds 1 _ _ (front-there (entries (a .kinds .now) (a .words .now)) _ _ (sym (c .before .before .before .before .before .before .before .before .before .first-entry .ensures) ∙ c .before .before .before .before .before .before .before .kind .given .1))
+
+part-fields-len-start : tie.Need-part-fields-len-start
+part-fields-len-start c =
+    let a = c .before .before .before .before .before .before .before .before .before .before .before .before .args in
+    within-kinds 1 _ _ (front-there (entries (a .kinds .now) (a .words .now)) _ _ (sym (c .before .before .before .before .before .before .before .before .before .first-entry .ensures) ∙ c .before .before .before .before .before .before .before .kind .given .1))
+
+part-fields-len-end : tie.Need-part-fields-len-end
+part-fields-len-end c = search needs
+
+sub-fields-len-2 : tie.Need-sub-fields-len-2
+sub-fields-len-2 c =
+    let a = c .before .before .before .before .before .before .before .before .before .before .before .before .before .args in
+    within-words 1 _ _ (front-there (entries (a .kinds .now) (a .words .now)) _ _ (sym (c .before .before .before .before .before .before .before .before .before .before .first-entry .ensures) ∙ c .before .before .before .before .before .before .before .before .kind .given .1))
+
+part-fields-len-start-2 : tie.Need-part-fields-len-start-2
+part-fields-len-start-2 c =
+    let a = c .before .before .before .before .before .before .before .before .before .before .before .before .before .args in
+    within-words 1 _ _ (front-there (entries (a .kinds .now) (a .words .now)) _ _ (sym (c .before .before .before .before .before .before .before .before .before .before .first-entry .ensures) ∙ c .before .before .before .before .before .before .before .before .kind .given .1))
+
+part-fields-len-end-2 : tie.Need-part-fields-len-end-2
+part-fields-len-end-2 c = search needs
+
+fields-len-requires : tie.Need-fields-len-requires
+fields-len-requires c κs = search needs
+
+join-found-requires : tie.Need-join-found-requires
+join-found-requires c κs =
+    let a = c .before .before .before .before .before .before .before .before .before .before .before .before .before .before .before .args in
+    laws.fields-room (a .names) (c .before .before .before .before .fields .given .0 .0) (a .kinds .now) (a .words .now) _ (omega arith) (within-kinds 1 _ _ (front-there (entries (a .kinds .now) (a .words .now)) _ _ (sym (c .before .before .before .before .before .before .before .before .before .before .before .before .first-entry .ensures) ∙ c .before .before .before .before .before .before .before .before .before .before .kind .given .1))) (c .fields-len .ensures)
+
+returns-4 : tie.Need-returns-4
+unfolding term
+returns-4 c =
+    let a = c .before .before .before .before .before .before .before .before .before .before .before .before .before .before .before .before .args in
+    laws.shape-some (a .names) termFields termTag unmentioned (λ x. termOf (x .1 .0) (x .1 .1)) otherTerm laws.same-term (a .kinds .now) (a .words .now) _ _ (sym (c .before .before .before .before .before .before .before .before .before .before .before .before .before .first-entry .ensures) ∙ c .before .before .before .before .before .before .before .before .before .before .before .kind .given .1) _ (c .before .before .before .before .before .before .before .term-fields .ensures ∙ ap termShape (c .before .before .before .before .before .before .before .before .term-group .ensures) ∙ laws.term-shape (termTag (c .before .before .before .before .before .before .before .before .before .before .before .kind .given .0 .0))) _ (laws.not-mentioned _ (c .before .before .before .before .before .before .before .before .before .if1 .left)) _ (c .before .before .before .before .before .fields .given .1) _ _ (c .before .fields-len .ensures) (c .join-found .ensures)
+
+pub term-len-spec : {M : Type 1} → statement M
+term-len-spec =
+    tie.close
+    (tie.spec
+    first-entry-requires
+    enum-known-kind
+    enum-told
+    returns
+    returns-2
+    term-group-requires
+    term-fields-requires
+    enum-known-fields
+    enum-told-2
+    returns-3
+    sub-fields-len
+    part-fields-len-start
+    part-fields-len-end
+    sub-fields-len-2
+    part-fields-len-start-2
+    part-fields-len-end-2
+    fields-len-requires
+    join-found-requires
+    returns-4)

@@ -1,0 +1,191 @@
+// The parts of a book in one pass: marks, named structs, the function. Repeated marks and struct names are found by maps with a
+// bit for each name. `barred` has a bit set for each name that may not be called; reserved names are added to it before the
+// function is read.
+use book_blocks::function_len;
+use book_values::word_len;
+use book_marks::mark_bit;
+use book_marks::mark_new;
+use book_marks::mark_range;
+use book_types::Found;
+use book_types::Front;
+use book_types::Length;
+use book_types::Pass;
+use book_types::entry_if;
+use book_types::first_entry;
+use book_types::join_found;
+use book_types::last_pass;
+use book_types::next_pass;
+use book_types::plain;
+use book_types::shorter;
+use book_types::types::TypeGroup;
+use book_types::types::type_group;
+use book_types::types::type_len;
+ghost use mathlib.Core.Path.{_≡_};
+ghost use mathlib.Core.Bool.{_&&_};
+ghost use lib.Dec.{leb, eqb};
+ghost use lib.ListN.{replicate};
+ghost use Rattle.numbers.specs.Bits.{bitAt};
+ghost use Rattle.book.specs.Entry.{entries};
+ghost use Rattle.book.specs.Decode.{structBody, structType, function, structsAndFunction, parts};
+ghost use Rattle.book.specs.Forbidden.{forbiddenFunction};
+ghost use Rattle.book_types.specs.Length.{lenOf};
+ghost use Rattle.book_marks.specs.Once.{setIf};
+ghost use Rattle.book_marks.specs.Range.{markedRange};
+ghost use Rattle.book_types.specs.Found.{foundOf, passOf, never};
+ghost use Rattle.book_parts.specs.Parts.{isStructGroup};
+ghost use Rattle.book_parts.specs.Reading.{markTaken, namedFound, structsFound, marksFound, partsFound};
+
+fn is_struct(group: TypeGroup) -> bool
+    ensures { λ r. ⌜ r ≡ isStructGroup group ⌝ }
+{
+    match group {
+        TypeGroup::Void => false,
+        TypeGroup::Int => false,
+        TypeGroup::Ptr => false,
+        TypeGroup::Array(_) => false,
+        TypeGroup::Named => false,
+        TypeGroup::Struct(_) => true,
+        TypeGroup::Sizeless => false,
+        TypeGroup::Other => false,
+    }
+}
+
+// A struct's body: opaque, or a struct type.
+fn struct_body_len(kinds: &[u64], words: &[u64], names: u64) -> Length
+    ensures { λ r. ⌜ r ≡ lenOf (structBody names (entries (now (kinds .entry)) (now (words .entry)))) ⌝ }
+{
+    let Front::Entry(kind, word) = first_entry(kinds, words) else {
+        return Length::Bad;
+    };
+    if kind == 4 {
+        return entry_if(word == 0);
+    }
+    if is_struct(type_group(kind)) {
+        type_len(kinds, words, names, 64)
+    } else {
+        Length::Bad
+    }
+}
+
+// A named struct: its name and its body.
+fn struct_len(kinds: &[u64], words: &[u64], names: u64) -> Found
+    ensures { λ r. ⌜ r ≡ foundOf never (structType names (entries (now (kinds .entry)) (now (words .entry)))) ⌝ }
+{
+    let Found::Entries(n, barred) = plain(word_len(first_entry(kinds, words), 3, names)) else {
+        return Found::Bad;
+    };
+    join_found(
+        n,
+        barred,
+        plain(struct_body_len(&kinds[n..], &words[n..], names)),
+    )
+}
+
+// What comes next behind the marks: a named struct or the function.
+fn struct_step(kinds: &[u64], words: &[u64], names: u64, barred: &[u64]) -> Pass
+    ensures { λ r. ⌜ r ≡ passOf never (forbiddenFunction (bitAt (now (barred .entry)))) (leb 4) (structType names) (function names) (entries (now (kinds .entry)) (now (words .entry))) ⌝ }
+{
+    let Front::Entry(kind, _) = first_entry(kinds, words) else {
+        return Pass::Bad;
+    };
+    if 4 <= kind {
+        last_pass(function_len(kinds, words, names, barred))
+    } else {
+        next_pass(struct_len(kinds, words, names))
+    }
+}
+
+// Named structs whose names are new, and the function.
+fn named_len(kinds: &[u64], words: &[u64], names: u64, barred: &[u64], named: &mut [u64]) -> Found
+    ensures { λ r. ⌜ r ≡ namedFound (now (barred .entry)) (now (named .entry)) (structsAndFunction names (entries (now (kinds .entry)) (now (words .entry)))) ⌝ }
+{
+    let mut at: usize = 0;
+    let mut left: usize = shorter(kinds, words);
+    loop {
+        match struct_step(&kinds[at..], &words[at..], names, barred) {
+            Pass::Done(n, forbidden) => return Found::Entries(at + n, forbidden),
+            Pass::Bad => return Found::Bad,
+            Pass::Next(n, _) => {
+                if left == 0 {
+                    return Found::Bad;
+                }
+                if !mark_new(named, words[at] as usize) {
+                    return Found::Bad;
+                }
+                at = at + n;
+                left = left - 1;
+            }
+        }
+    }
+}
+
+// Named structs, each name once, and the function.
+fn structs_len(kinds: &[u64], words: &[u64], names: u64, barred: &[u64]) -> Found
+    ensures { λ r. ⌜ r ≡ structsFound (now (barred .entry)) (structsAndFunction names (entries (now (kinds .entry)) (now (words .entry)))) ⌝ }
+{
+    let mut named = [0u64; 2048];
+    named_len(kinds, words, names, barred, &mut named)
+}
+
+// Whether a name has its first mark here, kind 1 or 2; then it is marked, and barred if it is reserved.
+fn mark(kind: u64, word: u64, names: u64, marked: &mut [u64], barred: &mut [u64]) -> bool
+    ensures { λ r. ⌜ r ≡ markTaken names (now (marked .entry)) kind word ⌝ }
+    ensures { λ r. ⌜ now (marked .exit) ≡ setIf r (now (marked .entry)) word ⌝ }
+    ensures { λ r. ⌜ now (barred .exit) ≡ setIf (r && eqb kind 2) (now (barred .entry)) word ⌝ }
+{
+    if kind == 0 {
+        return false;
+    }
+    if 2 < kind {
+        return false;
+    }
+    if names <= word {
+        return false;
+    }
+    if !mark_new(marked, word as usize) {
+        return false;
+    }
+    if kind == 2 {
+        mark_bit(barred, word as usize);
+    }
+    true
+}
+
+// Names that have their first mark here, then all that follows the marks.
+fn marks_len(
+    kinds: &[u64],
+    words: &[u64],
+    names: u64,
+    marked: &mut [u64],
+    barred: &mut [u64],
+) -> Found
+    ensures { λ r. ⌜ r ≡ marksFound (now (marked .entry)) (now (barred .entry)) (parts names (entries (now (kinds .entry)) (now (words .entry)))) ⌝ }
+{
+    let n = shorter(kinds, words);
+    let mut at: usize = 0;
+    while at < n {
+        if 3 <= kinds[at] {
+            return join_found(
+                at,
+                false,
+                structs_len(&kinds[at..], &words[at..], names, barred),
+            );
+        }
+        if !mark(kinds[at], words[at], names, marked, barred) {
+            return Found::Bad;
+        }
+        at += 1;
+    }
+    Found::Bad
+}
+
+// Marks, each name once, named structs and the function. The names from `from` up to and without `to` may not be called, nor may
+// the reserved ones.
+pub fn parts_len(kinds: &[u64], words: &[u64], names: u64, from: u64, to: u64) -> Found
+    ensures { λ r. ⌜ r ≡ partsFound (markedRange (replicate 2048 0) from to) (parts names (entries (now (kinds .entry)) (now (words .entry)))) ⌝ }
+{
+    let mut marked = [0u64; 2048];
+    let mut barred = [0u64; 2048];
+    mark_range(&mut barred, from, to);
+    marks_len(kinds, words, names, &mut marked, &mut barred)
+}

@@ -1,0 +1,976 @@
+use borrow.Author.Needs.{needs}
+use Prim.Native.Nat.{ℕ, _<_, _+_, _-_, _*_}
+use mathlib.Core.Path.{sym, _∙_}
+use native.Mathlib.Omega.{arith}
+use lib.ListN.{length}
+use Rattle.book.specs.Entry.{entries}
+use Rattle.book.specs.Read.{closing, isClosing}
+use Rattle.book.specs.Decode.{typeTo}
+use Rattle.book.specs.AgreeTy.{agrees-closing, agrees-typeTo}
+use Rattle.book_types.specs.Passes.{PlainLoop}
+use Rattle.book_types.specs.Passes as passes
+use Rattle.book_types.specs.Laws as laws
+use Rattle.book_types.specs.TypeLaws as types
+use borrow.Fn.Kinds.{In}
+use borrow.Fn.PlainCycle.{Measures, is, falls, and}
+use Rattle.book_types.proofs.types.type_len.Reads as type-len
+use Rattle.book_types.proofs.types.type_len.Kinds as type-len-kinds
+use Rattle.book_types.proofs.types.+type_len+type_step+types_len.Lts-type_len as type-len-lts
+use Rattle.book_types.proofs.types.type_step.Reads as type-step
+use Rattle.book_types.proofs.types.type_step.Kinds as type-step-kinds
+use Rattle.book_types.proofs.types.+type_len+type_step+types_len.Lts-type_step as type-step-lts
+use Rattle.book_types.proofs.types.types_len.Reads as types-len
+use Rattle.book_types.proofs.types.types_len.Kinds as types-len-kinds
+use Rattle.book_types.proofs.types.+type_len+type_step+types_len.Lts-types_len as types-len-lts
+use Rattle.book_types.proofs.first_entry.Reads as first-entry-reads
+use Rattle.book_types.proofs.list_head.Reads as list-head-reads
+use Rattle.book_types.proofs.next_step.Reads as next-step-reads
+use Rattle.book_types.proofs.shorter.Reads as shorter-reads
+use Rattle.book_types.proofs.then_len.Reads as then-len-reads
+use Rattle.book_types.proofs.types.type_head.Reads as type-head-reads
+use Rattle.book_types.proofs.types.+type_len+type_step+types_len.{statement}
+use Rattle.book_types.proofs.types.+type_len+type_step+types_len.Tie.{close}
+
+abbrev μ-type-len : Measures 2 type-len-kinds.ps ℕ
+μ-type-len κs a = 3 * a .1 .1 .1 .0
+
+abbrev μ-type-step : Measures 2 type-step-kinds.ps ℕ
+μ-type-step κs a = 3 * a .1 .1 .1 .0 + 1
+
+abbrev μ-types-len : Measures 2 types-len-kinds.ps ℕ
+μ-types-len κs a = 3 * a .1 .1 .1 .0 + 2
+
+abbrev type-len-at : ℕ → In 2 type-len-kinds.ps
+type-len-at t = and 2 type-len-kinds.ps (is 2 type-len-kinds.ps μ-type-len t) type-len.Pre
+
+abbrev type-len-below : ℕ → In 2 type-len-kinds.ps
+type-len-below t =
+    and 2 type-len-kinds.ps (falls 2 type-len-kinds.ps _<_ μ-type-len t) type-len.Pre
+
+abbrev type-step-at : ℕ → In 2 type-step-kinds.ps
+type-step-at t = and 2 type-step-kinds.ps (is 2 type-step-kinds.ps μ-type-step t) type-step.Pre
+
+abbrev type-step-below : ℕ → In 2 type-step-kinds.ps
+type-step-below t =
+    and 2 type-step-kinds.ps (falls 2 type-step-kinds.ps _<_ μ-type-step t) type-step.Pre
+
+abbrev types-len-at : ℕ → In 2 types-len-kinds.ps
+types-len-at t = and 2 types-len-kinds.ps (is 2 types-len-kinds.ps μ-types-len t) types-len.Pre
+
+abbrev types-len-below : ℕ → In 2 types-len-kinds.ps
+types-len-below t =
+    and 2 types-len-kinds.ps (falls 2 types-len-kinds.ps _<_ μ-types-len t) types-len.Pre
+
+-- src/types.rt:106:9
+type-len-returns : (t : ℕ) → type-len-lts.Need-returns (
+  first-entry-reads.Asked,
+  first-entry-reads.Learnt,
+  type-head-reads.Asked,
+  type-head-reads.Learnt,
+  type-len-below t,
+  type-len.Post,
+  then-len-reads.Asked,
+  then-len-reads.Learnt,
+  types-len-below t,
+  types-len.Post,
+) (type-len-at t) type-len.Post
+type-len-returns t c = sym (types.type-zero _ _ _ (c .if1 .taken))
+
+-- src/types.rt:108:21
+type-len-first-entry-requires : (t : ℕ) → type-len-lts.Need-first-entry-requires (
+  first-entry-reads.Asked,
+  first-entry-reads.Learnt,
+  type-head-reads.Asked,
+  type-head-reads.Learnt,
+  type-len-below t,
+  type-len.Post,
+  then-len-reads.Asked,
+  then-len-reads.Learnt,
+  types-len-below t,
+  types-len.Post,
+) (type-len-at t) type-len.Post
+type-len-first-entry-requires t c κs = search needs
+
+-- src/types.rt:108:11
+type-len-type-head-requires : (t : ℕ) → type-len-lts.Need-type-head-requires (
+  first-entry-reads.Asked,
+  first-entry-reads.Learnt,
+  type-head-reads.Asked,
+  type-head-reads.Learnt,
+  type-len-below t,
+  type-len.Post,
+  then-len-reads.Asked,
+  then-len-reads.Learnt,
+  types-len-below t,
+  types-len.Post,
+) (type-len-at t) type-len.Post
+type-len-type-head-requires t c κs = search needs
+
+-- src/types.rt:109:27
+type-len-enum-told : (t : ℕ) → type-len-lts.Need-enum-told (
+  first-entry-reads.Asked,
+  first-entry-reads.Learnt,
+  type-head-reads.Asked,
+  type-head-reads.Learnt,
+  type-len-below t,
+  type-len.Post,
+  then-len-reads.Asked,
+  then-len-reads.Learnt,
+  types-len-below t,
+  types-len.Post,
+) (type-len-at t) type-len.Post
+type-len-enum-told t c = search needs
+
+-- src/types.rt:110:46
+type-len-enum-told-2 : (t : ℕ) → type-len-lts.Need-enum-told-2 (
+  first-entry-reads.Asked,
+  first-entry-reads.Learnt,
+  type-head-reads.Asked,
+  type-head-reads.Learnt,
+  type-len-below t,
+  type-len.Post,
+  then-len-reads.Asked,
+  then-len-reads.Learnt,
+  types-len-below t,
+  types-len.Post,
+) (type-len-at t) type-len.Post
+type-len-enum-told-2 t c = search needs
+
+-- src/types.rt:110:46
+type-len-sub-type-len : (t : ℕ) → type-len-lts.Need-sub-type-len (
+  first-entry-reads.Asked,
+  first-entry-reads.Learnt,
+  type-head-reads.Asked,
+  type-head-reads.Learnt,
+  type-len-below t,
+  type-len.Post,
+  then-len-reads.Asked,
+  then-len-reads.Learnt,
+  types-len-below t,
+  types-len.Post,
+) (type-len-at t) type-len.Post
+type-len-sub-type-len t c =
+    let a = c .before .before .before .before .before .before .before .args in
+    laws.within-kinds 1 _ _ (types.head-there (a .names) (a .level) (a .kinds .now) (a .words .now) _ _ (c .before .before .before .first-entry .ensures) (c .before .before .type-head .ensures) (types.not-array _ (c .enum-told2 .given .1)))
+
+-- src/types.rt:110:46
+type-len-part-type-len-start : (t : ℕ) → type-len-lts.Need-part-type-len-start (
+  first-entry-reads.Asked,
+  first-entry-reads.Learnt,
+  type-head-reads.Asked,
+  type-head-reads.Learnt,
+  type-len-below t,
+  type-len.Post,
+  then-len-reads.Asked,
+  then-len-reads.Learnt,
+  types-len-below t,
+  types-len.Post,
+) (type-len-at t) type-len.Post
+type-len-part-type-len-start t c =
+    let a = c .before .before .before .before .before .before .before .args in
+    laws.within-kinds 1 _ _ (types.head-there (a .names) (a .level) (a .kinds .now) (a .words .now) _ _ (c .before .before .before .first-entry .ensures) (c .before .before .type-head .ensures) (types.not-array _ (c .enum-told2 .given .1)))
+
+-- src/types.rt:110:46
+type-len-part-type-len-end : (t : ℕ) → type-len-lts.Need-part-type-len-end (
+  first-entry-reads.Asked,
+  first-entry-reads.Learnt,
+  type-head-reads.Asked,
+  type-head-reads.Learnt,
+  type-len-below t,
+  type-len.Post,
+  then-len-reads.Asked,
+  then-len-reads.Learnt,
+  types-len-below t,
+  types-len.Post,
+) (type-len-at t) type-len.Post
+type-len-part-type-len-end t c = search needs
+
+-- src/types.rt:110:59
+type-len-sub-type-len-2 : (t : ℕ) → type-len-lts.Need-sub-type-len-2 (
+  first-entry-reads.Asked,
+  first-entry-reads.Learnt,
+  type-head-reads.Asked,
+  type-head-reads.Learnt,
+  type-len-below t,
+  type-len.Post,
+  then-len-reads.Asked,
+  then-len-reads.Learnt,
+  types-len-below t,
+  types-len.Post,
+) (type-len-at t) type-len.Post
+type-len-sub-type-len-2 t c =
+    let a = c .before .before .before .before .before .before .before .before .args in
+    laws.within-words 1 _ _ (types.head-there (a .names) (a .level) (a .kinds .now) (a .words .now) _ _ (c .before .before .before .before .first-entry .ensures) (c .before .before .before .type-head .ensures) (types.not-array _ (c .before .enum-told2 .given .1)))
+
+-- src/types.rt:110:59
+type-len-part-type-len-start-2 : (t : ℕ) → type-len-lts.Need-part-type-len-start-2 (
+  first-entry-reads.Asked,
+  first-entry-reads.Learnt,
+  type-head-reads.Asked,
+  type-head-reads.Learnt,
+  type-len-below t,
+  type-len.Post,
+  then-len-reads.Asked,
+  then-len-reads.Learnt,
+  types-len-below t,
+  types-len.Post,
+) (type-len-at t) type-len.Post
+type-len-part-type-len-start-2 t c =
+    let a = c .before .before .before .before .before .before .before .before .args in
+    laws.within-words 1 _ _ (types.head-there (a .names) (a .level) (a .kinds .now) (a .words .now) _ _ (c .before .before .before .before .first-entry .ensures) (c .before .before .before .type-head .ensures) (types.not-array _ (c .before .enum-told2 .given .1)))
+
+-- src/types.rt:110:59
+type-len-part-type-len-end-2 : (t : ℕ) → type-len-lts.Need-part-type-len-end-2 (
+  first-entry-reads.Asked,
+  first-entry-reads.Learnt,
+  type-head-reads.Asked,
+  type-head-reads.Learnt,
+  type-len-below t,
+  type-len.Post,
+  then-len-reads.Asked,
+  then-len-reads.Learnt,
+  types-len-below t,
+  types-len.Post,
+) (type-len-at t) type-len.Post
+type-len-part-type-len-end-2 t c = search needs
+
+-- src/types.rt:110:79
+type-len-sub-type-len-3 : (t : ℕ) → type-len-lts.Need-sub-type-len-3 (
+  first-entry-reads.Asked,
+  first-entry-reads.Learnt,
+  type-head-reads.Asked,
+  type-head-reads.Learnt,
+  type-len-below t,
+  type-len.Post,
+  then-len-reads.Asked,
+  then-len-reads.Learnt,
+  types-len-below t,
+  types-len.Post,
+) (type-len-at t) type-len.Post
+type-len-sub-type-len-3 t c = search needs
+
+-- src/types.rt:110:37
+type-len-type-len-requires : (t : ℕ) → type-len-lts.Need-type-len-requires (
+  first-entry-reads.Asked,
+  first-entry-reads.Learnt,
+  type-head-reads.Asked,
+  type-head-reads.Learnt,
+  type-len-below t,
+  type-len.Post,
+  then-len-reads.Asked,
+  then-len-reads.Learnt,
+  types-len-below t,
+  types-len.Post,
+) (type-len-at t) type-len.Post
+type-len-type-len-requires t c κs = search needs
+
+-- src/types.rt:110:28
+type-len-then-len-requires : (t : ℕ) → type-len-lts.Need-then-len-requires (
+  first-entry-reads.Asked,
+  first-entry-reads.Learnt,
+  type-head-reads.Asked,
+  type-head-reads.Learnt,
+  type-len-below t,
+  type-len.Post,
+  then-len-reads.Asked,
+  then-len-reads.Learnt,
+  types-len-below t,
+  types-len.Post,
+) (type-len-at t) type-len.Post
+type-len-then-len-requires t c κs =
+    let a = c .before .before .before .before .before .before .before .before .before .before .args in
+    types.behind-room (agrees-typeTo _ _) (a .kinds .now) (a .words .now) _ (omega arith) (laws.within-kinds 1 _ _ (types.head-there (a .names) (a .level) (a .kinds .now) (a .words .now) _ _ (c .before .before .before .before .before .before .first-entry .ensures) (c .before .before .before .before .before .type-head .ensures) (types.not-array _ (c .before .before .before .enum-told2 .given .1)))) (c .type-len .ensures)
+
+-- src/types.rt:111:48
+type-len-enum-told-3 : (t : ℕ) → type-len-lts.Need-enum-told-3 (
+  first-entry-reads.Asked,
+  first-entry-reads.Learnt,
+  type-head-reads.Asked,
+  type-head-reads.Learnt,
+  type-len-below t,
+  type-len.Post,
+  then-len-reads.Asked,
+  then-len-reads.Learnt,
+  types-len-below t,
+  types-len.Post,
+) (type-len-at t) type-len.Post
+type-len-enum-told-3 t c = search needs
+
+-- src/types.rt:111:48
+type-len-sub-types-len : (t : ℕ) → type-len-lts.Need-sub-types-len (
+  first-entry-reads.Asked,
+  first-entry-reads.Learnt,
+  type-head-reads.Asked,
+  type-head-reads.Learnt,
+  type-len-below t,
+  type-len.Post,
+  then-len-reads.Asked,
+  then-len-reads.Learnt,
+  types-len-below t,
+  types-len.Post,
+) (type-len-at t) type-len.Post
+type-len-sub-types-len t c =
+    let a = c .before .before .before .before .before .before .before .args in
+    laws.within-kinds 1 _ _ (types.head-there (a .names) (a .level) (a .kinds .now) (a .words .now) _ _ (c .before .before .before .first-entry .ensures) (c .before .before .type-head .ensures) (types.not-struct _ (c .enum-told3 .given .1)))
+
+-- src/types.rt:111:48
+type-len-part-types-len-start : (t : ℕ) → type-len-lts.Need-part-types-len-start (
+  first-entry-reads.Asked,
+  first-entry-reads.Learnt,
+  type-head-reads.Asked,
+  type-head-reads.Learnt,
+  type-len-below t,
+  type-len.Post,
+  then-len-reads.Asked,
+  then-len-reads.Learnt,
+  types-len-below t,
+  types-len.Post,
+) (type-len-at t) type-len.Post
+type-len-part-types-len-start t c =
+    let a = c .before .before .before .before .before .before .before .args in
+    laws.within-kinds 1 _ _ (types.head-there (a .names) (a .level) (a .kinds .now) (a .words .now) _ _ (c .before .before .before .first-entry .ensures) (c .before .before .type-head .ensures) (types.not-struct _ (c .enum-told3 .given .1)))
+
+-- src/types.rt:111:48
+type-len-part-types-len-end : (t : ℕ) → type-len-lts.Need-part-types-len-end (
+  first-entry-reads.Asked,
+  first-entry-reads.Learnt,
+  type-head-reads.Asked,
+  type-head-reads.Learnt,
+  type-len-below t,
+  type-len.Post,
+  then-len-reads.Asked,
+  then-len-reads.Learnt,
+  types-len-below t,
+  types-len.Post,
+) (type-len-at t) type-len.Post
+type-len-part-types-len-end t c = search needs
+
+-- src/types.rt:111:61
+type-len-sub-types-len-2 : (t : ℕ) → type-len-lts.Need-sub-types-len-2 (
+  first-entry-reads.Asked,
+  first-entry-reads.Learnt,
+  type-head-reads.Asked,
+  type-head-reads.Learnt,
+  type-len-below t,
+  type-len.Post,
+  then-len-reads.Asked,
+  then-len-reads.Learnt,
+  types-len-below t,
+  types-len.Post,
+) (type-len-at t) type-len.Post
+type-len-sub-types-len-2 t c =
+    let a = c .before .before .before .before .before .before .before .before .args in
+    laws.within-words 1 _ _ (types.head-there (a .names) (a .level) (a .kinds .now) (a .words .now) _ _ (c .before .before .before .before .first-entry .ensures) (c .before .before .before .type-head .ensures) (types.not-struct _ (c .before .enum-told3 .given .1)))
+
+-- src/types.rt:111:61
+type-len-part-types-len-start-2 : (t : ℕ) → type-len-lts.Need-part-types-len-start-2 (
+  first-entry-reads.Asked,
+  first-entry-reads.Learnt,
+  type-head-reads.Asked,
+  type-head-reads.Learnt,
+  type-len-below t,
+  type-len.Post,
+  then-len-reads.Asked,
+  then-len-reads.Learnt,
+  types-len-below t,
+  types-len.Post,
+) (type-len-at t) type-len.Post
+type-len-part-types-len-start-2 t c =
+    let a = c .before .before .before .before .before .before .before .before .args in
+    laws.within-words 1 _ _ (types.head-there (a .names) (a .level) (a .kinds .now) (a .words .now) _ _ (c .before .before .before .before .first-entry .ensures) (c .before .before .before .type-head .ensures) (types.not-struct _ (c .before .enum-told3 .given .1)))
+
+-- src/types.rt:111:61
+type-len-part-types-len-end-2 : (t : ℕ) → type-len-lts.Need-part-types-len-end-2 (
+  first-entry-reads.Asked,
+  first-entry-reads.Learnt,
+  type-head-reads.Asked,
+  type-head-reads.Learnt,
+  type-len-below t,
+  type-len.Post,
+  then-len-reads.Asked,
+  then-len-reads.Learnt,
+  types-len-below t,
+  types-len.Post,
+) (type-len-at t) type-len.Post
+type-len-part-types-len-end-2 t c = search needs
+
+-- src/types.rt:111:81
+type-len-sub-types-len-3 : (t : ℕ) → type-len-lts.Need-sub-types-len-3 (
+  first-entry-reads.Asked,
+  first-entry-reads.Learnt,
+  type-head-reads.Asked,
+  type-head-reads.Learnt,
+  type-len-below t,
+  type-len.Post,
+  then-len-reads.Asked,
+  then-len-reads.Learnt,
+  types-len-below t,
+  types-len.Post,
+) (type-len-at t) type-len.Post
+type-len-sub-types-len-3 t c = search needs
+
+-- src/types.rt:111:38
+type-len-types-len-requires : (t : ℕ) → type-len-lts.Need-types-len-requires (
+  first-entry-reads.Asked,
+  first-entry-reads.Learnt,
+  type-head-reads.Asked,
+  type-head-reads.Learnt,
+  type-len-below t,
+  type-len.Post,
+  then-len-reads.Asked,
+  then-len-reads.Learnt,
+  types-len-below t,
+  types-len.Post,
+) (type-len-at t) type-len.Post
+type-len-types-len-requires t c κs = search needs
+
+-- src/types.rt:111:29
+type-len-then-len-requires-2 : (t : ℕ) → type-len-lts.Need-then-len-requires-2 (
+  first-entry-reads.Asked,
+  first-entry-reads.Learnt,
+  type-head-reads.Asked,
+  type-head-reads.Learnt,
+  type-len-below t,
+  type-len.Post,
+  then-len-reads.Asked,
+  then-len-reads.Learnt,
+  types-len-below t,
+  types-len.Post,
+) (type-len-at t) type-len.Post
+type-len-then-len-requires-2 t c κs =
+    let a = c .before .before .before .before .before .before .before .before .before .before .args in
+    types.behind-room (types.agrees-types _ _) (a .kinds .now) (a .words .now) _ (omega arith) (laws.within-kinds 1 _ _ (types.head-there (a .names) (a .level) (a .kinds .now) (a .words .now) _ _ (c .before .before .before .before .before .before .first-entry .ensures) (c .before .before .before .before .before .type-head .ensures) (types.not-struct _ (c .before .before .before .enum-told3 .given .1)))) (c .types-len .ensures)
+
+-- src/types.rt:112:26
+type-len-enum-told-4 : (t : ℕ) → type-len-lts.Need-enum-told-4 (
+  first-entry-reads.Asked,
+  first-entry-reads.Learnt,
+  type-head-reads.Asked,
+  type-head-reads.Learnt,
+  type-len-below t,
+  type-len.Post,
+  then-len-reads.Asked,
+  then-len-reads.Learnt,
+  types-len-below t,
+  types-len.Post,
+) (type-len-at t) type-len.Post
+type-len-enum-told-4 t c = search needs
+
+-- src/types.rt:102:1
+type-len-returns-2 : (t : ℕ) → type-len-lts.Need-returns-2 (
+  first-entry-reads.Asked,
+  first-entry-reads.Learnt,
+  type-head-reads.Asked,
+  type-head-reads.Learnt,
+  type-len-below t,
+  type-len.Post,
+  then-len-reads.Asked,
+  then-len-reads.Learnt,
+  types-len-below t,
+  types-len.Post,
+) (type-len-at t) type-len.Post
+type-len-returns-2 t c =
+    let a = c .before .before .before .before .before .before .before .args in
+    types.leaf-arm (a .names) (a .level) (a .kinds .now) (a .words .now) _ _ (c .before .before .before .first-entry .ensures) (c .before .before .type-head .ensures) (c .before .before .before .before .if1 .left) (c .enum-told .given .1)
+
+-- src/types.rt:102:1
+type-len-returns-3 : (t : ℕ) → type-len-lts.Need-returns-3 (
+  first-entry-reads.Asked,
+  first-entry-reads.Learnt,
+  type-head-reads.Asked,
+  type-head-reads.Learnt,
+  type-len-below t,
+  type-len.Post,
+  then-len-reads.Asked,
+  then-len-reads.Learnt,
+  types-len-below t,
+  types-len.Post,
+) (type-len-at t) type-len.Post
+type-len-returns-3 t c =
+    let a = c .before .before .before .before .before .before .before .before .before .before .before .args in
+    types.array-arm (a .names) (a .level) (a .kinds .now) (a .words .now) _ _ (c .before .before .before .before .before .before .before .first-entry .ensures) (c .before .before .before .before .before .before .type-head .ensures) (c .before .before .before .before .before .before .before .before .if1 .left) (c .before .before .before .before .enum-told2 .given .1) _ _ (c .before .type-len .ensures) (c .then-len .ensures)
+
+-- src/types.rt:102:1
+type-len-returns-4 : (t : ℕ) → type-len-lts.Need-returns-4 (
+  first-entry-reads.Asked,
+  first-entry-reads.Learnt,
+  type-head-reads.Asked,
+  type-head-reads.Learnt,
+  type-len-below t,
+  type-len.Post,
+  then-len-reads.Asked,
+  then-len-reads.Learnt,
+  types-len-below t,
+  types-len.Post,
+) (type-len-at t) type-len.Post
+type-len-returns-4 t c =
+    let a = c .before .before .before .before .before .before .before .before .before .before .before .args in
+    types.struct-arm (a .names) (a .level) (a .kinds .now) (a .words .now) _ _ (c .before .before .before .before .before .before .before .first-entry .ensures) (c .before .before .before .before .before .before .type-head .ensures) (c .before .before .before .before .before .before .before .before .if1 .left) (c .before .before .before .before .enum-told3 .given .1) _ _ (c .before .types-len .ensures) (c .then-len2 .ensures)
+
+-- src/types.rt:102:1
+type-len-returns-5 : (t : ℕ) → type-len-lts.Need-returns-5 (
+  first-entry-reads.Asked,
+  first-entry-reads.Learnt,
+  type-head-reads.Asked,
+  type-head-reads.Learnt,
+  type-len-below t,
+  type-len.Post,
+  then-len-reads.Asked,
+  then-len-reads.Learnt,
+  types-len-below t,
+  types-len.Post,
+) (type-len-at t) type-len.Post
+type-len-returns-5 t c =
+    let a = c .before .before .before .before .before .before .before .args in
+    types.bad-arm (a .names) (a .level) (a .kinds .now) (a .words .now) _ _ (c .before .before .before .first-entry .ensures) (c .before .before .type-head .ensures) (c .before .before .before .before .if1 .left) (c .enum-told4 .given .1)
+
+-- src/types.rt:120:21
+type-step-first-entry-requires : (t : ℕ) → type-step-lts.Need-first-entry-requires (
+  first-entry-reads.Asked,
+  first-entry-reads.Learnt,
+  list-head-reads.Asked,
+  list-head-reads.Learnt,
+  type-len-below t,
+  type-len.Post,
+  next-step-reads.Asked,
+  next-step-reads.Learnt,
+) (type-step-at t) type-step.Post
+type-step-first-entry-requires t c κs = search needs
+
+-- src/types.rt:120:11
+type-step-list-head-requires : (t : ℕ) → type-step-lts.Need-list-head-requires (
+  first-entry-reads.Asked,
+  first-entry-reads.Learnt,
+  list-head-reads.Asked,
+  list-head-reads.Learnt,
+  type-len-below t,
+  type-len.Post,
+  next-step-reads.Asked,
+  next-step-reads.Learnt,
+) (type-step-at t) type-step.Post
+type-step-list-head-requires t c κs = search needs
+
+-- src/types.rt:121:30
+type-step-enum-told : (t : ℕ) → type-step-lts.Need-enum-told (
+  first-entry-reads.Asked,
+  first-entry-reads.Learnt,
+  list-head-reads.Asked,
+  list-head-reads.Learnt,
+  type-len-below t,
+  type-len.Post,
+  next-step-reads.Asked,
+  next-step-reads.Learnt,
+) (type-step-at t) type-step.Post
+type-step-enum-told t c = search needs
+
+-- src/types.rt:122:37
+type-step-enum-told-2 : (t : ℕ) → type-step-lts.Need-enum-told-2 (
+  first-entry-reads.Asked,
+  first-entry-reads.Learnt,
+  list-head-reads.Asked,
+  list-head-reads.Learnt,
+  type-len-below t,
+  type-len.Post,
+  next-step-reads.Asked,
+  next-step-reads.Learnt,
+) (type-step-at t) type-step.Post
+type-step-enum-told-2 t c = search needs
+
+-- src/types.rt:122:37
+type-step-type-len-requires : (t : ℕ) → type-step-lts.Need-type-len-requires (
+  first-entry-reads.Asked,
+  first-entry-reads.Learnt,
+  list-head-reads.Asked,
+  list-head-reads.Learnt,
+  type-len-below t,
+  type-len.Post,
+  next-step-reads.Asked,
+  next-step-reads.Learnt,
+) (type-step-at t) type-step.Post
+type-step-type-len-requires t c κs = search needs
+
+-- src/types.rt:122:27
+type-step-next-step-requires : (t : ℕ) → type-step-lts.Need-next-step-requires (
+  first-entry-reads.Asked,
+  first-entry-reads.Learnt,
+  list-head-reads.Asked,
+  list-head-reads.Learnt,
+  type-len-below t,
+  type-len.Post,
+  next-step-reads.Asked,
+  next-step-reads.Learnt,
+) (type-step-at t) type-step.Post
+type-step-next-step-requires t c κs = search needs
+
+-- src/types.rt:123:26
+type-step-enum-told-3 : (t : ℕ) → type-step-lts.Need-enum-told-3 (
+  first-entry-reads.Asked,
+  first-entry-reads.Learnt,
+  list-head-reads.Asked,
+  list-head-reads.Learnt,
+  type-len-below t,
+  type-len.Post,
+  next-step-reads.Asked,
+  next-step-reads.Learnt,
+) (type-step-at t) type-step.Post
+type-step-enum-told-3 t c = search needs
+
+-- src/types.rt:117:1
+type-step-returns : (t : ℕ) → type-step-lts.Need-returns (
+  first-entry-reads.Asked,
+  first-entry-reads.Learnt,
+  list-head-reads.Asked,
+  list-head-reads.Learnt,
+  type-len-below t,
+  type-len.Post,
+  next-step-reads.Asked,
+  next-step-reads.Learnt,
+) (type-step-at t) type-step.Post
+type-step-returns t c =
+    let a = c .before .before .before .before .before .before .args in
+    types.closing-arm (typeTo (a .names) (a .level)) (a .kinds .now) (a .words .now) _ _ (c .before .before .before .first-entry .ensures) (c .before .before .list-head .ensures) (c .enum-told .given .1)
+
+-- src/types.rt:117:1
+type-step-returns-2 : (t : ℕ) → type-step-lts.Need-returns-2 (
+  first-entry-reads.Asked,
+  first-entry-reads.Learnt,
+  list-head-reads.Asked,
+  list-head-reads.Learnt,
+  type-len-below t,
+  type-len.Post,
+  next-step-reads.Asked,
+  next-step-reads.Learnt,
+) (type-step-at t) type-step.Post
+type-step-returns-2 t c =
+    let a = c .before .before .before .before .before .before .before .before .args in
+    types.item-arm (typeTo (a .names) (a .level)) (a .kinds .now) (a .words .now) _ _ (c .before .before .before .before .before .first-entry .ensures) (c .before .before .before .before .list-head .ensures) (c .before .before .enum-told2 .given .1) _ _ (c .before .type-len .ensures) (c .next-step .ensures)
+
+-- src/types.rt:117:1
+type-step-returns-3 : (t : ℕ) → type-step-lts.Need-returns-3 (
+  first-entry-reads.Asked,
+  first-entry-reads.Learnt,
+  list-head-reads.Asked,
+  list-head-reads.Learnt,
+  type-len-below t,
+  type-len.Post,
+  next-step-reads.Asked,
+  next-step-reads.Learnt,
+) (type-step-at t) type-step.Post
+type-step-returns-3 t c =
+    let a = c .before .before .before .before .before .before .args in
+    types.none-arm (typeTo (a .names) (a .level)) (a .kinds .now) (a .words .now) _ _ (c .before .before .before .first-entry .ensures) (c .before .before .list-head .ensures) (c .enum-told3 .given .1)
+
+abbrev types-len-Inv-loop : types-len-lts.InvT-loop
+types-len-Inv-loop kinds words names level at₀ left₀ at left =
+    PlainLoop isClosing (typeTo names level) closing (length (entries kinds words)) kinds words at left
+
+abbrev types-len-μ-loop : types-len-lts.MeasureT-loop
+types-len-μ-loop kinds words names level at₀ left₀ at left = left
+
+-- src/types.rt:132:9
+types-len-shorter-requires : (t : ℕ) → types-len-lts.Need-shorter-requires (
+  shorter-reads.Asked,
+  shorter-reads.Learnt,
+  type-step-below t,
+  type-step.Post,
+) (types-len-at t) types-len.Post types-len-Inv-loop types-len-μ-loop
+types-len-shorter-requires t c κs = search needs
+
+-- src/types.rt:133:5
+types-len-loop-holds : (t : ℕ) → types-len-lts.Need-loop-holds (
+  shorter-reads.Asked,
+  shorter-reads.Learnt,
+  type-step-below t,
+  type-step.Post,
+) (types-len-at t) types-len.Post types-len-Inv-loop types-len-μ-loop
+types-len-loop-holds t c =
+    let a = c .before .before .before .args in
+    passes.plain-start isClosing (typeTo (a .names) (a .level)) closing (length (entries (a .kinds .now) (a .words .now))) (a .kinds .now) (a .words .now) _ (c .shorter .ensures)
+
+-- src/types.rt:134:25
+types-len-mul-type-step : (t : ℕ) → types-len-lts.Need-mul-type-step (
+  shorter-reads.Asked,
+  shorter-reads.Learnt,
+  type-step-below t,
+  type-step.Post,
+) (types-len-at t) types-len.Post types-len-Inv-loop types-len-μ-loop
+types-len-mul-type-step t c = omega (arith, c .loop .inv .kinds, c .before .before .before .before .good)
+
+-- src/types.rt:134:25
+types-len-sub-type-step : (t : ℕ) → types-len-lts.Need-sub-type-step (
+  shorter-reads.Asked,
+  shorter-reads.Learnt,
+  type-step-below t,
+  type-step.Post,
+) (types-len-at t) types-len.Post types-len-Inv-loop types-len-μ-loop
+types-len-sub-type-step t c = c .loop .inv .kinds
+
+-- src/types.rt:134:25
+types-len-part-type-step-start : (t : ℕ) → types-len-lts.Need-part-type-step-start (
+  shorter-reads.Asked,
+  shorter-reads.Learnt,
+  type-step-below t,
+  type-step.Post,
+) (types-len-at t) types-len.Post types-len-Inv-loop types-len-μ-loop
+types-len-part-type-step-start t c = c .loop .inv .kinds
+
+-- src/types.rt:134:25
+types-len-part-type-step-end : (t : ℕ) → types-len-lts.Need-part-type-step-end (
+  shorter-reads.Asked,
+  shorter-reads.Learnt,
+  type-step-below t,
+  type-step.Post,
+) (types-len-at t) types-len.Post types-len-Inv-loop types-len-μ-loop
+types-len-part-type-step-end t c = search needs
+
+-- src/types.rt:134:39
+types-len-mul-type-step-2 : (t : ℕ) → types-len-lts.Need-mul-type-step-2 (
+  shorter-reads.Asked,
+  shorter-reads.Learnt,
+  type-step-below t,
+  type-step.Post,
+) (types-len-at t) types-len.Post types-len-Inv-loop types-len-μ-loop
+types-len-mul-type-step-2 t c = omega (arith, c .before .loop .inv .words, c .before .before .before .before .before .good)
+
+-- src/types.rt:134:39
+types-len-sub-type-step-2 : (t : ℕ) → types-len-lts.Need-sub-type-step-2 (
+  shorter-reads.Asked,
+  shorter-reads.Learnt,
+  type-step-below t,
+  type-step.Post,
+) (types-len-at t) types-len.Post types-len-Inv-loop types-len-μ-loop
+types-len-sub-type-step-2 t c = c .before .loop .inv .words
+
+-- src/types.rt:134:39
+types-len-part-type-step-start-2 : (t : ℕ) → types-len-lts.Need-part-type-step-start-2 (
+  shorter-reads.Asked,
+  shorter-reads.Learnt,
+  type-step-below t,
+  type-step.Post,
+) (types-len-at t) types-len.Post types-len-Inv-loop types-len-μ-loop
+types-len-part-type-step-start-2 t c = c .before .loop .inv .words
+
+-- src/types.rt:134:39
+types-len-part-type-step-end-2 : (t : ℕ) → types-len-lts.Need-part-type-step-end-2 (
+  shorter-reads.Asked,
+  shorter-reads.Learnt,
+  type-step-below t,
+  type-step.Post,
+) (types-len-at t) types-len.Post types-len-Inv-loop types-len-μ-loop
+types-len-part-type-step-end-2 t c = search needs
+
+-- src/types.rt:134:15
+types-len-type-step-requires : (t : ℕ) → types-len-lts.Need-type-step-requires (
+  shorter-reads.Asked,
+  shorter-reads.Learnt,
+  type-step-below t,
+  type-step.Post,
+) (types-len-at t) types-len.Post types-len-Inv-loop types-len-μ-loop
+types-len-type-step-requires t c κs = search needs
+
+-- src/types.rt:135:24
+types-len-enum-known-n : (t : ℕ) → types-len-lts.Need-enum-known-n (
+  shorter-reads.Asked,
+  shorter-reads.Learnt,
+  type-step-below t,
+  type-step.Post,
+) (types-len-at t) types-len.Post types-len-Inv-loop types-len-μ-loop
+types-len-enum-known-n t c = search needs
+
+-- src/types.rt:135:53
+types-len-add-t20 : (t : ℕ) → types-len-lts.Need-add-t20 (
+  shorter-reads.Asked,
+  shorter-reads.Learnt,
+  type-step-below t,
+  type-step.Post,
+) (types-len-at t) types-len.Post types-len-Inv-loop types-len-μ-loop
+types-len-add-t20 t c =
+    let a = c .before .before .before .before .before .before .before .before .before .before .args in
+    omega (arith, passes.plain-there isClosing (typeTo (a .names) (a .level)) closing (length (entries (a .kinds .now) (a .words .now))) (a .kinds .now) (a .words .now) _ _ (c .before .before .before .before .before .before .loop .inv) _ (c .before .before .before .type-step .ensures) (agrees-typeTo _ _) agrees-closing _ (c .before .n .given .1), c .before .before .before .before .before .before .before .before .before .before .good)
+
+-- src/types.rt:135:30
+types-len-returns : (t : ℕ) → types-len-lts.Need-returns (
+  shorter-reads.Asked,
+  shorter-reads.Learnt,
+  type-step-below t,
+  type-step.Post,
+) (types-len-at t) types-len.Post types-len-Inv-loop types-len-μ-loop
+types-len-returns t c =
+    let a = c .before .before .before .before .before .before .before .before .before .before .args in
+    passes.plain-done isClosing (typeTo (a .names) (a .level)) closing (length (entries (a .kinds .now) (a .words .now))) (a .kinds .now) (a .words .now) _ _ (c .before .before .before .before .before .before .loop .inv) _ (c .before .before .before .type-step .ensures) _ (c .before .n .given .1) ∙ sym (types.many-len _ _)
+
+-- src/types.rt:136:26
+types-len-enum-told : (t : ℕ) → types-len-lts.Need-enum-told (
+  shorter-reads.Asked,
+  shorter-reads.Learnt,
+  type-step-below t,
+  type-step.Post,
+) (types-len-at t) types-len.Post types-len-Inv-loop types-len-μ-loop
+types-len-enum-told t c = search needs
+
+-- src/types.rt:136:26
+types-len-returns-2 : (t : ℕ) → types-len-lts.Need-returns-2 (
+  shorter-reads.Asked,
+  shorter-reads.Learnt,
+  type-step-below t,
+  type-step.Post,
+) (types-len-at t) types-len.Post types-len-Inv-loop types-len-μ-loop
+types-len-returns-2 t c =
+    let a = c .before .before .before .before .before .before .before .before .before .args in
+    passes.plain-bad isClosing (typeTo (a .names) (a .level)) closing (length (entries (a .kinds .now) (a .words .now))) (a .kinds .now) (a .words .now) _ _ (c .before .before .before .before .before .loop .inv) _ (c .before .before .type-step .ensures) (c .enum-told .given .1) ∙ sym (types.many-len _ _)
+
+-- src/types.rt:137:24
+types-len-enum-known-n-2 : (t : ℕ) → types-len-lts.Need-enum-known-n-2 (
+  shorter-reads.Asked,
+  shorter-reads.Learnt,
+  type-step-below t,
+  type-step.Post,
+) (types-len-at t) types-len.Post types-len-Inv-loop types-len-μ-loop
+types-len-enum-known-n-2 t c = search needs
+
+-- src/types.rt:139:21
+types-len-returns-3 : (t : ℕ) → types-len-lts.Need-returns-3 (
+  shorter-reads.Asked,
+  shorter-reads.Learnt,
+  type-step-below t,
+  type-step.Post,
+) (types-len-at t) types-len.Post types-len-Inv-loop types-len-μ-loop
+types-len-returns-3 t c =
+    let a = c .before .before .before .before .before .before .before .before .before .before .before .args in
+    passes.plain-full isClosing (typeTo (a .names) (a .level)) closing (length (entries (a .kinds .now) (a .words .now))) (a .kinds .now) (a .words .now) _ _ (c .before .before .before .before .before .before .before .loop .inv) _ (c .before .before .before .before .type-step .ensures) _ (c .before .before .n2 .given .1) (c .if1 .taken) ∙ sym (types.many-len _ _)
+
+-- src/types.rt:141:22
+types-len-add-at : (t : ℕ) → types-len-lts.Need-add-at (
+  shorter-reads.Asked,
+  shorter-reads.Learnt,
+  type-step-below t,
+  type-step.Post,
+) (types-len-at t) types-len.Post types-len-Inv-loop types-len-μ-loop
+types-len-add-at t c =
+    let a = c .before .before .before .before .before .before .before .before .before .before .before .args in
+    omega (arith, passes.plain-next isClosing (typeTo (a .names) (a .level)) closing (length (entries (a .kinds .now) (a .words .now))) (a .kinds .now) (a .words .now) _ _ (c .before .before .before .before .before .before .before .loop .inv) _ (c .before .before .before .before .type-step .ensures) (agrees-typeTo _ _) agrees-closing _ (c .before .before .n2 .given .1) (c .if1 .left) .kinds, c .before .before .before .before .before .before .before .before .before .before .before .good)
+
+-- src/types.rt:142:24
+types-len-sub-left : (t : ℕ) → types-len-lts.Need-sub-left (
+  shorter-reads.Asked,
+  shorter-reads.Learnt,
+  type-step-below t,
+  type-step.Post,
+) (types-len-at t) types-len.Post types-len-Inv-loop types-len-μ-loop
+types-len-sub-left t c = search needs
+
+-- src/types.rt:133:5
+types-len-loop-less : (t : ℕ) → types-len-lts.Need-loop-less (
+  shorter-reads.Asked,
+  shorter-reads.Learnt,
+  type-step-below t,
+  type-step.Post,
+) (types-len-at t) types-len.Post types-len-Inv-loop types-len-μ-loop
+types-len-loop-less t c = search needs
+
+-- src/types.rt:133:5
+types-len-loop-again : (t : ℕ) → types-len-lts.Need-loop-again (
+  shorter-reads.Asked,
+  shorter-reads.Learnt,
+  type-step-below t,
+  type-step.Post,
+) (types-len-at t) types-len.Post types-len-Inv-loop types-len-μ-loop
+types-len-loop-again t c =
+    let a = c .before .before .before .before .before .before .before .before .before .before .before .args in
+    passes.plain-next isClosing (typeTo (a .names) (a .level)) closing (length (entries (a .kinds .now) (a .words .now))) (a .kinds .now) (a .words .now) _ _ (c .before .before .before .before .before .before .before .loop .inv) _ (c .before .before .before .before .type-step .ensures) (agrees-typeTo _ _) agrees-closing _ (c .before .before .n2 .given .1) (c .if1 .left)
+
+pub +type-len+type-step+types-len-spec : {M : Type 1} → statement M
++type-len+type-step+types-len-spec =
+    close μ-type-len μ-type-step μ-types-len (λ t. type-len-lts.spec (
+      first-entry-reads.Asked,
+      first-entry-reads.Learnt,
+      type-head-reads.Asked,
+      type-head-reads.Learnt,
+      type-len-below t,
+      type-len.Post,
+      then-len-reads.Asked,
+      then-len-reads.Learnt,
+      types-len-below t,
+      types-len.Post,
+    )
+    (type-len-at t)
+    type-len.Post
+    (type-len-returns t)
+    (type-len-first-entry-requires t)
+    (type-len-type-head-requires t)
+    (type-len-enum-told t)
+    (type-len-enum-told-2 t)
+    (type-len-sub-type-len t)
+    (type-len-part-type-len-start t)
+    (type-len-part-type-len-end t)
+    (type-len-sub-type-len-2 t)
+    (type-len-part-type-len-start-2 t)
+    (type-len-part-type-len-end-2 t)
+    (type-len-sub-type-len-3 t)
+    (type-len-type-len-requires t)
+    (type-len-then-len-requires t)
+    (type-len-enum-told-3 t)
+    (type-len-sub-types-len t)
+    (type-len-part-types-len-start t)
+    (type-len-part-types-len-end t)
+    (type-len-sub-types-len-2 t)
+    (type-len-part-types-len-start-2 t)
+    (type-len-part-types-len-end-2 t)
+    (type-len-sub-types-len-3 t)
+    (type-len-types-len-requires t)
+    (type-len-then-len-requires-2 t)
+    (type-len-enum-told-4 t)
+    (type-len-returns-2 t)
+    (type-len-returns-3 t)
+    (type-len-returns-4 t)
+    (type-len-returns-5 t))
+    (λ t. type-step-lts.spec (
+      first-entry-reads.Asked,
+      first-entry-reads.Learnt,
+      list-head-reads.Asked,
+      list-head-reads.Learnt,
+      type-len-below t,
+      type-len.Post,
+      next-step-reads.Asked,
+      next-step-reads.Learnt,
+    )
+    (type-step-at t)
+    type-step.Post
+    (type-step-first-entry-requires t)
+    (type-step-list-head-requires t)
+    (type-step-enum-told t)
+    (type-step-enum-told-2 t)
+    (type-step-type-len-requires t)
+    (type-step-next-step-requires t)
+    (type-step-enum-told-3 t)
+    (type-step-returns t)
+    (type-step-returns-2 t)
+    (type-step-returns-3 t))
+    λ t. types-len-lts.spec
+    (shorter-reads.Asked, shorter-reads.Learnt, type-step-below t, type-step.Post)
+    (types-len-at t)
+    types-len.Post
+    types-len-Inv-loop
+    types-len-μ-loop
+    (types-len-shorter-requires t)
+    (types-len-loop-holds t)
+    (types-len-mul-type-step t)
+    (types-len-sub-type-step t)
+    (types-len-part-type-step-start t)
+    (types-len-part-type-step-end t)
+    (types-len-mul-type-step-2 t)
+    (types-len-sub-type-step-2 t)
+    (types-len-part-type-step-start-2 t)
+    (types-len-part-type-step-end-2 t)
+    (types-len-type-step-requires t)
+    (types-len-enum-known-n t)
+    (types-len-add-t20 t)
+    (types-len-returns t)
+    (types-len-enum-told t)
+    (types-len-returns-2 t)
+    (types-len-enum-known-n-2 t)
+    (types-len-returns-3 t)
+    (types-len-add-at t)
+    (types-len-sub-left t)
+    (types-len-loop-less t)
+    (types-len-loop-again t)

@@ -1,0 +1,142 @@
+// Types: kinds 10 to 20.
+use crate::Front;
+use crate::Length;
+use crate::ListHead;
+use crate::Step;
+use crate::first_entry;
+use crate::list_head;
+use crate::next_step;
+use crate::shorter;
+use crate::then_len;
+ghost use mathlib.Core.Path.{_≡_};
+ghost use Rattle.book.specs.Entry.{entries};
+ghost use Rattle.book.specs.Kinds.{tyTag};
+ghost use Rattle.book.specs.Read.{closing, isClosing, many};
+ghost use Rattle.book.specs.Decode.{typeTo};
+ghost use Rattle.book_types.specs.Length.{lenOf, stepOf};
+ghost use Rattle.book_types.specs.Groups.{typeGroupOf, leafIf, structIf, groupHead, typeHeadOf};
+
+// What the kind of a type's entry begins.
+pub enum TypeGroup {
+    Void,
+    Int,
+    Ptr,
+    Array(bool),
+    Named,
+    Struct(bool),
+    Sizeless,
+    Other,
+}
+
+pub fn type_group(kind: u64) -> TypeGroup
+    ensures { λ r. ⌜ r ≡ typeGroupOf (tyTag kind) ⌝ }
+{
+    if kind < 10 {
+        return TypeGroup::Other;
+    }
+    if 20 < kind {
+        return TypeGroup::Other;
+    }
+    match kind {
+        10 => TypeGroup::Void,
+        11 => TypeGroup::Int,
+        12 => TypeGroup::Ptr,
+        13 => TypeGroup::Array(false),
+        14 => TypeGroup::Array(true),
+        15 => TypeGroup::Named,
+        16 => TypeGroup::Struct(false),
+        17 => TypeGroup::Struct(true),
+        _ => TypeGroup::Sizeless,
+    }
+}
+
+// What the entry at the front begins: a type of this entry alone, an array's element, a struct's fields.
+pub enum TypeHead {
+    Leaf,
+    Array,
+    Struct,
+    Bad,
+}
+
+fn leaf_if(ok: bool) -> TypeHead
+    ensures { λ r. ⌜ r ≡ leafIf ok ⌝ }
+{
+    if ok { TypeHead::Leaf } else { TypeHead::Bad }
+}
+
+fn struct_if(ok: bool) -> TypeHead
+    ensures { λ r. ⌜ r ≡ structIf ok ⌝ }
+{
+    if ok { TypeHead::Struct } else { TypeHead::Bad }
+}
+
+fn group_head(group: TypeGroup, word: u64, names: u64) -> TypeHead
+    ensures { λ r. ⌜ r ≡ groupHead names word group ⌝ }
+{
+    match group {
+        TypeGroup::Void => leaf_if(word == 0),
+        TypeGroup::Ptr => leaf_if(word == 0),
+        TypeGroup::Sizeless => leaf_if(word == 0),
+        TypeGroup::Int => leaf_if(numbers::width::width_ok(word)),
+        TypeGroup::Named => leaf_if(word < names),
+        TypeGroup::Array(_) => TypeHead::Array,
+        TypeGroup::Struct(_) => struct_if(word == 0),
+        TypeGroup::Other => TypeHead::Bad,
+    }
+}
+
+pub fn type_head(entry: Front, names: u64) -> TypeHead
+    ensures { λ r. ⌜ r ≡ typeHeadOf names entry ⌝ }
+{
+    match entry {
+        Front::Entry(kind, word) => group_head(type_group(kind), word, names),
+        Front::Nothing => TypeHead::Bad,
+    }
+}
+
+// The type at the front, of at most `level` levels.
+pub fn type_len(kinds: &[u64], words: &[u64], names: u64, level: u32) -> Length
+    ensures { λ r. ⌜ r ≡ lenOf (typeTo names level (entries (now (kinds .entry)) (now (words .entry)))) ⌝ }
+{
+    if level == 0 {
+        return Length::Bad;
+    }
+    match type_head(first_entry(kinds, words), names) {
+        TypeHead::Leaf => Length::Entries(1),
+        TypeHead::Array => then_len(1, type_len(&kinds[1..], &words[1..], names, level - 1)),
+        TypeHead::Struct => then_len(1, types_len(&kinds[1..], &words[1..], names, level - 1)),
+        TypeHead::Bad => Length::Bad,
+    }
+}
+
+// What comes next in a list of types.
+fn type_step(kinds: &[u64], words: &[u64], names: u64, level: u32) -> Step
+    ensures { λ r. ⌜ r ≡ stepOf isClosing (typeTo names level) closing (entries (now (kinds .entry)) (now (words .entry))) ⌝ }
+{
+    match list_head(first_entry(kinds, words)) {
+        ListHead::Closing => Step::Done(1),
+        ListHead::Item => next_step(type_len(kinds, words, names, level)),
+        ListHead::Bad => Step::Bad,
+    }
+}
+
+// The list of types at the front, its closing entry with it.
+pub fn types_len(kinds: &[u64], words: &[u64], names: u64, level: u32) -> Length
+    ensures { λ r. ⌜ r ≡ lenOf (many (typeTo names level) (entries (now (kinds .entry)) (now (words .entry)))) ⌝ }
+{
+    let mut at: usize = 0;
+    let mut left: usize = shorter(kinds, words);
+    loop {
+        match type_step(&kinds[at..], &words[at..], names, level) {
+            Step::Done(n) => return Length::Entries(at + n),
+            Step::Bad => return Length::Bad,
+            Step::Next(n) => {
+                if left == 0 {
+                    return Length::Bad;
+                }
+                at = at + n;
+                left = left - 1;
+            }
+        }
+    }
+}

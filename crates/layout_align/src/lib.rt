@@ -1,0 +1,134 @@
+// Alignments.
+use layout_memo::Measured;
+use layout_memo::deeper;
+use layout_memo::larger;
+use layout_memo::memory::recalled;
+use layout_memo::memory::with_align;
+use layout_memo::one_more;
+use layout_memo::skip;
+use book_types::types::TypeGroup;
+use book_types::types::type_group;
+ghost use Rattle.book.specs.Entry.{entries};
+ghost use Rattle.book.specs.Ast.{Ty};
+ghost use Rattle.layout_memo.specs.Front.{tyOf, tysOf};
+ghost use Rattle.layout_memo.specs.Arms.{fieldAligns};
+ghost use Rattle.layout_memo.specs.Work.{Ask, AskFields, AskName, Outcome, structsIn, aligns as alignsOf};
+
+// The alignment of the type at the front.
+pub fn align_of(
+    kinds: &[u64],
+    words: &[u64],
+    book_kinds: &[u64],
+    book_words: &[u64],
+    work: &mut [u64],
+    names: u64,
+    level: u32,
+) -> Measured
+    requires { ⌜ Ask names (entries (now kinds) (now words)) (entries (now «book_kinds») (now «book_words»)) (now work) level ⌝ }
+    ensures { λ r. ⌜ Outcome names (entries (now («book_kinds» .entry)) (now («book_words» .entry))) (now (work .entry)) (now (work .exit))
+        (alignsOf (structsIn names (entries (now («book_kinds» .entry)) (now («book_words» .entry)))) (tyOf names (entries (now (kinds .entry)) (now (words .entry))))) level r ⌝ }
+{
+    if level == 0 {
+        return Measured::Refused(7);
+    }
+    let word = words[0];
+    match type_group(kinds[0]) {
+        TypeGroup::Void => Measured::Bytes(1, 1),
+        TypeGroup::Int => Measured::Bytes((word + 7) / 8, 1),
+        TypeGroup::Ptr => Measured::Bytes(8, 1),
+        TypeGroup::Array(_) => one_more(align_of(
+            &kinds[1..],
+            &words[1..],
+            book_kinds,
+            book_words,
+            work,
+            names,
+            level - 1,
+        )),
+        TypeGroup::Named => named_align(book_kinds, book_words, work, names, word, level),
+        TypeGroup::Struct(packed) => one_more(struct_align(
+            &kinds[1..],
+            &words[1..],
+            book_kinds,
+            book_words,
+            work,
+            names,
+            level - 1,
+            packed,
+        )),
+        TypeGroup::Sizeless => Measured::Refused(6),
+        TypeGroup::Other => Measured::Refused(6),
+    }
+}
+
+// The alignment of a named struct.
+fn named_align(
+    book_kinds: &[u64],
+    book_words: &[u64],
+    work: &mut [u64],
+    names: u64,
+    name: u64,
+    level: u32,
+) -> Measured
+    requires { ⌜ AskName names name (entries (now «book_kinds») (now «book_words»)) (now work) level ⌝ }
+    ensures { λ r. ⌜ Outcome names (entries (now («book_kinds» .entry)) (now («book_words» .entry))) (now (work .entry)) (now (work .exit))
+        (alignsOf (structsIn names (entries (now («book_kinds» .entry)) (now («book_words» .entry)))) (Ty.namedStruct name)) level r ⌝ }
+{
+    let at = 8 * (name as usize);
+    let part = work[at + 7] % 4294967296;
+    if part != 0 {
+        return recalled(part, level);
+    }
+    let body = work[at + 4];
+    if body == 0 {
+        return Measured::Refused(6);
+    }
+    let from = (body - 1) as usize;
+    let r = one_more(align_of(
+        &book_kinds[from..],
+        &book_words[from..],
+        book_kinds,
+        book_words,
+        work,
+        names,
+        level - 1,
+    ));
+    work[at + 7] = with_align(work[at + 7], r);
+    r
+}
+
+// The alignment of a struct: the largest of its fields', 1 where it is packed.
+fn struct_align(
+    kinds: &[u64],
+    words: &[u64],
+    book_kinds: &[u64],
+    book_words: &[u64],
+    work: &mut [u64],
+    names: u64,
+    level: u32,
+    packed: bool,
+) -> Measured
+    requires { ⌜ AskFields names (entries (now kinds) (now words)) (entries (now «book_kinds») (now «book_words»)) (now work) level ⌝ }
+    ensures { λ r. ⌜ Outcome names (entries (now («book_kinds» .entry)) (now («book_words» .entry))) (now (work .entry)) (now (work .exit))
+        (fieldAligns (structsIn names (entries (now («book_kinds» .entry)) (now («book_words» .entry)))) packed (tysOf names (entries (now (kinds .entry)) (now (words .entry))))) level r ⌝ }
+{
+    if packed {
+        return Measured::Bytes(1, 0);
+    }
+    let mut at: usize = 0;
+    let mut align: u64 = 1;
+    let mut levels: u32 = 0;
+    while kinds[at] != 0 {
+        let ks = &kinds[at..];
+        let ws = &words[at..];
+        match align_of(ks, ws, book_kinds, book_words, work, names, level) {
+            Measured::Refused(e) => return Measured::Refused(e),
+            Measured::Bytes(a, h) => {
+                align = larger(align, a);
+                levels = deeper(levels, h);
+            }
+        }
+        at = at + skip(ks, ws, names);
+    }
+    Measured::Bytes(align, levels)
+}

@@ -1,0 +1,107 @@
+// Offsets of fields.
+use layout_align::align_of;
+use layout_memo::Measured;
+use layout_memo::skip;
+use layout_size::placed;
+use layout_size::size_of;
+ghost use mathlib.Core.Path.{_≡_};
+ghost use mathlib.Core.Bool.{Bool};
+ghost use Prim.Native.Nat.{_≤_, _^_};
+ghost use Rattle.book.specs.Entry.{entries};
+ghost use Rattle.layout_memo.specs.Front.{StartsFields, tyOf, tysOf};
+ghost use Rattle.layout_memo.specs.Work.{Ask, AskFields, structsIn};
+ghost use Rattle.layout_field.specs.Offsets.{FieldFound, AskStart, StartOutcome, OffsetOutcome, startOf, offsetOf};
+
+// Where something starts, or the number of a refusal.
+pub enum Offset {
+    At(u64),
+    Refused(u64),
+}
+
+// The place of a field's type among the entries from the first field on.
+pub enum Place {
+    At(usize),
+    Nothing,
+}
+
+// The place of the field with this index.
+pub fn field_at(kinds: &[u64], words: &[u64], names: u64, index: u64) -> Place
+    requires { ⌜ StartsFields names (entries (now kinds) (now words)) ⌝ }
+    ensures { λ r. ⌜ FieldFound names (entries (now (kinds .entry)) (now (words .entry))) index r ⌝ }
+{
+    let mut at: usize = 0;
+    let mut left = index;
+    while kinds[at] != 0 {
+        if left == 0 {
+            return Place::At(at);
+        }
+        left = left - 1;
+        at = at + skip(&kinds[at..], &words[at..], names);
+    }
+    Place::Nothing
+}
+
+// Where the field at the front starts, behind so many bytes.
+fn field_start(
+    kinds: &[u64],
+    words: &[u64],
+    book_kinds: &[u64],
+    book_words: &[u64],
+    work: &mut [u64],
+    names: u64,
+    packed: bool,
+    offset: u64,
+) -> Offset
+    requires { ⌜ AskStart names (entries (now kinds) (now words)) (entries (now «book_kinds») (now «book_words»)) (now work) offset ⌝ }
+    ensures { λ r. ⌜ StartOutcome names (entries (now («book_kinds» .entry)) (now («book_words» .entry))) (now (work .entry)) (now (work .exit)) offset
+        (startOf (structsIn names (entries (now («book_kinds» .entry)) (now («book_words» .entry)))) packed (tyOf names (entries (now (kinds .entry)) (now (words .entry)))) offset) r ⌝ }
+{
+    if packed {
+        return Offset::At(offset);
+    }
+    match align_of(kinds, words, book_kinds, book_words, work, names, 64) {
+        Measured::Refused(e) => Offset::Refused(e),
+        Measured::Bytes(a, _) => Offset::At(placed(packed, offset, a)),
+    }
+}
+
+// The offset of the field with this index; 14 where the struct has none.
+pub fn field_offset(
+    kinds: &[u64],
+    words: &[u64],
+    book_kinds: &[u64],
+    book_words: &[u64],
+    work: &mut [u64],
+    names: u64,
+    packed: bool,
+    index: u64,
+) -> Offset
+    requires { ⌜ AskFields names (entries (now kinds) (now words)) (entries (now «book_kinds») (now «book_words»)) (now work) 64 ⌝ }
+    ensures { λ r. ⌜ OffsetOutcome names (entries (now («book_kinds» .entry)) (now («book_words» .entry))) (now (work .entry)) (now (work .exit))
+        (offsetOf (structsIn names (entries (now («book_kinds» .entry)) (now («book_words» .entry)))) packed (tysOf names (entries (now (kinds .entry)) (now (words .entry)))) index) r ⌝ }
+{
+    let mut at: usize = 0;
+    let mut offset: u64 = 0;
+    let mut left = index;
+    while kinds[at] != 0 {
+        let ks = &kinds[at..];
+        let ws = &words[at..];
+        match field_start(ks, ws, book_kinds, book_words, work, names, packed, offset) {
+            Offset::Refused(e) => return Offset::Refused(e),
+            Offset::At(start) => {
+                if left == 0 {
+                    return Offset::At(start);
+                }
+                match size_of(ks, ws, book_kinds, book_words, work, names, 64) {
+                    Measured::Refused(e) => return Offset::Refused(e),
+                    Measured::Bytes(size, _) => {
+                        offset = start + size;
+                    }
+                }
+            }
+        }
+        left = left - 1;
+        at = at + skip(ks, ws, names);
+    }
+    Offset::Refused(14)
+}

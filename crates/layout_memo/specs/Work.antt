@@ -1,0 +1,221 @@
+-- The work words of measuring. A name has 8 words; the name x has those from 8 * x on:
+--   0 parameter   1 slot   2 block   3 fixed place   4 struct body   5 mark   6 start of the name's bytes   7 measuring
+-- Word 4 is one more than the place of the struct's body among the book's entries, 0 where the name has none. Word 7 has the size in its upper
+-- 32 bits and the alignment in its lower ones, each as 128 * bytes + levels, 0 where it is not measured yet.
+use Prim.Native.Nat.{ℕ, _+_, _-_, _*_, _/_, _%_, _<_, _≤_, _^_}
+use mathlib.Core.Path.{_≡_, refl, _∙_}
+use mathlib.Core.Bool.{Bool, true, false}
+use mathlib.Core.Option.{Option, none, some}
+use mathlib.Core.List.{List, []}
+use native.Mathlib.Omega.{arith}
+use lib.Dec.{leb, eqb}
+use lib.ListN.{length, getD, drop, set, length-set}
+use lib.Seq.{getD-set-same, getD-set-other}
+use borrow.Author.Tests.{eqb-true, eqb-false, leb-true, leb-false}
+use Rattle.book.specs.Entry.{Entry}
+use Rattle.book.specs.Ast.{Ty, StructBody, StructType, Book}
+use Rattle.book.specs.Decode.{decode}
+use Rattle.book.specs.Result.{Result, ok, err}
+use Rattle.layout.specs.Layout.{asType, resolve, alignAt, sizeAt, alignOf, sizeOf}
+use Rattle.layout.specs.Natural.{Natural, one, two, four, eight, align-of-natural}
+use Rattle.layout.specs.Limit.{size-of-limit}
+use Rattle.layout_memo.specs.Measured.{resultOf, Known, Measures, measures-result}
+use Rattle.layout_memo.specs.Front.{Starts, StartsFields, tyOf}
+use Rattle.layout_memo.specs.declared.Measured.{Measured}
+use Rattle.layout_memo.specs.declared.Measured.the-variants.{Bytes, Refused}
+
+-- the structs of the book
+abbrev pub structsOr : Option Book → List StructType
+structsOr none = []
+structsOr (some b) = b .structs
+
+unfoldable pub structsIn : ℕ → List Entry → List StructType
+structsIn m es = structsOr (decode m es)
+
+-- ---- word 4
+module _ (structs : List StructType) where
+  -- the body of the struct x stands at the place p
+  pub record BodyAt (m : ℕ) (es : List Entry) (x p : ℕ) : Type 0 where
+    pub body : StructBody
+    pub resolved : resolve structs x ≡ ok body
+    pub front : Starts m (drop p es)
+    pub same : tyOf m (drop p es) ≡ asType body
+    pub there : p ≤ length es
+
+  -- the word w says where it stands
+  pub record Placed (m : ℕ) (es : List Entry) (x w : ℕ) : Type 0 where
+    pub absent : w ≡ 0 → resolve structs x ≡ err 6
+    pub present : (w ≡ 0 → ⊥) → BodyAt m es x (w - 1)
+
+-- ---- word 7
+abbrev pub sizePart : ℕ → ℕ
+sizePart w = w / 2 ^ 32
+
+abbrev pub alignPart : ℕ → ℕ
+alignPart w = w % 2 ^ 32
+
+-- a part that is not 0 is right
+pub record Recalls (f : ℕ → Result ℕ) (part : ℕ) : Type 0 where
+  pub right : (part ≡ 0 → ⊥) → Known f (part / 128) (part % 128)
+
+module _ (structs : List StructType) where
+  -- the measures of a type, by the allowance
+  abbrev pub sizes : Ty → ℕ → Result ℕ
+  sizes t k = sizeAt structs k t
+
+  abbrev pub aligns : Ty → ℕ → Result ℕ
+  aligns t k = alignAt structs k t
+
+  -- the word w of the struct x is right
+  pub record Remembered (x w : ℕ) : Type 0 where
+    pub align : Recalls (aligns (Ty.namedStruct x)) (alignPart w)
+    pub size : Recalls (sizes (Ty.namedStruct x)) (sizePart w)
+
+-- ---- the words of all names
+module _ (m : ℕ) (es : List Entry) where
+  pub record Ready (work : List ℕ) : Type 0 where
+    pub room : 8 * m ≤ length work
+    pub bodies : (x : ℕ) → x < m → Placed (structsIn m es) m es x (getD work (8 * x + 4) 0)
+    pub known : (x : ℕ) → x < m → Remembered (structsIn m es) x (getD work (8 * x + 7) 0)
+    pub few : length es ≤ 2 ^ 20
+
+-- no word has changed but those of measuring
+pub record Kept (m : ℕ) (work work′ : List ℕ) : Type 0 where
+  pub long : length work′ ≡ length work
+  pub same : (i : ℕ) → ((x : ℕ) → x < m → i ≡ 8 * x + 7 → ⊥) → getD work′ i 0 ≡ getD work i 0
+
+-- after a measurement
+pub record After (m : ℕ) (es : List Entry) (work work′ : List ℕ) : Type 0 where
+  pub ready : Ready m es work′
+  pub kept : Kept m work work′
+
+module _ {m : ℕ} {es : List Entry} where
+  pub after-none : {work : List ℕ} → Ready m es work → After m es work work
+  after-none r = record { ready = r; kept = record { long = refl; same = λ i n. refl } }
+
+  pub after-then : {a b c : List ℕ} → After m es a b → After m es b c → After m es a c
+  after-then p q = record { ready = q .ready; kept = record { long = q .kept .long ∙ p .kept .long; same = λ i n. q .kept .same i n ∙ p .kept .same i n } }
+
+  -- a word of measuring is stored
+  pub after-set : {work : List ℕ} (x v : ℕ) → Ready m es work → x < m → Remembered (structsIn m es) x v → After m es work (set work (8 * x + 7) v)
+  after-set {work} x v r l k =
+      record {
+        ready = record {
+          room = omega (arith, r .room, length-set work (8 * x + 7) v);
+          bodies = λ y ly. rw (getD-set-other work (8 * x + 7) (8 * y + 4) v 0 (λ e. omega arith)) (r .bodies y ly);
+          known = λ y ly. stored y ly (eqb y x) refl;
+          few = r .few;
+        };
+        kept = record { long = length-set work (8 * x + 7) v; same = λ i n. getD-set-other work (8 * x + 7) i v 0 (n x l) };
+      }
+    where
+      stored : (y : ℕ) → y < m → (b : Bool) → eqb y x ≡ b → Remembered (structsIn m es) y (getD (set work (8 * x + 7) v) (8 * y + 7) 0)
+      stored y ly true e =
+          let q = eqb-true y x e in
+          let f : 8 * x + 7 < length work = omega (arith, r .room) in
+          rw (q, getD-set-same work (8 * x + 7) v 0 f) k
+      stored y ly false e =
+          let q = eqb-false y x e in
+          rw (getD-set-other work (8 * x + 7) (8 * y + 7) v 0 (λ z. q (omega arith))) (r .known y ly)
+
+-- ---- a part of the word of measuring
+abbrev pub partOf : ℕ → ℕ → ℕ
+partOf n h = n * 128 + h
+
+abbrev pub withSize : ℕ → Measured → ℕ
+withSize w (Bytes n h) = partOf n h * 2 ^ 32 + w % 2 ^ 32
+withSize w (Refused e) = w
+
+abbrev pub withAlign : ℕ → Measured → ℕ
+withAlign w (Bytes n h) = w / 2 ^ 32 * 2 ^ 32 + partOf n h
+withAlign w (Refused e) = w
+
+abbrev pub pickMeasured : Bool → Measured → Measured → Measured
+pickMeasured true a b = a
+pickMeasured false a b = b
+
+-- the answer that a part remembers
+abbrev pub recalled : ℕ → ℕ → Measured
+recalled part level = pickMeasured (leb (part % 128) level) (Bytes (part / 128) (part % 128)) (Refused 7)
+
+pub recalls : (f : ℕ → Result ℕ) (part level : ℕ) → (part ≡ 0 → ⊥) → Recalls f part → Measures f level (recalled part level)
+recalls f part level z r = go (leb (part % 128) level) refl
+  where
+    go : (b : Bool) → leb (part % 128) level ≡ b → Measures f level (pickMeasured b (Bytes (part / 128) (part % 128)) (Refused 7))
+    go true e = record { known = r .right z; within = leb-true _ _ e }
+    go false e = r .right z .low level (leb-false _ _ e)
+
+-- what is known is recalled
+known-recalls : (f : ℕ → Result ℕ) (n h part : ℕ) → part ≡ partOf n h → h ≤ 64 → Known f n h → Recalls f part
+known-recalls f n h part e l k =
+    let a : part / 128 ≡ n = omega arith in
+    let b : part % 128 ≡ h = omega arith in
+    record { right = λ z. rw (a, b) k }
+
+natural-most : {a : ℕ} → Natural a → a ≤ 8
+natural-most one = omega arith
+natural-most two = omega arith
+natural-most four = omega arith
+natural-most eight = omega arith
+
+module _ (structs : List StructType) where
+  -- what is measured within 64 levels is small
+  pub size-small : (t : Ty) {n h : ℕ} → h ≤ 64 → Known (sizes structs t) n h → n ≤ 16777216
+  unfolding sizeOf
+  size-small t {n} l k = size-of-limit structs t n (k .high 64 l)
+
+  pub align-small : (t : Ty) {n h : ℕ} → h ≤ 64 → Known (aligns structs t) n h → (1 ≤ n) × (n ≤ 8)
+  unfolding alignOf
+  align-small t {n} l k = let a = align-of-natural structs t n (k .high 64 l) in (positive a, natural-most a)
+    where
+      positive : {a : ℕ} → Natural a → 1 ≤ a
+      positive one = omega arith
+      positive two = omega arith
+      positive four = omega arith
+      positive eight = omega arith
+
+  pub size-remembered : (x w level : ℕ) (r : Measured) → level ≤ 64 → Measures (sizes structs (Ty.namedStruct x)) level r → Remembered structs x w → Remembered structs x (withSize w r)
+  size-remembered x w level (Refused e) l m k = k
+  size-remembered x w level (Bytes n h) l m k =
+      let q : h ≤ 64 = omega (arith, m .within) in
+      let s = size-small (Ty.namedStruct x) q (m .known) in
+      let a : alignPart (withSize w (Bytes n h)) ≡ alignPart w = omega arith in
+      let b : sizePart (withSize w (Bytes n h)) ≡ partOf n h = omega arith in
+      record { align = rw a (k .align); size = known-recalls (sizes structs (Ty.namedStruct x)) n h _ b q (m .known) }
+
+  pub align-remembered : (x w level : ℕ) (r : Measured) → level ≤ 64 → Measures (aligns structs (Ty.namedStruct x)) level r → Remembered structs x w → Remembered structs x (withAlign w r)
+  align-remembered x w level (Refused e) l m k = k
+  align-remembered x w level (Bytes n h) l m k =
+      let q : h ≤ 64 = omega (arith, m .within) in
+      let s = align-small (Ty.namedStruct x) q (m .known) in
+      let t : n ≤ 8 = s .1 in
+      let a : alignPart (withAlign w (Bytes n h)) ≡ partOf n h = omega arith in
+      let b : sizePart (withAlign w (Bytes n h)) ≡ sizePart w = omega arith in
+      record { align = known-recalls (aligns structs (Ty.namedStruct x)) n h _ a q (m .known); size = rw b (k .size) }
+
+-- what a measurement answers and leaves: the definition's answer, with the levels that it takes
+pub record Outcome (m : ℕ) (es : List Entry) (work work′ : List ℕ) (f : ℕ → Result ℕ) (level : ℕ) (r : Measured) : Type 0 where
+  pub answer : resultOf r ≡ f level
+  pub says : Measures f level r
+  pub after : After m es work work′
+
+pub outcome : {m : ℕ} {es : List Entry} {work work′ : List ℕ} {f : ℕ → Result ℕ} {level : ℕ} {r : Measured}
+    → Measures f level r → After m es work work′ → Outcome m es work work′ f level r
+outcome {m} {es} {work} {work′} {f} {level} {r} s a = record { answer = measures-result f level r s; says = s; after = a }
+
+-- what a measurement asks: a type, or the fields of a struct, at the front of the entries; a name of the book
+pub record Ask (m : ℕ) (es bs : List Entry) (work : List ℕ) (level : ℕ) : Type 0 where
+  pub front : Starts m es
+  pub ready : Ready m bs work
+  pub levels : level ≤ 64
+
+pub record AskFields (m : ℕ) (es bs : List Entry) (work : List ℕ) (level : ℕ) : Type 0 where
+  pub front : StartsFields m es
+  pub ready : Ready m bs work
+  pub levels : level ≤ 64
+
+pub record AskName (m x : ℕ) (bs : List Entry) (work : List ℕ) (level : ℕ) : Type 0 where
+  pub name : x < m
+  pub some-level : 1 ≤ level
+  pub ready : Ready m bs work
+  pub levels : level ≤ 64

@@ -1,0 +1,92 @@
+-- `layout_step::array_step` meets its contract.
+use Rattle.layout_step.specs.Steps as laws
+use borrow.Author.Needs.{needs}
+use Rattle.layout_step.proofs.array_step.Statement.{statement}
+use Rattle.layout_step.proofs.array_step.Tie as tie
+use Rattle.layout_size.proofs.size_of.Reads as size-of-reads
+use Rattle.numbers.proofs.wrap.wrapping_mul.Reads as wrapping-mul-reads
+
+mul-size-of : tie.Need-mul-size-of
+mul-size-of c = let h = laws.at-kinds (c .before .before .before .args .names) (c .before .before .before .args .book-kinds .now) (c .before .before .before .args .book-words .now) (c .before .before .before .args .work .now) (c .before .before .before .args .at) (c .before .before .before .args .index) (c .before .before .before .pre) in search needs
+
+sub-size-of : tie.Need-sub-size-of
+sub-size-of c = let h = laws.at-kinds (c .before .before .before .args .names) (c .before .before .before .args .book-kinds .now) (c .before .before .before .args .book-words .now) (c .before .before .before .args .work .now) (c .before .before .before .args .at) (c .before .before .before .args .index) (c .before .before .before .pre) in search needs
+
+part-size-of-start : tie.Need-part-size-of-start
+part-size-of-start c = let h = laws.at-kinds (c .before .before .before .args .names) (c .before .before .before .args .book-kinds .now) (c .before .before .before .args .book-words .now) (c .before .before .before .args .work .now) (c .before .before .before .args .at) (c .before .before .before .args .index) (c .before .before .before .pre) in search needs
+
+part-size-of-end : tie.Need-part-size-of-end
+part-size-of-end c = search needs
+
+mul-size-of-2 : tie.Need-mul-size-of-2
+mul-size-of-2 c = let h = laws.at-words (c .before .before .before .before .args .names) (c .before .before .before .before .args .book-kinds .now) (c .before .before .before .before .args .book-words .now) (c .before .before .before .before .args .work .now) (c .before .before .before .before .args .at) (c .before .before .before .before .args .index) (c .before .before .before .before .pre) in search needs
+
+sub-size-of-2 : tie.Need-sub-size-of-2
+sub-size-of-2 c = let h = laws.at-words (c .before .before .before .before .args .names) (c .before .before .before .before .args .book-kinds .now) (c .before .before .before .before .args .book-words .now) (c .before .before .before .before .args .work .now) (c .before .before .before .before .args .at) (c .before .before .before .before .args .index) (c .before .before .before .before .pre) in search needs
+
+part-size-of-start-2 : tie.Need-part-size-of-start-2
+part-size-of-start-2 c = let h = laws.at-words (c .before .before .before .before .args .names) (c .before .before .before .before .args .book-kinds .now) (c .before .before .before .before .args .book-words .now) (c .before .before .before .before .args .work .now) (c .before .before .before .before .args .at) (c .before .before .before .before .args .index) (c .before .before .before .before .pre) in search needs
+
+part-size-of-end-2 : tie.Need-part-size-of-end-2
+part-size-of-end-2 c = search needs
+
+size-of-requires : tie.Need-size-of-requires
+size-of-requires c κs = laws.array-ask (c .before .before .before .before .before .before .args .names) (c .before .before .before .before .before .before .args .book-kinds .now) (c .before .before .before .before .before .before .args .book-words .now) (c .before .before .before .before .before .before .args .work .now) (c .before .before .before .before .before .before .args .at) (c .before .before .before .before .before .before .args .index) (c .before .before .before .before .before .before .pre)
+
+enum-known-e : tie.Need-enum-known-e
+enum-known-e c = search needs
+
+enum-known-size : tie.Need-enum-known-size
+enum-known-size c = search needs
+
+enum-known-index : tie.Need-enum-known-index
+enum-known-index c = search needs
+
+wrapping-mul-requires : tie.Need-wrapping-mul-requires
+wrapping-mul-requires c κs = search needs
+
+enum-told : tie.Need-enum-told
+enum-told c = search needs
+
+same-length : tie.Need-same-length
+same-length c = search needs
+
+returns : tie.Need-returns
+returns c = laws.array-refused (c .before .before .before .before .before .before .before .before .before .before .before .before .args .names) (c .before .before .before .before .before .before .before .before .before .before .before .before .args .book-kinds .now) (c .before .before .before .before .before .before .before .before .before .before .before .before .args .book-words .now) (c .before .before .before .before .before .before .before .before .before .before .before .before .args .work .now) (c .before .before .before .before .before .before .before .before .before .before .before .before .args .at) (c .before .before .before .before .before .before .before .before .before .before .before .before .args .index) (c .before .before .before .before .before .before .before .before .before .before .before .before .pre) _ (c .before .before .before .before .before .size-of .ensures) _ (c .before .e .given .1)
+
+same-length-2 : tie.Need-same-length-2
+same-length-2 c = search needs
+
+returns-2 : tie.Need-returns-2
+returns-2 c = laws.array-const (c .before .before .before .before .before .before .before .before .before .before .before .before .before .before .before .before .args .names) (c .before .before .before .before .before .before .before .before .before .before .before .before .before .before .before .before .args .book-kinds .now) (c .before .before .before .before .before .before .before .before .before .before .before .before .before .before .before .before .args .book-words .now) (c .before .before .before .before .before .before .before .before .before .before .before .before .before .before .before .before .args .work .now) (c .before .before .before .before .before .before .before .before .before .before .before .before .before .before .before .before .args .at) (c .before .before .before .before .before .before .before .before .before .before .before .before .before .before .before .before .args .index) (c .before .before .before .before .before .before .before .before .before .before .before .before .before .before .before .before .pre) _ (c .before .before .before .before .before .before .before .before .before .size-of .ensures) _ _ (c .before .before .before .before .before .size .given .1) _ (c .before .before .index .given .1) _ (c .wrapping-mul .ensures)
+
+same-length-3 : tie.Need-same-length-3
+same-length-3 c = search needs
+
+returns-3 : tie.Need-returns-3
+returns-3 c = laws.array-varying (c .before .before .before .before .before .before .before .before .before .before .before .before .before .before .args .names) (c .before .before .before .before .before .before .before .before .before .before .before .before .before .before .args .book-kinds .now) (c .before .before .before .before .before .before .before .before .before .before .before .before .before .before .args .book-words .now) (c .before .before .before .before .before .before .before .before .before .before .before .before .before .before .args .work .now) (c .before .before .before .before .before .before .before .before .before .before .before .before .before .before .args .at) (c .before .before .before .before .before .before .before .before .before .before .before .before .before .before .args .index) (c .before .before .before .before .before .before .before .before .before .before .before .before .before .before .pre) _ (c .before .before .before .before .before .before .before .size-of .ensures) _ _ (c .before .before .before .size .given .1) (c .enum-told .given .1)
+
+pub array-step-spec : {M : Type 1} → statement M
+array-step-spec =
+    tie.close
+    (tie.spec
+    mul-size-of
+    sub-size-of
+    part-size-of-start
+    part-size-of-end
+    mul-size-of-2
+    sub-size-of-2
+    part-size-of-start-2
+    part-size-of-end-2
+    size-of-requires
+    enum-known-e
+    enum-known-size
+    enum-known-index
+    wrapping-mul-requires
+    enum-told
+    same-length
+    returns
+    same-length-2
+    returns-2
+    same-length-3
+    returns-3)

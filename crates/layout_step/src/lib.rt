@@ -1,0 +1,161 @@
+// The step that an index of a getelementptr takes into an array or a struct. A type is named by its place among the book's
+// entries, so that the type stepped into can be handed on.
+use layout_memo::Measured;
+use numbers::wrap::wrapping_mul;
+use layout_field::Offset;
+use layout_field::Place;
+use layout_field::field_at;
+use layout_field::field_offset;
+use book_types::types::TypeGroup;
+use book_types::types::type_group;
+use layout_size::size_of;
+ghost use Rattle.book.specs.Entry.{entries};
+ghost use Rattle.book.specs.Ast.{Ty};
+ghost use lib.ListN.{drop};
+ghost use Rattle.layout_memo.specs.Front.{tyOf, tysOf};
+ghost use Rattle.layout_memo.specs.Work.{structsIn};
+ghost use Rattle.layout_step.specs.Steps.{AskAt, AskFieldsAt, AskNameAt, StepOutcome, indexOf, stepBy, structBy, arrayBy};
+
+// An index: a constant's two's complement word, or a value that varies.
+pub enum Index {
+    Constant(u64),
+    Varying,
+}
+
+// A constant offset modulo 2^64, or a stride for an index that varies, and the place of the type stepped into; or the number
+// of a refusal.
+pub enum Step {
+    Constant(u64, usize),
+    Varying(u64, usize),
+    Refused(u64),
+}
+
+// The step into a struct whose fields start at the place.
+fn struct_step(
+    book_kinds: &[u64],
+    book_words: &[u64],
+    work: &mut [u64],
+    names: u64,
+    at: usize,
+    packed: bool,
+    index: Index,
+) -> Step
+    requires { ⌜ AskFieldsAt names (entries (now «book_kinds») (now «book_words»)) (now work) at ⌝ }
+    ensures { λ r. ⌜ StepOutcome names (entries (now («book_kinds» .entry)) (now («book_words» .entry))) (now (work .entry)) (now (work .exit))
+        (structBy (structsIn names (entries (now («book_kinds» .entry)) (now («book_words» .entry)))) packed (tysOf names (drop at (entries (now («book_kinds» .entry)) (now («book_words» .entry))))) (indexOf index)) r ⌝ }
+{
+    let Index::Constant(field) = index else {
+        return Step::Refused(14);
+    };
+    let ks = &book_kinds[at..];
+    let ws = &book_words[at..];
+    let Place::At(n) = field_at(ks, ws, names, field) else {
+        return Step::Refused(14);
+    };
+    match field_offset(ks, ws, book_kinds, book_words, work, names, packed, field) {
+        Offset::Refused(e) => Step::Refused(e),
+        Offset::At(offset) => Step::Constant(offset, at + n),
+    }
+}
+
+// The step into an array whose element is at the place.
+fn array_step(
+    book_kinds: &[u64],
+    book_words: &[u64],
+    work: &mut [u64],
+    names: u64,
+    at: usize,
+    index: Index,
+) -> Step
+    requires { ⌜ AskAt names (entries (now «book_kinds») (now «book_words»)) (now work) at ⌝ }
+    ensures { λ r. ⌜ StepOutcome names (entries (now («book_kinds» .entry)) (now («book_words» .entry))) (now (work .entry)) (now (work .exit))
+        (arrayBy (structsIn names (entries (now («book_kinds» .entry)) (now («book_words» .entry)))) (tyOf names (drop at (entries (now («book_kinds» .entry)) (now («book_words» .entry))))) (indexOf index)) r ⌝ }
+{
+    match size_of(
+        &book_kinds[at..],
+        &book_words[at..],
+        book_kinds,
+        book_words,
+        work,
+        names,
+        64,
+    ) {
+        Measured::Refused(e) => Step::Refused(e),
+        Measured::Bytes(size, _) => match index {
+            Index::Constant(c) => Step::Constant(wrapping_mul(c, size), at),
+            Index::Varying => Step::Varying(size, at),
+        },
+    }
+}
+
+// The step into a named struct.
+fn named_step(
+    book_kinds: &[u64],
+    book_words: &[u64],
+    work: &mut [u64],
+    names: u64,
+    name: u64,
+    index: Index,
+) -> Step
+    requires { ⌜ AskNameAt names (entries (now «book_kinds») (now «book_words»)) (now work) name ⌝ }
+    ensures { λ r. ⌜ StepOutcome names (entries (now («book_kinds» .entry)) (now («book_words» .entry))) (now (work .entry)) (now (work .exit))
+        (stepBy (structsIn names (entries (now («book_kinds» .entry)) (now («book_words» .entry)))) (Ty.namedStruct name) (indexOf index)) r ⌝ }
+{
+    let body = work[8 * (name as usize) + 4];
+    if body == 0 {
+        return Step::Refused(6);
+    }
+    let at = (body - 1) as usize;
+    match type_group(book_kinds[at]) {
+        TypeGroup::Struct(packed) => struct_step(
+            book_kinds,
+            book_words,
+            work,
+            names,
+            at + 1,
+            packed,
+            index,
+        ),
+        TypeGroup::Void => Step::Refused(14),
+        TypeGroup::Int => Step::Refused(14),
+        TypeGroup::Ptr => Step::Refused(14),
+        TypeGroup::Array(_) => Step::Refused(14),
+        TypeGroup::Named => Step::Refused(14),
+        TypeGroup::Sizeless => Step::Refused(14),
+        TypeGroup::Other => Step::Refused(14),
+    }
+}
+
+// The step into the type at the place.
+pub fn gep_step(
+    book_kinds: &[u64],
+    book_words: &[u64],
+    work: &mut [u64],
+    names: u64,
+    at: usize,
+    index: Index,
+) -> Step
+    requires { ⌜ AskAt names (entries (now «book_kinds») (now «book_words»)) (now work) at ⌝ }
+    ensures { λ r. ⌜ StepOutcome names (entries (now («book_kinds» .entry)) (now («book_words» .entry))) (now (work .entry)) (now (work .exit))
+        (stepBy (structsIn names (entries (now («book_kinds» .entry)) (now («book_words» .entry)))) (tyOf names (drop at (entries (now («book_kinds» .entry)) (now («book_words» .entry))))) (indexOf index)) r ⌝ }
+{
+    let word = book_words[at];
+    match type_group(book_kinds[at]) {
+        TypeGroup::Array(_) => array_step(book_kinds, book_words, work, names, at + 1, index),
+        TypeGroup::Named => named_step(book_kinds, book_words, work, names, word, index),
+        TypeGroup::Struct(packed) => struct_step(
+            book_kinds,
+            book_words,
+            work,
+            names,
+            at + 1,
+            packed,
+            index,
+        ),
+        TypeGroup::Void => Step::Refused(14),
+        TypeGroup::Int => Step::Refused(14),
+        TypeGroup::Ptr => Step::Refused(14),
+        TypeGroup::Sizeless => Step::Refused(14),
+        TypeGroup::Other => Step::Refused(14),
+    }
+}

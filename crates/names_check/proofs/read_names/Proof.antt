@@ -1,0 +1,154 @@
+-- `read_names` meets its contract: what is left of the check behind the names that were passed decides, and the two numbers tally these.
+use Prim.Native.Nat.{_-_, _≤_}
+use mathlib.Core.Path.{_≡_, sym, _∙_}
+use mathlib.Core.Logic.{⊎-elim}
+use borrow.Author.Tests.{not-true, not-false, eq-eqb, ne-eqb}
+use lib.ListN.{length, take, drop}
+use borrow.Author.Needs.{needs}
+use Rattle.names.specs.Name.{accepted, lines}
+use Rattle.names_check.proofs.Check.{going, going-start, going-over, going-open, going-barred, going-unordered, going-ordered, line-named}
+use Rattle.names_spelling.proofs.Tally.{Passed, lines-past, passed-start, passed-end, passed-hit, passed-skip, passed-stop, passed-behind}
+use Rattle.names_check.proofs.read_names.Statement.{statement}
+use Rattle.names_check.proofs.read_names.Tie as tie
+
+abbrev Inv-loop : tie.InvT-loop
+Inv-loop names count prefix seen₀ from₀ to₀ last₀ last-end₀ at₀ seen from to last last-end at =
+    (last ≤ last-end) × (last-end ≤ length names) × (seen ≤ at) × (at ≤ length names)
+    × (accepted names count ≡ going (take (last-end - last) (drop last names)) (drop at names) seen count)
+    × Passed prefix (lines names) seen from to (lines (drop at names))
+
+abbrev μ-loop : tie.MeasureT-loop
+μ-loop names count prefix seen₀ from₀ to₀ last₀ last-end₀ at₀ seen from to last last-end at = length names - at
+
+loop-holds : tie.Need-loop-holds Inv-loop μ-loop
+loop-holds c = (search needs, search needs, search needs, search needs, going-start _ _, passed-start _ _)
+
+front-end-requires : tie.Need-front-end-requires Inv-loop μ-loop
+front-end-requires c κs = search needs
+
+returns : tie.Need-returns Inv-loop μ-loop
+returns c =
+    let t = c .before .before in
+    rw (t .before .loop .inv .4 ∙ going-open _ _ _ (c .before .front-end .ensures) _ _ _ (t .loop-test .taken) (c .if1 .taken))
+
+shared-slice-read-if2 : tie.Need-shared-slice-read-if2 Inv-loop μ-loop
+shared-slice-read-if2 c = search needs
+
+returns-2 : tie.Need-returns-2 Inv-loop μ-loop
+returns-2 c =
+    let t = c .before .before in
+    rw (t .before .before .before .loop .inv .4 ∙ going-barred _ _ _ (t .before .front-end .ensures) _ _ _ (t .if1 .left) (c .if2 .taken))
+
+sub-name-before : tie.Need-sub-name-before Inv-loop μ-loop
+sub-name-before c = search needs
+
+part-name-before-start : tie.Need-part-name-before-start Inv-loop μ-loop
+part-name-before-start c = search needs
+
+part-name-before-end : tie.Need-part-name-before-end Inv-loop μ-loop
+part-name-before-end c = search needs
+
+sub-name-before-2 : tie.Need-sub-name-before-2 Inv-loop μ-loop
+sub-name-before-2 c = search needs
+
+part-name-before-start-2 : tie.Need-part-name-before-start-2 Inv-loop μ-loop
+part-name-before-start-2 c = search needs
+
+part-name-before-end-2 : tie.Need-part-name-before-end-2 Inv-loop μ-loop
+part-name-before-end-2 c = search needs
+
+name-before-requires : tie.Need-name-before-requires Inv-loop μ-loop
+name-before-requires c κs = search needs
+
+returns-3 : tie.Need-returns-3 Inv-loop μ-loop
+returns-3 c =
+    let e = c .before .before .before .before in
+    let t = e .before .before in
+    rw
+    (t .before .before .before .loop .inv .4
+    ∙ going-unordered _ _ _ (t .before .front-end .ensures) _ _ _ (t .if1 .left) (e .if2 .left)
+    (sym (c .before .name-before .ensures) ∙ not-true _ (c .if3 .taken)))
+
+name-starts-requires : tie.Need-name-starts-requires Inv-loop μ-loop
+name-starts-requires c κs = search needs
+
+add-to : tie.Need-add-to Inv-loop μ-loop
+add-to c = search needs
+
+add-from : tie.Need-add-from Inv-loop μ-loop
+add-from c = search needs
+
+add-to-2 : tie.Need-add-to-2 Inv-loop μ-loop
+add-to-2 c = search needs
+
+add-seen : tie.Need-add-seen Inv-loop μ-loop
+add-seen c = search needs
+
+add-at : tie.Need-add-at Inv-loop μ-loop
+add-at c = search needs
+
+loop-less : tie.Need-loop-less Inv-loop μ-loop
+loop-less c = search needs
+
+loop-again : tie.Need-loop-again Inv-loop μ-loop
+loop-again c =
+    let b = c .before .before in
+    let e = b .before .before .before in
+    let t = e .before .before in
+    let i = t .before .before .before .loop .inv in
+    let here = line-named _ _ _ (t .before .front-end .ensures) (t .if1 .left) (e .if2 .left) in (
+      search needs,
+      search needs,
+      search needs,
+      search needs,
+      i .4
+          ∙ going-ordered _ _ _ (t .before .front-end .ensures) _ _ _ (t .if1 .left) (e .if2 .left)
+          (sym (b .name-before .ensures) ∙ not-false _ (c .before .if3 .left)),
+      ⊎-elim (λ w. rw (w .3, w .4) (passed-hit _ _ _ _ _ _ _ _ here (w .0 .taken) (sym (w .1 .ensures) ∙ w .2 .taken) (i .5)))
+          (⊎-elim
+          (λ w. rw (w .4, w .5) (passed-skip _ _ _ _ _ _ _ _ here (w .0 .taken) (sym (w .1 .ensures) ∙ w .2 .left) (w .3 .taken) (i .5)))
+          (⊎-elim
+          (λ w. rw (w .4, w .5) (passed-stop _ _ _ _ _ _ _ _ here (w .0 .taken) (sym (w .1 .ensures) ∙ w .2 .left) (w .3 .left) (i .5)))
+          (λ w. rw (w .1, w .2) (passed-behind _ _ _ _ _ _ _ _ here (w .0 .left) (i .5)))))
+          (c .if4 .came),
+    )
+
+returns-4 : tie.Need-returns-4 Inv-loop μ-loop
+returns-4 c =
+    let t = c .before .before in
+    let l = c .before .loop-test .left in
+    let r = passed-end _ _ _ _ _ _ (lines-past _ _ l) (t .loop .inv .5) in
+    rw (t .loop .inv .4 ∙ going-over _ _ _ _ _ l ∙ eq-eqb _ _ (c .if7 .taken), ← r .first, ← r .past)
+
+returns-5 : tie.Need-returns-5 Inv-loop μ-loop
+returns-5 c = rw (c .before .before .loop .inv .4 ∙ going-over _ _ _ _ _ (c .before .loop-test .left) ∙ ne-eqb _ _ (c .if7 .left))
+
+pub read-names-spec : {M : Type 1} → statement M
+read-names-spec =
+    tie.close
+    (tie.spec
+    Inv-loop
+    μ-loop
+    loop-holds
+    front-end-requires
+    returns
+    shared-slice-read-if2
+    returns-2
+    sub-name-before
+    part-name-before-start
+    part-name-before-end
+    sub-name-before-2
+    part-name-before-start-2
+    part-name-before-end-2
+    name-before-requires
+    returns-3
+    name-starts-requires
+    add-to
+    add-from
+    add-to-2
+    add-seen
+    add-at
+    loop-less
+    loop-again
+    returns-4
+    returns-5)

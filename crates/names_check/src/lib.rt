@@ -1,0 +1,108 @@
+// The names that come with a book: whether they are a list of names as document 01 wants them, and which of them start with a prefix.
+use names_spelling::END;
+use names_spelling::name_starts;
+ghost use mathlib.Core.Path.{_≡_};
+ghost use Prim.Native.Nat.{_+_};
+ghost use lib.ListN.{length, drop};
+ghost use Rattle.names.specs.Name.{nameByte, before, accepted, lines, front};
+ghost use Rattle.names.specs.Prefix.{firstWith, pastWith};
+ghost use Rattle.names_check.specs.Read.{namesRead};
+
+// Whether a byte may stand in a name.
+fn name_byte(b: u8) -> bool
+    ensures { λ r. ⌜ r ≡ nameByte b ⌝ }
+{
+    (32 <= b) & (b <= 126)
+}
+
+// The index of the first byte from `at` on that may not stand in a name, or the number of bytes.
+fn front_end(names: &[u8], at: usize) -> usize
+    ensures { λ r. ⌜ r ≡ at + length (front (drop at (now (names .entry)))) ⌝ }
+{
+    let mut i = at;
+    while i < names.len() {
+        if !name_byte(names[i]) {
+            return i;
+        }
+        i += 1;
+    }
+    i
+}
+
+// Whether one name comes strictly before another bytewise.
+pub fn name_before(a: &[u8], b: &[u8]) -> bool
+    ensures { λ r. ⌜ r ≡ before (now (a .entry)) (now (b .entry)) ⌝ }
+{
+    let mut i: usize = 0;
+    while i < a.len() {
+        if b.len() <= i {
+            return false;
+        }
+        let x = a[i];
+        let y = b[i];
+        if x != y {
+            return x < y;
+        }
+        i += 1;
+    }
+    i < b.len()
+}
+
+// The names of a slice: a list of names, with the range of those that start with a prefix; or no such list.
+pub enum Names {
+    Sorted(u64, u64),
+    Bad,
+}
+
+// Whether the bytes are a list of names, and `count` of them, with the range of those that start with the prefix: one pass, in which each
+// name is compared with the one before it. An empty name fails that comparison, since nothing comes before it. The range ends at the first
+// name behind it, from which on `to` is less than `seen`.
+pub fn read_names(names: &[u8], count: u64, prefix: &[u8]) -> Names
+    ensures { λ r. ⌜ r ≡ namesRead (accepted (now (names .entry)) count) (firstWith (now (prefix .entry)) (lines (now (names .entry)))) (pastWith (now (prefix .entry)) (lines (now (names .entry)))) ⌝ }
+{
+    let mut seen: u64 = 0;
+    let mut from: u64 = 0;
+    let mut to: u64 = 0;
+    let mut last: usize = 0;
+    let mut last_end: usize = 0;
+    let mut at: usize = 0;
+    while at < names.len() {
+        let end = front_end(names, at);
+        if names.len() <= end {
+            return Names::Bad;
+        }
+        if names[end] != END {
+            return Names::Bad;
+        }
+        if !name_before(&names[last..last_end], &names[at..end]) {
+            return Names::Bad;
+        }
+        if to == seen {
+            if name_starts(names, at, prefix) {
+                to += 1;
+            } else if from == to {
+                from += 1;
+                to += 1;
+            }
+        }
+        seen += 1;
+        last = at;
+        last_end = end;
+        at = end + 1;
+    }
+    if seen == count {
+        Names::Sorted(from, to)
+    } else {
+        Names::Bad
+    }
+}
+
+// Whether the bytes are a list of names, and `count` of them.
+pub fn check_names(names: &[u8], count: u64) -> bool
+    ensures { λ r. ⌜ r ≡ accepted (now (names .entry)) count ⌝ }
+{
+    match read_names(names, count, b"") {
+        Names::Sorted(_, _) => true,
+        Names::Bad => false,
+    }
+}

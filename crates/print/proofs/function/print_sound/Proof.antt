@@ -1,0 +1,69 @@
+-- `print_sound` meets its contract, by what the entries of the function say.
+use Rattle.print.specs.Function.{fn-kinds, fn-words, fn-typed, fn-below, fn-known}
+use borrow.Author.Needs.{needs}
+use Rattle.print.proofs.function.print_sound.Statement.{statement}
+use Rattle.print.proofs.function.print_sound.Tie as tie
+use Rattle.print.proofs.function.function_params.Reads as function-params-reads
+use Rattle.print.proofs.passes.print_known.Reads as print-known-reads
+use Rattle.print_types.proofs.starts.note_starts.Reads as note-starts-reads
+
+shared-slice-read-function : tie.Need-shared-slice-read-function
+shared-slice-read-function c = fn-words (c .before .before .before .before .before .before .before .args .count) (c .before .before .before .before .before .before .before .args .kinds .now) (c .before .before .before .before .before .before .before .args .words .now) (c .before .before .before .before .before .before .before .pre .0)
+
+function-params-requires : tie.Need-function-params-requires
+function-params-requires c κs = search needs
+
+slice-aggregate-note-starts : tie.Need-slice-aggregate-note-starts
+slice-aggregate-note-starts c = search needs
+
+note-starts-requires : tie.Need-note-starts-requires
+note-starts-requires c κs = search needs
+
+slice-aggregate-print-known : tie.Need-slice-aggregate-print-known
+slice-aggregate-print-known c = search needs
+
+sub-print-known : tie.Need-sub-print-known
+sub-print-known c = fn-kinds (c .before .before .before .before .before .before .before .before .before .before .before .before .args .count) (c .before .before .before .before .before .before .before .before .before .before .before .before .args .kinds .now) (c .before .before .before .before .before .before .before .before .before .before .before .before .args .words .now) (c .before .before .before .before .before .before .before .before .before .before .before .before .pre .0)
+
+part-print-known-start : tie.Need-part-print-known-start
+part-print-known-start c = fn-kinds (c .before .before .before .before .before .before .before .before .before .before .before .before .args .count) (c .before .before .before .before .before .before .before .before .before .before .before .before .args .kinds .now) (c .before .before .before .before .before .before .before .before .before .before .before .before .args .words .now) (c .before .before .before .before .before .before .before .before .before .before .before .before .pre .0)
+
+part-print-known-end : tie.Need-part-print-known-end
+part-print-known-end c = search needs
+
+sub-print-known-2 : tie.Need-sub-print-known-2
+sub-print-known-2 c = fn-words (c .before .before .before .before .before .before .before .before .before .before .before .before .before .args .count) (c .before .before .before .before .before .before .before .before .before .before .before .before .before .args .kinds .now) (c .before .before .before .before .before .before .before .before .before .before .before .before .before .args .words .now) (c .before .before .before .before .before .before .before .before .before .before .before .before .before .pre .0)
+
+part-print-known-start-2 : tie.Need-part-print-known-start-2
+part-print-known-start-2 c = fn-words (c .before .before .before .before .before .before .before .before .before .before .before .before .before .args .count) (c .before .before .before .before .before .before .before .before .before .before .before .before .before .args .kinds .now) (c .before .before .before .before .before .before .before .before .before .before .before .before .before .args .words .now) (c .before .before .before .before .before .before .before .before .before .before .before .before .before .pre .0)
+
+part-print-known-end-2 : tie.Need-part-print-known-end-2
+part-print-known-end-2 c = search needs
+
+print-known-requires : tie.Need-print-known-requires
+print-known-requires c κs = (c .before .before .before .before .before .note-starts .ensures, (rw (c .before .before .before .before .before .before .before .before .before .before .before .before .before .before .before .pre .1 .1) at (fn-typed (c .before .before .before .before .before .before .before .before .before .before .before .before .before .before .before .args .count) (c .before .before .before .before .before .before .before .before .before .before .before .before .before .before .before .args .kinds .now) (c .before .before .before .before .before .before .before .before .before .before .before .before .before .before .before .args .words .now) (c .before .before .before .before .before .before .before .before .before .before .before .before .before .before .before .pre .0)), (c .before .before .before .before .before .before .before .before .before .before .before .before .before .before .before .pre .1 .1, fn-below (c .before .before .before .before .before .before .before .before .before .before .before .before .before .before .before .args .count) (c .before .before .before .before .before .before .before .before .before .before .before .before .before .before .before .args .kinds .now) (c .before .before .before .before .before .before .before .before .before .before .before .before .before .before .before .args .words .now) (c .before .before .before .before .before .before .before .before .before .before .before .before .before .before .before .pre .0))))
+
+same-length : tie.Need-same-length
+same-length c = search needs
+
+returns : tie.Need-returns
+returns c = λ b n g. c .before .before .print-known .ensures b (fn-known (c .before .before .before .before .before .before .before .before .before .before .before .before .before .before .before .before .before .before .args .count) (c .before .before .before .before .before .before .before .before .before .before .before .before .before .before .before .before .before .before .args .kinds .now) (c .before .before .before .before .before .before .before .before .before .before .before .before .before .before .before .before .before .before .args .words .now) (c .before .before .before .before .before .before .before .before .before .before .before .before .before .before .before .before .before .before .pre .0) (c .before .before .before .before .before .before .before .before .before .before .before .before .before .before .before .before .before .before .args .names .now) (c .before .before .before .before .before .before .before .before .before .before .before .before .before .before .before .before .before .before .pre .1 .1) _ (c .before .before .before .before .before .before .before .before .before .before .function-params .ensures) b n g)
+
+pub print-sound-spec : {M : Type 1} → statement M
+print-sound-spec =
+    tie.close
+    (tie.spec
+    shared-slice-read-function
+    function-params-requires
+    slice-aggregate-note-starts
+    note-starts-requires
+    slice-aggregate-print-known
+    sub-print-known
+    part-print-known-start
+    part-print-known-end
+    sub-print-known-2
+    part-print-known-start-2
+    part-print-known-end-2
+    print-known-requires
+    same-length
+    returns)

@@ -1,0 +1,131 @@
+-- The two passes, and the answer of the call.
+use Prim.Native.Nat.{ℕ, _+_}
+use mathlib.Core.Path.{_≡_, refl, sym, ap, _∙_}
+use mathlib.Core.Bool.{Bool, true, false, cond, false≢true}
+use mathlib.Core.Option.{Option, none, some}
+use mathlib.Core.List.{List, [], _++_}
+use native.Mathlib.Omega.{arith}
+use borrow.Author.Tests.{leb-true, le-leb}
+use lib.Dec.{leb}
+use lib.ListN.{length, drop}
+use Rattle.names.specs.Text.{bytes}
+use Rattle.names.specs.Name.{namesOf, nameAt, lines}
+use Rattle.names.specs.Lines.{names-iff}
+use Rattle.names.specs.Prefix.{PrefixRange}
+use Rattle.book.specs.Ast.{Ty, Book}
+use Rattle.book.specs.Entry.{entries}
+use Rattle.book.specs.Decode.{typeTo}
+use Rattle.assembly.specs.Line.{Line}
+use Rattle.assembly.specs.Text.{typeText, texts}
+use Rattle.assembly.specs.Printer.{Printing, refusing, writing, needed, linesOf}
+use Rattle.assembly.specs.Printer as printer
+use Rattle.print_pen.specs.Pen.{Put, reached, fitting, counted, written}
+use Rattle.print_types.specs.Starts.{Starts}
+use Rattle.print_types.specs.Types.{typeBytes}
+use Rattle.print_lines.specs.Lines.{printed}
+use Rattle.print_forms.specs.All.{AllReady, allowedAll}
+use Rattle.print_lines.specs.All.{printedAll}
+use Rattle.print_lines.specs.Same.{putFor, lines-same}
+use Rattle.print_forms.specs.Allowed.{isSome, allowed-lines, all-ready, uvm-range}
+use Rattle.print_pen.specs.declared.Pen.{Pen}
+use Rattle.print_pen.specs.declared.Pen.the-variants.{Counting, Writing, Full}
+use Rattle.print.specs.declared.passes.Printed.{Printed}
+use Rattle.print.specs.declared.passes.Printed.the-variants.{Accepted, Refused}
+
+-- the answer of the code as the definition has it
+abbrev pub replyOf : Printed → printer.Printed
+replyOf (Accepted n) = printer.Printed.accepted n
+replyOf (Refused e) = printer.Printed.refused e
+
+-- the answer and the text after the call
+abbrev pub printing : Printed → List ℕ → Printing
+printing r y = record { reply = replyOf r; text = y }
+
+-- ---- the passes
+pub start-counting : (x : List ℕ) → Counting 0 ≡ reached (length x) 0 (Counting 0)
+start-counting x = rw (le-leb 0 (length x) (omega arith))
+
+pub start-writing : (x : List ℕ) → Writing 0 ≡ reached (length x) 0 (Writing 0)
+start-writing x = rw (le-leb 0 (length x) (omega arith))
+
+module _ {bs x y : List ℕ} {q : Pen} (c : Put bs (Counting 0) x y q) where
+  pub passes-full : q ≡ Full → printing (Refused 20) y ≡ writing bs x
+  unfolding writing refusing
+  passes-full e = go (leb (length bs) (length x)) (counted c .1)
+    where
+      go : (t : Bool) → q ≡ fitting t (Counting (length bs)) → printing (Refused 20) y ≡ cond t (record { reply = printer.Printed.accepted (length bs); text = bs ++ drop (length bs) x }) (refusing 20 x)
+      go true f = absurd (let z : _≡_ {A = ℕ} 0 1 = cc in omega arith)
+      go false f = ap (printing (Refused 20)) (counted c .0)
+
+  pub passes-never : (n : ℕ) → q ≡ Writing n → printing (Refused 20) y ≡ writing bs x
+  passes-never n e = go (leb (length bs) (length x)) (counted c .1)
+    where
+      go : (t : Bool) → q ≡ fitting t (Counting (length bs)) → printing (Refused 20) y ≡ writing bs x
+      go true f = absurd (let z : _≡_ {A = ℕ} 0 1 = cc in omega arith)
+      go false f = absurd (let z : _≡_ {A = ℕ} 0 1 = cc in omega arith)
+
+  pub passes-done : (n : ℕ) (z : List ℕ) (r : Pen) → q ≡ Counting n → Put bs (Writing 0) y z r → printing (Accepted n) z ≡ writing bs x
+  unfolding writing refusing
+  passes-done n z r e w = go (leb (length bs) (length x)) refl (counted c .1)
+    where
+      go : (t : Bool) → leb (length bs) (length x) ≡ t → q ≡ fitting t (Counting (length bs))
+          → printing (Accepted n) z ≡ cond t (record { reply = printer.Printed.accepted (length bs); text = bs ++ drop (length bs) x }) (refusing 20 x)
+      go true l f =
+          let m : n ≡ length bs = cc in
+          let s : y ≡ x = counted c .0 in
+          let v : z ≡ bs ++ drop (length bs) y = written w (omega (arith, leb-true (length bs) (length x) l, ap length s)) in
+          rw (m, v, s)
+      go false l f = absurd (let z : _≡_ {A = ℕ} 0 1 = cc in omega arith)
+
+-- ---- from the function's facts to the definition
+-- the printer's part behind the refusals 1 and 2
+unfoldable pub definition : List (List ℕ) → Book → (kinds operands text : List ℕ) → Printing
+definition ns b ks xs x = needed 21 x (linesOf ns b ks xs) (λ ls. writing (texts ns (b .function) ls) x)
+
+-- what is known of a book's function
+pub record Known (bs ks ws : List ℕ) (function params : ℕ) (b : Book) : Type 0 where
+  pub name : b .function .name ≡ function
+  pub type : typeBytes (lines bs) (typeTo (length (lines bs)) 64 (entries ks ws)) ≡ typeText (lines bs) (b .function .retTy)
+  pub count : length (b .function .params) ≡ params
+
+names-of : (bs starts : List ℕ) → Starts bs starts → namesOf bs ≡ some (lines bs)
+names-of bs starts s = names-iff bs (lines bs) .1 (s .sound .names)
+
+-- a book that has a function of this name
+abbrev named : ℕ → Book
+named f = record { marks = []; structs = []; function = record { name = f; retTy = Ty.void; params = []; blocks = [] } }
+
+module _ {bs starts : List ℕ} (s : Starts bs starts) (from to : ℕ) (r : PrefixRange (bytes "__uvm_") (lines bs) from to) (m function : ℕ) (c : m ≡ length (lines bs)) (ks xs : List ℕ) where
+  pub lines-ready : (t : Bool) → t ≡ allowedAll m function from to ks xs → t ≡ true → AllReady (lines bs) ks xs
+  lines-ready t e h =
+      all-ready (lines bs) (named function) from to (uvm-range bs (lines bs) (named function) from to (names-of bs starts s) r) ks xs
+      (rw c at (sym e ∙ h))
+
+  module _ (b : Book) (n : b .function .name ≡ function) where
+    same-check : allowedAll m function from to ks xs ≡ isSome (linesOf (lines bs) b ks xs)
+    same-check = rw (c, ← n) (allowed-lines (lines bs) b from to (uvm-range bs (lines bs) b from to (names-of bs starts s) r) ks xs)
+
+  pub lines-barred : (t : Bool) (kws kks : List ℕ) (params : ℕ) (b : Book) (x : List ℕ) → t ≡ allowedAll m function from to ks xs → t ≡ false → Known bs kks kws function params b
+      → printing (Refused 21) x ≡ definition (lines bs) b ks xs x
+  unfolding definition needed refusing
+  lines-barred t kws kks params b x e h k = go (linesOf (lines bs) b ks xs) (sym (same-check b (k .name)) ∙ sym e ∙ h)
+    where
+      go : (o : Option (List Line)) → isSome o ≡ false → printing (Refused 21) x ≡ needed 21 x o (λ ls. writing (texts (lines bs) (b .function) ls) x)
+      go none i = refl
+      go (some ls) i = absurd (false≢true (sym i))
+
+  pub lines-put : (t : Bool) (kks kws : List ℕ) (params : ℕ) (b : Book) (fname x : List ℕ) (g : Printing) → t ≡ allowedAll m function from to ks xs → t ≡ true
+      → Known bs kks kws function params b → fname ≡ nameAt (lines bs) function
+      → g ≡ writing (printedAll (printed (lines bs) fname (typeBytes (lines bs) (typeTo (length (lines bs)) 64 (entries kks kws))) params) ks xs) x
+      → g ≡ definition (lines bs) b ks xs x
+  unfolding definition needed
+  lines-put t kks kws params b fname x g e h k f w = w ∙ go (linesOf (lines bs) b ks xs) refl (sym (same-check b (k .name)) ∙ sym e ∙ h)
+    where
+      one : printed (lines bs) fname (typeBytes (lines bs) (typeTo (length (lines bs)) 64 (entries kks kws))) params ≡ putFor (lines bs) (b .function)
+      one = rw (f, ← k .name, k .type, ← k .count)
+
+      go : (o : Option (List Line)) → linesOf (lines bs) b ks xs ≡ o → isSome o ≡ true
+          → writing (printedAll (printed (lines bs) fname (typeBytes (lines bs) (typeTo (length (lines bs)) 64 (entries kks kws))) params) ks xs) x
+          ≡ needed 21 x o (λ ls. writing (texts (lines bs) (b .function) ls) x)
+      go none l i = absurd (false≢true i)
+      go (some ls) l i = ap (λ (o : ℕ → ℕ → List ℕ). writing (printedAll o ks xs) x) one ∙ ap (λ (u : List ℕ). writing u x) (sym (lines-same (lines bs) (b .function) b ks xs ls l))

@@ -1,0 +1,113 @@
+// The two passes over the lines: one counts the bytes, the other stores them if they fit.
+use print_forms::check_lines;
+use print_lines::put_lines;
+use print_pen::Pen;
+use print_types::starts::name_of;
+ghost use mathlib.Core.Path.{_≡_};
+ghost use mathlib.Core.List.{List};
+ghost use Prim.Native.Nat.{ℕ, _<_};
+ghost use lib.ListN.{length};
+ghost use Rattle.names.specs.Name.{lines};
+ghost use Rattle.book.specs.Ast.{Book};
+ghost use Rattle.book.specs.Entry.{entries};
+ghost use Rattle.book.specs.Decode.{typeTo};
+ghost use Rattle.assembly.specs.Printer.{writing};
+ghost use Rattle.print_types.specs.Starts.{Starts};
+ghost use Rattle.print_types.specs.Types.{typeBytes, Typed};
+ghost use Rattle.print_lines.specs.Lines.{printed};
+ghost use Rattle.print_forms.specs.All.{AllReady};
+ghost use Rattle.print_lines.specs.All.{printedAll};
+ghost use Rattle.print.specs.Passes.{printing, Known, definition};
+
+// The bytes put from index 0 on, or a refusal's number.
+pub enum Printed {
+    Accepted(usize),
+    Refused(u64),
+}
+
+// Puts lines whose names are there, or refuses with 20.
+fn put_twice(
+    names: &[u8],
+    starts: &[usize],
+    function: &[u8],
+    kinds: &[u64],
+    words: &[u64],
+    params: u64,
+    line_kinds: &[u16],
+    operands: &[u64],
+    text: &mut [u8],
+) -> Printed
+    requires { ⌜ Starts (now names) (now starts) ⌝ }
+    requires { ⌜ Typed (length (lines (now names))) 64 (now kinds) (now words) ⌝ }
+    requires { ⌜ AllReady (lines (now names)) (now «line_kinds») (now operands) ⌝ }
+    ensures { λ r. ⌜ printing r (now (text .exit)) ≡ writing (printedAll (printed (lines (now (names .entry))) (now (function .entry)) (typeBytes (lines (now (names .entry))) (typeTo (length (lines (now (names .entry)))) 64 (entries (now (kinds .entry)) (now (words .entry))))) params) (now («line_kinds» .entry)) (now (operands .entry))) (now (text .entry)) ⌝ }
+{
+    let counted = put_lines(
+        text,
+        Pen::Counting(0),
+        names,
+        starts,
+        function,
+        kinds,
+        words,
+        params,
+        line_kinds,
+        operands,
+    );
+    match counted {
+        Pen::Counting(n) => {
+            put_lines(
+                text,
+                Pen::Writing(0),
+                names,
+                starts,
+                function,
+                kinds,
+                words,
+                params,
+                line_kinds,
+                operands,
+            );
+            Printed::Accepted(n)
+        }
+        Pen::Writing(_) => Printed::Refused(20),
+        Pen::Full => Printed::Refused(20),
+    }
+}
+
+// Prints the lines of a function whose name, return type and number of parameters are known: refuses with 21, then with 20.
+pub fn print_known(
+    names: &[u8],
+    starts: &[usize],
+    function: u64,
+    count: u64,
+    kinds: &[u64],
+    words: &[u64],
+    params: u64,
+    line_kinds: &[u16],
+    operands: &[u64],
+    text: &mut [u8],
+) -> Printed
+    requires { ⌜ Starts (now names) (now starts) ⌝ }
+    requires { ⌜ Typed (length (lines (now names))) 64 (now kinds) (now words) ⌝ }
+    requires { ⌜ count ≡ length (lines (now names)) ⌝ }
+    requires { ⌜ function < count ⌝ }
+    ensures { λ r. ⌜ ((b : Book) → Known (now (names .entry)) (now (kinds .entry)) (now (words .entry)) function params b
+        → printing r (now (text .exit)) ≡ definition (lines (now (names .entry))) b (now («line_kinds» .entry)) (now (operands .entry)) (now (text .entry))) ⌝ }
+{
+    let calls = names_spelling::prefix_range(names, b"__uvm_");
+    if !check_lines(line_kinds, operands, count, function, calls.from, calls.to) {
+        return Printed::Refused(21);
+    }
+    put_twice(
+        names,
+        starts,
+        name_of(names, starts, function),
+        kinds,
+        words,
+        params,
+        line_kinds,
+        operands,
+        text,
+    )
+}

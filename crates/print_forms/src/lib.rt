@@ -1,0 +1,119 @@
+// Which form a line's kind has: what its operand may be, and what is put for it.
+ghost use mathlib.Core.Path.{_≡_};
+ghost use Rattle.print_forms.specs.Forms.{formOf, numberForm, nameForm, allowedBy};
+ghost use Rattle.print_forms.specs.All.{allowedAll};
+
+// The operand: the function, a name, a block, a call, a syscall, a count of slots, any number, a slot, a number of arguments,
+// none.
+pub enum Form {
+    Comment,
+    Name,
+    Block,
+    Call,
+    Syscall,
+    Count,
+    Any,
+    Slot,
+    Args,
+    Bare,
+    Unknown,
+}
+
+pub fn form_of(kind: u16) -> Form
+    ensures { λ r. ⌜ r ≡ formOf kind ⌝ }
+{
+    if 21 <= kind {
+        return if kind < 94 { Form::Bare } else { Form::Unknown };
+    }
+    if 13 <= kind {
+        return Form::Any;
+    }
+    if 7 <= kind {
+        return number_form(kind);
+    }
+    name_form(kind)
+}
+
+// Kinds 7 to 12.
+fn number_form(kind: u16) -> Form
+    ensures { λ r. ⌜ r ≡ numberForm kind ⌝ }
+{
+    if kind == 7 {
+        return Form::Count;
+    }
+    if kind < 10 {
+        return Form::Any;
+    }
+    if kind < 12 { Form::Slot } else { Form::Args }
+}
+
+// Kinds 0 to 6.
+fn name_form(kind: u16) -> Form
+    ensures { λ r. ⌜ r ≡ nameForm kind ⌝ }
+{
+    if kind == 0 {
+        return Form::Comment;
+    }
+    if kind == 5 {
+        return Form::Call;
+    }
+    if kind == 6 {
+        return Form::Syscall;
+    }
+    if kind == 1 {
+        return Form::Name;
+    }
+    if kind == 4 { Form::Name } else { Form::Block }
+}
+
+// Whether a line may stand: its kind is known and its operand allowed. `names` is the number of names, `function` the function's
+// name; the names from `from` up to `to` start with `__uvm_`.
+pub fn allowed(form: Form, x: u64, names: u64, function: u64, from: u64, to: u64) -> bool
+    ensures { λ r. ⌜ r ≡ allowedBy form x names function from to ⌝ }
+{
+    match form {
+        Form::Comment => x == function,
+        Form::Name => x < names,
+        Form::Block => x < names,
+        Form::Call => x / 256 < names,
+        Form::Syscall => (from <= x) & (x < to),
+        Form::Count => (1 <= x) & (x <= 65535),
+        Form::Any => true,
+        Form::Slot => x <= 65535,
+        Form::Args => x <= 255,
+        Form::Bare => x == 0,
+        Form::Unknown => false,
+    }
+}
+
+// Whether every line may stand, of as many as both slices hold. `names` is the number of names, `function` the function's name; the
+// names from `from` up to `to` start with `__uvm_`.
+pub fn check_lines(
+    line_kinds: &[u16],
+    operands: &[u64],
+    names: u64,
+    function: u64,
+    from: u64,
+    to: u64,
+) -> bool
+    ensures { λ r. ⌜ r ≡ allowedAll names function from to (now («line_kinds» .entry)) (now (operands .entry)) ⌝ }
+{
+    let mut i: usize = 0;
+    while i < line_kinds.len() {
+        if operands.len() <= i {
+            return true;
+        }
+        if !allowed(
+            form_of(line_kinds[i]),
+            operands[i],
+            names,
+            function,
+            from,
+            to,
+        ) {
+            return false;
+        }
+        i += 1;
+    }
+    true
+}

@@ -1,0 +1,169 @@
+// The text of a line: the word of its kind, what stands for its operand, and its end.
+use print_forms::Form;
+use print_forms::form_of;
+use print_pen::Pen;
+use print_pen::put_bytes;
+use print_pen::put_clean;
+use print_pen::put_number;
+use print_types::starts::name_of;
+use print_types::types::put_type;
+use print_words::put_block;
+use print_words::put_call;
+use print_words::put_end;
+use print_words::put_params;
+use print_words::put_syscall;
+use print_words::put_word;
+ghost use mathlib.Core.Path.{_≡_};
+ghost use Prim.Native.Nat.{_<_};
+ghost use lib.ListN.{length};
+ghost use Rattle.names.specs.Name.{lines};
+ghost use Rattle.book.specs.Entry.{entries};
+ghost use Rattle.book.specs.Decode.{typeTo};
+ghost use Rattle.print_pen.specs.Pen.{reached, Put};
+ghost use Rattle.print_types.specs.Starts.{Starts};
+ghost use Rattle.print_types.specs.Types.{typeBytes, Typed};
+ghost use Rattle.print_forms.specs.Forms.{formOf};
+ghost use Rattle.print_forms.specs.All.{Ready, AllReady};
+ghost use Rattle.print_lines.specs.Lines.{operandText, partsText, comment, printed};
+ghost use Rattle.print_lines.specs.All.{printedAll};
+
+// Puts what stands for the operand x.
+fn put_operand(
+    text: &mut [u8],
+    pen: Pen,
+    names: &[u8],
+    starts: &[usize],
+    function: &[u8],
+    form: Form,
+    x: u64,
+) -> Pen
+    requires { ⌜ Starts (now names) (now starts) ⌝ }
+    requires { ⌜ Ready form (lines (now names)) x ⌝ }
+    ensures { λ r. ⌜ Put (operandText (lines (now (names .entry))) (now (function .entry)) form x) pen (now (text .entry)) (now (text .exit)) r ⌝ }
+{
+    match form {
+        Form::Name => put_clean(text, pen, name_of(names, starts, x)),
+        Form::Block => put_block(text, pen, function, name_of(names, starts, x)),
+        Form::Call => put_call(text, pen, name_of(names, starts, x / 256), x % 256),
+        Form::Syscall => put_syscall(text, pen, name_of(names, starts, x)),
+        Form::Count => put_number(text, pen, x),
+        Form::Any => put_number(text, pen, x),
+        Form::Slot => put_number(text, pen, x),
+        Form::Args => put_number(text, pen, x),
+        Form::Comment => put_bytes(text, pen, b""),
+        Form::Bare => put_bytes(text, pen, b""),
+        Form::Unknown => put_bytes(text, pen, b""),
+    }
+}
+
+// Puts a line that has an operand.
+fn put_parts(
+    text: &mut [u8],
+    pen: Pen,
+    names: &[u8],
+    starts: &[usize],
+    function: &[u8],
+    kind: u16,
+    x: u64,
+) -> Pen
+    requires { ⌜ Starts (now names) (now starts) ⌝ }
+    requires { ⌜ Ready (formOf kind) (lines (now names)) x ⌝ }
+    requires { ⌜ kind < 94 ⌝ }
+    ensures { λ r. ⌜ Put (partsText (lines (now (names .entry))) (now (function .entry)) kind x) pen (now (text .entry)) (now (text .exit)) r ⌝ }
+{
+    let word = put_word(text, pen, kind);
+    let operand = put_operand(text, word, names, starts, function, form_of(kind), x);
+    put_end(text, operand, kind)
+}
+
+// Puts a function's opening comment; its return type stands at the front of the entries.
+fn put_comment(
+    text: &mut [u8],
+    pen: Pen,
+    names: &[u8],
+    starts: &[usize],
+    function: &[u8],
+    kinds: &[u64],
+    words: &[u64],
+    params: u64,
+) -> Pen
+    requires { ⌜ Starts (now names) (now starts) ⌝ }
+    requires { ⌜ Typed (length (lines (now names))) 64 (now kinds) (now words) ⌝ }
+    ensures { λ r. ⌜ Put (comment (now (function .entry)) (typeBytes (lines (now (names .entry))) (typeTo (length (lines (now (names .entry)))) 64 (entries (now (kinds .entry)) (now (words .entry))))) params) pen (now (text .entry)) (now (text .exit)) r ⌝ }
+{
+    let sign = put_bytes(text, pen, b"# ");
+    let ty = put_type(text, sign, names, starts, kinds, words, 64);
+    let at = put_bytes(text, ty, b" @");
+    let name = put_bytes(text, at, function);
+    put_params(text, name, params)
+}
+
+// Puts a line.
+fn put_line(
+    text: &mut [u8],
+    pen: Pen,
+    names: &[u8],
+    starts: &[usize],
+    function: &[u8],
+    kinds: &[u64],
+    words: &[u64],
+    params: u64,
+    kind: u16,
+    x: u64,
+) -> Pen
+    requires { ⌜ Starts (now names) (now starts) ⌝ }
+    requires { ⌜ Typed (length (lines (now names))) 64 (now kinds) (now words) ⌝ }
+    requires { ⌜ Ready (formOf kind) (lines (now names)) x ⌝ }
+    requires { ⌜ kind < 94 ⌝ }
+    ensures { λ r. ⌜ Put (printed (lines (now (names .entry))) (now (function .entry)) (typeBytes (lines (now (names .entry))) (typeTo (length (lines (now (names .entry)))) 64 (entries (now (kinds .entry)) (now (words .entry))))) params kind x) pen (now (text .entry)) (now (text .exit)) r ⌝ }
+{
+    if 21 <= kind {
+        return put_word(text, pen, kind);
+    }
+    if kind == 0 {
+        return put_comment(text, pen, names, starts, function, kinds, words, params);
+    }
+    put_parts(text, pen, names, starts, function, kind, x)
+}
+
+// Puts as many lines as both slices hold.
+pub fn put_lines(
+    text: &mut [u8],
+    pen: Pen,
+    names: &[u8],
+    starts: &[usize],
+    function: &[u8],
+    kinds: &[u64],
+    words: &[u64],
+    params: u64,
+    line_kinds: &[u16],
+    operands: &[u64],
+) -> Pen
+    requires { ⌜ Starts (now names) (now starts) ⌝ }
+    requires { ⌜ Typed (length (lines (now names))) 64 (now kinds) (now words) ⌝ }
+    requires { ⌜ AllReady (lines (now names)) (now «line_kinds») (now operands) ⌝ }
+    requires { ⌜ pen ≡ reached (length (now text)) 0 pen ⌝ }
+    ensures { λ r. ⌜ Put (printedAll (printed (lines (now (names .entry))) (now (function .entry)) (typeBytes (lines (now (names .entry))) (typeTo (length (lines (now (names .entry)))) 64 (entries (now (kinds .entry)) (now (words .entry))))) params) (now («line_kinds» .entry)) (now (operands .entry))) pen (now (text .entry)) (now (text .exit)) r ⌝ }
+{
+    let mut next = pen;
+    let mut i: usize = 0;
+    while i < line_kinds.len() {
+        if operands.len() <= i {
+            return next;
+        }
+        next = put_line(
+            text,
+            next,
+            names,
+            starts,
+            function,
+            kinds,
+            words,
+            params,
+            line_kinds[i],
+            operands[i],
+        );
+        i += 1;
+    }
+    next
+}
