@@ -1,13 +1,13 @@
 // Instructions, kinds 40 to 82, and terminators, kinds 90 to 93: an entry and the fields of its kind.
-use book_values::Item;
-use book_values::item_len;
-use book_values::list_len;
-use book_values::optional_len;
 use book_types::Found;
 use book_types::Front;
 use book_types::first_entry;
 use book_types::join_found;
 use book_types::shorter;
+use book_values::Item;
+use book_values::item_len;
+use book_values::list_len;
+use book_values::optional_len;
 ghost use mathlib.Core.Path.{_≡_};
 ghost use Prim.Native.Nat.{_≤_};
 ghost use Rattle.book.specs.Entry.{entries};

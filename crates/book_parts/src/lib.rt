@@ -2,7 +2,6 @@
 // bit for each name. `barred` has a bit set for each name that may not be called; reserved names are added to it before the
 // function is read.
 use book_blocks::function_len;
-use book_values::word_len;
 use book_marks::mark_bit;
 use book_marks::mark_new;
 use book_marks::mark_range;
@@ -20,6 +19,7 @@ use book_types::shorter;
 use book_types::types::TypeGroup;
 use book_types::types::type_group;
 use book_types::types::type_len;
+use book_values::word_len;
 ghost use mathlib.Core.Path.{_≡_};
 ghost use mathlib.Core.Bool.{_&&_};
 ghost use lib.Dec.{leb, eqb};

@@ -1,4 +1,6 @@
 // Alignments.
+use book_types::types::TypeGroup;
+use book_types::types::type_group;
 use layout_memo::Measured;
 use layout_memo::deeper;
 use layout_memo::larger;
@@ -6,8 +8,6 @@ use layout_memo::memory::recalled;
 use layout_memo::memory::with_align;
 use layout_memo::one_more;
 use layout_memo::skip;
-use book_types::types::TypeGroup;
-use book_types::types::type_group;
 ghost use Rattle.book.specs.Entry.{entries};
 ghost use Rattle.book.specs.Ast.{Ty};
 ghost use Rattle.layout_memo.specs.Front.{tyOf, tysOf};

@@ -1,4 +1,6 @@
 // Sizes.
+use book_types::types::TypeGroup;
+use book_types::types::type_group;
 use layout_align::align_of;
 use layout_memo::Measured;
 use layout_memo::array_bytes;
@@ -9,8 +11,6 @@ use layout_memo::memory::with_size;
 use layout_memo::one_more;
 use layout_memo::skip;
 use numbers::align::align_up;
-use book_types::types::TypeGroup;
-use book_types::types::type_group;
 ghost use mathlib.Core.Path.{_≡_};
 ghost use Prim.Native.Nat.{_≤_};
 ghost use Rattle.book.specs.Entry.{entries};

@@ -1,14 +1,14 @@
 // The step that an index of a getelementptr takes into an array or a struct. A type is named by its place among the book's
 // entries, so that the type stepped into can be handed on.
-use layout_memo::Measured;
-use numbers::wrap::wrapping_mul;
+use book_types::types::TypeGroup;
+use book_types::types::type_group;
 use layout_field::Offset;
 use layout_field::Place;
 use layout_field::field_at;
 use layout_field::field_offset;
-use book_types::types::TypeGroup;
-use book_types::types::type_group;
+use layout_memo::Measured;
 use layout_size::size_of;
+use numbers::wrap::wrapping_mul;
 ghost use Rattle.book.specs.Entry.{entries};
 ghost use Rattle.book.specs.Ast.{Ty};
 ghost use lib.ListN.{drop};

@@ -1,12 +1,12 @@
 // The function that the entries begin with: its name, its return type and its parameters, and the printing of its lines.
 use crate::passes::Printed;
 use crate::passes::print_known;
-use book_values::Item;
-use book_values::list_len;
 use book_types::Found;
 use book_types::Length;
 use book_types::shorter;
 use book_types::types::type_len;
+use book_values::Item;
+use book_values::list_len;
 use print_types::starts::note_starts;
 ghost use mathlib.Core.Path.{_≡_};
 ghost use Prim.Native.Nat.{ℕ};

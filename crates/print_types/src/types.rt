@@ -1,10 +1,10 @@
 // The text of a type, as the comment of a function has it.
 use crate::starts::name_of;
+use book_types::types::TypeGroup;
+use book_types::types::type_group;
 use print_pen::Pen;
 use print_pen::put_bytes;
 use print_pen::put_number;
-use book_types::types::TypeGroup;
-use book_types::types::type_group;
 ghost use mathlib.Core.Path.{_≡_};
 ghost use mathlib.Core.List.{_++_};
 ghost use Prim.Native.Nat.{_<_};

@@ -1,12 +1,12 @@
 // Measures the types of a book and prints, for each parameter of its function, the size and the alignment; a refusal is
 // printed as r and its number.
-use layout_align::align_of;
-use libc::STDOUT_FILENO;
-use layout_memo::Measured;
-use layout_memo::structs::place_structs;
 use book_types::Length;
 use book_types::types::type_len;
+use layout_align::align_of;
+use layout_memo::Measured;
+use layout_memo::structs::place_structs;
 use layout_size::size_of;
+use libc::STDOUT_FILENO;
 ghost use Prim.Native.Nat.{_≤_};
 ghost use Rattle.book.specs.Entry.{entries};
 ghost use Rattle.layout_memo.specs.Work.{Ready};

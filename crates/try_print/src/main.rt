@@ -1,9 +1,9 @@
 // Prints one line of every kind for a function `i32 @f(i32)`, then what else is accepted or refused: the answer, and the text slice
 // after the call.
-use print_pen::Pen;
-use print_pen::put_number;
 use print::passes::Printed;
 use print::print;
+use print_pen::Pen;
+use print_pen::put_number;
 
 // 8 entries and 4 names; the kinds, then the words.
 const BOOK: [u64; 18] = [8, 4, 5, 11, 6, 11, 0, 7, 93, 0, 2, 32, 0, 32, 0, 1, 0, 0];

@@ -34,18 +34,29 @@ enum-told-3 c = search needs
 
 returns : tie.Need-returns
 returns c =
-    let a = c .before .before .before .before .before .before .before .args in
-    passes.closing-arm (forbiddenBlock (bitAt (a .barred .now))) (basicBlock (a .names)) (a .kinds .now) (a .words .now) _ _ (c .before .before .before .first-entry .ensures) (c .before .before .list-head .ensures) (c .enum-told .given .1)
+    let after-first-entry = c .before .before .before in
+    let entry = after-first-entry .before .before .before .before in
+    let a = entry .args in
+    passes.closing-arm (forbiddenBlock (bitAt (a .barred .now))) (basicBlock (a .names)) (a .kinds .now) (a .words .now) _ _
+    (after-first-entry .first-entry .ensures) (c .before .before .list-head .ensures) (c .enum-told .given .1)
 
 returns-2 : tie.Need-returns-2
 returns-2 c =
-    let a = c .before .before .before .before .before .before .before .before .before .args in
-    passes.item-arm (forbiddenBlock (bitAt (a .barred .now))) (basicBlock (a .names)) (a .kinds .now) (a .words .now) _ _ (c .before .before .before .before .before .first-entry .ensures) (c .before .before .before .before .list-head .ensures) (c .before .before .enum-told2 .given .1) _ _ (c .before .block-len .ensures) (c .next-pass .ensures)
+    let after-list-head = c .before .before .before .before in
+    let after-first-entry = after-list-head .before in
+    let entry = after-first-entry .before .before .before .before in
+    let a = entry .args in
+    passes.item-arm (forbiddenBlock (bitAt (a .barred .now))) (basicBlock (a .names)) (a .kinds .now) (a .words .now) _ _
+    (after-first-entry .first-entry .ensures) (after-list-head .list-head .ensures) (c .before .before .enum-told2 .given .1) _ _
+    (c .before .block-len .ensures) (c .next-pass .ensures)
 
 returns-3 : tie.Need-returns-3
 returns-3 c =
-    let a = c .before .before .before .before .before .before .before .args in
-    passes.none-arm (forbiddenBlock (bitAt (a .barred .now))) (basicBlock (a .names)) (a .kinds .now) (a .words .now) _ _ (c .before .before .before .first-entry .ensures) (c .before .before .list-head .ensures) (c .enum-told3 .given .1)
+    let after-first-entry = c .before .before .before in
+    let entry = after-first-entry .before .before .before .before in
+    let a = entry .args in
+    passes.none-arm (forbiddenBlock (bitAt (a .barred .now))) (basicBlock (a .names)) (a .kinds .now) (a .words .now) _ _
+    (after-first-entry .first-entry .ensures) (c .before .before .list-head .ensures) (c .enum-told3 .given .1)
 
 pub block-step-spec : {M : Type 1} → statement M
 block-step-spec =

@@ -30,8 +30,10 @@ shorter-requires c κs = search needs
 
 loop-holds : tie.Need-loop-holds Inv-loop μ-loop
 loop-holds c =
-    let a = c .before .before .before .before .args in
-    passes.loop-start (forbiddenBlock (bitAt (a .barred .now))) never isClosing (basicBlock (a .names)) closing (length (entries (a .kinds .now) (a .words .now))) (a .kinds .now) (a .words .now) _ (c .shorter .ensures)
+    let entry = c .before .before .before .before in
+    let a = entry .args in
+    passes.loop-start (forbiddenBlock (bitAt (a .barred .now))) never isClosing (basicBlock (a .names)) closing
+    (length (entries (a .kinds .now) (a .words .now))) (a .kinds .now) (a .words .now) _ (c .shorter .ensures)
 
 mul-block-step : tie.Need-mul-block-step Inv-loop μ-loop
 mul-block-step c = omega (arith, c .loop .inv .kinds, c .before .before .before .before .before .good)
@@ -65,34 +67,66 @@ enum-known-n c = search needs
 
 add-t23 : tie.Need-add-t23 Inv-loop μ-loop
 add-t23 c =
-    let a = c .before .before .before .before .before .before .before .before .before .before .before .args in
-    omega (arith, passes.done-there (forbiddenBlock (bitAt (a .barred .now))) never isClosing (basicBlock (a .names)) closing (length (entries (a .kinds .now) (a .words .now))) (a .kinds .now) (a .words .now) _ _ _ (c .before .before .before .before .before .before .loop .inv) _ (c .before .before .before .block-step .ensures) (agrees-basicBlock _) agrees-closing _ _ (c .before .n .given .1), c .before .before .before .before .before .before .before .before .before .before .before .good)
+    let after-block-step = c .before .before .before in
+    let at-loop = after-block-step .before .before .before in
+    let entry = at-loop .before .before .before .before .before in
+    let a = entry .args in
+    omega (
+      arith,
+      passes.done-there (forbiddenBlock (bitAt (a .barred .now))) never isClosing (basicBlock (a .names)) closing
+          (length (entries (a .kinds .now) (a .words .now))) (a .kinds .now) (a .words .now) _ _ _ (at-loop .loop .inv) _
+          (after-block-step .block-step .ensures) (agrees-basicBlock _) agrees-closing _ _ (c .before .n .given .1),
+      entry .good,
+    )
 
 returns : tie.Need-returns Inv-loop μ-loop
 returns c =
-    let a = c .before .before .before .before .before .before .before .before .before .before .before .args in
-    passes.loop-done (forbiddenBlock (bitAt (a .barred .now))) never isClosing (basicBlock (a .names)) closing (length (entries (a .kinds .now) (a .words .now))) (a .kinds .now) (a .words .now) _ _ _ (c .before .before .before .before .before .before .loop .inv) _ (c .before .before .before .block-step .ensures) _ _ (c .before .n .given .1) ∙ sym (passes.many-found _ _ _)
+    let after-block-step = c .before .before .before in
+    let at-loop = after-block-step .before .before .before in
+    let entry = at-loop .before .before .before .before .before in
+    let a = entry .args in
+    passes.loop-done (forbiddenBlock (bitAt (a .barred .now))) never isClosing (basicBlock (a .names)) closing
+    (length (entries (a .kinds .now) (a .words .now))) (a .kinds .now) (a .words .now) _ _ _ (at-loop .loop .inv) _
+    (after-block-step .block-step .ensures) _ _ (c .before .n .given .1) ∙ sym (passes.many-found _ _ _)
 
 enum-told : tie.Need-enum-told Inv-loop μ-loop
 enum-told c = search needs
 
 returns-2 : tie.Need-returns-2 Inv-loop μ-loop
 returns-2 c =
-    let a = c .before .before .before .before .before .before .before .before .before .before .args in
-    passes.loop-bad (forbiddenBlock (bitAt (a .barred .now))) never isClosing (basicBlock (a .names)) closing (length (entries (a .kinds .now) (a .words .now))) (a .kinds .now) (a .words .now) _ _ _ (c .before .before .before .before .before .loop .inv) _ (c .before .before .block-step .ensures) (c .enum-told .given .1) ∙ sym (passes.many-found _ _ _)
+    let at-loop = c .before .before .before .before .before in
+    let entry = at-loop .before .before .before .before .before in
+    let a = entry .args in
+    passes.loop-bad (forbiddenBlock (bitAt (a .barred .now))) never isClosing (basicBlock (a .names)) closing
+    (length (entries (a .kinds .now) (a .words .now))) (a .kinds .now) (a .words .now) _ _ _ (at-loop .loop .inv) _
+    (c .before .before .block-step .ensures) (c .enum-told .given .1) ∙ sym (passes.many-found _ _ _)
 
 enum-known-n-2 : tie.Need-enum-known-n-2 Inv-loop μ-loop
 enum-known-n-2 c = search needs
 
 returns-3 : tie.Need-returns-3 Inv-loop μ-loop
 returns-3 c =
-    let a = c .before .before .before .before .before .before .before .before .before .before .before .before .args in
-    passes.loop-full (forbiddenBlock (bitAt (a .barred .now))) never isClosing (basicBlock (a .names)) closing (length (entries (a .kinds .now) (a .words .now))) (a .kinds .now) (a .words .now) _ _ _ (c .before .before .before .before .before .before .before .loop .inv) _ (c .before .before .before .before .block-step .ensures) _ _ (c .before .before .n2 .given .1) (c .if1 .taken) ∙ sym (passes.many-found _ _ _)
+    let after-block-step = c .before .before .before .before in
+    let at-loop = after-block-step .before .before .before in
+    let entry = at-loop .before .before .before .before .before in
+    let a = entry .args in
+    passes.loop-full (forbiddenBlock (bitAt (a .barred .now))) never isClosing (basicBlock (a .names)) closing
+    (length (entries (a .kinds .now) (a .words .now))) (a .kinds .now) (a .words .now) _ _ _ (at-loop .loop .inv) _
+    (after-block-step .block-step .ensures) _ _ (c .before .before .n2 .given .1) (c .if1 .taken) ∙ sym (passes.many-found _ _ _)
 
 add-at : tie.Need-add-at Inv-loop μ-loop
 add-at c =
-    let a = c .before .before .before .before .before .before .before .before .before .before .before .before .args in
-    omega (arith, passes.loop-next (forbiddenBlock (bitAt (a .barred .now))) never isClosing (basicBlock (a .names)) closing (length (entries (a .kinds .now) (a .words .now))) (a .kinds .now) (a .words .now) _ _ _ (c .before .before .before .before .before .before .before .loop .inv) _ (c .before .before .before .before .block-step .ensures) (agrees-basicBlock _) agrees-closing _ _ (c .before .before .n2 .given .1) (c .if1 .left) .kinds, c .before .before .before .before .before .before .before .before .before .before .before .before .good)
+    let after-block-step = c .before .before .before .before in
+    let at-loop = after-block-step .before .before .before in
+    let entry = at-loop .before .before .before .before .before in
+    let a = entry .args in
+    omega (
+      arith,
+      passes.loop-next (forbiddenBlock (bitAt (a .barred .now))) never isClosing (basicBlock (a .names)) closing
+          (length (entries (a .kinds .now) (a .words .now))) (a .kinds .now) (a .words .now) _ _ _ (at-loop .loop .inv) _
+          (after-block-step .block-step .ensures) (agrees-basicBlock _) agrees-closing _ _ (c .before .before .n2 .given .1) (c .if1 .left) .kinds,
+      entry .good,
+    )
 
 sub-left : tie.Need-sub-left Inv-loop μ-loop
 sub-left c = search needs
@@ -102,8 +136,13 @@ loop-less c = search needs
 
 loop-again : tie.Need-loop-again Inv-loop μ-loop
 loop-again c =
-    let a = c .before .before .before .before .before .before .before .before .before .before .before .before .args in
-    passes.loop-next (forbiddenBlock (bitAt (a .barred .now))) never isClosing (basicBlock (a .names)) closing (length (entries (a .kinds .now) (a .words .now))) (a .kinds .now) (a .words .now) _ _ _ (c .before .before .before .before .before .before .before .loop .inv) _ (c .before .before .before .before .block-step .ensures) (agrees-basicBlock _) agrees-closing _ _ (c .before .before .n2 .given .1) (c .if1 .left)
+    let after-block-step = c .before .before .before .before in
+    let at-loop = after-block-step .before .before .before in
+    let entry = at-loop .before .before .before .before .before in
+    let a = entry .args in
+    passes.loop-next (forbiddenBlock (bitAt (a .barred .now))) never isClosing (basicBlock (a .names)) closing
+    (length (entries (a .kinds .now) (a .words .now))) (a .kinds .now) (a .words .now) _ _ _ (at-loop .loop .inv) _
+    (after-block-step .block-step .ensures) (agrees-basicBlock _) agrees-closing _ _ (c .before .before .n2 .given .1) (c .if1 .left)
 
 pub blocks-len-spec : {M : Type 1} → statement M
 blocks-len-spec =

@@ -27,8 +27,10 @@ shorter-requires c κs = search needs
 
 loop-holds : tie.Need-loop-holds Inv-loop μ-loop
 loop-holds c =
-    let a = c .before .before .before .before .args in
-    passes.loop-start (forbiddenInst (bitAt (a .barred .now))) otherTerm (leb 90) (inst (a .names)) (term (a .names)) (length (entries (a .kinds .now) (a .words .now))) (a .kinds .now) (a .words .now) _ (c .shorter .ensures)
+    let entry = c .before .before .before .before in
+    let a = entry .args in
+    passes.loop-start (forbiddenInst (bitAt (a .barred .now))) otherTerm (leb 90) (inst (a .names)) (term (a .names))
+    (length (entries (a .kinds .now) (a .words .now))) (a .kinds .now) (a .words .now) _ (c .shorter .ensures)
 
 mul-body-step : tie.Need-mul-body-step Inv-loop μ-loop
 mul-body-step c = omega (arith, c .loop .inv .kinds, c .before .before .before .before .before .good)
@@ -62,14 +64,28 @@ enum-known-n c = search needs
 
 add-t23 : tie.Need-add-t23 Inv-loop μ-loop
 add-t23 c =
-    let a = c .before .before .before .before .before .before .before .before .before .before .before .args in
-    omega (arith, passes.done-there (forbiddenInst (bitAt (a .barred .now))) otherTerm (leb 90) (inst (a .names)) (term (a .names)) (length (entries (a .kinds .now) (a .words .now))) (a .kinds .now) (a .words .now) _ _ _ (c .before .before .before .before .before .before .loop .inv) _ (c .before .before .before .body-step .ensures) (agrees-inst _) (agrees-term _) _ _ (c .before .n .given .1), c .before .before .before .before .before .before .before .before .before .before .before .good)
+    let after-body-step = c .before .before .before in
+    let at-loop = after-body-step .before .before .before in
+    let entry = at-loop .before .before .before .before .before in
+    let a = entry .args in
+    omega (
+      arith,
+      passes.done-there (forbiddenInst (bitAt (a .barred .now))) otherTerm (leb 90) (inst (a .names)) (term (a .names))
+          (length (entries (a .kinds .now) (a .words .now))) (a .kinds .now) (a .words .now) _ _ _ (at-loop .loop .inv) _
+          (after-body-step .body-step .ensures) (agrees-inst _) (agrees-term _) _ _ (c .before .n .given .1),
+      entry .good,
+    )
 
 returns : tie.Need-returns Inv-loop μ-loop
 unfolding body
 returns c =
-    let a = c .before .before .before .before .before .before .before .before .before .before .before .args in
-    passes.loop-done (forbiddenInst (bitAt (a .barred .now))) otherTerm (leb 90) (inst (a .names)) (term (a .names)) (length (entries (a .kinds .now) (a .words .now))) (a .kinds .now) (a .words .now) _ _ _ (c .before .before .before .before .before .before .loop .inv) _ (c .before .before .before .body-step .ensures) _ _ (c .before .n .given .1)
+    let after-body-step = c .before .before .before in
+    let at-loop = after-body-step .before .before .before in
+    let entry = at-loop .before .before .before .before .before in
+    let a = entry .args in
+    passes.loop-done (forbiddenInst (bitAt (a .barred .now))) otherTerm (leb 90) (inst (a .names)) (term (a .names))
+    (length (entries (a .kinds .now) (a .words .now))) (a .kinds .now) (a .words .now) _ _ _ (at-loop .loop .inv) _
+    (after-body-step .body-step .ensures) _ _ (c .before .n .given .1)
 
 enum-told : tie.Need-enum-told Inv-loop μ-loop
 enum-told c = search needs
@@ -77,8 +93,12 @@ enum-told c = search needs
 returns-2 : tie.Need-returns-2 Inv-loop μ-loop
 unfolding body
 returns-2 c =
-    let a = c .before .before .before .before .before .before .before .before .before .before .args in
-    passes.loop-bad (forbiddenInst (bitAt (a .barred .now))) otherTerm (leb 90) (inst (a .names)) (term (a .names)) (length (entries (a .kinds .now) (a .words .now))) (a .kinds .now) (a .words .now) _ _ _ (c .before .before .before .before .before .loop .inv) _ (c .before .before .body-step .ensures) (c .enum-told .given .1)
+    let at-loop = c .before .before .before .before .before in
+    let entry = at-loop .before .before .before .before .before in
+    let a = entry .args in
+    passes.loop-bad (forbiddenInst (bitAt (a .barred .now))) otherTerm (leb 90) (inst (a .names)) (term (a .names))
+    (length (entries (a .kinds .now) (a .words .now))) (a .kinds .now) (a .words .now) _ _ _ (at-loop .loop .inv) _
+    (c .before .before .body-step .ensures) (c .enum-told .given .1)
 
 enum-known-n-2 : tie.Need-enum-known-n-2 Inv-loop μ-loop
 enum-known-n-2 c = search needs
@@ -86,13 +106,27 @@ enum-known-n-2 c = search needs
 returns-3 : tie.Need-returns-3 Inv-loop μ-loop
 unfolding body
 returns-3 c =
-    let a = c .before .before .before .before .before .before .before .before .before .before .before .before .args in
-    passes.loop-full (forbiddenInst (bitAt (a .barred .now))) otherTerm (leb 90) (inst (a .names)) (term (a .names)) (length (entries (a .kinds .now) (a .words .now))) (a .kinds .now) (a .words .now) _ _ _ (c .before .before .before .before .before .before .before .loop .inv) _ (c .before .before .before .before .body-step .ensures) _ _ (c .before .before .n2 .given .1) (c .if1 .taken)
+    let after-body-step = c .before .before .before .before in
+    let at-loop = after-body-step .before .before .before in
+    let entry = at-loop .before .before .before .before .before in
+    let a = entry .args in
+    passes.loop-full (forbiddenInst (bitAt (a .barred .now))) otherTerm (leb 90) (inst (a .names)) (term (a .names))
+    (length (entries (a .kinds .now) (a .words .now))) (a .kinds .now) (a .words .now) _ _ _ (at-loop .loop .inv) _
+    (after-body-step .body-step .ensures) _ _ (c .before .before .n2 .given .1) (c .if1 .taken)
 
 add-at : tie.Need-add-at Inv-loop μ-loop
 add-at c =
-    let a = c .before .before .before .before .before .before .before .before .before .before .before .before .args in
-    omega (arith, passes.loop-next (forbiddenInst (bitAt (a .barred .now))) otherTerm (leb 90) (inst (a .names)) (term (a .names)) (length (entries (a .kinds .now) (a .words .now))) (a .kinds .now) (a .words .now) _ _ _ (c .before .before .before .before .before .before .before .loop .inv) _ (c .before .before .before .before .body-step .ensures) (agrees-inst _) (agrees-term _) _ _ (c .before .before .n2 .given .1) (c .if1 .left) .kinds, c .before .before .before .before .before .before .before .before .before .before .before .before .good)
+    let after-body-step = c .before .before .before .before in
+    let at-loop = after-body-step .before .before .before in
+    let entry = at-loop .before .before .before .before .before in
+    let a = entry .args in
+    omega (
+      arith,
+      passes.loop-next (forbiddenInst (bitAt (a .barred .now))) otherTerm (leb 90) (inst (a .names)) (term (a .names))
+          (length (entries (a .kinds .now) (a .words .now))) (a .kinds .now) (a .words .now) _ _ _ (at-loop .loop .inv) _
+          (after-body-step .body-step .ensures) (agrees-inst _) (agrees-term _) _ _ (c .before .before .n2 .given .1) (c .if1 .left) .kinds,
+      entry .good,
+    )
 
 sub-left : tie.Need-sub-left Inv-loop μ-loop
 sub-left c = search needs
@@ -102,8 +136,13 @@ loop-less c = search needs
 
 loop-again : tie.Need-loop-again Inv-loop μ-loop
 loop-again c =
-    let a = c .before .before .before .before .before .before .before .before .before .before .before .before .args in
-    passes.loop-next (forbiddenInst (bitAt (a .barred .now))) otherTerm (leb 90) (inst (a .names)) (term (a .names)) (length (entries (a .kinds .now) (a .words .now))) (a .kinds .now) (a .words .now) _ _ _ (c .before .before .before .before .before .before .before .loop .inv) _ (c .before .before .before .before .body-step .ensures) (agrees-inst _) (agrees-term _) _ _ (c .before .before .n2 .given .1) (c .if1 .left)
+    let after-body-step = c .before .before .before .before in
+    let at-loop = after-body-step .before .before .before in
+    let entry = at-loop .before .before .before .before .before in
+    let a = entry .args in
+    passes.loop-next (forbiddenInst (bitAt (a .barred .now))) otherTerm (leb 90) (inst (a .names)) (term (a .names))
+    (length (entries (a .kinds .now) (a .words .now))) (a .kinds .now) (a .words .now) _ _ _ (at-loop .loop .inv) _
+    (after-body-step .body-step .ensures) (agrees-inst _) (agrees-term _) _ _ (c .before .before .n2 .given .1) (c .if1 .left)
 
 pub body-len-spec : {M : Type 1} → statement M
 body-len-spec =

@@ -28,8 +28,10 @@ enum-told c = search needs
 
 returns : tie.Need-returns
 returns c =
-    let a = c .before .before .before .before .before .before .args in
-    passes.pass-none (forbiddenInst (bitAt (a .barred .now))) otherTerm (leb 90) (inst (a .names)) (term (a .names)) (entries (a .kinds .now) (a .words .now)) (insts.no-term _) (sym (c .before .before .first-entry .ensures) ∙ c .enum-told .given .1)
+    let entry = c .before .before .before .before .before .before in
+    let a = entry .args in
+    passes.pass-none (forbiddenInst (bitAt (a .barred .now))) otherTerm (leb 90) (inst (a .names)) (term (a .names))
+    (entries (a .kinds .now) (a .words .now)) (insts.no-term _) (sym (c .before .before .first-entry .ensures) ∙ c .enum-told .given .1)
 
 term-len-requires : tie.Need-term-len-requires
 term-len-requires c κs = search needs
@@ -45,13 +47,27 @@ next-pass-requires c κs = search needs
 
 returns-2 : tie.Need-returns-2
 returns-2 c =
-    let a = c .before .before .before .before .before .before .before .before .before .before .args in
-    passes.pass-end (forbiddenInst (bitAt (a .barred .now))) otherTerm (leb 90) (inst (a .names)) (term (a .names)) (entries (a .kinds .now) (a .words .now)) (passes.front-stops (forbiddenInst (bitAt (a .barred .now))) otherTerm (leb 90) (inst (a .names)) (term (a .names)) (entries (a .kinds .now) (a .words .now)) _ _ (sym (c .before .before .before .before .before .before .first-entry .ensures) ∙ c .before .before .before .before .kind .given .1) _ (le-leb _ _ (c .before .before .if1 .taken))) _ _ (c .before .term-len .ensures) (c .last-pass .ensures)
+    let after-kind = c .before .before .before .before in
+    let after-first-entry = after-kind .before .before in
+    let entry = after-first-entry .before .before .before .before in
+    let a = entry .args in
+    passes.pass-end (forbiddenInst (bitAt (a .barred .now))) otherTerm (leb 90) (inst (a .names)) (term (a .names))
+    (entries (a .kinds .now) (a .words .now))
+    (passes.front-stops (forbiddenInst (bitAt (a .barred .now))) otherTerm (leb 90) (inst (a .names)) (term (a .names))
+    (entries (a .kinds .now) (a .words .now)) _ _ (sym (after-first-entry .first-entry .ensures) ∙ after-kind .kind .given .1) _
+    (le-leb _ _ (c .before .before .if1 .taken))) _ _ (c .before .term-len .ensures) (c .last-pass .ensures)
 
 returns-3 : tie.Need-returns-3
 returns-3 c =
-    let a = c .before .before .before .before .before .before .before .before .before .before .args in
-    passes.pass-item (forbiddenInst (bitAt (a .barred .now))) otherTerm (leb 90) (inst (a .names)) (term (a .names)) (entries (a .kinds .now) (a .words .now)) (passes.front-stops (forbiddenInst (bitAt (a .barred .now))) otherTerm (leb 90) (inst (a .names)) (term (a .names)) (entries (a .kinds .now) (a .words .now)) _ _ (sym (c .before .before .before .before .before .before .first-entry .ensures) ∙ c .before .before .before .before .kind .given .1) _ (lt-leb _ _ (c .before .before .if1 .left))) _ _ (c .before .call-len .ensures) (c .next-pass .ensures)
+    let after-kind = c .before .before .before .before in
+    let after-first-entry = after-kind .before .before in
+    let entry = after-first-entry .before .before .before .before in
+    let a = entry .args in
+    passes.pass-item (forbiddenInst (bitAt (a .barred .now))) otherTerm (leb 90) (inst (a .names)) (term (a .names))
+    (entries (a .kinds .now) (a .words .now))
+    (passes.front-stops (forbiddenInst (bitAt (a .barred .now))) otherTerm (leb 90) (inst (a .names)) (term (a .names))
+    (entries (a .kinds .now) (a .words .now)) _ _ (sym (after-first-entry .first-entry .ensures) ∙ after-kind .kind .given .1) _
+    (lt-leb _ _ (c .before .before .if1 .left))) _ _ (c .before .call-len .ensures) (c .next-pass .ensures)
 
 pub body-step-spec : {M : Type 1} → statement M
 body-step-spec =

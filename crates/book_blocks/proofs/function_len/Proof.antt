@@ -42,41 +42,143 @@ enum-told c = search needs
 returns : tie.Need-returns
 unfolding function
 returns c =
-    let a = c .before .before .before .before .before .before .before .before .args in
-    passes.both-bad (word 5 (name (a .names))) (both (type (a .names)) (both (many (item (a .names) Item.param)) (many (basicBlock (a .names))))) never (pairTest never (pairTest (any (otherItem Item.param)) (any (forbiddenBlock (bitAt (a .barred .now)))))) (a .kinds .now) (a .words .now) _ (passes.plain-is (word 5 (name (a .names)) (entries (a .kinds .now) (a .words .now))) _ _ (c .before .before .before .word-len .ensures ∙ ap (wordFront _ _) (c .before .before .before .before .first-entry .ensures) ∙ sym (items.word-front 5 _ _)) (c .before .before .plain .ensures)) (c .enum-told .given .1) ∙ passes.found-ext (pairTest never (pairTest never (pairTest (any (otherItem Item.param)) (any (forbiddenBlock (bitAt (a .barred .now))))))) (λ p. any (forbiddenBlock (bitAt (a .barred .now))) (p .1 .1 .1)) (calls.no-param (bitAt (a .barred .now))) ((both (word 5 (name (a .names))) (both (type (a .names)) (both (many (item (a .names) Item.param)) (many (basicBlock (a .names)))))) (entries (a .kinds .now) (a .words .now))) ∙ sym (passes.mapped-found (forbiddenFunction (bitAt (a .barred .now))) (λ p. record { name = p .0; retTy = p .1 .0; params = p .1 .1 .0; blocks = p .1 .1 .1 }) (both (word 5 (name (a .names))) (both (type (a .names)) (both (many (item (a .names) Item.param)) (many (basicBlock (a .names)))))) (entries (a .kinds .now) (a .words .now)))
+    let after-word-len = c .before .before .before in
+    let after-first-entry = after-word-len .before in
+    let entry = after-first-entry .before .before .before .before in
+    let a = entry .args in
+    passes.both-bad (word 5 (name (a .names))) (both (type (a .names)) (both (many (item (a .names) Item.param)) (many (basicBlock (a .names)))))
+    never (pairTest never (pairTest (any (otherItem Item.param)) (any (forbiddenBlock (bitAt (a .barred .now)))))) (a .kinds .now) (a .words .now)
+    _
+    (passes.plain-is (word 5 (name (a .names)) (entries (a .kinds .now) (a .words .now))) _ _
+    (after-word-len .word-len .ensures ∙ ap (wordFront _ _) (after-first-entry .first-entry .ensures) ∙ sym (items.word-front 5 _ _))
+    (c .before .before .plain .ensures)) (c .enum-told .given .1) ∙ passes.found-ext
+    (pairTest never (pairTest never (pairTest (any (otherItem Item.param)) (any (forbiddenBlock (bitAt (a .barred .now)))))))
+    (λ p. any (forbiddenBlock (bitAt (a .barred .now))) (p .1 .1 .1)) (calls.no-param (bitAt (a .barred .now)))
+    ((both (word 5 (name (a .names))) (both (type (a .names)) (both (many (item (a .names) Item.param)) (many (basicBlock (a .names))))))
+    (entries (a .kinds .now) (a .words .now))) ∙ sym
+    (passes.mapped-found (forbiddenFunction (bitAt (a .barred .now)))
+    (λ p. record { name = p .0; retTy = p .1 .0; params = p .1 .1 .0; blocks = p .1 .1 .1 })
+    (both (word 5 (name (a .names))) (both (type (a .names)) (both (many (item (a .names) Item.param)) (many (basicBlock (a .names))))))
+    (entries (a .kinds .now) (a .words .now)))
 
 mul-signature-and-blocks-len : tie.Need-mul-signature-and-blocks-len
 mul-signature-and-blocks-len c =
-    let a = c .before .before .before .before .before .before .before .before .before .args in
-    omega (arith, passes.both-kinds (word 5 (name (a .names))) (both (type (a .names)) (both (many (item (a .names) Item.param)) (many (basicBlock (a .names))))) never (pairTest never (pairTest (any (otherItem Item.param)) (any (forbiddenBlock (bitAt (a .barred .now)))))) (a .kinds .now) (a .words .now) _ (passes.plain-is (word 5 (name (a .names)) (entries (a .kinds .now) (a .words .now))) _ _ (c .before .before .before .before .word-len .ensures ∙ ap (wordFront _ _) (c .before .before .before .before .before .first-entry .ensures) ∙ sym (items.word-front 5 _ _)) (c .before .before .before .plain .ensures)) _ _ (c .before .n .given .1) (passes.within never (agrees-name _ 5) (entries (a .kinds .now) (a .words .now)) _ (passes.plain-is (word 5 (name (a .names)) (entries (a .kinds .now) (a .words .now))) _ _ (c .before .before .before .before .word-len .ensures ∙ ap (wordFront _ _) (c .before .before .before .before .before .first-entry .ensures) ∙ sym (items.word-front 5 _ _)) (c .before .before .before .plain .ensures))), c .before .before .before .before .before .before .before .before .before .good)
+    let after-plain = c .before .before .before in
+    let after-word-len = after-plain .before in
+    let after-first-entry = after-word-len .before in
+    let entry = after-first-entry .before .before .before .before in
+    let a = entry .args in
+    omega (
+      arith,
+      passes.both-kinds (word 5 (name (a .names)))
+          (both (type (a .names)) (both (many (item (a .names) Item.param)) (many (basicBlock (a .names))))) never
+          (pairTest never (pairTest (any (otherItem Item.param)) (any (forbiddenBlock (bitAt (a .barred .now)))))) (a .kinds .now) (a .words .now) _
+          (passes.plain-is (word 5 (name (a .names)) (entries (a .kinds .now) (a .words .now))) _ _
+          (after-word-len .word-len .ensures ∙ ap (wordFront _ _) (after-first-entry .first-entry .ensures) ∙ sym (items.word-front 5 _ _))
+          (after-plain .plain .ensures)) _ _ (c .before .n .given .1)
+          (passes.within never (agrees-name _ 5) (entries (a .kinds .now) (a .words .now)) _
+          (passes.plain-is (word 5 (name (a .names)) (entries (a .kinds .now) (a .words .now))) _ _
+          (after-word-len .word-len .ensures ∙ ap (wordFront _ _) (after-first-entry .first-entry .ensures) ∙ sym (items.word-front 5 _ _))
+          (after-plain .plain .ensures))),
+      entry .good,
+    )
 
 sub-signature-and-blocks-len : tie.Need-sub-signature-and-blocks-len
 sub-signature-and-blocks-len c =
-    let a = c .before .before .before .before .before .before .before .before .before .args in
-    passes.both-kinds (word 5 (name (a .names))) (both (type (a .names)) (both (many (item (a .names) Item.param)) (many (basicBlock (a .names))))) never (pairTest never (pairTest (any (otherItem Item.param)) (any (forbiddenBlock (bitAt (a .barred .now)))))) (a .kinds .now) (a .words .now) _ (passes.plain-is (word 5 (name (a .names)) (entries (a .kinds .now) (a .words .now))) _ _ (c .before .before .before .before .word-len .ensures ∙ ap (wordFront _ _) (c .before .before .before .before .before .first-entry .ensures) ∙ sym (items.word-front 5 _ _)) (c .before .before .before .plain .ensures)) _ _ (c .before .n .given .1) (passes.within never (agrees-name _ 5) (entries (a .kinds .now) (a .words .now)) _ (passes.plain-is (word 5 (name (a .names)) (entries (a .kinds .now) (a .words .now))) _ _ (c .before .before .before .before .word-len .ensures ∙ ap (wordFront _ _) (c .before .before .before .before .before .first-entry .ensures) ∙ sym (items.word-front 5 _ _)) (c .before .before .before .plain .ensures)))
+    let after-plain = c .before .before .before in
+    let after-word-len = after-plain .before in
+    let after-first-entry = after-word-len .before in
+    let entry = after-first-entry .before .before .before .before in
+    let a = entry .args in
+    passes.both-kinds (word 5 (name (a .names))) (both (type (a .names)) (both (many (item (a .names) Item.param)) (many (basicBlock (a .names)))))
+    never (pairTest never (pairTest (any (otherItem Item.param)) (any (forbiddenBlock (bitAt (a .barred .now)))))) (a .kinds .now) (a .words .now)
+    _
+    (passes.plain-is (word 5 (name (a .names)) (entries (a .kinds .now) (a .words .now))) _ _
+    (after-word-len .word-len .ensures ∙ ap (wordFront _ _) (after-first-entry .first-entry .ensures) ∙ sym (items.word-front 5 _ _))
+    (after-plain .plain .ensures)) _ _ (c .before .n .given .1)
+    (passes.within never (agrees-name _ 5) (entries (a .kinds .now) (a .words .now)) _
+    (passes.plain-is (word 5 (name (a .names)) (entries (a .kinds .now) (a .words .now))) _ _
+    (after-word-len .word-len .ensures ∙ ap (wordFront _ _) (after-first-entry .first-entry .ensures) ∙ sym (items.word-front 5 _ _))
+    (after-plain .plain .ensures)))
 
 part-signature-and-blocks-len-start : tie.Need-part-signature-and-blocks-len-start
 part-signature-and-blocks-len-start c =
-    let a = c .before .before .before .before .before .before .before .before .before .args in
-    passes.both-kinds (word 5 (name (a .names))) (both (type (a .names)) (both (many (item (a .names) Item.param)) (many (basicBlock (a .names))))) never (pairTest never (pairTest (any (otherItem Item.param)) (any (forbiddenBlock (bitAt (a .barred .now)))))) (a .kinds .now) (a .words .now) _ (passes.plain-is (word 5 (name (a .names)) (entries (a .kinds .now) (a .words .now))) _ _ (c .before .before .before .before .word-len .ensures ∙ ap (wordFront _ _) (c .before .before .before .before .before .first-entry .ensures) ∙ sym (items.word-front 5 _ _)) (c .before .before .before .plain .ensures)) _ _ (c .before .n .given .1) (passes.within never (agrees-name _ 5) (entries (a .kinds .now) (a .words .now)) _ (passes.plain-is (word 5 (name (a .names)) (entries (a .kinds .now) (a .words .now))) _ _ (c .before .before .before .before .word-len .ensures ∙ ap (wordFront _ _) (c .before .before .before .before .before .first-entry .ensures) ∙ sym (items.word-front 5 _ _)) (c .before .before .before .plain .ensures)))
+    let after-plain = c .before .before .before in
+    let after-word-len = after-plain .before in
+    let after-first-entry = after-word-len .before in
+    let entry = after-first-entry .before .before .before .before in
+    let a = entry .args in
+    passes.both-kinds (word 5 (name (a .names))) (both (type (a .names)) (both (many (item (a .names) Item.param)) (many (basicBlock (a .names)))))
+    never (pairTest never (pairTest (any (otherItem Item.param)) (any (forbiddenBlock (bitAt (a .barred .now)))))) (a .kinds .now) (a .words .now)
+    _
+    (passes.plain-is (word 5 (name (a .names)) (entries (a .kinds .now) (a .words .now))) _ _
+    (after-word-len .word-len .ensures ∙ ap (wordFront _ _) (after-first-entry .first-entry .ensures) ∙ sym (items.word-front 5 _ _))
+    (after-plain .plain .ensures)) _ _ (c .before .n .given .1)
+    (passes.within never (agrees-name _ 5) (entries (a .kinds .now) (a .words .now)) _
+    (passes.plain-is (word 5 (name (a .names)) (entries (a .kinds .now) (a .words .now))) _ _
+    (after-word-len .word-len .ensures ∙ ap (wordFront _ _) (after-first-entry .first-entry .ensures) ∙ sym (items.word-front 5 _ _))
+    (after-plain .plain .ensures)))
 
 part-signature-and-blocks-len-end : tie.Need-part-signature-and-blocks-len-end
 part-signature-and-blocks-len-end c = search needs
 
 mul-signature-and-blocks-len-2 : tie.Need-mul-signature-and-blocks-len-2
 mul-signature-and-blocks-len-2 c =
-    let a = c .before .before .before .before .before .before .before .before .before .before .args in
-    omega (arith, passes.both-words (word 5 (name (a .names))) (both (type (a .names)) (both (many (item (a .names) Item.param)) (many (basicBlock (a .names))))) never (pairTest never (pairTest (any (otherItem Item.param)) (any (forbiddenBlock (bitAt (a .barred .now)))))) (a .kinds .now) (a .words .now) _ (passes.plain-is (word 5 (name (a .names)) (entries (a .kinds .now) (a .words .now))) _ _ (c .before .before .before .before .before .word-len .ensures ∙ ap (wordFront _ _) (c .before .before .before .before .before .before .first-entry .ensures) ∙ sym (items.word-front 5 _ _)) (c .before .before .before .before .plain .ensures)) _ _ (c .before .before .n .given .1) (passes.within never (agrees-name _ 5) (entries (a .kinds .now) (a .words .now)) _ (passes.plain-is (word 5 (name (a .names)) (entries (a .kinds .now) (a .words .now))) _ _ (c .before .before .before .before .before .word-len .ensures ∙ ap (wordFront _ _) (c .before .before .before .before .before .before .first-entry .ensures) ∙ sym (items.word-front 5 _ _)) (c .before .before .before .before .plain .ensures))), c .before .before .before .before .before .before .before .before .before .before .good)
+    let after-plain = c .before .before .before .before in
+    let after-word-len = after-plain .before in
+    let after-first-entry = after-word-len .before in
+    let entry = after-first-entry .before .before .before .before in
+    let a = entry .args in
+    omega (
+      arith,
+      passes.both-words (word 5 (name (a .names)))
+          (both (type (a .names)) (both (many (item (a .names) Item.param)) (many (basicBlock (a .names))))) never
+          (pairTest never (pairTest (any (otherItem Item.param)) (any (forbiddenBlock (bitAt (a .barred .now)))))) (a .kinds .now) (a .words .now) _
+          (passes.plain-is (word 5 (name (a .names)) (entries (a .kinds .now) (a .words .now))) _ _
+          (after-word-len .word-len .ensures ∙ ap (wordFront _ _) (after-first-entry .first-entry .ensures) ∙ sym (items.word-front 5 _ _))
+          (after-plain .plain .ensures)) _ _ (c .before .before .n .given .1)
+          (passes.within never (agrees-name _ 5) (entries (a .kinds .now) (a .words .now)) _
+          (passes.plain-is (word 5 (name (a .names)) (entries (a .kinds .now) (a .words .now))) _ _
+          (after-word-len .word-len .ensures ∙ ap (wordFront _ _) (after-first-entry .first-entry .ensures) ∙ sym (items.word-front 5 _ _))
+          (after-plain .plain .ensures))),
+      entry .good,
+    )
 
 sub-signature-and-blocks-len-2 : tie.Need-sub-signature-and-blocks-len-2
 sub-signature-and-blocks-len-2 c =
-    let a = c .before .before .before .before .before .before .before .before .before .before .args in
-    passes.both-words (word 5 (name (a .names))) (both (type (a .names)) (both (many (item (a .names) Item.param)) (many (basicBlock (a .names))))) never (pairTest never (pairTest (any (otherItem Item.param)) (any (forbiddenBlock (bitAt (a .barred .now)))))) (a .kinds .now) (a .words .now) _ (passes.plain-is (word 5 (name (a .names)) (entries (a .kinds .now) (a .words .now))) _ _ (c .before .before .before .before .before .word-len .ensures ∙ ap (wordFront _ _) (c .before .before .before .before .before .before .first-entry .ensures) ∙ sym (items.word-front 5 _ _)) (c .before .before .before .before .plain .ensures)) _ _ (c .before .before .n .given .1) (passes.within never (agrees-name _ 5) (entries (a .kinds .now) (a .words .now)) _ (passes.plain-is (word 5 (name (a .names)) (entries (a .kinds .now) (a .words .now))) _ _ (c .before .before .before .before .before .word-len .ensures ∙ ap (wordFront _ _) (c .before .before .before .before .before .before .first-entry .ensures) ∙ sym (items.word-front 5 _ _)) (c .before .before .before .before .plain .ensures)))
+    let after-plain = c .before .before .before .before in
+    let after-word-len = after-plain .before in
+    let after-first-entry = after-word-len .before in
+    let entry = after-first-entry .before .before .before .before in
+    let a = entry .args in
+    passes.both-words (word 5 (name (a .names))) (both (type (a .names)) (both (many (item (a .names) Item.param)) (many (basicBlock (a .names)))))
+    never (pairTest never (pairTest (any (otherItem Item.param)) (any (forbiddenBlock (bitAt (a .barred .now)))))) (a .kinds .now) (a .words .now)
+    _
+    (passes.plain-is (word 5 (name (a .names)) (entries (a .kinds .now) (a .words .now))) _ _
+    (after-word-len .word-len .ensures ∙ ap (wordFront _ _) (after-first-entry .first-entry .ensures) ∙ sym (items.word-front 5 _ _))
+    (after-plain .plain .ensures)) _ _ (c .before .before .n .given .1)
+    (passes.within never (agrees-name _ 5) (entries (a .kinds .now) (a .words .now)) _
+    (passes.plain-is (word 5 (name (a .names)) (entries (a .kinds .now) (a .words .now))) _ _
+    (after-word-len .word-len .ensures ∙ ap (wordFront _ _) (after-first-entry .first-entry .ensures) ∙ sym (items.word-front 5 _ _))
+    (after-plain .plain .ensures)))
 
 part-signature-and-blocks-len-start-2 : tie.Need-part-signature-and-blocks-len-start-2
 part-signature-and-blocks-len-start-2 c =
-    let a = c .before .before .before .before .before .before .before .before .before .before .args in
-    passes.both-words (word 5 (name (a .names))) (both (type (a .names)) (both (many (item (a .names) Item.param)) (many (basicBlock (a .names))))) never (pairTest never (pairTest (any (otherItem Item.param)) (any (forbiddenBlock (bitAt (a .barred .now)))))) (a .kinds .now) (a .words .now) _ (passes.plain-is (word 5 (name (a .names)) (entries (a .kinds .now) (a .words .now))) _ _ (c .before .before .before .before .before .word-len .ensures ∙ ap (wordFront _ _) (c .before .before .before .before .before .before .first-entry .ensures) ∙ sym (items.word-front 5 _ _)) (c .before .before .before .before .plain .ensures)) _ _ (c .before .before .n .given .1) (passes.within never (agrees-name _ 5) (entries (a .kinds .now) (a .words .now)) _ (passes.plain-is (word 5 (name (a .names)) (entries (a .kinds .now) (a .words .now))) _ _ (c .before .before .before .before .before .word-len .ensures ∙ ap (wordFront _ _) (c .before .before .before .before .before .before .first-entry .ensures) ∙ sym (items.word-front 5 _ _)) (c .before .before .before .before .plain .ensures)))
+    let after-plain = c .before .before .before .before in
+    let after-word-len = after-plain .before in
+    let after-first-entry = after-word-len .before in
+    let entry = after-first-entry .before .before .before .before in
+    let a = entry .args in
+    passes.both-words (word 5 (name (a .names))) (both (type (a .names)) (both (many (item (a .names) Item.param)) (many (basicBlock (a .names)))))
+    never (pairTest never (pairTest (any (otherItem Item.param)) (any (forbiddenBlock (bitAt (a .barred .now)))))) (a .kinds .now) (a .words .now)
+    _
+    (passes.plain-is (word 5 (name (a .names)) (entries (a .kinds .now) (a .words .now))) _ _
+    (after-word-len .word-len .ensures ∙ ap (wordFront _ _) (after-first-entry .first-entry .ensures) ∙ sym (items.word-front 5 _ _))
+    (after-plain .plain .ensures)) _ _ (c .before .before .n .given .1)
+    (passes.within never (agrees-name _ 5) (entries (a .kinds .now) (a .words .now)) _
+    (passes.plain-is (word 5 (name (a .names)) (entries (a .kinds .now) (a .words .now))) _ _
+    (after-word-len .word-len .ensures ∙ ap (wordFront _ _) (after-first-entry .first-entry .ensures) ∙ sym (items.word-front 5 _ _))
+    (after-plain .plain .ensures)))
 
 part-signature-and-blocks-len-end-2 : tie.Need-part-signature-and-blocks-len-end-2
 part-signature-and-blocks-len-end-2 c = search needs
@@ -86,14 +188,49 @@ signature-and-blocks-len-requires c κs = search needs
 
 join-found-requires : tie.Need-join-found-requires
 join-found-requires c κs =
-    let a = c .before .before .before .before .before .before .before .before .before .before .before .before .args in
-    passes.both-room (word 5 (name (a .names))) (both (type (a .names)) (both (many (item (a .names) Item.param)) (many (basicBlock (a .names))))) never (pairTest never (pairTest (any (otherItem Item.param)) (any (forbiddenBlock (bitAt (a .barred .now)))))) (a .kinds .now) (a .words .now) _ (passes.plain-is (word 5 (name (a .names)) (entries (a .kinds .now) (a .words .now))) _ _ (c .before .before .before .before .before .before .before .word-len .ensures ∙ ap (wordFront _ _) (c .before .before .before .before .before .before .before .before .first-entry .ensures) ∙ sym (items.word-front 5 _ _)) (c .before .before .before .before .before .before .plain .ensures)) _ _ (c .before .before .before .before .n .given .1) (passes.within never (agrees-name _ 5) (entries (a .kinds .now) (a .words .now)) _ (passes.plain-is (word 5 (name (a .names)) (entries (a .kinds .now) (a .words .now))) _ _ (c .before .before .before .before .before .before .before .word-len .ensures ∙ ap (wordFront _ _) (c .before .before .before .before .before .before .before .before .first-entry .ensures) ∙ sym (items.word-front 5 _ _)) (c .before .before .before .before .before .before .plain .ensures))) (omega arith) _ (passes.within (pairTest never (pairTest (any (otherItem Item.param)) (any (forbiddenBlock (bitAt (a .barred .now)))))) (agrees-signature-and-blocks _) (lentFrom (a .kinds .now) (a .words .now) (c .before .before .before .before .n .given .0 .0)) _ (c .signature-and-blocks-len .ensures))
+    let after-n = c .before .before .before .before in
+    let after-plain = after-n .before .before in
+    let after-word-len = after-plain .before in
+    let after-first-entry = after-word-len .before in
+    let entry = after-first-entry .before .before .before .before in
+    let a = entry .args in
+    passes.both-room (word 5 (name (a .names))) (both (type (a .names)) (both (many (item (a .names) Item.param)) (many (basicBlock (a .names)))))
+    never (pairTest never (pairTest (any (otherItem Item.param)) (any (forbiddenBlock (bitAt (a .barred .now)))))) (a .kinds .now) (a .words .now)
+    _
+    (passes.plain-is (word 5 (name (a .names)) (entries (a .kinds .now) (a .words .now))) _ _
+    (after-word-len .word-len .ensures ∙ ap (wordFront _ _) (after-first-entry .first-entry .ensures) ∙ sym (items.word-front 5 _ _))
+    (after-plain .plain .ensures)) _ _ (after-n .n .given .1)
+    (passes.within never (agrees-name _ 5) (entries (a .kinds .now) (a .words .now)) _
+    (passes.plain-is (word 5 (name (a .names)) (entries (a .kinds .now) (a .words .now))) _ _
+    (after-word-len .word-len .ensures ∙ ap (wordFront _ _) (after-first-entry .first-entry .ensures) ∙ sym (items.word-front 5 _ _))
+    (after-plain .plain .ensures))) (omega arith) _
+    (passes.within (pairTest never (pairTest (any (otherItem Item.param)) (any (forbiddenBlock (bitAt (a .barred .now))))))
+    (agrees-signature-and-blocks _) (lentFrom (a .kinds .now) (a .words .now) (after-n .n .given .0 .0)) _
+    (c .signature-and-blocks-len .ensures))
 
 returns-2 : tie.Need-returns-2
 unfolding function
 returns-2 c =
-    let a = c .before .before .before .before .before .before .before .before .before .before .before .before .before .args in
-    passes.both-arm (word 5 (name (a .names))) (both (type (a .names)) (both (many (item (a .names) Item.param)) (many (basicBlock (a .names))))) never (pairTest never (pairTest (any (otherItem Item.param)) (any (forbiddenBlock (bitAt (a .barred .now)))))) (a .kinds .now) (a .words .now) _ (passes.plain-is (word 5 (name (a .names)) (entries (a .kinds .now) (a .words .now))) _ _ (c .before .before .before .before .before .before .before .before .word-len .ensures ∙ ap (wordFront _ _) (c .before .before .before .before .before .before .before .before .before .first-entry .ensures) ∙ sym (items.word-front 5 _ _)) (c .before .before .before .before .before .before .before .plain .ensures)) _ _ (c .before .before .before .before .before .n .given .1) _ _ (c .before .signature-and-blocks-len .ensures) (c .join-found .ensures) ∙ passes.found-ext (pairTest never (pairTest never (pairTest (any (otherItem Item.param)) (any (forbiddenBlock (bitAt (a .barred .now))))))) (λ p. any (forbiddenBlock (bitAt (a .barred .now))) (p .1 .1 .1)) (calls.no-param (bitAt (a .barred .now))) ((both (word 5 (name (a .names))) (both (type (a .names)) (both (many (item (a .names) Item.param)) (many (basicBlock (a .names)))))) (entries (a .kinds .now) (a .words .now))) ∙ sym (passes.mapped-found (forbiddenFunction (bitAt (a .barred .now))) (λ p. record { name = p .0; retTy = p .1 .0; params = p .1 .1 .0; blocks = p .1 .1 .1 }) (both (word 5 (name (a .names))) (both (type (a .names)) (both (many (item (a .names) Item.param)) (many (basicBlock (a .names)))))) (entries (a .kinds .now) (a .words .now)))
+    let after-n = c .before .before .before .before .before in
+    let after-plain = after-n .before .before in
+    let after-word-len = after-plain .before in
+    let after-first-entry = after-word-len .before in
+    let entry = after-first-entry .before .before .before .before in
+    let a = entry .args in
+    passes.both-arm (word 5 (name (a .names))) (both (type (a .names)) (both (many (item (a .names) Item.param)) (many (basicBlock (a .names)))))
+    never (pairTest never (pairTest (any (otherItem Item.param)) (any (forbiddenBlock (bitAt (a .barred .now)))))) (a .kinds .now) (a .words .now)
+    _
+    (passes.plain-is (word 5 (name (a .names)) (entries (a .kinds .now) (a .words .now))) _ _
+    (after-word-len .word-len .ensures ∙ ap (wordFront _ _) (after-first-entry .first-entry .ensures) ∙ sym (items.word-front 5 _ _))
+    (after-plain .plain .ensures)) _ _ (after-n .n .given .1) _ _ (c .before .signature-and-blocks-len .ensures) (c .join-found .ensures) ∙
+    passes.found-ext (pairTest never (pairTest never (pairTest (any (otherItem Item.param)) (any (forbiddenBlock (bitAt (a .barred .now)))))))
+    (λ p. any (forbiddenBlock (bitAt (a .barred .now))) (p .1 .1 .1)) (calls.no-param (bitAt (a .barred .now)))
+    ((both (word 5 (name (a .names))) (both (type (a .names)) (both (many (item (a .names) Item.param)) (many (basicBlock (a .names))))))
+    (entries (a .kinds .now) (a .words .now))) ∙ sym
+    (passes.mapped-found (forbiddenFunction (bitAt (a .barred .now)))
+    (λ p. record { name = p .0; retTy = p .1 .0; params = p .1 .1 .0; blocks = p .1 .1 .1 })
+    (both (word 5 (name (a .names))) (both (type (a .names)) (both (many (item (a .names) Item.param)) (many (basicBlock (a .names))))))
+    (entries (a .kinds .now) (a .words .now)))
 
 pub function-len-spec : {M : Type 1} → statement M
 function-len-spec =

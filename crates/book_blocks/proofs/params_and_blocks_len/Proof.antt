@@ -32,41 +32,108 @@ enum-told c = search needs
 
 returns : tie.Need-returns
 returns c =
-    let a = c .before .before .before .before .before .before .before .args in
-    passes.both-bad (many (item (a .names) Item.param)) (many (basicBlock (a .names))) (any (otherItem Item.param)) (any (forbiddenBlock (bitAt (a .barred .now)))) (a .kinds .now) (a .words .now) _ (passes.listed (otherItem Item.param) (item (a .names) Item.param) (entries (a .kinds .now) (a .words .now)) _ _ (c .before .before .list-len .ensures) (c .before .before .before .shorter .ensures)) (c .enum-told .given .1)
+    let after-shorter = c .before .before .before in
+    let entry = after-shorter .before .before .before .before in
+    let a = entry .args in
+    passes.both-bad (many (item (a .names) Item.param)) (many (basicBlock (a .names))) (any (otherItem Item.param))
+    (any (forbiddenBlock (bitAt (a .barred .now)))) (a .kinds .now) (a .words .now) _
+    (passes.listed (otherItem Item.param) (item (a .names) Item.param) (entries (a .kinds .now) (a .words .now)) _ _
+    (c .before .before .list-len .ensures) (after-shorter .shorter .ensures)) (c .enum-told .given .1)
 
 mul-blocks-len : tie.Need-mul-blocks-len
 mul-blocks-len c =
-    let a = c .before .before .before .before .before .before .before .before .args in
-    omega (arith, passes.both-kinds (many (item (a .names) Item.param)) (many (basicBlock (a .names))) (any (otherItem Item.param)) (any (forbiddenBlock (bitAt (a .barred .now)))) (a .kinds .now) (a .words .now) _ (passes.listed (otherItem Item.param) (item (a .names) Item.param) (entries (a .kinds .now) (a .words .now)) _ _ (c .before .before .before .list-len .ensures) (c .before .before .before .before .shorter .ensures)) _ _ (c .before .n .given .1) (passes.within (any (otherItem Item.param)) (agrees-items _ Item.param) (entries (a .kinds .now) (a .words .now)) _ (passes.listed (otherItem Item.param) (item (a .names) Item.param) (entries (a .kinds .now) (a .words .now)) _ _ (c .before .before .before .list-len .ensures) (c .before .before .before .before .shorter .ensures))), c .before .before .before .before .before .before .before .before .good)
+    let after-list-len = c .before .before .before in
+    let after-shorter = after-list-len .before in
+    let entry = after-shorter .before .before .before .before in
+    let a = entry .args in
+    omega (
+      arith,
+      passes.both-kinds (many (item (a .names) Item.param)) (many (basicBlock (a .names))) (any (otherItem Item.param))
+          (any (forbiddenBlock (bitAt (a .barred .now)))) (a .kinds .now) (a .words .now) _
+          (passes.listed (otherItem Item.param) (item (a .names) Item.param) (entries (a .kinds .now) (a .words .now)) _ _
+          (after-list-len .list-len .ensures) (after-shorter .shorter .ensures)) _ _ (c .before .n .given .1)
+          (passes.within (any (otherItem Item.param)) (agrees-items _ Item.param) (entries (a .kinds .now) (a .words .now)) _
+          (passes.listed (otherItem Item.param) (item (a .names) Item.param) (entries (a .kinds .now) (a .words .now)) _ _
+          (after-list-len .list-len .ensures) (after-shorter .shorter .ensures))),
+      entry .good,
+    )
 
 sub-blocks-len : tie.Need-sub-blocks-len
 sub-blocks-len c =
-    let a = c .before .before .before .before .before .before .before .before .args in
-    passes.both-kinds (many (item (a .names) Item.param)) (many (basicBlock (a .names))) (any (otherItem Item.param)) (any (forbiddenBlock (bitAt (a .barred .now)))) (a .kinds .now) (a .words .now) _ (passes.listed (otherItem Item.param) (item (a .names) Item.param) (entries (a .kinds .now) (a .words .now)) _ _ (c .before .before .before .list-len .ensures) (c .before .before .before .before .shorter .ensures)) _ _ (c .before .n .given .1) (passes.within (any (otherItem Item.param)) (agrees-items _ Item.param) (entries (a .kinds .now) (a .words .now)) _ (passes.listed (otherItem Item.param) (item (a .names) Item.param) (entries (a .kinds .now) (a .words .now)) _ _ (c .before .before .before .list-len .ensures) (c .before .before .before .before .shorter .ensures)))
+    let after-list-len = c .before .before .before in
+    let after-shorter = after-list-len .before in
+    let entry = after-shorter .before .before .before .before in
+    let a = entry .args in
+    passes.both-kinds (many (item (a .names) Item.param)) (many (basicBlock (a .names))) (any (otherItem Item.param))
+    (any (forbiddenBlock (bitAt (a .barred .now)))) (a .kinds .now) (a .words .now) _
+    (passes.listed (otherItem Item.param) (item (a .names) Item.param) (entries (a .kinds .now) (a .words .now)) _ _
+    (after-list-len .list-len .ensures) (after-shorter .shorter .ensures)) _ _ (c .before .n .given .1)
+    (passes.within (any (otherItem Item.param)) (agrees-items _ Item.param) (entries (a .kinds .now) (a .words .now)) _
+    (passes.listed (otherItem Item.param) (item (a .names) Item.param) (entries (a .kinds .now) (a .words .now)) _ _
+    (after-list-len .list-len .ensures) (after-shorter .shorter .ensures)))
 
 part-blocks-len-start : tie.Need-part-blocks-len-start
 part-blocks-len-start c =
-    let a = c .before .before .before .before .before .before .before .before .args in
-    passes.both-kinds (many (item (a .names) Item.param)) (many (basicBlock (a .names))) (any (otherItem Item.param)) (any (forbiddenBlock (bitAt (a .barred .now)))) (a .kinds .now) (a .words .now) _ (passes.listed (otherItem Item.param) (item (a .names) Item.param) (entries (a .kinds .now) (a .words .now)) _ _ (c .before .before .before .list-len .ensures) (c .before .before .before .before .shorter .ensures)) _ _ (c .before .n .given .1) (passes.within (any (otherItem Item.param)) (agrees-items _ Item.param) (entries (a .kinds .now) (a .words .now)) _ (passes.listed (otherItem Item.param) (item (a .names) Item.param) (entries (a .kinds .now) (a .words .now)) _ _ (c .before .before .before .list-len .ensures) (c .before .before .before .before .shorter .ensures)))
+    let after-list-len = c .before .before .before in
+    let after-shorter = after-list-len .before in
+    let entry = after-shorter .before .before .before .before in
+    let a = entry .args in
+    passes.both-kinds (many (item (a .names) Item.param)) (many (basicBlock (a .names))) (any (otherItem Item.param))
+    (any (forbiddenBlock (bitAt (a .barred .now)))) (a .kinds .now) (a .words .now) _
+    (passes.listed (otherItem Item.param) (item (a .names) Item.param) (entries (a .kinds .now) (a .words .now)) _ _
+    (after-list-len .list-len .ensures) (after-shorter .shorter .ensures)) _ _ (c .before .n .given .1)
+    (passes.within (any (otherItem Item.param)) (agrees-items _ Item.param) (entries (a .kinds .now) (a .words .now)) _
+    (passes.listed (otherItem Item.param) (item (a .names) Item.param) (entries (a .kinds .now) (a .words .now)) _ _
+    (after-list-len .list-len .ensures) (after-shorter .shorter .ensures)))
 
 part-blocks-len-end : tie.Need-part-blocks-len-end
 part-blocks-len-end c = search needs
 
 mul-blocks-len-2 : tie.Need-mul-blocks-len-2
 mul-blocks-len-2 c =
-    let a = c .before .before .before .before .before .before .before .before .before .args in
-    omega (arith, passes.both-words (many (item (a .names) Item.param)) (many (basicBlock (a .names))) (any (otherItem Item.param)) (any (forbiddenBlock (bitAt (a .barred .now)))) (a .kinds .now) (a .words .now) _ (passes.listed (otherItem Item.param) (item (a .names) Item.param) (entries (a .kinds .now) (a .words .now)) _ _ (c .before .before .before .before .list-len .ensures) (c .before .before .before .before .before .shorter .ensures)) _ _ (c .before .before .n .given .1) (passes.within (any (otherItem Item.param)) (agrees-items _ Item.param) (entries (a .kinds .now) (a .words .now)) _ (passes.listed (otherItem Item.param) (item (a .names) Item.param) (entries (a .kinds .now) (a .words .now)) _ _ (c .before .before .before .before .list-len .ensures) (c .before .before .before .before .before .shorter .ensures))), c .before .before .before .before .before .before .before .before .before .good)
+    let after-list-len = c .before .before .before .before in
+    let after-shorter = after-list-len .before in
+    let entry = after-shorter .before .before .before .before in
+    let a = entry .args in
+    omega (
+      arith,
+      passes.both-words (many (item (a .names) Item.param)) (many (basicBlock (a .names))) (any (otherItem Item.param))
+          (any (forbiddenBlock (bitAt (a .barred .now)))) (a .kinds .now) (a .words .now) _
+          (passes.listed (otherItem Item.param) (item (a .names) Item.param) (entries (a .kinds .now) (a .words .now)) _ _
+          (after-list-len .list-len .ensures) (after-shorter .shorter .ensures)) _ _ (c .before .before .n .given .1)
+          (passes.within (any (otherItem Item.param)) (agrees-items _ Item.param) (entries (a .kinds .now) (a .words .now)) _
+          (passes.listed (otherItem Item.param) (item (a .names) Item.param) (entries (a .kinds .now) (a .words .now)) _ _
+          (after-list-len .list-len .ensures) (after-shorter .shorter .ensures))),
+      entry .good,
+    )
 
 sub-blocks-len-2 : tie.Need-sub-blocks-len-2
 sub-blocks-len-2 c =
-    let a = c .before .before .before .before .before .before .before .before .before .args in
-    passes.both-words (many (item (a .names) Item.param)) (many (basicBlock (a .names))) (any (otherItem Item.param)) (any (forbiddenBlock (bitAt (a .barred .now)))) (a .kinds .now) (a .words .now) _ (passes.listed (otherItem Item.param) (item (a .names) Item.param) (entries (a .kinds .now) (a .words .now)) _ _ (c .before .before .before .before .list-len .ensures) (c .before .before .before .before .before .shorter .ensures)) _ _ (c .before .before .n .given .1) (passes.within (any (otherItem Item.param)) (agrees-items _ Item.param) (entries (a .kinds .now) (a .words .now)) _ (passes.listed (otherItem Item.param) (item (a .names) Item.param) (entries (a .kinds .now) (a .words .now)) _ _ (c .before .before .before .before .list-len .ensures) (c .before .before .before .before .before .shorter .ensures)))
+    let after-list-len = c .before .before .before .before in
+    let after-shorter = after-list-len .before in
+    let entry = after-shorter .before .before .before .before in
+    let a = entry .args in
+    passes.both-words (many (item (a .names) Item.param)) (many (basicBlock (a .names))) (any (otherItem Item.param))
+    (any (forbiddenBlock (bitAt (a .barred .now)))) (a .kinds .now) (a .words .now) _
+    (passes.listed (otherItem Item.param) (item (a .names) Item.param) (entries (a .kinds .now) (a .words .now)) _ _
+    (after-list-len .list-len .ensures) (after-shorter .shorter .ensures)) _ _ (c .before .before .n .given .1)
+    (passes.within (any (otherItem Item.param)) (agrees-items _ Item.param) (entries (a .kinds .now) (a .words .now)) _
+    (passes.listed (otherItem Item.param) (item (a .names) Item.param) (entries (a .kinds .now) (a .words .now)) _ _
+    (after-list-len .list-len .ensures) (after-shorter .shorter .ensures)))
 
 part-blocks-len-start-2 : tie.Need-part-blocks-len-start-2
 part-blocks-len-start-2 c =
-    let a = c .before .before .before .before .before .before .before .before .before .args in
-    passes.both-words (many (item (a .names) Item.param)) (many (basicBlock (a .names))) (any (otherItem Item.param)) (any (forbiddenBlock (bitAt (a .barred .now)))) (a .kinds .now) (a .words .now) _ (passes.listed (otherItem Item.param) (item (a .names) Item.param) (entries (a .kinds .now) (a .words .now)) _ _ (c .before .before .before .before .list-len .ensures) (c .before .before .before .before .before .shorter .ensures)) _ _ (c .before .before .n .given .1) (passes.within (any (otherItem Item.param)) (agrees-items _ Item.param) (entries (a .kinds .now) (a .words .now)) _ (passes.listed (otherItem Item.param) (item (a .names) Item.param) (entries (a .kinds .now) (a .words .now)) _ _ (c .before .before .before .before .list-len .ensures) (c .before .before .before .before .before .shorter .ensures)))
+    let after-list-len = c .before .before .before .before in
+    let after-shorter = after-list-len .before in
+    let entry = after-shorter .before .before .before .before in
+    let a = entry .args in
+    passes.both-words (many (item (a .names) Item.param)) (many (basicBlock (a .names))) (any (otherItem Item.param))
+    (any (forbiddenBlock (bitAt (a .barred .now)))) (a .kinds .now) (a .words .now) _
+    (passes.listed (otherItem Item.param) (item (a .names) Item.param) (entries (a .kinds .now) (a .words .now)) _ _
+    (after-list-len .list-len .ensures) (after-shorter .shorter .ensures)) _ _ (c .before .before .n .given .1)
+    (passes.within (any (otherItem Item.param)) (agrees-items _ Item.param) (entries (a .kinds .now) (a .words .now)) _
+    (passes.listed (otherItem Item.param) (item (a .names) Item.param) (entries (a .kinds .now) (a .words .now)) _ _
+    (after-list-len .list-len .ensures) (after-shorter .shorter .ensures)))
 
 part-blocks-len-end-2 : tie.Need-part-blocks-len-end-2
 part-blocks-len-end-2 c = search needs
@@ -76,13 +143,33 @@ blocks-len-requires c κs = search needs
 
 join-found-requires : tie.Need-join-found-requires
 join-found-requires c κs =
-    let a = c .before .before .before .before .before .before .before .before .before .before .before .args in
-    passes.both-room (many (item (a .names) Item.param)) (many (basicBlock (a .names))) (any (otherItem Item.param)) (any (forbiddenBlock (bitAt (a .barred .now)))) (a .kinds .now) (a .words .now) _ (passes.listed (otherItem Item.param) (item (a .names) Item.param) (entries (a .kinds .now) (a .words .now)) _ _ (c .before .before .before .before .before .before .list-len .ensures) (c .before .before .before .before .before .before .before .shorter .ensures)) _ _ (c .before .before .before .before .n .given .1) (passes.within (any (otherItem Item.param)) (agrees-items _ Item.param) (entries (a .kinds .now) (a .words .now)) _ (passes.listed (otherItem Item.param) (item (a .names) Item.param) (entries (a .kinds .now) (a .words .now)) _ _ (c .before .before .before .before .before .before .list-len .ensures) (c .before .before .before .before .before .before .before .shorter .ensures))) (omega arith) _ (passes.within (any (forbiddenBlock (bitAt (a .barred .now)))) (agrees-blocks _) (lentFrom (a .kinds .now) (a .words .now) (c .before .before .before .before .n .given .0 .0)) _ (c .blocks-len .ensures))
+    let after-n = c .before .before .before .before in
+    let after-list-len = after-n .before .before in
+    let after-shorter = after-list-len .before in
+    let entry = after-shorter .before .before .before .before in
+    let a = entry .args in
+    passes.both-room (many (item (a .names) Item.param)) (many (basicBlock (a .names))) (any (otherItem Item.param))
+    (any (forbiddenBlock (bitAt (a .barred .now)))) (a .kinds .now) (a .words .now) _
+    (passes.listed (otherItem Item.param) (item (a .names) Item.param) (entries (a .kinds .now) (a .words .now)) _ _
+    (after-list-len .list-len .ensures) (after-shorter .shorter .ensures)) _ _ (after-n .n .given .1)
+    (passes.within (any (otherItem Item.param)) (agrees-items _ Item.param) (entries (a .kinds .now) (a .words .now)) _
+    (passes.listed (otherItem Item.param) (item (a .names) Item.param) (entries (a .kinds .now) (a .words .now)) _ _
+    (after-list-len .list-len .ensures) (after-shorter .shorter .ensures))) (omega arith) _
+    (passes.within (any (forbiddenBlock (bitAt (a .barred .now)))) (agrees-blocks _)
+    (lentFrom (a .kinds .now) (a .words .now) (after-n .n .given .0 .0)) _ (c .blocks-len .ensures))
 
 returns-2 : tie.Need-returns-2
 returns-2 c =
-    let a = c .before .before .before .before .before .before .before .before .before .before .before .before .args in
-    passes.both-arm (many (item (a .names) Item.param)) (many (basicBlock (a .names))) (any (otherItem Item.param)) (any (forbiddenBlock (bitAt (a .barred .now)))) (a .kinds .now) (a .words .now) _ (passes.listed (otherItem Item.param) (item (a .names) Item.param) (entries (a .kinds .now) (a .words .now)) _ _ (c .before .before .before .before .before .before .before .list-len .ensures) (c .before .before .before .before .before .before .before .before .shorter .ensures)) _ _ (c .before .before .before .before .before .n .given .1) _ _ (c .before .blocks-len .ensures) (c .join-found .ensures)
+    let after-n = c .before .before .before .before .before in
+    let after-list-len = after-n .before .before in
+    let after-shorter = after-list-len .before in
+    let entry = after-shorter .before .before .before .before in
+    let a = entry .args in
+    passes.both-arm (many (item (a .names) Item.param)) (many (basicBlock (a .names))) (any (otherItem Item.param))
+    (any (forbiddenBlock (bitAt (a .barred .now)))) (a .kinds .now) (a .words .now) _
+    (passes.listed (otherItem Item.param) (item (a .names) Item.param) (entries (a .kinds .now) (a .words .now)) _ _
+    (after-list-len .list-len .ensures) (after-shorter .shorter .ensures)) _ _ (after-n .n .given .1) _ _ (c .before .blocks-len .ensures)
+    (c .join-found .ensures)
 
 pub params-and-blocks-len-spec : {M : Type 1} → statement M
 params-and-blocks-len-spec =

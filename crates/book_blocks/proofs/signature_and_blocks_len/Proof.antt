@@ -33,41 +33,108 @@ enum-told c = search needs
 
 returns : tie.Need-returns
 returns c =
-    let a = c .before .before .before .before .before .before .before .args in
-    passes.both-bad (type (a .names)) (both (many (item (a .names) Item.param)) (many (basicBlock (a .names)))) never (pairTest (any (otherItem Item.param)) (any (forbiddenBlock (bitAt (a .barred .now))))) (a .kinds .now) (a .words .now) _ (passes.plain-is (type (a .names) (entries (a .kinds .now) (a .words .now))) _ _ (c .before .before .before .type-len .ensures) (c .before .before .plain .ensures)) (c .enum-told .given .1)
+    let after-type-len = c .before .before .before in
+    let entry = after-type-len .before .before .before .before in
+    let a = entry .args in
+    passes.both-bad (type (a .names)) (both (many (item (a .names) Item.param)) (many (basicBlock (a .names)))) never
+    (pairTest (any (otherItem Item.param)) (any (forbiddenBlock (bitAt (a .barred .now))))) (a .kinds .now) (a .words .now) _
+    (passes.plain-is (type (a .names) (entries (a .kinds .now) (a .words .now))) _ _ (after-type-len .type-len .ensures)
+    (c .before .before .plain .ensures)) (c .enum-told .given .1)
 
 mul-params-and-blocks-len : tie.Need-mul-params-and-blocks-len
 mul-params-and-blocks-len c =
-    let a = c .before .before .before .before .before .before .before .before .args in
-    omega (arith, passes.both-kinds (type (a .names)) (both (many (item (a .names) Item.param)) (many (basicBlock (a .names)))) never (pairTest (any (otherItem Item.param)) (any (forbiddenBlock (bitAt (a .barred .now))))) (a .kinds .now) (a .words .now) _ (passes.plain-is (type (a .names) (entries (a .kinds .now) (a .words .now))) _ _ (c .before .before .before .before .type-len .ensures) (c .before .before .before .plain .ensures)) _ _ (c .before .n .given .1) (passes.within never (agrees-type _) (entries (a .kinds .now) (a .words .now)) _ (passes.plain-is (type (a .names) (entries (a .kinds .now) (a .words .now))) _ _ (c .before .before .before .before .type-len .ensures) (c .before .before .before .plain .ensures))), c .before .before .before .before .before .before .before .before .good)
+    let after-plain = c .before .before .before in
+    let after-type-len = after-plain .before in
+    let entry = after-type-len .before .before .before .before in
+    let a = entry .args in
+    omega (
+      arith,
+      passes.both-kinds (type (a .names)) (both (many (item (a .names) Item.param)) (many (basicBlock (a .names)))) never
+          (pairTest (any (otherItem Item.param)) (any (forbiddenBlock (bitAt (a .barred .now))))) (a .kinds .now) (a .words .now) _
+          (passes.plain-is (type (a .names) (entries (a .kinds .now) (a .words .now))) _ _ (after-type-len .type-len .ensures)
+          (after-plain .plain .ensures)) _ _ (c .before .n .given .1)
+          (passes.within never (agrees-type _) (entries (a .kinds .now) (a .words .now)) _
+          (passes.plain-is (type (a .names) (entries (a .kinds .now) (a .words .now))) _ _ (after-type-len .type-len .ensures)
+          (after-plain .plain .ensures))),
+      entry .good,
+    )
 
 sub-params-and-blocks-len : tie.Need-sub-params-and-blocks-len
 sub-params-and-blocks-len c =
-    let a = c .before .before .before .before .before .before .before .before .args in
-    passes.both-kinds (type (a .names)) (both (many (item (a .names) Item.param)) (many (basicBlock (a .names)))) never (pairTest (any (otherItem Item.param)) (any (forbiddenBlock (bitAt (a .barred .now))))) (a .kinds .now) (a .words .now) _ (passes.plain-is (type (a .names) (entries (a .kinds .now) (a .words .now))) _ _ (c .before .before .before .before .type-len .ensures) (c .before .before .before .plain .ensures)) _ _ (c .before .n .given .1) (passes.within never (agrees-type _) (entries (a .kinds .now) (a .words .now)) _ (passes.plain-is (type (a .names) (entries (a .kinds .now) (a .words .now))) _ _ (c .before .before .before .before .type-len .ensures) (c .before .before .before .plain .ensures)))
+    let after-plain = c .before .before .before in
+    let after-type-len = after-plain .before in
+    let entry = after-type-len .before .before .before .before in
+    let a = entry .args in
+    passes.both-kinds (type (a .names)) (both (many (item (a .names) Item.param)) (many (basicBlock (a .names)))) never
+    (pairTest (any (otherItem Item.param)) (any (forbiddenBlock (bitAt (a .barred .now))))) (a .kinds .now) (a .words .now) _
+    (passes.plain-is (type (a .names) (entries (a .kinds .now) (a .words .now))) _ _ (after-type-len .type-len .ensures)
+    (after-plain .plain .ensures)) _ _ (c .before .n .given .1)
+    (passes.within never (agrees-type _) (entries (a .kinds .now) (a .words .now)) _
+    (passes.plain-is (type (a .names) (entries (a .kinds .now) (a .words .now))) _ _ (after-type-len .type-len .ensures)
+    (after-plain .plain .ensures)))
 
 part-params-and-blocks-len-start : tie.Need-part-params-and-blocks-len-start
 part-params-and-blocks-len-start c =
-    let a = c .before .before .before .before .before .before .before .before .args in
-    passes.both-kinds (type (a .names)) (both (many (item (a .names) Item.param)) (many (basicBlock (a .names)))) never (pairTest (any (otherItem Item.param)) (any (forbiddenBlock (bitAt (a .barred .now))))) (a .kinds .now) (a .words .now) _ (passes.plain-is (type (a .names) (entries (a .kinds .now) (a .words .now))) _ _ (c .before .before .before .before .type-len .ensures) (c .before .before .before .plain .ensures)) _ _ (c .before .n .given .1) (passes.within never (agrees-type _) (entries (a .kinds .now) (a .words .now)) _ (passes.plain-is (type (a .names) (entries (a .kinds .now) (a .words .now))) _ _ (c .before .before .before .before .type-len .ensures) (c .before .before .before .plain .ensures)))
+    let after-plain = c .before .before .before in
+    let after-type-len = after-plain .before in
+    let entry = after-type-len .before .before .before .before in
+    let a = entry .args in
+    passes.both-kinds (type (a .names)) (both (many (item (a .names) Item.param)) (many (basicBlock (a .names)))) never
+    (pairTest (any (otherItem Item.param)) (any (forbiddenBlock (bitAt (a .barred .now))))) (a .kinds .now) (a .words .now) _
+    (passes.plain-is (type (a .names) (entries (a .kinds .now) (a .words .now))) _ _ (after-type-len .type-len .ensures)
+    (after-plain .plain .ensures)) _ _ (c .before .n .given .1)
+    (passes.within never (agrees-type _) (entries (a .kinds .now) (a .words .now)) _
+    (passes.plain-is (type (a .names) (entries (a .kinds .now) (a .words .now))) _ _ (after-type-len .type-len .ensures)
+    (after-plain .plain .ensures)))
 
 part-params-and-blocks-len-end : tie.Need-part-params-and-blocks-len-end
 part-params-and-blocks-len-end c = search needs
 
 mul-params-and-blocks-len-2 : tie.Need-mul-params-and-blocks-len-2
 mul-params-and-blocks-len-2 c =
-    let a = c .before .before .before .before .before .before .before .before .before .args in
-    omega (arith, passes.both-words (type (a .names)) (both (many (item (a .names) Item.param)) (many (basicBlock (a .names)))) never (pairTest (any (otherItem Item.param)) (any (forbiddenBlock (bitAt (a .barred .now))))) (a .kinds .now) (a .words .now) _ (passes.plain-is (type (a .names) (entries (a .kinds .now) (a .words .now))) _ _ (c .before .before .before .before .before .type-len .ensures) (c .before .before .before .before .plain .ensures)) _ _ (c .before .before .n .given .1) (passes.within never (agrees-type _) (entries (a .kinds .now) (a .words .now)) _ (passes.plain-is (type (a .names) (entries (a .kinds .now) (a .words .now))) _ _ (c .before .before .before .before .before .type-len .ensures) (c .before .before .before .before .plain .ensures))), c .before .before .before .before .before .before .before .before .before .good)
+    let after-plain = c .before .before .before .before in
+    let after-type-len = after-plain .before in
+    let entry = after-type-len .before .before .before .before in
+    let a = entry .args in
+    omega (
+      arith,
+      passes.both-words (type (a .names)) (both (many (item (a .names) Item.param)) (many (basicBlock (a .names)))) never
+          (pairTest (any (otherItem Item.param)) (any (forbiddenBlock (bitAt (a .barred .now))))) (a .kinds .now) (a .words .now) _
+          (passes.plain-is (type (a .names) (entries (a .kinds .now) (a .words .now))) _ _ (after-type-len .type-len .ensures)
+          (after-plain .plain .ensures)) _ _ (c .before .before .n .given .1)
+          (passes.within never (agrees-type _) (entries (a .kinds .now) (a .words .now)) _
+          (passes.plain-is (type (a .names) (entries (a .kinds .now) (a .words .now))) _ _ (after-type-len .type-len .ensures)
+          (after-plain .plain .ensures))),
+      entry .good,
+    )
 
 sub-params-and-blocks-len-2 : tie.Need-sub-params-and-blocks-len-2
 sub-params-and-blocks-len-2 c =
-    let a = c .before .before .before .before .before .before .before .before .before .args in
-    passes.both-words (type (a .names)) (both (many (item (a .names) Item.param)) (many (basicBlock (a .names)))) never (pairTest (any (otherItem Item.param)) (any (forbiddenBlock (bitAt (a .barred .now))))) (a .kinds .now) (a .words .now) _ (passes.plain-is (type (a .names) (entries (a .kinds .now) (a .words .now))) _ _ (c .before .before .before .before .before .type-len .ensures) (c .before .before .before .before .plain .ensures)) _ _ (c .before .before .n .given .1) (passes.within never (agrees-type _) (entries (a .kinds .now) (a .words .now)) _ (passes.plain-is (type (a .names) (entries (a .kinds .now) (a .words .now))) _ _ (c .before .before .before .before .before .type-len .ensures) (c .before .before .before .before .plain .ensures)))
+    let after-plain = c .before .before .before .before in
+    let after-type-len = after-plain .before in
+    let entry = after-type-len .before .before .before .before in
+    let a = entry .args in
+    passes.both-words (type (a .names)) (both (many (item (a .names) Item.param)) (many (basicBlock (a .names)))) never
+    (pairTest (any (otherItem Item.param)) (any (forbiddenBlock (bitAt (a .barred .now))))) (a .kinds .now) (a .words .now) _
+    (passes.plain-is (type (a .names) (entries (a .kinds .now) (a .words .now))) _ _ (after-type-len .type-len .ensures)
+    (after-plain .plain .ensures)) _ _ (c .before .before .n .given .1)
+    (passes.within never (agrees-type _) (entries (a .kinds .now) (a .words .now)) _
+    (passes.plain-is (type (a .names) (entries (a .kinds .now) (a .words .now))) _ _ (after-type-len .type-len .ensures)
+    (after-plain .plain .ensures)))
 
 part-params-and-blocks-len-start-2 : tie.Need-part-params-and-blocks-len-start-2
 part-params-and-blocks-len-start-2 c =
-    let a = c .before .before .before .before .before .before .before .before .before .args in
-    passes.both-words (type (a .names)) (both (many (item (a .names) Item.param)) (many (basicBlock (a .names)))) never (pairTest (any (otherItem Item.param)) (any (forbiddenBlock (bitAt (a .barred .now))))) (a .kinds .now) (a .words .now) _ (passes.plain-is (type (a .names) (entries (a .kinds .now) (a .words .now))) _ _ (c .before .before .before .before .before .type-len .ensures) (c .before .before .before .before .plain .ensures)) _ _ (c .before .before .n .given .1) (passes.within never (agrees-type _) (entries (a .kinds .now) (a .words .now)) _ (passes.plain-is (type (a .names) (entries (a .kinds .now) (a .words .now))) _ _ (c .before .before .before .before .before .type-len .ensures) (c .before .before .before .before .plain .ensures)))
+    let after-plain = c .before .before .before .before in
+    let after-type-len = after-plain .before in
+    let entry = after-type-len .before .before .before .before in
+    let a = entry .args in
+    passes.both-words (type (a .names)) (both (many (item (a .names) Item.param)) (many (basicBlock (a .names)))) never
+    (pairTest (any (otherItem Item.param)) (any (forbiddenBlock (bitAt (a .barred .now))))) (a .kinds .now) (a .words .now) _
+    (passes.plain-is (type (a .names) (entries (a .kinds .now) (a .words .now))) _ _ (after-type-len .type-len .ensures)
+    (after-plain .plain .ensures)) _ _ (c .before .before .n .given .1)
+    (passes.within never (agrees-type _) (entries (a .kinds .now) (a .words .now)) _
+    (passes.plain-is (type (a .names) (entries (a .kinds .now) (a .words .now))) _ _ (after-type-len .type-len .ensures)
+    (after-plain .plain .ensures)))
 
 part-params-and-blocks-len-end-2 : tie.Need-part-params-and-blocks-len-end-2
 part-params-and-blocks-len-end-2 c = search needs
@@ -77,13 +144,32 @@ params-and-blocks-len-requires c κs = search needs
 
 join-found-requires : tie.Need-join-found-requires
 join-found-requires c κs =
-    let a = c .before .before .before .before .before .before .before .before .before .before .before .args in
-    passes.both-room (type (a .names)) (both (many (item (a .names) Item.param)) (many (basicBlock (a .names)))) never (pairTest (any (otherItem Item.param)) (any (forbiddenBlock (bitAt (a .barred .now))))) (a .kinds .now) (a .words .now) _ (passes.plain-is (type (a .names) (entries (a .kinds .now) (a .words .now))) _ _ (c .before .before .before .before .before .before .before .type-len .ensures) (c .before .before .before .before .before .before .plain .ensures)) _ _ (c .before .before .before .before .n .given .1) (passes.within never (agrees-type _) (entries (a .kinds .now) (a .words .now)) _ (passes.plain-is (type (a .names) (entries (a .kinds .now) (a .words .now))) _ _ (c .before .before .before .before .before .before .before .type-len .ensures) (c .before .before .before .before .before .before .plain .ensures))) (omega arith) _ (passes.within (pairTest (any (otherItem Item.param)) (any (forbiddenBlock (bitAt (a .barred .now))))) (agrees-params-and-blocks _) (lentFrom (a .kinds .now) (a .words .now) (c .before .before .before .before .n .given .0 .0)) _ (c .params-and-blocks-len .ensures))
+    let after-n = c .before .before .before .before in
+    let after-plain = after-n .before .before in
+    let after-type-len = after-plain .before in
+    let entry = after-type-len .before .before .before .before in
+    let a = entry .args in
+    passes.both-room (type (a .names)) (both (many (item (a .names) Item.param)) (many (basicBlock (a .names)))) never
+    (pairTest (any (otherItem Item.param)) (any (forbiddenBlock (bitAt (a .barred .now))))) (a .kinds .now) (a .words .now) _
+    (passes.plain-is (type (a .names) (entries (a .kinds .now) (a .words .now))) _ _ (after-type-len .type-len .ensures)
+    (after-plain .plain .ensures)) _ _ (after-n .n .given .1)
+    (passes.within never (agrees-type _) (entries (a .kinds .now) (a .words .now)) _
+    (passes.plain-is (type (a .names) (entries (a .kinds .now) (a .words .now))) _ _ (after-type-len .type-len .ensures)
+    (after-plain .plain .ensures))) (omega arith) _
+    (passes.within (pairTest (any (otherItem Item.param)) (any (forbiddenBlock (bitAt (a .barred .now))))) (agrees-params-and-blocks _)
+    (lentFrom (a .kinds .now) (a .words .now) (after-n .n .given .0 .0)) _ (c .params-and-blocks-len .ensures))
 
 returns-2 : tie.Need-returns-2
 returns-2 c =
-    let a = c .before .before .before .before .before .before .before .before .before .before .before .before .args in
-    passes.both-arm (type (a .names)) (both (many (item (a .names) Item.param)) (many (basicBlock (a .names)))) never (pairTest (any (otherItem Item.param)) (any (forbiddenBlock (bitAt (a .barred .now))))) (a .kinds .now) (a .words .now) _ (passes.plain-is (type (a .names) (entries (a .kinds .now) (a .words .now))) _ _ (c .before .before .before .before .before .before .before .before .type-len .ensures) (c .before .before .before .before .before .before .before .plain .ensures)) _ _ (c .before .before .before .before .before .n .given .1) _ _ (c .before .params-and-blocks-len .ensures) (c .join-found .ensures)
+    let after-n = c .before .before .before .before .before in
+    let after-plain = after-n .before .before in
+    let after-type-len = after-plain .before in
+    let entry = after-type-len .before .before .before .before in
+    let a = entry .args in
+    passes.both-arm (type (a .names)) (both (many (item (a .names) Item.param)) (many (basicBlock (a .names)))) never
+    (pairTest (any (otherItem Item.param)) (any (forbiddenBlock (bitAt (a .barred .now))))) (a .kinds .now) (a .words .now) _
+    (passes.plain-is (type (a .names) (entries (a .kinds .now) (a .words .now))) _ _ (after-type-len .type-len .ensures)
+    (after-plain .plain .ensures)) _ _ (after-n .n .given .1) _ _ (c .before .params-and-blocks-len .ensures) (c .join-found .ensures)
 
 pub signature-and-blocks-len-spec : {M : Type 1} → statement M
 signature-and-blocks-len-spec =

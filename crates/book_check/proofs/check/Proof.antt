@@ -37,13 +37,22 @@ judged-requires-2 c κs = search needs
 
 returns : tie.Need-returns
 returns c =
-    let a = c .before .before .before .before .before .before .before .before .before .before .args in
-    verdict.check-sorted (a .book .now) (a .names .now) (a .counter) (a .work) _ (c .before .before .before .before .before .before .before .name-count .ensures) _ (c .before .before .before .before .before .read-names .ensures) _ _ (c .before .before .before .from .given .1) _ (c .before .read-book .ensures) _ (c .judged .ensures)
+    let after-from = c .before .before .before in
+    let after-read-names = after-from .before .before in
+    let after-name-count = after-read-names .before .before in
+    let entry = after-name-count .before .before .before in
+    let a = entry .args in
+    verdict.check-sorted (a .book .now) (a .names .now) (a .counter) (a .work) _ (after-name-count .name-count .ensures) _
+    (after-read-names .read-names .ensures) _ _ (after-from .from .given .1) _ (c .before .read-book .ensures) _ (c .judged .ensures)
 
 returns-2 : tie.Need-returns-2
 returns-2 c =
-    let a = c .before .before .before .before .before .before .before .before .before .args in
-    verdict.check-bad (a .book .now) (a .names .now) (a .counter) (a .work) _ (c .before .before .before .before .before .before .name-count .ensures) _ (c .before .before .before .before .read-names .ensures) (c .before .before .enum-told .given .1) _ (c .before .read-book2 .ensures) _ (c .judged2 .ensures)
+    let after-read-names = c .before .before .before .before in
+    let after-name-count = after-read-names .before .before in
+    let entry = after-name-count .before .before .before in
+    let a = entry .args in
+    verdict.check-bad (a .book .now) (a .names .now) (a .counter) (a .work) _ (after-name-count .name-count .ensures) _
+    (after-read-names .read-names .ensures) (c .before .before .enum-told .given .1) _ (c .before .read-book2 .ensures) _ (c .judged2 .ensures)
 
 pub check-spec : {M : Type 1} → statement M
 check-spec =

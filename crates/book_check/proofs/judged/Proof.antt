@@ -22,16 +22,49 @@ returns-3 : tie.Need-returns-3
 returns-3 c = sym (rw (c .before .before .before .book .given .1, le-leb _ _ (c .before .if1 .left), not-true (c .before .before .before .before .before .args .named) (c .if2 .taken)))
 
 returns-4 : tie.Need-returns-4
-returns-4 c = sym (rw (c .before .before .before .before .book .given .1, le-leb _ _ (c .before .before .if1 .left), not-false (c .before .before .before .before .before .before .args .named) (c .before .if2 .left), c .if3 .taken))
+returns-4 c =
+    let after-book = c .before .before .before .before in
+    let entry = after-book .before .before in
+    sym
+    (rw (
+      after-book .book .given .1,
+      le-leb _ _ (c .before .before .if1 .left),
+      not-false (entry .args .named) (c .before .if2 .left),
+      c .if3 .taken,
+    ))
 
 work-fits-requires : tie.Need-work-fits-requires
 work-fits-requires c κs = search needs
 
 returns-5 : tie.Need-returns-5
-returns-5 c = sym (rw (c .before .before .before .before .before .before .book .given .1, le-leb _ _ (c .before .before .before .before .if1 .left), not-false (c .before .before .before .before .before .before .before .before .args .named) (c .before .before .before .if2 .left), c .before .before .if3 .left, sym (c .before .work-fits .ensures) ∙ c .if4 .taken))
+returns-5 c =
+    let else2 = c .before .before .before in
+    let else1 = else2 .before in
+    let after-book = else1 .before .before in
+    let entry = after-book .before .before in
+    sym
+    (rw (
+      after-book .book .given .1,
+      le-leb _ _ (else1 .if1 .left),
+      not-false (entry .args .named) (else2 .if2 .left),
+      c .before .before .if3 .left,
+      sym (c .before .work-fits .ensures) ∙ c .if4 .taken,
+    ))
 
 returns-6 : tie.Need-returns-6
-returns-6 c = sym (rw (c .before .before .before .before .before .before .book .given .1, le-leb _ _ (c .before .before .before .before .if1 .left), not-false (c .before .before .before .before .before .before .before .before .args .named) (c .before .before .before .if2 .left), c .before .before .if3 .left, sym (c .before .work-fits .ensures) ∙ c .if4 .left))
+returns-6 c =
+    let else2 = c .before .before .before in
+    let else1 = else2 .before in
+    let after-book = else1 .before .before in
+    let entry = after-book .before .before in
+    sym
+    (rw (
+      after-book .book .given .1,
+      le-leb _ _ (else1 .if1 .left),
+      not-false (entry .args .named) (else2 .if2 .left),
+      c .before .before .if3 .left,
+      sym (c .before .work-fits .ensures) ∙ c .if4 .left,
+    ))
 
 pub judged-spec : {M : Type 1} → statement M
 judged-spec =

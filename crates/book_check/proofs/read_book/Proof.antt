@@ -39,8 +39,11 @@ add-if4 c = search needs
 
 returns-4 : tie.Need-returns-4
 returns-4 c =
-    let a = c .before .before .before .before .before .before .before .args in
-    whole.slice-long (barredRange (a .from) (a .to)) (a .book .now) (c .before .before .before .before .before .if1 .left) (c .before .before .if2 .left) (c .before .if3 .left) (λ e. c .if4 .taken (omega arith))
+    let else1 = c .before .before .before .before .before in
+    let entry = else1 .before .before in
+    let a = entry .args in
+    whole.slice-long (barredRange (a .from) (a .to)) (a .book .now) (else1 .if1 .left) (c .before .before .if2 .left) (c .before .if3 .left)
+    (λ e. c .if4 .taken (omega arith))
 
 sub-read-entries : tie.Need-sub-read-entries
 sub-read-entries c = search needs
@@ -68,8 +71,17 @@ read-entries-requires c κs = search needs
 
 returns-5 : tie.Need-returns-5
 returns-5 c =
-    let a = c .before .before .before .before .before .before .before .before .before .before .args in
-    whole.slice-ok (barredRange (a .from) (a .to)) (a .book .now) (c .before .before .before .before .before .before .before .before .if1 .left) (c .before .before .before .before .before .if2 .left) (c .before .before .before .before .if3 .left) (omega (arith, c .before .before .before .if4 .left)) _ (c .read-entries .ensures ∙ ap (λ es. readingOf (barredRange (a .from) (a .to)) (decode (getD (a .book .now) 1 0) es)) (whole.slice-parts (barredRange (a .from) (a .to)) (a .book .now) (c .before .before .before .before .before .before .before .before .if1 .left) (c .before .before .before .before .before .if2 .left) (c .before .before .before .before .if3 .left) (omega (arith, c .before .before .before .if4 .left))))
+    let else4 = c .before .before .before in
+    let else3 = else4 .before in
+    let else2 = else3 .before in
+    let else1 = else2 .before .before .before in
+    let entry = else1 .before .before in
+    let a = entry .args in
+    whole.slice-ok (barredRange (a .from) (a .to)) (a .book .now) (else1 .if1 .left) (else2 .if2 .left) (else3 .if3 .left)
+    (omega (arith, else4 .if4 .left)) _
+    (c .read-entries .ensures ∙ ap (λ es. readingOf (barredRange (a .from) (a .to)) (decode (getD (a .book .now) 1 0) es))
+    (whole.slice-parts (barredRange (a .from) (a .to)) (a .book .now) (else1 .if1 .left) (else2 .if2 .left) (else3 .if3 .left)
+    (omega (arith, else4 .if4 .left))))
 
 pub read-book-spec : {M : Type 1} → statement M
 read-book-spec =

@@ -20,21 +20,33 @@ enum-told c = search needs
 
 returns : tie.Need-returns
 returns c =
-    let a = c .before .before .before .before .before .args in
-    whole.reading-bad (a .names) (c .before .before .before .before .before .pre) (barredRange (a .from) (a .to)) (whole.range-size (a .from) (a .to)) (entries (a .kinds .now) (a .words .now)) _ (c .before .before .parts-len .ensures) (c .enum-told .given .1)
+    let entry = c .before .before .before .before .before in
+    let a = entry .args in
+    whole.reading-bad (a .names) (entry .pre) (barredRange (a .from) (a .to)) (whole.range-size (a .from) (a .to))
+    (entries (a .kinds .now) (a .words .now)) _ (c .before .before .parts-len .ensures) (c .enum-told .given .1)
 
 shorter-requires : tie.Need-shorter-requires
 shorter-requires c κs = search needs
 
 returns-2 : tie.Need-returns-2
 returns-2 c =
-    let a = c .before .before .before .before .before .before .before .before .args in
-    whole.reading-book (a .names) (c .before .before .before .before .before .before .before .before .pre) (barredRange (a .from) (a .to)) (whole.range-size (a .from) (a .to)) (entries (a .kinds .now) (a .words .now)) _ (c .before .before .before .before .before .parts-len .ensures) _ _ (c .before .before .before .n .given .1) (c .if1 .taken ∙ c .before .shorter .ensures)
+    let after-n = c .before .before .before in
+    let after-parts-len = after-n .before .before in
+    let entry = after-parts-len .before .before .before in
+    let a = entry .args in
+    whole.reading-book (a .names) (entry .pre) (barredRange (a .from) (a .to)) (whole.range-size (a .from) (a .to))
+    (entries (a .kinds .now) (a .words .now)) _ (after-parts-len .parts-len .ensures) _ _ (after-n .n .given .1)
+    (c .if1 .taken ∙ c .before .shorter .ensures)
 
 returns-3 : tie.Need-returns-3
 returns-3 c =
-    let a = c .before .before .before .before .before .before .before .before .args in
-    whole.reading-short (a .names) (c .before .before .before .before .before .before .before .before .pre) (barredRange (a .from) (a .to)) (whole.range-size (a .from) (a .to)) (entries (a .kinds .now) (a .words .now)) _ (c .before .before .before .before .before .parts-len .ensures) _ _ (c .before .before .before .n .given .1) (λ e. c .if1 .left (e ∙ sym (c .before .shorter .ensures)))
+    let after-n = c .before .before .before in
+    let after-parts-len = after-n .before .before in
+    let entry = after-parts-len .before .before .before in
+    let a = entry .args in
+    whole.reading-short (a .names) (entry .pre) (barredRange (a .from) (a .to)) (whole.range-size (a .from) (a .to))
+    (entries (a .kinds .now) (a .words .now)) _ (after-parts-len .parts-len .ensures) _ _ (after-n .n .given .1)
+    (λ e. c .if1 .left (e ∙ sym (c .before .shorter .ensures)))
 
 pub read-entries-spec : {M : Type 1} → statement M
 read-entries-spec =

@@ -112,20 +112,32 @@ returns-8 c =
 returns-9 : tie.Need-returns-9
 unfolding field digitFields
 returns-9 c =
-    let a = c .before .before .before .before .before .args in
-    passes.listed (otherItem Item.incoming) (item (a .names) Item.incoming) (entries (a .kinds .now) (a .words .now)) _ _ (c .list-len2 .ensures) (c .before .shorter .ensures) ∙ ap (λ d. foundOf (otherField (fieldOf d)) (field (a .names) (fieldOf d) (entries (a .kinds .now) (a .words .now)))) (sym (c .before .before .match .keys9))
+    let entry = c .before .before .before .before .before in
+    let a = entry .args in
+    passes.listed (otherItem Item.incoming) (item (a .names) Item.incoming) (entries (a .kinds .now) (a .words .now)) _ _ (c .list-len2 .ensures)
+    (c .before .shorter .ensures) ∙ ap
+    (λ d. foundOf (otherField (fieldOf d)) (field (a .names) (fieldOf d) (entries (a .kinds .now) (a .words .now))))
+    (sym (c .before .before .match .keys9))
 
 returns-10 : tie.Need-returns-10
 unfolding field digitFields
 returns-10 c =
-    let a = c .before .before .before .before .before .args in
-    passes.listed (otherItem Item.typed) (item (a .names) Item.typed) (entries (a .kinds .now) (a .words .now)) _ _ (c .list-len3 .ensures) (c .before .shorter2 .ensures) ∙ ap (λ d. foundOf (otherField (fieldOf d)) (field (a .names) (fieldOf d) (entries (a .kinds .now) (a .words .now)))) (sym (c .before .before .match .keys10))
+    let entry = c .before .before .before .before .before in
+    let a = entry .args in
+    passes.listed (otherItem Item.typed) (item (a .names) Item.typed) (entries (a .kinds .now) (a .words .now)) _ _ (c .list-len3 .ensures)
+    (c .before .shorter2 .ensures) ∙ ap
+    (λ d. foundOf (otherField (fieldOf d)) (field (a .names) (fieldOf d) (entries (a .kinds .now) (a .words .now))))
+    (sym (c .before .before .match .keys10))
 
 returns-11 : tie.Need-returns-11
 unfolding field digitFields
 returns-11 c =
-    let a = c .before .before .before .before .before .args in
-    passes.listed (otherItem Item.case) (item (a .names) Item.case) (entries (a .kinds .now) (a .words .now)) _ _ (c .list-len4 .ensures) (c .before .shorter3 .ensures) ∙ ap (λ d. foundOf (otherField (fieldOf d)) (field (a .names) (fieldOf d) (entries (a .kinds .now) (a .words .now)))) (sym (c .before .before .match .keys11))
+    let entry = c .before .before .before .before .before in
+    let a = entry .args in
+    passes.listed (otherItem Item.case) (item (a .names) Item.case) (entries (a .kinds .now) (a .words .now)) _ _ (c .list-len4 .ensures)
+    (c .before .shorter3 .ensures) ∙ ap
+    (λ d. foundOf (otherField (fieldOf d)) (field (a .names) (fieldOf d) (entries (a .kinds .now) (a .words .now))))
+    (sym (c .before .before .match .keys11))
 
 returns-12 : tie.Need-returns-12
 unfolding field digitFields

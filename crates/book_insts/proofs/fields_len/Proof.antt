@@ -55,21 +55,40 @@ enum-told c = search needs
 
 returns : tie.Need-returns Inv-loop μ-loop
 returns c =
-    let a = c .before .before .before .before .before .before .before .before .before .args in
-    laws.digits-bad (a .names) (a .fields) (a .kinds .now) (a .words .now) _ _ _ (c .before .before .before .before .before .before .loop .inv) (c .before .before .before .before .before .loop-test .taken) _ (c .before .before .field-len .ensures) (c .enum-told .given .1)
+    let in-loop = c .before .before .before .before .before in
+    let at-loop = in-loop .before in
+    let entry = at-loop .before .before .before in
+    let a = entry .args in
+    laws.digits-bad (a .names) (a .fields) (a .kinds .now) (a .words .now) _ _ _ (at-loop .loop .inv) (in-loop .loop-test .taken) _
+    (c .before .before .field-len .ensures) (c .enum-told .given .1)
 
 add-at : tie.Need-add-at Inv-loop μ-loop
 add-at c =
-    let a = c .before .before .before .before .before .before .before .before .before .before .args in
-    omega (arith, laws.digits-there (a .names) (a .fields) (a .kinds .now) (a .words .now) _ _ _ (c .before .before .before .before .before .before .before .loop .inv) (c .before .before .before .before .before .before .loop-test .taken) _ (c .before .before .before .field-len .ensures) _ _ (c .before .n .given .1), length-entries (a .kinds .now) (a .words .now), c .before .before .before .before .before .before .before .before .before .before .good)
+    let after-field-len = c .before .before .before in
+    let in-loop = after-field-len .before .before .before in
+    let at-loop = in-loop .before in
+    let entry = at-loop .before .before .before in
+    let a = entry .args in
+    omega (
+      arith,
+      laws.digits-there (a .names) (a .fields) (a .kinds .now) (a .words .now) _ _ _ (at-loop .loop .inv) (in-loop .loop-test .taken) _
+          (after-field-len .field-len .ensures) _ _ (c .before .n .given .1),
+      length-entries (a .kinds .now) (a .words .now),
+      entry .good,
+    )
 
 loop-less : tie.Need-loop-less Inv-loop μ-loop
 loop-less c = omega (arith, c .before .before .before .before .before .before .loop-test .taken)
 
 loop-again : tie.Need-loop-again Inv-loop μ-loop
 loop-again c =
-    let a = c .before .before .before .before .before .before .before .before .before .before .args in
-    laws.digits-next (a .names) (a .fields) (a .kinds .now) (a .words .now) _ _ _ (c .before .before .before .before .before .before .before .loop .inv) (c .before .before .before .before .before .before .loop-test .taken) _ (c .before .before .before .field-len .ensures) _ _ (c .before .n .given .1)
+    let after-field-len = c .before .before .before in
+    let in-loop = after-field-len .before .before .before in
+    let at-loop = in-loop .before in
+    let entry = at-loop .before .before .before in
+    let a = entry .args in
+    laws.digits-next (a .names) (a .fields) (a .kinds .now) (a .words .now) _ _ _ (at-loop .loop .inv) (in-loop .loop-test .taken) _
+    (after-field-len .field-len .ensures) _ _ (c .before .n .given .1)
 
 returns-2 : tie.Need-returns-2 Inv-loop μ-loop
 returns-2 c =

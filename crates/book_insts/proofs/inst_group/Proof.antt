@@ -17,7 +17,10 @@ single-group-requires c κs = search needs
 
 returns : tie.Need-returns
 unfolding instTag find instTags
-returns c = in-range (λ k. Bin (k - 40) ≡ instGroupOf (instTag k)) 40 13 (refl, (refl, (refl, (refl, (refl, (refl, (refl, (refl, (refl, (refl, (refl, (refl, (refl, tt))))))))))))) _ (c .before .if1 .left) (c .if2 .taken)
+returns c =
+    in-range (λ k. Bin (k - 40) ≡ instGroupOf (instTag k)) 40 13
+    (refl, (refl, (refl, (refl, (refl, (refl, (refl, (refl, (refl, (refl, (refl, (refl, (refl, tt))))))))))))) _ (c .before .if1 .left)
+    (c .if2 .taken)
 
 returns-2 : tie.Need-returns-2
 unfolding instTag find instTags

@@ -64,8 +64,34 @@ Rest k = ((((((((((((Unit {0} × (k ≡ 70 → ⊥)) × (k ≡ 71 → ⊥)) × (
 returns-13 : tie.Need-returns-13
 unfolding instTag find instTags
 returns-13 c =
-    in-range (λ k. Rest k → Fence ≡ instGroupOf (instTag k)) 70 13
-    (λ r. absurd (r .0 .0 .0 .0 .0 .0 .0 .0 .0 .0 .0 .1 refl), (λ r. absurd (r .0 .0 .0 .0 .0 .0 .0 .0 .0 .0 .1 refl), (λ r. absurd (r .0 .0 .0 .0 .0 .0 .0 .0 .0 .1 refl), (λ r. absurd (r .0 .0 .0 .0 .0 .0 .0 .0 .1 refl), (λ r. absurd (r .0 .0 .0 .0 .0 .0 .0 .1 refl), (λ r. absurd (r .0 .0 .0 .0 .0 .0 .1 refl), (λ r. absurd (r .0 .0 .0 .0 .0 .1 refl), (λ r. absurd (r .0 .0 .0 .0 .1 refl), (λ r. absurd (r .0 .0 .0 .1 refl), (λ r. absurd (r .0 .0 .1 refl), (λ r. absurd (r .0 .1 refl), (λ r. absurd (r .1 refl), (λ r. refl, tt)))))))))))))
+    in-range (λ k. Rest k → Fence ≡ instGroupOf (instTag k)) 70 13 (
+      λ r. absurd (r .0 .0 .0 .0 .0 .0 .0 .0 .0 .0 .0 .1 refl),
+      (
+        λ r. absurd (r .0 .0 .0 .0 .0 .0 .0 .0 .0 .0 .1 refl),
+        (
+          λ r. absurd (r .0 .0 .0 .0 .0 .0 .0 .0 .0 .1 refl),
+          (
+            λ r. absurd (r .0 .0 .0 .0 .0 .0 .0 .0 .1 refl),
+            (
+              λ r. absurd (r .0 .0 .0 .0 .0 .0 .0 .1 refl),
+              (
+                λ r. absurd (r .0 .0 .0 .0 .0 .0 .1 refl),
+                (
+                  λ r. absurd (r .0 .0 .0 .0 .0 .1 refl),
+                  (
+                    λ r. absurd (r .0 .0 .0 .0 .1 refl),
+                    (
+                      λ r. absurd (r .0 .0 .0 .1 refl),
+                      (λ r. absurd (r .0 .0 .1 refl), (λ r. absurd (r .0 .1 refl), (λ r. absurd (r .1 refl), (λ r. refl, tt)))),
+                    ),
+                  ),
+                ),
+              ),
+            ),
+          ),
+        ),
+      ),
+    )
     _ (c .before .pre .0) (suc-le-suc (c .before .pre .1)) (c .match .rest)
 
 pub single-group-spec : {M : Type 1} → statement M

@@ -31,14 +31,20 @@ enum-told c = search needs
 returns : tie.Need-returns
 unfolding term
 returns c =
-    let a = c .before .before .before .before .before .args in
-    laws.node-none (a .names) termFields termTag unmentioned (λ x. termOf (x .1 .0) (x .1 .1)) otherTerm laws.same-term (entries (a .kinds .now) (a .words .now)) (sym (c .before .before .first-entry .ensures) ∙ c .enum-told .given .1)
+    let entry = c .before .before .before .before .before in
+    let a = entry .args in
+    laws.node-none (a .names) termFields termTag unmentioned (λ x. termOf (x .1 .0) (x .1 .1)) otherTerm laws.same-term
+    (entries (a .kinds .now) (a .words .now)) (sym (c .before .before .first-entry .ensures) ∙ c .enum-told .given .1)
 
 returns-2 : tie.Need-returns-2
 unfolding term
 returns-2 c =
-    let a = c .before .before .before .before .before .before .before .args in
-    laws.node-rule (a .names) termFields termTag unmentioned (λ x. termOf (x .1 .0) (x .1 .1)) otherTerm laws.same-term (entries (a .kinds .now) (a .words .now)) _ _ (sym (c .before .before .before .before .first-entry .ensures) ∙ c .before .before .kind .given .1) (laws.mentioned _ (c .if1 .taken))
+    let after-first-entry = c .before .before .before .before in
+    let entry = after-first-entry .before .before .before in
+    let a = entry .args in
+    laws.node-rule (a .names) termFields termTag unmentioned (λ x. termOf (x .1 .0) (x .1 .1)) otherTerm laws.same-term
+    (entries (a .kinds .now) (a .words .now)) _ _ (sym (after-first-entry .first-entry .ensures) ∙ c .before .before .kind .given .1)
+    (laws.mentioned _ (c .if1 .taken))
 
 term-group-requires : tie.Need-term-group-requires
 term-group-requires c κs = search needs
@@ -55,31 +61,54 @@ enum-told-2 c = search needs
 returns-3 : tie.Need-returns-3
 unfolding term
 returns-3 c =
-    let a = c .before .before .before .before .before .before .before .before .before .before .before .args in
-    laws.shape-none (a .names) termFields termTag unmentioned (λ x. termOf (x .1 .0) (x .1 .1)) otherTerm laws.same-term (a .kinds .now) (a .words .now) _ _ (sym (c .before .before .before .before .before .before .before .before .first-entry .ensures) ∙ c .before .before .before .before .before .before .kind .given .1) _ (c .before .before .term-fields .ensures ∙ ap termShape (c .before .before .before .term-group .ensures) ∙ laws.term-shape (termTag (c .before .before .before .before .before .before .kind .given .0 .0))) (c .enum-told2 .given .1)
+    let after-term-group = c .before .before .before in
+    let after-kind = after-term-group .before .before .before in
+    let after-first-entry = after-kind .before .before in
+    let entry = after-first-entry .before .before .before in
+    let a = entry .args in
+    laws.shape-none (a .names) termFields termTag unmentioned (λ x. termOf (x .1 .0) (x .1 .1)) otherTerm laws.same-term (a .kinds .now)
+    (a .words .now) _ _ (sym (after-first-entry .first-entry .ensures) ∙ after-kind .kind .given .1) _
+    (c .before .before .term-fields .ensures ∙ ap termShape (after-term-group .term-group .ensures) ∙ laws.term-shape
+    (termTag (after-kind .kind .given .0 .0))) (c .enum-told2 .given .1)
 
 sub-fields-len : tie.Need-sub-fields-len
 sub-fields-len c =
-    let a = c .before .before .before .before .before .before .before .before .before .before .before .before .args in
-    within-kinds 1 _ _ (front-there (entries (a .kinds .now) (a .words .now)) _ _ (sym (c .before .before .before .before .before .before .before .before .before .first-entry .ensures) ∙ c .before .before .before .before .before .before .before .kind .given .1))
+    let after-kind = c .before .before .before .before .before .before .before in
+    let after-first-entry = after-kind .before .before in
+    let entry = after-first-entry .before .before .before in
+    let a = entry .args in
+    within-kinds 1 _ _
+    (front-there (entries (a .kinds .now) (a .words .now)) _ _ (sym (after-first-entry .first-entry .ensures) ∙ after-kind .kind .given .1))
 
 part-fields-len-start : tie.Need-part-fields-len-start
 part-fields-len-start c =
-    let a = c .before .before .before .before .before .before .before .before .before .before .before .before .args in
-    within-kinds 1 _ _ (front-there (entries (a .kinds .now) (a .words .now)) _ _ (sym (c .before .before .before .before .before .before .before .before .before .first-entry .ensures) ∙ c .before .before .before .before .before .before .before .kind .given .1))
+    let after-kind = c .before .before .before .before .before .before .before in
+    let after-first-entry = after-kind .before .before in
+    let entry = after-first-entry .before .before .before in
+    let a = entry .args in
+    within-kinds 1 _ _
+    (front-there (entries (a .kinds .now) (a .words .now)) _ _ (sym (after-first-entry .first-entry .ensures) ∙ after-kind .kind .given .1))
 
 part-fields-len-end : tie.Need-part-fields-len-end
 part-fields-len-end c = search needs
 
 sub-fields-len-2 : tie.Need-sub-fields-len-2
 sub-fields-len-2 c =
-    let a = c .before .before .before .before .before .before .before .before .before .before .before .before .before .args in
-    within-words 1 _ _ (front-there (entries (a .kinds .now) (a .words .now)) _ _ (sym (c .before .before .before .before .before .before .before .before .before .before .first-entry .ensures) ∙ c .before .before .before .before .before .before .before .before .kind .given .1))
+    let after-kind = c .before .before .before .before .before .before .before .before in
+    let after-first-entry = after-kind .before .before in
+    let entry = after-first-entry .before .before .before in
+    let a = entry .args in
+    within-words 1 _ _
+    (front-there (entries (a .kinds .now) (a .words .now)) _ _ (sym (after-first-entry .first-entry .ensures) ∙ after-kind .kind .given .1))
 
 part-fields-len-start-2 : tie.Need-part-fields-len-start-2
 part-fields-len-start-2 c =
-    let a = c .before .before .before .before .before .before .before .before .before .before .before .before .before .args in
-    within-words 1 _ _ (front-there (entries (a .kinds .now) (a .words .now)) _ _ (sym (c .before .before .before .before .before .before .before .before .before .before .first-entry .ensures) ∙ c .before .before .before .before .before .before .before .before .kind .given .1))
+    let after-kind = c .before .before .before .before .before .before .before .before in
+    let after-first-entry = after-kind .before .before in
+    let entry = after-first-entry .before .before .before in
+    let a = entry .args in
+    within-words 1 _ _
+    (front-there (entries (a .kinds .now) (a .words .now)) _ _ (sym (after-first-entry .first-entry .ensures) ∙ after-kind .kind .given .1))
 
 part-fields-len-end-2 : tie.Need-part-fields-len-end-2
 part-fields-len-end-2 c = search needs
@@ -89,14 +118,32 @@ fields-len-requires c κs = search needs
 
 join-found-requires : tie.Need-join-found-requires
 join-found-requires c κs =
-    let a = c .before .before .before .before .before .before .before .before .before .before .before .before .before .before .before .args in
-    laws.fields-room (a .names) (c .before .before .before .before .fields .given .0 .0) (a .kinds .now) (a .words .now) _ (omega arith) (within-kinds 1 _ _ (front-there (entries (a .kinds .now) (a .words .now)) _ _ (sym (c .before .before .before .before .before .before .before .before .before .before .before .before .first-entry .ensures) ∙ c .before .before .before .before .before .before .before .before .before .before .kind .given .1))) (c .fields-len .ensures)
+    let after-fields = c .before .before .before .before in
+    let after-kind = after-fields .before .before .before .before .before .before in
+    let after-first-entry = after-kind .before .before in
+    let entry = after-first-entry .before .before .before in
+    let a = entry .args in
+    laws.fields-room (a .names) (after-fields .fields .given .0 .0) (a .kinds .now) (a .words .now) _ (omega arith)
+    (within-kinds 1 _ _
+    (front-there (entries (a .kinds .now) (a .words .now)) _ _ (sym (after-first-entry .first-entry .ensures) ∙ after-kind .kind .given .1)))
+    (c .fields-len .ensures)
 
 returns-4 : tie.Need-returns-4
 unfolding term
 returns-4 c =
-    let a = c .before .before .before .before .before .before .before .before .before .before .before .before .before .before .before .before .args in
-    laws.shape-some (a .names) termFields termTag unmentioned (λ x. termOf (x .1 .0) (x .1 .1)) otherTerm laws.same-term (a .kinds .now) (a .words .now) _ _ (sym (c .before .before .before .before .before .before .before .before .before .before .before .before .before .first-entry .ensures) ∙ c .before .before .before .before .before .before .before .before .before .before .before .kind .given .1) _ (c .before .before .before .before .before .before .before .term-fields .ensures ∙ ap termShape (c .before .before .before .before .before .before .before .before .term-group .ensures) ∙ laws.term-shape (termTag (c .before .before .before .before .before .before .before .before .before .before .before .kind .given .0 .0))) _ (laws.not-mentioned _ (c .before .before .before .before .before .before .before .before .before .if1 .left)) _ (c .before .before .before .before .before .fields .given .1) _ _ (c .before .fields-len .ensures) (c .join-found .ensures)
+    let after-fields = c .before .before .before .before .before in
+    let after-term-fields = after-fields .before .before in
+    let after-term-group = after-term-fields .before in
+    let else1 = after-term-group .before in
+    let after-kind = else1 .before .before in
+    let after-first-entry = after-kind .before .before in
+    let entry = after-first-entry .before .before .before in
+    let a = entry .args in
+    laws.shape-some (a .names) termFields termTag unmentioned (λ x. termOf (x .1 .0) (x .1 .1)) otherTerm laws.same-term (a .kinds .now)
+    (a .words .now) _ _ (sym (after-first-entry .first-entry .ensures) ∙ after-kind .kind .given .1) _
+    (after-term-fields .term-fields .ensures ∙ ap termShape (after-term-group .term-group .ensures) ∙ laws.term-shape
+    (termTag (after-kind .kind .given .0 .0))) _ (laws.not-mentioned _ (else1 .if1 .left)) _ (after-fields .fields .given .1) _ _
+    (c .before .fields-len .ensures) (c .join-found .ensures)
 
 pub term-len-spec : {M : Type 1} → statement M
 term-len-spec =

@@ -32,8 +32,17 @@ same-length c = search needs
 
 returns-4 : tie.Need-returns-4
 returns-4 c =
-    let a = c .before .before .before .before .before .before .before .before .before .before .args in
-    (parts.mark-old (a .names) (a .marked .now) (a .kind) (a .word) _ (c .before .before .before .mark-new .ensures .0) (not-true (c .before .before .before .mark-new .result) (c .if4 .taken)), (c .before .before .before .mark-new .ensures .1 ∙ ap (λ t. setIf t (a .marked .now) (a .word)) (not-true (c .before .before .before .mark-new .result) (c .if4 .taken)), refl))
+    let after-mark-new = c .before .before .before in
+    let entry = after-mark-new .before .before .before .before .before .before .before in
+    let a = entry .args in (
+      parts.mark-old (a .names) (a .marked .now) (a .kind) (a .word) _ (after-mark-new .mark-new .ensures .0)
+          (not-true (after-mark-new .mark-new .result) (c .if4 .taken)),
+      (
+        after-mark-new .mark-new .ensures .1 ∙ ap (λ t. setIf t (a .marked .now) (a .word))
+            (not-true (after-mark-new .mark-new .result) (c .if4 .taken)),
+        refl,
+      ),
+    )
 
 mark-bit-requires : tie.Need-mark-bit-requires
 mark-bit-requires c κs = search needs
@@ -46,16 +55,44 @@ same-length-3 c = search needs
 
 returns-5 : tie.Need-returns-5
 returns-5 c =
-    let a = c .before .before .before .before .before .before .before .before .before .before .before .before .before .before .before .args in
-    (parts.mark-first (a .names) (a .marked .now) (a .kind) (a .word) (c .before .before .before .before .before .before .before .before .before .before .before .before .if1 .left) (c .before .before .before .before .before .before .before .before .before .before .before .if2 .left) (c .before .before .before .before .before .before .before .before .before .before .if3 .left) _ (c .before .before .before .before .before .before .before .before .mark-new .ensures .0) (not-false (c .before .before .before .before .before .before .before .before .mark-new .result) (c .before .before .before .before .before .if4 .left)), (c .before .before .before .before .before .before .before .before .mark-new .ensures .1 ∙ ap (λ t. setIf t (a .marked .now) (a .word)) (not-false (c .before .before .before .before .before .before .before .before .mark-new .result) (c .before .before .before .before .before .if4 .left)), c .before .before .mark-bit .ensures ∙ sym (ap (λ t. setIf t (a .barred .now) (a .word)) (eq-eqb _ _ (c .before .before .before .before .if5 .taken)))))
+    let then5 = c .before .before .before .before in
+    let else4 = then5 .before in
+    let after-mark-new = else4 .before .before .before in
+    let else3 = after-mark-new .before .before in
+    let else2 = else3 .before in
+    let else1 = else2 .before in
+    let entry = else1 .before .before .before in
+    let a = entry .args in (
+      parts.mark-first (a .names) (a .marked .now) (a .kind) (a .word) (else1 .if1 .left) (else2 .if2 .left) (else3 .if3 .left) _
+          (after-mark-new .mark-new .ensures .0) (not-false (after-mark-new .mark-new .result) (else4 .if4 .left)),
+      (
+        after-mark-new .mark-new .ensures .1 ∙ ap (λ t. setIf t (a .marked .now) (a .word))
+            (not-false (after-mark-new .mark-new .result) (else4 .if4 .left)),
+        c .before .before .mark-bit .ensures ∙ sym
+            (ap (λ t. setIf t (a .barred .now) (a .word)) (eq-eqb _ _ (then5 .if5 .taken))),
+      ),
+    )
 
 same-length-4 : tie.Need-same-length-4
 same-length-4 c = search needs
 
 returns-6 : tie.Need-returns-6
 returns-6 c =
-    let a = c .before .before .before .before .before .before .before .before .before .before .before .args in
-    (parts.mark-first (a .names) (a .marked .now) (a .kind) (a .word) (c .before .before .before .before .before .before .before .before .if1 .left) (c .before .before .before .before .before .before .before .if2 .left) (c .before .before .before .before .before .before .if3 .left) _ (c .before .before .before .before .mark-new .ensures .0) (not-false (c .before .before .before .before .mark-new .result) (c .before .if4 .left)), (c .before .before .before .before .mark-new .ensures .1 ∙ ap (λ t. setIf t (a .marked .now) (a .word)) (not-false (c .before .before .before .before .mark-new .result) (c .before .if4 .left)), sym (ap (λ t. setIf t (a .barred .now) (a .word)) (ne-eqb _ _ (c .if5 .left)))))
+    let after-mark-new = c .before .before .before .before in
+    let else3 = after-mark-new .before .before in
+    let else2 = else3 .before in
+    let else1 = else2 .before in
+    let entry = else1 .before .before .before in
+    let a = entry .args in (
+      parts.mark-first (a .names) (a .marked .now) (a .kind) (a .word) (else1 .if1 .left) (else2 .if2 .left) (else3 .if3 .left) _
+          (after-mark-new .mark-new .ensures .0) (not-false (after-mark-new .mark-new .result) (c .before .if4 .left)),
+      (
+        after-mark-new .mark-new .ensures .1 ∙ ap (λ t. setIf t (a .marked .now) (a .word))
+            (not-false (after-mark-new .mark-new .result) (c .before .if4 .left)),
+        sym
+            (ap (λ t. setIf t (a .barred .now) (a .word)) (ne-eqb _ _ (c .if5 .left))),
+      ),
+    )
 
 pub mark-spec : {M : Type 1} → statement M
 mark-spec =

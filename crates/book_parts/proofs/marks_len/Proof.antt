@@ -31,8 +31,14 @@ shorter-requires c κs = search needs
 
 loop-holds : tie.Need-loop-holds Inv-loop μ-loop
 loop-holds c =
-    let a = c .before .before .before .before .before .args in
-    (fold-start markedBy structsEnded (leb 3) (mark (a .names)) (structsAndFunction (a .names)) (a .marked .now, a .barred .now) (length (entries (a .kinds .now) (a .words .now))) (a .kinds .now) (a .words .now) (length (entries (a .kinds .now) (a .words .now)) - 0) (omega arith), refl, refl)
+    let entry = c .before .before .before .before .before in
+    let a = entry .args in (
+      fold-start markedBy structsEnded (leb 3) (mark (a .names)) (structsAndFunction (a .names)) (a .marked .now, a .barred .now)
+          (length (entries (a .kinds .now) (a .words .now))) (a .kinds .now) (a .words .now) (length (entries (a .kinds .now) (a .words .now)) - 0)
+          (omega arith),
+      refl,
+      refl,
+    )
 
 mul-if1 : tie.Need-mul-if1 Inv-loop μ-loop
 mul-if1 c =
@@ -73,8 +79,11 @@ structs-len-requires c κs = search needs
 
 join-found-requires : tie.Need-join-found-requires Inv-loop μ-loop
 join-found-requires c κs =
-    let a = c .before .before .before .before .before .before .before .before .before .before .before .before .before .args in
-    parts.structs-room (c .before .before .before .before .before .before .before .loop .barred) (a .names) (a .kinds .now) (a .words .now) _ _ (c .structs-len .ensures) (c .before .before .before .before .before .before .before .loop .inv .0 .kinds) (omega (arith, c .before .before .before .before .before .before .before .before .before .before .before .before .before .good))
+    let at-loop = c .before .before .before .before .before .before .before in
+    let entry = at-loop .before .before .before .before .before .before in
+    let a = entry .args in
+    parts.structs-room (at-loop .loop .barred) (a .names) (a .kinds .now) (a .words .now) _ _ (c .structs-len .ensures) (at-loop .loop .inv .0 .kinds)
+    (omega (arith, entry .good))
 
 same-length : tie.Need-same-length Inv-loop μ-loop
 same-length c = c .before .before .before .before .before .before .before .before .loop .inv .1
@@ -84,13 +93,22 @@ same-length-2 c = c .before .before .before .before .before .before .before .bef
 
 returns : tie.Need-returns Inv-loop μ-loop
 returns c =
-    let a = c .before .before .before .before .before .before .before .before .before .before .before .before .before .before .args in
-    parts.marks-end (a .marked .now) (a .barred .now) (a .names) (a .kinds .now) (a .words .now) _ _ (c .before .before .before .before .before .before .before .before .loop .inv .0) (omega (arith, c .before .before .before .before .before .before .before .loop-test .taken, c .before .before .before .before .before .before .before .before .before .shorter .ensures)) (c .before .before .before .before .before .if1 .taken) _ _ (c .before .structs-len .ensures) (c .join-found .ensures)
+    let then1 = c .before .before .before .before .before in
+    let in-loop = then1 .before .before in
+    let at-loop = in-loop .before in
+    let after-shorter = at-loop .before in
+    let entry = after-shorter .before .before .before .before .before in
+    let a = entry .args in
+    parts.marks-end (a .marked .now) (a .barred .now) (a .names) (a .kinds .now) (a .words .now) _ _ (at-loop .loop .inv .0)
+    (omega (arith, in-loop .loop-test .taken, after-shorter .shorter .ensures)) (then1 .if1 .taken) _ _ (c .before .structs-len .ensures)
+    (c .join-found .ensures)
 
 mul-mark : tie.Need-mul-mark Inv-loop μ-loop
 mul-mark c =
-    let a = c .before .before .before .before .before .before .before .before .before .args in
-    omega (arith, c .before .before .loop-test .taken, c .before .before .before .before .shorter .ensures, length-entries (a .kinds .now) (a .words .now), c .before .before .before .before .before .before .before .before .before .good)
+    let after-shorter = c .before .before .before .before in
+    let entry = after-shorter .before .before .before .before .before in
+    let a = entry .args in
+    omega (arith, c .before .before .loop-test .taken, after-shorter .shorter .ensures, length-entries (a .kinds .now) (a .words .now), entry .good)
 
 shared-slice-read-mark : tie.Need-shared-slice-read-mark Inv-loop μ-loop
 shared-slice-read-mark c =
@@ -99,8 +117,11 @@ shared-slice-read-mark c =
 
 mul-mark-2 : tie.Need-mul-mark-2 Inv-loop μ-loop
 mul-mark-2 c =
-    let a = c .before .before .before .before .before .before .before .before .before .before .args in
-    omega (arith, c .before .before .before .loop-test .taken, c .before .before .before .before .before .shorter .ensures, length-entries (a .kinds .now) (a .words .now), c .before .before .before .before .before .before .before .before .before .before .good)
+    let in-loop = c .before .before .before in
+    let after-shorter = in-loop .before .before in
+    let entry = after-shorter .before .before .before .before .before in
+    let a = entry .args in
+    omega (arith, in-loop .loop-test .taken, after-shorter .shorter .ensures, length-entries (a .kinds .now) (a .words .now), entry .good)
 
 shared-slice-read-mark-2 : tie.Need-shared-slice-read-mark-2 Inv-loop μ-loop
 shared-slice-read-mark-2 c =
@@ -111,28 +132,57 @@ mark-requires : tie.Need-mark-requires Inv-loop μ-loop
 mark-requires c κs = search needs
 
 same-length-3 : tie.Need-same-length-3 Inv-loop μ-loop
-same-length-3 c = c .before .before .before .before .before .mark .kept .1 .1 .1 .0 ∙ c .before .before .before .before .before .before .before .before .before .before .before .before .before .loop .inv .1
+same-length-3 c =
+    let after-mark = c .before .before .before .before .before in
+    let at-loop = after-mark .before .before .before .before .before .before .before .before in
+    after-mark .mark .kept .1 .1 .1 .0 ∙ at-loop .loop .inv .1
 
 same-length-4 : tie.Need-same-length-4 Inv-loop μ-loop
-same-length-4 c = c .before .before .before .before .before .mark .kept .1 .1 .1 .1 .0 ∙ c .before .before .before .before .before .before .before .before .before .before .before .before .before .loop .inv .2
+same-length-4 c =
+    let after-mark = c .before .before .before .before .before in
+    let at-loop = after-mark .before .before .before .before .before .before .before .before in
+    after-mark .mark .kept .1 .1 .1 .1 .0 ∙ at-loop .loop .inv .2
 
 returns-2 : tie.Need-returns-2 Inv-loop μ-loop
 returns-2 c =
-    let a = c .before .before .before .before .before .before .before .before .before .before .before .before .before .before .before .before .before .before .before .args in
-    parts.marks-refused (a .marked .now) (a .barred .now) (a .names) (a .kinds .now) (a .words .now) _ _ (c .before .before .before .before .before .before .before .before .before .before .before .before .before .loop .inv .0) (omega (arith, c .before .before .before .before .before .before .before .before .before .before .before .before .loop-test .taken, c .before .before .before .before .before .before .before .before .before .before .before .before .before .before .shorter .ensures)) (c .before .before .before .before .before .before .before .before .before .before .if1 .left) _ (c .before .before .before .before .before .mark .ensures .0) (not-true _ (c .if2 .taken))
+    let after-mark = c .before .before .before .before .before in
+    let else1 = after-mark .before .before .before .before .before in
+    let in-loop = else1 .before .before in
+    let at-loop = in-loop .before in
+    let after-shorter = at-loop .before in
+    let entry = after-shorter .before .before .before .before .before in
+    let a = entry .args in
+    parts.marks-refused (a .marked .now) (a .barred .now) (a .names) (a .kinds .now) (a .words .now) _ _ (at-loop .loop .inv .0)
+    (omega (arith, in-loop .loop-test .taken, after-shorter .shorter .ensures)) (else1 .if1 .left) _ (after-mark .mark .ensures .0)
+    (not-true _ (c .if2 .taken))
 
 add-at : tie.Need-add-at Inv-loop μ-loop
 add-at c =
-    let a = c .before .before .before .before .before .before .before .before .before .before .before .before .before .before .before .before .before .before .before .args in
-    omega (arith, c .before .before .before .before .before .before .before .before .before .before .before .before .loop-test .taken, c .before .before .before .before .before .before .before .before .before .before .before .before .before .before .shorter .ensures, length-entries (a .kinds .now) (a .words .now), c .before .before .before .before .before .before .before .before .before .before .before .before .before .before .before .before .before .before .before .good)
+    let in-loop = c .before .before .before .before .before .before .before .before .before .before .before .before in
+    let after-shorter = in-loop .before .before in
+    let entry = after-shorter .before .before .before .before .before in
+    let a = entry .args in
+    omega (arith, in-loop .loop-test .taken, after-shorter .shorter .ensures, length-entries (a .kinds .now) (a .words .now), entry .good)
 
 loop-less : tie.Need-loop-less Inv-loop μ-loop
 loop-less c = omega (arith, c .before .before .before .before .before .before .before .before .before .before .before .before .loop-test .taken)
 
 loop-again : tie.Need-loop-again Inv-loop μ-loop
 loop-again c =
-    let a = c .before .before .before .before .before .before .before .before .before .before .before .before .before .before .before .before .before .before .before .args in
-    (parts.marks-next (a .marked .now) (a .barred .now) (a .names) (a .kinds .now) (a .words .now) _ _ (c .before .before .before .before .before .before .before .before .before .before .before .before .before .loop .inv .0) (omega (arith, c .before .before .before .before .before .before .before .before .before .before .before .before .loop-test .taken, c .before .before .before .before .before .before .before .before .before .before .before .before .before .before .shorter .ensures)) (c .before .before .before .before .before .before .before .before .before .before .if1 .left) _ (c .before .before .before .before .before .mark .ensures .0) (not-false _ (c .if2 .left)) _ _ (c .before .before .before .before .before .mark .ensures .1 .0) (c .before .before .before .before .before .mark .ensures .1 .1), c .before .before .before .before .before .mark .kept .1 .1 .1 .0 ∙ c .before .before .before .before .before .before .before .before .before .before .before .before .before .loop .inv .1, c .before .before .before .before .before .mark .kept .1 .1 .1 .1 .0 ∙ c .before .before .before .before .before .before .before .before .before .before .before .before .before .loop .inv .2)
+    let after-mark = c .before .before .before .before .before in
+    let else1 = after-mark .before .before .before .before .before in
+    let in-loop = else1 .before .before in
+    let at-loop = in-loop .before in
+    let after-shorter = at-loop .before in
+    let entry = after-shorter .before .before .before .before .before in
+    let a = entry .args in (
+      parts.marks-next (a .marked .now) (a .barred .now) (a .names) (a .kinds .now) (a .words .now) _ _ (at-loop .loop .inv .0)
+          (omega (arith, in-loop .loop-test .taken, after-shorter .shorter .ensures)) (else1 .if1 .left) _ (after-mark .mark .ensures .0)
+          (not-false _ (c .if2 .left)) _ _ (after-mark .mark .ensures .1 .0) (after-mark .mark .ensures .1 .1),
+      after-mark .mark .kept .1 .1 .1 .0 ∙
+          at-loop .loop .inv .1,
+      after-mark .mark .kept .1 .1 .1 .1 .0 ∙ at-loop .loop .inv .2,
+    )
 
 same-length-5 : tie.Need-same-length-5 Inv-loop μ-loop
 same-length-5 c = c .before .loop .inv .1

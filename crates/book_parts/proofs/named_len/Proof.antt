@@ -29,8 +29,12 @@ shorter-requires c κs = search needs
 
 loop-holds : tie.Need-loop-holds Inv-loop μ-loop
 loop-holds c =
-    let a = c .before .before .before .before .before .args in
-    (fold-start structTaken (functionEnded (a .barred .now)) (leb 4) (structType (a .names)) (function (a .names)) (a .named .now) (length (entries (a .kinds .now) (a .words .now))) (a .kinds .now) (a .words .now) _ (c .shorter .ensures), refl)
+    let entry = c .before .before .before .before .before in
+    let a = entry .args in (
+      fold-start structTaken (functionEnded (a .barred .now)) (leb 4) (structType (a .names)) (function (a .names)) (a .named .now)
+          (length (entries (a .kinds .now) (a .words .now))) (a .kinds .now) (a .words .now) _ (c .shorter .ensures),
+      refl,
+    )
 
 mul-struct-step : tie.Need-mul-struct-step Inv-loop μ-loop
 mul-struct-step c = omega (arith, c .loop .inv .0 .kinds, c .before .before .before .before .before .before .good)
@@ -64,8 +68,16 @@ enum-known-n c = search needs
 
 add-t22 : tie.Need-add-t22 Inv-loop μ-loop
 add-t22 c =
-    let a = c .before .before .before .before .before .before .before .before .before .before .before .before .args in
-    omega (arith, parts.named-done-there (a .barred .now) (a .named .now) (a .names) (length (entries (a .kinds .now) (a .words .now))) (a .kinds .now) (a .words .now) _ _ _ (c .before .before .before .before .before .before .loop .inv .0) _ (c .before .before .before .struct-step .ensures) _ _ (c .before .n .given .1), c .before .before .before .before .before .before .before .before .before .before .before .before .good)
+    let after-struct-step = c .before .before .before in
+    let at-loop = after-struct-step .before .before .before in
+    let entry = at-loop .before .before .before .before .before .before in
+    let a = entry .args in
+    omega (
+      arith,
+      parts.named-done-there (a .barred .now) (a .named .now) (a .names) (length (entries (a .kinds .now) (a .words .now))) (a .kinds .now)
+          (a .words .now) _ _ _ (at-loop .loop .inv .0) _ (after-struct-step .struct-step .ensures) _ _ (c .before .n .given .1),
+      entry .good,
+    )
 
 same-length : tie.Need-same-length Inv-loop μ-loop
 same-length c = c .before .before .before .before .before .before .loop .inv .1
@@ -73,8 +85,12 @@ same-length c = c .before .before .before .before .before .before .loop .inv .1
 returns : tie.Need-returns Inv-loop μ-loop
 unfolding structsAndFunction
 returns c =
-    let a = c .before .before .before .before .before .before .before .before .before .before .before .before .args in
-    parts.named-done (a .barred .now) (a .named .now) (a .names) (length (entries (a .kinds .now) (a .words .now))) (a .kinds .now) (a .words .now) _ _ _ (c .before .before .before .before .before .before .loop .inv .0) _ (c .before .before .before .struct-step .ensures) _ _ (c .before .n .given .1)
+    let after-struct-step = c .before .before .before in
+    let at-loop = after-struct-step .before .before .before in
+    let entry = at-loop .before .before .before .before .before .before in
+    let a = entry .args in
+    parts.named-done (a .barred .now) (a .named .now) (a .names) (length (entries (a .kinds .now) (a .words .now))) (a .kinds .now) (a .words .now) _
+    _ _ (at-loop .loop .inv .0) _ (after-struct-step .struct-step .ensures) _ _ (c .before .n .given .1)
 
 enum-told : tie.Need-enum-told Inv-loop μ-loop
 enum-told c = search needs
@@ -85,8 +101,11 @@ same-length-2 c = c .before .before .before .before .before .loop .inv .1
 returns-2 : tie.Need-returns-2 Inv-loop μ-loop
 unfolding structsAndFunction
 returns-2 c =
-    let a = c .before .before .before .before .before .before .before .before .before .before .before .args in
-    parts.named-bad (a .barred .now) (a .named .now) (a .names) (length (entries (a .kinds .now) (a .words .now))) (a .kinds .now) (a .words .now) _ _ _ (c .before .before .before .before .before .loop .inv .0) _ (c .before .before .struct-step .ensures) (c .enum-told .given .1)
+    let at-loop = c .before .before .before .before .before in
+    let entry = at-loop .before .before .before .before .before .before in
+    let a = entry .args in
+    parts.named-bad (a .barred .now) (a .named .now) (a .names) (length (entries (a .kinds .now) (a .words .now))) (a .kinds .now) (a .words .now) _ _
+    _ (at-loop .loop .inv .0) _ (c .before .before .struct-step .ensures) (c .enum-told .given .1)
 
 enum-known-n-2 : tie.Need-enum-known-n-2 Inv-loop μ-loop
 enum-known-n-2 c = search needs
@@ -97,18 +116,43 @@ same-length-3 c = c .before .before .before .before .before .before .before .loo
 returns-3 : tie.Need-returns-3 Inv-loop μ-loop
 unfolding structsAndFunction
 returns-3 c =
-    let a = c .before .before .before .before .before .before .before .before .before .before .before .before .before .args in
-    parts.named-full (a .barred .now) (a .named .now) (a .names) (length (entries (a .kinds .now) (a .words .now))) (a .kinds .now) (a .words .now) _ _ _ (c .before .before .before .before .before .before .before .loop .inv .0) _ (c .before .before .before .before .struct-step .ensures) _ _ (c .before .before .n2 .given .1) (c .if1 .taken)
+    let after-struct-step = c .before .before .before .before in
+    let at-loop = after-struct-step .before .before .before in
+    let entry = at-loop .before .before .before .before .before .before in
+    let a = entry .args in
+    parts.named-full (a .barred .now) (a .named .now) (a .names) (length (entries (a .kinds .now) (a .words .now))) (a .kinds .now) (a .words .now) _
+    _ _ (at-loop .loop .inv .0) _ (after-struct-step .struct-step .ensures) _ _ (c .before .before .n2 .given .1) (c .if1 .taken)
 
 mul-mark-new : tie.Need-mul-mark-new Inv-loop μ-loop
 mul-mark-new c =
-    let a = c .before .before .before .before .before .before .before .before .before .before .before .before .before .before .args in
-    omega (arith, parts.named-at (a .barred .now) (a .named .now) (a .names) (length (entries (a .kinds .now) (a .words .now))) (a .kinds .now) (a .words .now) _ _ _ (c .before .before .before .before .before .before .before .before .loop .inv .0) _ (c .before .before .before .before .before .struct-step .ensures) _ _ (c .before .before .before .n2 .given .1), length-entries (a .kinds .now) (a .words .now), c .before .before .before .before .before .before .before .before .before .before .before .before .before .before .good)
+    let after-n2 = c .before .before .before in
+    let after-struct-step = after-n2 .before .before in
+    let at-loop = after-struct-step .before .before .before in
+    let entry = at-loop .before .before .before .before .before .before in
+    let a = entry .args in
+    omega (
+      arith,
+      parts.named-at (a .barred .now) (a .named .now) (a .names) (length (entries (a .kinds .now) (a .words .now))) (a .kinds .now)
+          (a .words .now) _ _ _ (at-loop .loop .inv .0) _ (after-struct-step .struct-step .ensures) _ _ (after-n2 .n2 .given .1),
+      length-entries
+          (a .kinds .now) (a .words .now),
+      entry .good,
+    )
 
 shared-slice-read-mark-new : tie.Need-shared-slice-read-mark-new Inv-loop μ-loop
 shared-slice-read-mark-new c =
-    let a = c .before .before .before .before .before .before .before .before .before .before .before .before .before .before .before .args in
-    omega (arith, parts.named-at (a .barred .now) (a .named .now) (a .names) (length (entries (a .kinds .now) (a .words .now))) (a .kinds .now) (a .words .now) _ _ _ (c .before .before .before .before .before .before .before .before .before .loop .inv .0) _ (c .before .before .before .before .before .before .struct-step .ensures) _ _ (c .before .before .before .before .n2 .given .1), length-entries (a .kinds .now) (a .words .now))
+    let after-n2 = c .before .before .before .before in
+    let after-struct-step = after-n2 .before .before in
+    let at-loop = after-struct-step .before .before .before in
+    let entry = at-loop .before .before .before .before .before .before in
+    let a = entry .args in
+    omega (
+      arith,
+      parts.named-at (a .barred .now) (a .named .now) (a .names) (length (entries (a .kinds .now) (a .words .now))) (a .kinds .now)
+          (a .words .now) _ _ _ (at-loop .loop .inv .0) _ (after-struct-step .struct-step .ensures) _ _ (after-n2 .n2 .given .1),
+      length-entries
+          (a .kinds .now) (a .words .now),
+    )
 
 mark-new-requires : tie.Need-mark-new-requires Inv-loop μ-loop
 mark-new-requires c κs = search needs
@@ -119,13 +163,31 @@ same-length-4 c = c .before .before .before .mark-new .kept .0 ∙ c .before .be
 returns-4 : tie.Need-returns-4 Inv-loop μ-loop
 unfolding structsAndFunction
 returns-4 c =
-    let a = c .before .before .before .before .before .before .before .before .before .before .before .before .before .before .before .before .before .before .before .args in
-    parts.named-repeated (a .barred .now) (a .named .now) (a .names) (length (entries (a .kinds .now) (a .words .now))) (a .kinds .now) (a .words .now) _ _ _ (c .before .before .before .before .before .before .before .before .before .before .before .before .before .loop .inv .0) _ (c .before .before .before .before .before .before .before .before .before .before .struct-step .ensures) _ _ (c .before .before .before .before .before .before .before .before .n2 .given .1) _ (c .before .before .before .mark-new .ensures .0) (not-true _ (c .if2 .taken))
+    let after-mark-new = c .before .before .before in
+    let after-n2 = after-mark-new .before .before .before .before .before in
+    let after-struct-step = after-n2 .before .before in
+    let at-loop = after-struct-step .before .before .before in
+    let entry = at-loop .before .before .before .before .before .before in
+    let a = entry .args in
+    parts.named-repeated (a .barred .now) (a .named .now) (a .names) (length (entries (a .kinds .now) (a .words .now))) (a .kinds .now)
+    (a .words .now) _ _ _ (at-loop .loop .inv .0) _ (after-struct-step .struct-step .ensures) _ _ (after-n2 .n2 .given .1) _
+    (after-mark-new .mark-new .ensures .0) (not-true _ (c .if2 .taken))
 
 add-at : tie.Need-add-at Inv-loop μ-loop
 add-at c =
-    let a = c .before .before .before .before .before .before .before .before .before .before .before .before .before .before .before .before .before .before .before .args in
-    omega (arith, parts.named-there (a .barred .now) (a .named .now) (a .names) (length (entries (a .kinds .now) (a .words .now))) (a .kinds .now) (a .words .now) _ _ _ (c .before .before .before .before .before .before .before .before .before .before .before .before .before .loop .inv .0) _ (c .before .before .before .before .before .before .before .before .before .before .struct-step .ensures) _ _ (c .before .before .before .before .before .before .before .before .n2 .given .1), length-entries (a .kinds .now) (a .words .now), c .before .before .before .before .before .before .before .before .before .before .before .before .before .before .before .before .before .before .before .good)
+    let after-n2 = c .before .before .before .before .before .before .before .before in
+    let after-struct-step = after-n2 .before .before in
+    let at-loop = after-struct-step .before .before .before in
+    let entry = at-loop .before .before .before .before .before .before in
+    let a = entry .args in
+    omega (
+      arith,
+      parts.named-there (a .barred .now) (a .named .now) (a .names) (length (entries (a .kinds .now) (a .words .now))) (a .kinds .now)
+          (a .words .now) _ _ _ (at-loop .loop .inv .0) _ (after-struct-step .struct-step .ensures) _ _ (after-n2 .n2 .given .1),
+      length-entries
+          (a .kinds .now) (a .words .now),
+      entry .good,
+    )
 
 sub-left : tie.Need-sub-left Inv-loop μ-loop
 sub-left c = search needs
@@ -135,8 +197,18 @@ loop-less c = omega (arith, c .before .before .before .before .before .before .i
 
 loop-again : tie.Need-loop-again Inv-loop μ-loop
 loop-again c =
-    let a = c .before .before .before .before .before .before .before .before .before .before .before .before .before .before .before .before .before .before .before .args in
-    (parts.named-next (a .barred .now) (a .named .now) (a .names) (length (entries (a .kinds .now) (a .words .now))) (a .kinds .now) (a .words .now) _ _ _ (c .before .before .before .before .before .before .before .before .before .before .before .before .before .loop .inv .0) _ (c .before .before .before .before .before .before .before .before .before .before .struct-step .ensures) _ _ (c .before .before .before .before .before .before .before .before .n2 .given .1) _ (c .before .before .before .mark-new .ensures .0) (not-false _ (c .if2 .left)) _ (c .before .before .before .mark-new .ensures .1) (c .before .before .before .before .before .before .if1 .left), c .before .before .before .mark-new .kept .0 ∙ c .before .before .before .before .before .before .before .before .before .before .before .before .before .loop .inv .1)
+    let after-mark-new = c .before .before .before in
+    let else1 = after-mark-new .before .before .before in
+    let after-n2 = else1 .before .before in
+    let after-struct-step = after-n2 .before .before in
+    let at-loop = after-struct-step .before .before .before in
+    let entry = at-loop .before .before .before .before .before .before in
+    let a = entry .args in (
+      parts.named-next (a .barred .now) (a .named .now) (a .names) (length (entries (a .kinds .now) (a .words .now))) (a .kinds .now) (a .words .now) _
+          _ _ (at-loop .loop .inv .0) _ (after-struct-step .struct-step .ensures) _ _ (after-n2 .n2 .given .1) _
+          (after-mark-new .mark-new .ensures .0) (not-false _ (c .if2 .left)) _ (after-mark-new .mark-new .ensures .1) (else1 .if1 .left),
+      after-mark-new .mark-new .kept .0 ∙ at-loop .loop .inv .1,
+    )
 
 pub named-len-spec : {M : Type 1} → statement M
 named-len-spec =

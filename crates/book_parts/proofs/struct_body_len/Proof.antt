@@ -29,8 +29,12 @@ entry-if-requires c κs = search needs
 
 returns-2 : tie.Need-returns-2
 returns-2 c =
-    let a = c .before .before .before .before .before .before .before .before .args in
-    parts.body-opaque (a .names) (entries (a .kinds .now) (a .words .now)) _ (c .before .before .before .before .before .first-entry .ensures) _ _ (c .before .before .before .kind .given .1) (c .before .if1 .taken) _ (c .entry-if .ensures)
+    let after-kind = c .before .before .before in
+    let after-first-entry = after-kind .before .before in
+    let entry = after-first-entry .before .before .before in
+    let a = entry .args in
+    parts.body-opaque (a .names) (entries (a .kinds .now) (a .words .now)) _ (after-first-entry .first-entry .ensures) _ _
+    (after-kind .kind .given .1) (c .before .if1 .taken) _ (c .entry-if .ensures)
 
 type-group-requires : tie.Need-type-group-requires
 type-group-requires c κs = search needs
@@ -43,13 +47,25 @@ type-len-requires c κs = search needs
 
 returns-3 : tie.Need-returns-3
 returns-3 c =
-    let a = c .before .before .before .before .before .before .before .before .before .before .before .args in
-    parts.body-struct (a .names) (entries (a .kinds .now) (a .words .now)) _ (c .before .before .before .before .before .before .before .before .first-entry .ensures) _ _ (c .before .before .before .before .before .before .kind .given .1) (c .before .before .before .before .if1 .left) _ _ (c .before .before .before .type-group .ensures) (c .before .before .is-struct .ensures) (c .before .if2 .taken) _ (c .type-len .ensures)
+    let after-type-group = c .before .before .before in
+    let else1 = after-type-group .before in
+    let after-kind = else1 .before .before in
+    let after-first-entry = after-kind .before .before in
+    let entry = after-first-entry .before .before .before in
+    let a = entry .args in
+    parts.body-struct (a .names) (entries (a .kinds .now) (a .words .now)) _ (after-first-entry .first-entry .ensures) _ _
+    (after-kind .kind .given .1) (else1 .if1 .left) _ _ (after-type-group .type-group .ensures) (c .before .before .is-struct .ensures)
+    (c .before .if2 .taken) _ (c .type-len .ensures)
 
 returns-4 : tie.Need-returns-4
 returns-4 c =
-    let a = c .before .before .before .before .before .before .before .before .before .before .args in
-    parts.body-other (a .names) (entries (a .kinds .now) (a .words .now)) _ (c .before .before .before .before .before .before .before .first-entry .ensures) _ _ (c .before .before .before .before .before .kind .given .1) (c .before .before .before .if1 .left) _ _ (c .before .before .type-group .ensures) (c .before .is-struct .ensures) (c .if2 .left)
+    let else1 = c .before .before .before in
+    let after-kind = else1 .before .before in
+    let after-first-entry = after-kind .before .before in
+    let entry = after-first-entry .before .before .before in
+    let a = entry .args in
+    parts.body-other (a .names) (entries (a .kinds .now) (a .words .now)) _ (after-first-entry .first-entry .ensures) _ _ (after-kind .kind .given .1)
+    (else1 .if1 .left) _ _ (c .before .before .type-group .ensures) (c .before .is-struct .ensures) (c .if2 .left)
 
 pub struct-body-len-spec : {M : Type 1} → statement M
 struct-body-len-spec =

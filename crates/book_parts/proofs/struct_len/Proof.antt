@@ -38,41 +38,123 @@ enum-told c = search needs
 returns : tie.Need-returns
 unfolding structType
 returns c =
-    let a = c .before .before .before .before .before .before .before .args in
-    passes.both-bad (word 3 (name (a .names))) (structBody (a .names)) never never (a .kinds .now) (a .words .now) _ (passes.plain-is (word 3 (name (a .names)) (entries (a .kinds .now) (a .words .now))) _ _ (c .before .before .before .word-len .ensures ∙ ap (wordFront _ _) (c .before .before .before .before .first-entry .ensures) ∙ sym (items.word-front 3 _ _)) (c .before .before .plain .ensures)) (c .enum-told .given .1) ∙ sym (passes.mapped-found never (λ p. record { name = p .0; body = p .1 }) (both (word 3 (name (a .names))) (structBody (a .names))) (entries (a .kinds .now) (a .words .now)))
+    let after-word-len = c .before .before .before in
+    let after-first-entry = after-word-len .before in
+    let entry = after-first-entry .before .before .before in
+    let a = entry .args in
+    passes.both-bad (word 3 (name (a .names))) (structBody (a .names)) never never (a .kinds .now) (a .words .now) _
+    (passes.plain-is (word 3 (name (a .names)) (entries (a .kinds .now) (a .words .now))) _ _
+    (after-word-len .word-len .ensures ∙ ap (wordFront _ _) (after-first-entry .first-entry .ensures) ∙ sym (items.word-front 3 _ _))
+    (c .before .before .plain .ensures)) (c .enum-told .given .1) ∙ sym
+    (passes.mapped-found never (λ p. record { name = p .0; body = p .1 }) (both (word 3 (name (a .names))) (structBody (a .names)))
+    (entries (a .kinds .now) (a .words .now)))
 
 mul-struct-body-len : tie.Need-mul-struct-body-len
 mul-struct-body-len c =
-    let a = c .before .before .before .before .before .before .before .before .args in
-    omega (arith, passes.both-kinds (word 3 (name (a .names))) (structBody (a .names)) never never (a .kinds .now) (a .words .now) _ (passes.plain-is (word 3 (name (a .names)) (entries (a .kinds .now) (a .words .now))) _ _ (c .before .before .before .before .word-len .ensures ∙ ap (wordFront _ _) (c .before .before .before .before .before .first-entry .ensures) ∙ sym (items.word-front 3 _ _)) (c .before .before .before .plain .ensures)) _ _ (c .before .n .given .1) (passes.within never (agrees-name _ 3) (entries (a .kinds .now) (a .words .now)) _ (passes.plain-is (word 3 (name (a .names)) (entries (a .kinds .now) (a .words .now))) _ _ (c .before .before .before .before .word-len .ensures ∙ ap (wordFront _ _) (c .before .before .before .before .before .first-entry .ensures) ∙ sym (items.word-front 3 _ _)) (c .before .before .before .plain .ensures))), c .before .before .before .before .before .before .before .before .good)
+    let after-plain = c .before .before .before in
+    let after-word-len = after-plain .before in
+    let after-first-entry = after-word-len .before in
+    let entry = after-first-entry .before .before .before in
+    let a = entry .args in
+    omega (
+      arith,
+      passes.both-kinds (word 3 (name (a .names))) (structBody (a .names)) never never (a .kinds .now) (a .words .now) _
+          (passes.plain-is (word 3 (name (a .names)) (entries (a .kinds .now) (a .words .now))) _ _
+          (after-word-len .word-len .ensures ∙ ap (wordFront _ _) (after-first-entry .first-entry .ensures) ∙ sym (items.word-front 3 _ _))
+          (after-plain .plain .ensures)) _ _ (c .before .n .given .1)
+          (passes.within never (agrees-name _ 3) (entries (a .kinds .now) (a .words .now)) _
+          (passes.plain-is (word 3 (name (a .names)) (entries (a .kinds .now) (a .words .now))) _ _
+          (after-word-len .word-len .ensures ∙ ap (wordFront _ _) (after-first-entry .first-entry .ensures) ∙ sym (items.word-front 3 _ _))
+          (after-plain .plain .ensures))),
+      entry .good,
+    )
 
 sub-struct-body-len : tie.Need-sub-struct-body-len
 sub-struct-body-len c =
-    let a = c .before .before .before .before .before .before .before .before .args in
-    passes.both-kinds (word 3 (name (a .names))) (structBody (a .names)) never never (a .kinds .now) (a .words .now) _ (passes.plain-is (word 3 (name (a .names)) (entries (a .kinds .now) (a .words .now))) _ _ (c .before .before .before .before .word-len .ensures ∙ ap (wordFront _ _) (c .before .before .before .before .before .first-entry .ensures) ∙ sym (items.word-front 3 _ _)) (c .before .before .before .plain .ensures)) _ _ (c .before .n .given .1) (passes.within never (agrees-name _ 3) (entries (a .kinds .now) (a .words .now)) _ (passes.plain-is (word 3 (name (a .names)) (entries (a .kinds .now) (a .words .now))) _ _ (c .before .before .before .before .word-len .ensures ∙ ap (wordFront _ _) (c .before .before .before .before .before .first-entry .ensures) ∙ sym (items.word-front 3 _ _)) (c .before .before .before .plain .ensures)))
+    let after-plain = c .before .before .before in
+    let after-word-len = after-plain .before in
+    let after-first-entry = after-word-len .before in
+    let entry = after-first-entry .before .before .before in
+    let a = entry .args in
+    passes.both-kinds (word 3 (name (a .names))) (structBody (a .names)) never never (a .kinds .now) (a .words .now) _
+    (passes.plain-is (word 3 (name (a .names)) (entries (a .kinds .now) (a .words .now))) _ _
+    (after-word-len .word-len .ensures ∙ ap (wordFront _ _) (after-first-entry .first-entry .ensures) ∙ sym (items.word-front 3 _ _))
+    (after-plain .plain .ensures)) _ _ (c .before .n .given .1)
+    (passes.within never (agrees-name _ 3) (entries (a .kinds .now) (a .words .now)) _
+    (passes.plain-is (word 3 (name (a .names)) (entries (a .kinds .now) (a .words .now))) _ _
+    (after-word-len .word-len .ensures ∙ ap (wordFront _ _) (after-first-entry .first-entry .ensures) ∙ sym (items.word-front 3 _ _))
+    (after-plain .plain .ensures)))
 
 part-struct-body-len-start : tie.Need-part-struct-body-len-start
 part-struct-body-len-start c =
-    let a = c .before .before .before .before .before .before .before .before .args in
-    passes.both-kinds (word 3 (name (a .names))) (structBody (a .names)) never never (a .kinds .now) (a .words .now) _ (passes.plain-is (word 3 (name (a .names)) (entries (a .kinds .now) (a .words .now))) _ _ (c .before .before .before .before .word-len .ensures ∙ ap (wordFront _ _) (c .before .before .before .before .before .first-entry .ensures) ∙ sym (items.word-front 3 _ _)) (c .before .before .before .plain .ensures)) _ _ (c .before .n .given .1) (passes.within never (agrees-name _ 3) (entries (a .kinds .now) (a .words .now)) _ (passes.plain-is (word 3 (name (a .names)) (entries (a .kinds .now) (a .words .now))) _ _ (c .before .before .before .before .word-len .ensures ∙ ap (wordFront _ _) (c .before .before .before .before .before .first-entry .ensures) ∙ sym (items.word-front 3 _ _)) (c .before .before .before .plain .ensures)))
+    let after-plain = c .before .before .before in
+    let after-word-len = after-plain .before in
+    let after-first-entry = after-word-len .before in
+    let entry = after-first-entry .before .before .before in
+    let a = entry .args in
+    passes.both-kinds (word 3 (name (a .names))) (structBody (a .names)) never never (a .kinds .now) (a .words .now) _
+    (passes.plain-is (word 3 (name (a .names)) (entries (a .kinds .now) (a .words .now))) _ _
+    (after-word-len .word-len .ensures ∙ ap (wordFront _ _) (after-first-entry .first-entry .ensures) ∙ sym (items.word-front 3 _ _))
+    (after-plain .plain .ensures)) _ _ (c .before .n .given .1)
+    (passes.within never (agrees-name _ 3) (entries (a .kinds .now) (a .words .now)) _
+    (passes.plain-is (word 3 (name (a .names)) (entries (a .kinds .now) (a .words .now))) _ _
+    (after-word-len .word-len .ensures ∙ ap (wordFront _ _) (after-first-entry .first-entry .ensures) ∙ sym (items.word-front 3 _ _))
+    (after-plain .plain .ensures)))
 
 part-struct-body-len-end : tie.Need-part-struct-body-len-end
 part-struct-body-len-end c = search needs
 
 mul-struct-body-len-2 : tie.Need-mul-struct-body-len-2
 mul-struct-body-len-2 c =
-    let a = c .before .before .before .before .before .before .before .before .before .args in
-    omega (arith, passes.both-words (word 3 (name (a .names))) (structBody (a .names)) never never (a .kinds .now) (a .words .now) _ (passes.plain-is (word 3 (name (a .names)) (entries (a .kinds .now) (a .words .now))) _ _ (c .before .before .before .before .before .word-len .ensures ∙ ap (wordFront _ _) (c .before .before .before .before .before .before .first-entry .ensures) ∙ sym (items.word-front 3 _ _)) (c .before .before .before .before .plain .ensures)) _ _ (c .before .before .n .given .1) (passes.within never (agrees-name _ 3) (entries (a .kinds .now) (a .words .now)) _ (passes.plain-is (word 3 (name (a .names)) (entries (a .kinds .now) (a .words .now))) _ _ (c .before .before .before .before .before .word-len .ensures ∙ ap (wordFront _ _) (c .before .before .before .before .before .before .first-entry .ensures) ∙ sym (items.word-front 3 _ _)) (c .before .before .before .before .plain .ensures))), c .before .before .before .before .before .before .before .before .before .good)
+    let after-plain = c .before .before .before .before in
+    let after-word-len = after-plain .before in
+    let after-first-entry = after-word-len .before in
+    let entry = after-first-entry .before .before .before in
+    let a = entry .args in
+    omega (
+      arith,
+      passes.both-words (word 3 (name (a .names))) (structBody (a .names)) never never (a .kinds .now) (a .words .now) _
+          (passes.plain-is (word 3 (name (a .names)) (entries (a .kinds .now) (a .words .now))) _ _
+          (after-word-len .word-len .ensures ∙ ap (wordFront _ _) (after-first-entry .first-entry .ensures) ∙ sym (items.word-front 3 _ _))
+          (after-plain .plain .ensures)) _ _ (c .before .before .n .given .1)
+          (passes.within never (agrees-name _ 3) (entries (a .kinds .now) (a .words .now)) _
+          (passes.plain-is (word 3 (name (a .names)) (entries (a .kinds .now) (a .words .now))) _ _
+          (after-word-len .word-len .ensures ∙ ap (wordFront _ _) (after-first-entry .first-entry .ensures) ∙ sym (items.word-front 3 _ _))
+          (after-plain .plain .ensures))),
+      entry .good,
+    )
 
 sub-struct-body-len-2 : tie.Need-sub-struct-body-len-2
 sub-struct-body-len-2 c =
-    let a = c .before .before .before .before .before .before .before .before .before .args in
-    passes.both-words (word 3 (name (a .names))) (structBody (a .names)) never never (a .kinds .now) (a .words .now) _ (passes.plain-is (word 3 (name (a .names)) (entries (a .kinds .now) (a .words .now))) _ _ (c .before .before .before .before .before .word-len .ensures ∙ ap (wordFront _ _) (c .before .before .before .before .before .before .first-entry .ensures) ∙ sym (items.word-front 3 _ _)) (c .before .before .before .before .plain .ensures)) _ _ (c .before .before .n .given .1) (passes.within never (agrees-name _ 3) (entries (a .kinds .now) (a .words .now)) _ (passes.plain-is (word 3 (name (a .names)) (entries (a .kinds .now) (a .words .now))) _ _ (c .before .before .before .before .before .word-len .ensures ∙ ap (wordFront _ _) (c .before .before .before .before .before .before .first-entry .ensures) ∙ sym (items.word-front 3 _ _)) (c .before .before .before .before .plain .ensures)))
+    let after-plain = c .before .before .before .before in
+    let after-word-len = after-plain .before in
+    let after-first-entry = after-word-len .before in
+    let entry = after-first-entry .before .before .before in
+    let a = entry .args in
+    passes.both-words (word 3 (name (a .names))) (structBody (a .names)) never never (a .kinds .now) (a .words .now) _
+    (passes.plain-is (word 3 (name (a .names)) (entries (a .kinds .now) (a .words .now))) _ _
+    (after-word-len .word-len .ensures ∙ ap (wordFront _ _) (after-first-entry .first-entry .ensures) ∙ sym (items.word-front 3 _ _))
+    (after-plain .plain .ensures)) _ _ (c .before .before .n .given .1)
+    (passes.within never (agrees-name _ 3) (entries (a .kinds .now) (a .words .now)) _
+    (passes.plain-is (word 3 (name (a .names)) (entries (a .kinds .now) (a .words .now))) _ _
+    (after-word-len .word-len .ensures ∙ ap (wordFront _ _) (after-first-entry .first-entry .ensures) ∙ sym (items.word-front 3 _ _))
+    (after-plain .plain .ensures)))
 
 part-struct-body-len-start-2 : tie.Need-part-struct-body-len-start-2
 part-struct-body-len-start-2 c =
-    let a = c .before .before .before .before .before .before .before .before .before .args in
-    passes.both-words (word 3 (name (a .names))) (structBody (a .names)) never never (a .kinds .now) (a .words .now) _ (passes.plain-is (word 3 (name (a .names)) (entries (a .kinds .now) (a .words .now))) _ _ (c .before .before .before .before .before .word-len .ensures ∙ ap (wordFront _ _) (c .before .before .before .before .before .before .first-entry .ensures) ∙ sym (items.word-front 3 _ _)) (c .before .before .before .before .plain .ensures)) _ _ (c .before .before .n .given .1) (passes.within never (agrees-name _ 3) (entries (a .kinds .now) (a .words .now)) _ (passes.plain-is (word 3 (name (a .names)) (entries (a .kinds .now) (a .words .now))) _ _ (c .before .before .before .before .before .word-len .ensures ∙ ap (wordFront _ _) (c .before .before .before .before .before .before .first-entry .ensures) ∙ sym (items.word-front 3 _ _)) (c .before .before .before .before .plain .ensures)))
+    let after-plain = c .before .before .before .before in
+    let after-word-len = after-plain .before in
+    let after-first-entry = after-word-len .before in
+    let entry = after-first-entry .before .before .before in
+    let a = entry .args in
+    passes.both-words (word 3 (name (a .names))) (structBody (a .names)) never never (a .kinds .now) (a .words .now) _
+    (passes.plain-is (word 3 (name (a .names)) (entries (a .kinds .now) (a .words .now))) _ _
+    (after-word-len .word-len .ensures ∙ ap (wordFront _ _) (after-first-entry .first-entry .ensures) ∙ sym (items.word-front 3 _ _))
+    (after-plain .plain .ensures)) _ _ (c .before .before .n .given .1)
+    (passes.within never (agrees-name _ 3) (entries (a .kinds .now) (a .words .now)) _
+    (passes.plain-is (word 3 (name (a .names)) (entries (a .kinds .now) (a .words .now))) _ _
+    (after-word-len .word-len .ensures ∙ ap (wordFront _ _) (after-first-entry .first-entry .ensures) ∙ sym (items.word-front 3 _ _))
+    (after-plain .plain .ensures)))
 
 part-struct-body-len-end-2 : tie.Need-part-struct-body-len-end-2
 part-struct-body-len-end-2 c = search needs
@@ -85,14 +167,41 @@ plain-requires-2 c κs = search needs
 
 join-found-requires : tie.Need-join-found-requires
 join-found-requires c κs =
-    let a = c .before .before .before .before .before .before .before .before .before .before .before .before .args in
-    passes.both-room (word 3 (name (a .names))) (structBody (a .names)) never never (a .kinds .now) (a .words .now) _ (passes.plain-is (word 3 (name (a .names)) (entries (a .kinds .now) (a .words .now))) _ _ (c .before .before .before .before .before .before .before .before .word-len .ensures ∙ ap (wordFront _ _) (c .before .before .before .before .before .before .before .before .before .first-entry .ensures) ∙ sym (items.word-front 3 _ _)) (c .before .before .before .before .before .before .before .plain .ensures)) _ _ (c .before .before .before .before .before .n .given .1) (passes.within never (agrees-name _ 3) (entries (a .kinds .now) (a .words .now)) _ (passes.plain-is (word 3 (name (a .names)) (entries (a .kinds .now) (a .words .now))) _ _ (c .before .before .before .before .before .before .before .before .word-len .ensures ∙ ap (wordFront _ _) (c .before .before .before .before .before .before .before .before .before .first-entry .ensures) ∙ sym (items.word-front 3 _ _)) (c .before .before .before .before .before .before .before .plain .ensures))) (omega arith) _ (passes.within never (agrees-structBody _) (lentFrom (a .kinds .now) (a .words .now) (c .before .before .before .before .before .n .given .0 .0)) _ (passes.plain-is (structBody (a .names) (lentFrom (a .kinds .now) (a .words .now) (c .before .before .before .before .before .n .given .0 .0))) _ _ (c .before .struct-body-len .ensures) (c .plain2 .ensures)))
+    let after-n = c .before .before .before .before .before in
+    let after-plain = after-n .before .before in
+    let after-word-len = after-plain .before in
+    let after-first-entry = after-word-len .before in
+    let entry = after-first-entry .before .before .before in
+    let a = entry .args in
+    passes.both-room (word 3 (name (a .names))) (structBody (a .names)) never never (a .kinds .now) (a .words .now) _
+    (passes.plain-is (word 3 (name (a .names)) (entries (a .kinds .now) (a .words .now))) _ _
+    (after-word-len .word-len .ensures ∙ ap (wordFront _ _) (after-first-entry .first-entry .ensures) ∙ sym (items.word-front 3 _ _))
+    (after-plain .plain .ensures)) _ _ (after-n .n .given .1)
+    (passes.within never (agrees-name _ 3) (entries (a .kinds .now) (a .words .now)) _
+    (passes.plain-is (word 3 (name (a .names)) (entries (a .kinds .now) (a .words .now))) _ _
+    (after-word-len .word-len .ensures ∙ ap (wordFront _ _) (after-first-entry .first-entry .ensures) ∙ sym (items.word-front 3 _ _))
+    (after-plain .plain .ensures))) (omega arith) _
+    (passes.within never (agrees-structBody _) (lentFrom (a .kinds .now) (a .words .now) (after-n .n .given .0 .0)) _
+    (passes.plain-is (structBody (a .names) (lentFrom (a .kinds .now) (a .words .now) (after-n .n .given .0 .0))) _ _
+    (c .before .struct-body-len .ensures) (c .plain2 .ensures)))
 
 returns-2 : tie.Need-returns-2
 unfolding structType
 returns-2 c =
-    let a = c .before .before .before .before .before .before .before .before .before .before .before .before .before .args in
-    passes.both-arm (word 3 (name (a .names))) (structBody (a .names)) never never (a .kinds .now) (a .words .now) _ (passes.plain-is (word 3 (name (a .names)) (entries (a .kinds .now) (a .words .now))) _ _ (c .before .before .before .before .before .before .before .before .before .word-len .ensures ∙ ap (wordFront _ _) (c .before .before .before .before .before .before .before .before .before .before .first-entry .ensures) ∙ sym (items.word-front 3 _ _)) (c .before .before .before .before .before .before .before .before .plain .ensures)) _ _ (c .before .before .before .before .before .before .n .given .1) _ _ (passes.plain-is (structBody (a .names) (lentFrom (a .kinds .now) (a .words .now) (c .before .before .before .before .before .before .n .given .0 .0))) _ _ (c .before .before .struct-body-len .ensures) (c .before .plain2 .ensures)) (c .join-found .ensures) ∙ sym (passes.mapped-found never (λ p. record { name = p .0; body = p .1 }) (both (word 3 (name (a .names))) (structBody (a .names))) (entries (a .kinds .now) (a .words .now)))
+    let after-n = c .before .before .before .before .before .before in
+    let after-plain = after-n .before .before in
+    let after-word-len = after-plain .before in
+    let after-first-entry = after-word-len .before in
+    let entry = after-first-entry .before .before .before in
+    let a = entry .args in
+    passes.both-arm (word 3 (name (a .names))) (structBody (a .names)) never never (a .kinds .now) (a .words .now) _
+    (passes.plain-is (word 3 (name (a .names)) (entries (a .kinds .now) (a .words .now))) _ _
+    (after-word-len .word-len .ensures ∙ ap (wordFront _ _) (after-first-entry .first-entry .ensures) ∙ sym (items.word-front 3 _ _))
+    (after-plain .plain .ensures)) _ _ (after-n .n .given .1) _ _
+    (passes.plain-is (structBody (a .names) (lentFrom (a .kinds .now) (a .words .now) (after-n .n .given .0 .0))) _ _
+    (c .before .before .struct-body-len .ensures) (c .before .plain2 .ensures)) (c .join-found .ensures) ∙ sym
+    (passes.mapped-found never (λ p. record { name = p .0; body = p .1 }) (both (word 3 (name (a .names))) (structBody (a .names)))
+    (entries (a .kinds .now) (a .words .now)))
 
 pub struct-len-spec : {M : Type 1} → statement M
 struct-len-spec =

@@ -54,7 +54,10 @@ returns : tie.Need-returns
 returns c = c .value-ok .ensures ∙ ap (valueOk _ _) (c .before .value-group .ensures) ∙ ap (atomOk _ _ _) (sym (c .before .before .enum-told .given .1))
 
 returns-2 : tie.Need-returns-2
-returns-2 c = items.both-are _ _ _ _ (c .before .value-ok2 .ensures ∙ ap (valueOk _ _) (c .before .before .value-group2 .ensures)) (c .index-fits .ensures) ∙ ap (atomOk _ _ _) (sym (c .before .before .before .enum-told2 .given .1))
+returns-2 c =
+    let after-enum-told2 = c .before .before .before in
+    items.both-are _ _ _ _ (c .before .value-ok2 .ensures ∙ ap (valueOk _ _) (c .before .before .value-group2 .ensures)) (c .index-fits .ensures) ∙ ap
+    (atomOk _ _ _) (sym (after-enum-told2 .enum-told2 .given .1))
 
 returns-3 : tie.Need-returns-3
 returns-3 c = ap (atomOk _ _ _) (sym (c .enum-told3 .given .1))
@@ -63,7 +66,10 @@ returns-4 : tie.Need-returns-4
 returns-4 c = ap (atomOk _ _ _) (sym (c .enum-told4 .given .1))
 
 returns-5 : tie.Need-returns-5
-returns-5 c = items.both-are (eqb (c .before .before .before .args .kind) 22) _ (eqb (c .before .before .before .args .kind) 22) _ refl (c .is-align .ensures) ∙ ap (atomOk _ _ _) (sym (c .before .enum-told5 .given .1))
+returns-5 c =
+    let entry = c .before .before .before in
+    items.both-are (eqb (entry .args .kind) 22) _ (eqb (entry .args .kind) 22) _ refl (c .is-align .ensures) ∙ ap (atomOk _ _ _)
+    (sym (c .before .enum-told5 .given .1))
 
 returns-6 : tie.Need-returns-6
 returns-6 c = ap (atomOk _ _ _) (sym (c .enum-told6 .given .1))

@@ -97,62 +97,92 @@ param-len-requires c κs = search needs
 returns : tie.Need-returns
 unfolding item
 returns c =
-    let a = c .before .before .before .before .before .before .args in
-    passes.plain-is (type (a .names) (entries (a .kinds .now) (a .words .now))) _ _ (c .before .type-len .ensures) (c .plain .ensures) ∙ ap (λ i. foundOf (otherItem (itemOf i)) (item (a .names) (itemOf i) (entries (a .kinds .now) (a .words .now)))) (sym (c .before .before .enum-told .given .1))
+    let entry = c .before .before .before .before .before .before in
+    let a = entry .args in
+    passes.plain-is (type (a .names) (entries (a .kinds .now) (a .words .now))) _ _ (c .before .type-len .ensures) (c .plain .ensures) ∙ ap
+    (λ i. foundOf (otherItem (itemOf i)) (item (a .names) (itemOf i) (entries (a .kinds .now) (a .words .now))))
+    (sym (c .before .before .enum-told .given .1))
 
 returns-2 : tie.Need-returns-2
 unfolding item
 returns-2 c =
-    let a = c .before .before .before .before .before .before .args in
-    items.atom-is (a .names) atom.Value (entries (a .kinds .now) (a .words .now)) _ _ (c .before .first-entry .ensures) (c .atom-len .ensures) ∙ ap (λ i. foundOf (otherItem (itemOf i)) (item (a .names) (itemOf i) (entries (a .kinds .now) (a .words .now)))) (sym (c .before .before .enum-told2 .given .1))
+    let entry = c .before .before .before .before .before .before in
+    let a = entry .args in
+    items.atom-is (a .names) atom.Value (entries (a .kinds .now) (a .words .now)) _ _ (c .before .first-entry .ensures) (c .atom-len .ensures) ∙ ap
+    (λ i. foundOf (otherItem (itemOf i)) (item (a .names) (itemOf i) (entries (a .kinds .now) (a .words .now))))
+    (sym (c .before .before .enum-told2 .given .1))
 
 returns-3 : tie.Need-returns-3
 unfolding item
 returns-3 c =
-    let a = c .before .before .before .before .before .before .args in
-    items.atom-is (a .names) atom.Block (entries (a .kinds .now) (a .words .now)) _ _ (c .before .first-entry2 .ensures) (c .atom-len2 .ensures) ∙ ap (λ i. foundOf (otherItem (itemOf i)) (item (a .names) (itemOf i) (entries (a .kinds .now) (a .words .now)))) (sym (c .before .before .enum-told3 .given .1))
+    let entry = c .before .before .before .before .before .before in
+    let a = entry .args in
+    items.atom-is (a .names) atom.Block (entries (a .kinds .now) (a .words .now)) _ _ (c .before .first-entry2 .ensures) (c .atom-len2 .ensures) ∙ ap
+    (λ i. foundOf (otherItem (itemOf i)) (item (a .names) (itemOf i) (entries (a .kinds .now) (a .words .now))))
+    (sym (c .before .before .enum-told3 .given .1))
 
 returns-4 : tie.Need-returns-4
 unfolding item
 returns-4 c =
-    let a = c .before .before .before .before .before .before .args in
-    items.atom-is (a .names) atom.Index (entries (a .kinds .now) (a .words .now)) _ _ (c .before .first-entry3 .ensures) (c .atom-len3 .ensures) ∙ ap (λ i. foundOf (otherItem (itemOf i)) (item (a .names) (itemOf i) (entries (a .kinds .now) (a .words .now)))) (sym (c .before .before .enum-told4 .given .1))
+    let entry = c .before .before .before .before .before .before in
+    let a = entry .args in
+    items.atom-is (a .names) atom.Index (entries (a .kinds .now) (a .words .now)) _ _ (c .before .first-entry3 .ensures) (c .atom-len3 .ensures) ∙ ap
+    (λ i. foundOf (otherItem (itemOf i)) (item (a .names) (itemOf i) (entries (a .kinds .now) (a .words .now))))
+    (sym (c .before .before .enum-told4 .given .1))
 
 returns-5 : tie.Need-returns-5
 unfolding item
 returns-5 c =
-    let a = c .before .before .before .before .before .before .args in
-    items.atom-is (a .names) atom.Align (entries (a .kinds .now) (a .words .now)) _ _ (c .before .first-entry4 .ensures) (c .atom-len4 .ensures) ∙ ap (λ i. foundOf (otherItem (itemOf i)) (item (a .names) (itemOf i) (entries (a .kinds .now) (a .words .now)))) (sym (c .before .before .enum-told5 .given .1))
+    let entry = c .before .before .before .before .before .before in
+    let a = entry .args in
+    items.atom-is (a .names) atom.Align (entries (a .kinds .now) (a .words .now)) _ _ (c .before .first-entry4 .ensures) (c .atom-len4 .ensures) ∙ ap
+    (λ i. foundOf (otherItem (itemOf i)) (item (a .names) (itemOf i) (entries (a .kinds .now) (a .words .now))))
+    (sym (c .before .before .enum-told5 .given .1))
 
 returns-6 : tie.Need-returns-6
 unfolding item
 returns-6 c =
-    let a = c .before .before .before .before .before .args in
-    c .typed-len .ensures ∙ items.typed-pair (a .names) (entries (a .kinds .now) (a .words .now)) ∙ ap (λ i. foundOf (otherItem (itemOf i)) (item (a .names) (itemOf i) (entries (a .kinds .now) (a .words .now)))) (sym (c .before .enum-told6 .given .1))
+    let entry = c .before .before .before .before .before in
+    let a = entry .args in
+    c .typed-len .ensures ∙ items.typed-pair (a .names) (entries (a .kinds .now) (a .words .now)) ∙ ap
+    (λ i. foundOf (otherItem (itemOf i)) (item (a .names) (itemOf i) (entries (a .kinds .now) (a .words .now))))
+    (sym (c .before .enum-told6 .given .1))
 
 returns-7 : tie.Need-returns-7
 unfolding item
 returns-7 c =
-    let a = c .before .before .before .before .before .args in
-    c .typed-len2 .ensures ∙ items.index-pair (a .names) (entries (a .kinds .now) (a .words .now)) ∙ ap (λ i. foundOf (otherItem (itemOf i)) (item (a .names) (itemOf i) (entries (a .kinds .now) (a .words .now)))) (sym (c .before .enum-told7 .given .1))
+    let entry = c .before .before .before .before .before in
+    let a = entry .args in
+    c .typed-len2 .ensures ∙ items.index-pair (a .names) (entries (a .kinds .now) (a .words .now)) ∙ ap
+    (λ i. foundOf (otherItem (itemOf i)) (item (a .names) (itemOf i) (entries (a .kinds .now) (a .words .now))))
+    (sym (c .before .enum-told7 .given .1))
 
 returns-8 : tie.Need-returns-8
 unfolding item
 returns-8 c =
-    let a = c .before .before .before .before .before .args in
-    c .pair-len .ensures ∙ items.incoming-pair (a .names) (entries (a .kinds .now) (a .words .now)) ∙ ap (λ i. foundOf (otherItem (itemOf i)) (item (a .names) (itemOf i) (entries (a .kinds .now) (a .words .now)))) (sym (c .before .enum-told8 .given .1))
+    let entry = c .before .before .before .before .before in
+    let a = entry .args in
+    c .pair-len .ensures ∙ items.incoming-pair (a .names) (entries (a .kinds .now) (a .words .now)) ∙ ap
+    (λ i. foundOf (otherItem (itemOf i)) (item (a .names) (itemOf i) (entries (a .kinds .now) (a .words .now))))
+    (sym (c .before .enum-told8 .given .1))
 
 returns-9 : tie.Need-returns-9
 unfolding item
 returns-9 c =
-    let a = c .before .before .before .before .before .args in
-    c .pair-len2 .ensures ∙ items.case-pair (a .names) (entries (a .kinds .now) (a .words .now)) ∙ ap (λ i. foundOf (otherItem (itemOf i)) (item (a .names) (itemOf i) (entries (a .kinds .now) (a .words .now)))) (sym (c .before .enum-told9 .given .1))
+    let entry = c .before .before .before .before .before in
+    let a = entry .args in
+    c .pair-len2 .ensures ∙ items.case-pair (a .names) (entries (a .kinds .now) (a .words .now)) ∙ ap
+    (λ i. foundOf (otherItem (itemOf i)) (item (a .names) (itemOf i) (entries (a .kinds .now) (a .words .now))))
+    (sym (c .before .enum-told9 .given .1))
 
 returns-10 : tie.Need-returns-10
 unfolding item
 returns-10 c =
-    let a = c .before .before .before .before .before .args in
-    c .param-len .ensures ∙ items.param-pair (a .names) (entries (a .kinds .now) (a .words .now)) ∙ ap (λ i. foundOf (otherItem (itemOf i)) (item (a .names) (itemOf i) (entries (a .kinds .now) (a .words .now)))) (sym (c .before .enum-told10 .given .1))
+    let entry = c .before .before .before .before .before in
+    let a = entry .args in
+    c .param-len .ensures ∙ items.param-pair (a .names) (entries (a .kinds .now) (a .words .now)) ∙ ap
+    (λ i. foundOf (otherItem (itemOf i)) (item (a .names) (itemOf i) (entries (a .kinds .now) (a .words .now))))
+    (sym (c .before .enum-told10 .given .1))
 
 pub item-len-spec : {M : Type 1} → statement M
 item-len-spec =

@@ -59,34 +59,66 @@ enum-known-n c = search needs
 
 add-t24 : tie.Need-add-t24 Inv-loop μ-loop
 add-t24 c =
-    let a = c .before .before .before .before .before .before .before .before .before .args in
-    omega (arith, passes.done-there (otherItem (itemOf (a .item))) never isClosing (itemReader (a .names) (itemOf (a .item))) closing (a .most) (a .kinds .now) (a .words .now) _ _ _ (c .before .before .before .before .before .before .loop .inv) _ (c .before .before .before .item-step .ensures) (agrees-item (a .names) (itemOf (a .item))) agrees-closing _ _ (c .before .n .given .1), c .before .before .before .before .before .before .before .before .before .good)
+    let after-item-step = c .before .before .before in
+    let at-loop = after-item-step .before .before .before in
+    let entry = at-loop .before .before .before in
+    let a = entry .args in
+    omega (
+      arith,
+      passes.done-there (otherItem (itemOf (a .item))) never isClosing (itemReader (a .names) (itemOf (a .item))) closing (a .most)
+          (a .kinds .now) (a .words .now) _ _ _ (at-loop .loop .inv) _ (after-item-step .item-step .ensures)
+          (agrees-item (a .names) (itemOf (a .item))) agrees-closing _ _ (c .before .n .given .1),
+      entry .good,
+    )
 
 returns : tie.Need-returns Inv-loop μ-loop
 returns c =
-    let a = c .before .before .before .before .before .before .before .before .before .args in
-    passes.loop-done (otherItem (itemOf (a .item))) never isClosing (itemReader (a .names) (itemOf (a .item))) closing (a .most) (a .kinds .now) (a .words .now) _ _ _ (c .before .before .before .before .before .before .loop .inv) _ (c .before .before .before .item-step .ensures) _ _ (c .before .n .given .1) ∙ sym (passes.list-found _ _ _ _)
+    let after-item-step = c .before .before .before in
+    let at-loop = after-item-step .before .before .before in
+    let entry = at-loop .before .before .before in
+    let a = entry .args in
+    passes.loop-done (otherItem (itemOf (a .item))) never isClosing (itemReader (a .names) (itemOf (a .item))) closing (a .most) (a .kinds .now)
+    (a .words .now) _ _ _ (at-loop .loop .inv) _ (after-item-step .item-step .ensures) _ _ (c .before .n .given .1) ∙ sym
+    (passes.list-found _ _ _ _)
 
 enum-told : tie.Need-enum-told Inv-loop μ-loop
 enum-told c = search needs
 
 returns-2 : tie.Need-returns-2 Inv-loop μ-loop
 returns-2 c =
-    let a = c .before .before .before .before .before .before .before .before .args in
-    passes.loop-bad (otherItem (itemOf (a .item))) never isClosing (itemReader (a .names) (itemOf (a .item))) closing (a .most) (a .kinds .now) (a .words .now) _ _ _ (c .before .before .before .before .before .loop .inv) _ (c .before .before .item-step .ensures) (c .enum-told .given .1) ∙ sym (passes.list-found _ _ _ _)
+    let at-loop = c .before .before .before .before .before in
+    let entry = at-loop .before .before .before in
+    let a = entry .args in
+    passes.loop-bad (otherItem (itemOf (a .item))) never isClosing (itemReader (a .names) (itemOf (a .item))) closing (a .most) (a .kinds .now)
+    (a .words .now) _ _ _ (at-loop .loop .inv) _ (c .before .before .item-step .ensures) (c .enum-told .given .1) ∙ sym
+    (passes.list-found _ _ _ _)
 
 enum-known-n-2 : tie.Need-enum-known-n-2 Inv-loop μ-loop
 enum-known-n-2 c = search needs
 
 returns-3 : tie.Need-returns-3 Inv-loop μ-loop
 returns-3 c =
-    let a = c .before .before .before .before .before .before .before .before .before .before .args in
-    passes.loop-full (otherItem (itemOf (a .item))) never isClosing (itemReader (a .names) (itemOf (a .item))) closing (a .most) (a .kinds .now) (a .words .now) _ _ _ (c .before .before .before .before .before .before .before .loop .inv) _ (c .before .before .before .before .item-step .ensures) _ _ (c .before .before .n2 .given .1) (c .if1 .taken) ∙ sym (passes.list-found _ _ _ _)
+    let after-item-step = c .before .before .before .before in
+    let at-loop = after-item-step .before .before .before in
+    let entry = at-loop .before .before .before in
+    let a = entry .args in
+    passes.loop-full (otherItem (itemOf (a .item))) never isClosing (itemReader (a .names) (itemOf (a .item))) closing (a .most) (a .kinds .now)
+    (a .words .now) _ _ _ (at-loop .loop .inv) _ (after-item-step .item-step .ensures) _ _ (c .before .before .n2 .given .1) (c .if1 .taken) ∙ sym
+    (passes.list-found _ _ _ _)
 
 add-at : tie.Need-add-at Inv-loop μ-loop
 add-at c =
-    let a = c .before .before .before .before .before .before .before .before .before .before .args in
-    omega (arith, passes.loop-next (otherItem (itemOf (a .item))) never isClosing (itemReader (a .names) (itemOf (a .item))) closing (a .most) (a .kinds .now) (a .words .now) _ _ _ (c .before .before .before .before .before .before .before .loop .inv) _ (c .before .before .before .before .item-step .ensures) (agrees-item (a .names) (itemOf (a .item))) agrees-closing _ _ (c .before .before .n2 .given .1) (c .if1 .left) .kinds, c .before .before .before .before .before .before .before .before .before .before .good)
+    let after-item-step = c .before .before .before .before in
+    let at-loop = after-item-step .before .before .before in
+    let entry = at-loop .before .before .before in
+    let a = entry .args in
+    omega (
+      arith,
+      passes.loop-next (otherItem (itemOf (a .item))) never isClosing (itemReader (a .names) (itemOf (a .item))) closing (a .most)
+          (a .kinds .now) (a .words .now) _ _ _ (at-loop .loop .inv) _ (after-item-step .item-step .ensures)
+          (agrees-item (a .names) (itemOf (a .item))) agrees-closing _ _ (c .before .before .n2 .given .1) (c .if1 .left) .kinds,
+      entry .good,
+    )
 
 sub-left : tie.Need-sub-left Inv-loop μ-loop
 sub-left c = search needs
@@ -96,8 +128,13 @@ loop-less c = search needs
 
 loop-again : tie.Need-loop-again Inv-loop μ-loop
 loop-again c =
-    let a = c .before .before .before .before .before .before .before .before .before .before .args in
-    passes.loop-next (otherItem (itemOf (a .item))) never isClosing (itemReader (a .names) (itemOf (a .item))) closing (a .most) (a .kinds .now) (a .words .now) _ _ _ (c .before .before .before .before .before .before .before .loop .inv) _ (c .before .before .before .before .item-step .ensures) (agrees-item (a .names) (itemOf (a .item))) agrees-closing _ _ (c .before .before .n2 .given .1) (c .if1 .left)
+    let after-item-step = c .before .before .before .before in
+    let at-loop = after-item-step .before .before .before in
+    let entry = at-loop .before .before .before in
+    let a = entry .args in
+    passes.loop-next (otherItem (itemOf (a .item))) never isClosing (itemReader (a .names) (itemOf (a .item))) closing (a .most) (a .kinds .now)
+    (a .words .now) _ _ _ (at-loop .loop .inv) _ (after-item-step .item-step .ensures) (agrees-item (a .names) (itemOf (a .item))) agrees-closing
+    _ _ (c .before .before .n2 .given .1) (c .if1 .left)
 
 pub list-len-spec : {M : Type 1} → statement M
 list-len-spec =

@@ -37,13 +37,22 @@ item-len-requires c κs = search needs
 
 returns-2 : tie.Need-returns-2
 returns-2 c =
-    let a = c .before .before .before .before .before .before .before .before .before .args in
-    items.absent-is (otherItem (itemOf (a .item))) (item (a .names) (itemOf (a .item))) (entries (a .kinds .now) (a .words .now)) _ (c .before .before .before .before .before .before .first-entry .ensures) _ _ (c .before .before .before .before .k .given .1) (c .before .before .if1 .taken) _ _ (c .before .entry-if .ensures) (c .plain .ensures)
+    let after-k = c .before .before .before .before in
+    let after-first-entry = after-k .before .before in
+    let entry = after-first-entry .before .before .before in
+    let a = entry .args in
+    items.absent-is (otherItem (itemOf (a .item))) (item (a .names) (itemOf (a .item))) (entries (a .kinds .now) (a .words .now)) _
+    (after-first-entry .first-entry .ensures) _ _ (after-k .k .given .1) (c .before .before .if1 .taken) _ _ (c .before .entry-if .ensures)
+    (c .plain .ensures)
 
 returns-3 : tie.Need-returns-3
 returns-3 c =
-    let a = c .before .before .before .before .before .before .before .before .args in
-    items.absent-not (otherItem (itemOf (a .item))) (item (a .names) (itemOf (a .item))) (entries (a .kinds .now) (a .words .now)) _ (c .before .before .before .before .before .first-entry .ensures) _ _ (c .before .before .before .k .given .1) (c .before .if1 .left) _ (c .item-len .ensures)
+    let after-k = c .before .before .before in
+    let after-first-entry = after-k .before .before in
+    let entry = after-first-entry .before .before .before in
+    let a = entry .args in
+    items.absent-not (otherItem (itemOf (a .item))) (item (a .names) (itemOf (a .item))) (entries (a .kinds .now) (a .words .now)) _
+    (after-first-entry .first-entry .ensures) _ _ (after-k .k .given .1) (c .before .if1 .left) _ (c .item-len .ensures)
 
 pub optional-len-spec : {M : Type 1} → statement M
 optional-len-spec =

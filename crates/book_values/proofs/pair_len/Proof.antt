@@ -27,41 +27,102 @@ enum-told c = search needs
 
 returns : tie.Need-returns
 returns c =
-    let a = c .before .before .before .before .before .before .args in
-    passes.both-bad (atomReader (a .names) (a .atom)) (atomReader (a .names) Block) (atomTest (a .atom)) (atomTest Block) (a .kinds .now) (a .words .now) _ (items.atom-is (a .names) (a .atom) (entries (a .kinds .now) (a .words .now)) _ _ (c .before .before .before .first-entry .ensures) (c .before .before .atom-len .ensures)) (c .enum-told .given .1)
+    let after-first-entry = c .before .before .before in
+    let entry = after-first-entry .before .before .before in
+    let a = entry .args in
+    passes.both-bad (atomReader (a .names) (a .atom)) (atomReader (a .names) Block) (atomTest (a .atom)) (atomTest Block) (a .kinds .now)
+    (a .words .now) _
+    (items.atom-is (a .names) (a .atom) (entries (a .kinds .now) (a .words .now)) _ _ (after-first-entry .first-entry .ensures)
+    (c .before .before .atom-len .ensures)) (c .enum-told .given .1)
 
 mul-first-entry : tie.Need-mul-first-entry
 mul-first-entry c =
-    let a = c .before .before .before .before .before .before .before .args in
-    omega (arith, passes.both-kinds (atomReader (a .names) (a .atom)) (atomReader (a .names) Block) (atomTest (a .atom)) (atomTest Block) (a .kinds .now) (a .words .now) _ (items.atom-is (a .names) (a .atom) (entries (a .kinds .now) (a .words .now)) _ _ (c .before .before .before .before .first-entry .ensures) (c .before .before .before .atom-len .ensures)) _ _ (c .before .n .given .1) (items.atom-within (a .names) (a .atom) (entries (a .kinds .now) (a .words .now)) _ _ (c .before .before .before .before .first-entry .ensures) (c .before .before .before .atom-len .ensures)), c .before .before .before .before .before .before .before .good)
+    let after-atom-len = c .before .before .before in
+    let after-first-entry = after-atom-len .before in
+    let entry = after-first-entry .before .before .before in
+    let a = entry .args in
+    omega (
+      arith,
+      passes.both-kinds (atomReader (a .names) (a .atom)) (atomReader (a .names) Block) (atomTest (a .atom)) (atomTest Block)
+          (a .kinds .now) (a .words .now) _
+          (items.atom-is (a .names) (a .atom) (entries (a .kinds .now) (a .words .now)) _ _ (after-first-entry .first-entry .ensures)
+          (after-atom-len .atom-len .ensures)) _ _ (c .before .n .given .1)
+          (items.atom-within (a .names) (a .atom) (entries (a .kinds .now) (a .words .now)) _ _ (after-first-entry .first-entry .ensures)
+          (after-atom-len .atom-len .ensures)),
+      entry .good,
+    )
 
 sub-first-entry : tie.Need-sub-first-entry
 sub-first-entry c =
-    let a = c .before .before .before .before .before .before .before .args in
-    passes.both-kinds (atomReader (a .names) (a .atom)) (atomReader (a .names) Block) (atomTest (a .atom)) (atomTest Block) (a .kinds .now) (a .words .now) _ (items.atom-is (a .names) (a .atom) (entries (a .kinds .now) (a .words .now)) _ _ (c .before .before .before .before .first-entry .ensures) (c .before .before .before .atom-len .ensures)) _ _ (c .before .n .given .1) (items.atom-within (a .names) (a .atom) (entries (a .kinds .now) (a .words .now)) _ _ (c .before .before .before .before .first-entry .ensures) (c .before .before .before .atom-len .ensures))
+    let after-atom-len = c .before .before .before in
+    let after-first-entry = after-atom-len .before in
+    let entry = after-first-entry .before .before .before in
+    let a = entry .args in
+    passes.both-kinds (atomReader (a .names) (a .atom)) (atomReader (a .names) Block) (atomTest (a .atom)) (atomTest Block) (a .kinds .now)
+    (a .words .now) _
+    (items.atom-is (a .names) (a .atom) (entries (a .kinds .now) (a .words .now)) _ _ (after-first-entry .first-entry .ensures)
+    (after-atom-len .atom-len .ensures)) _ _ (c .before .n .given .1)
+    (items.atom-within (a .names) (a .atom) (entries (a .kinds .now) (a .words .now)) _ _ (after-first-entry .first-entry .ensures)
+    (after-atom-len .atom-len .ensures))
 
 part-first-entry-start : tie.Need-part-first-entry-start
 part-first-entry-start c =
-    let a = c .before .before .before .before .before .before .before .args in
-    passes.both-kinds (atomReader (a .names) (a .atom)) (atomReader (a .names) Block) (atomTest (a .atom)) (atomTest Block) (a .kinds .now) (a .words .now) _ (items.atom-is (a .names) (a .atom) (entries (a .kinds .now) (a .words .now)) _ _ (c .before .before .before .before .first-entry .ensures) (c .before .before .before .atom-len .ensures)) _ _ (c .before .n .given .1) (items.atom-within (a .names) (a .atom) (entries (a .kinds .now) (a .words .now)) _ _ (c .before .before .before .before .first-entry .ensures) (c .before .before .before .atom-len .ensures))
+    let after-atom-len = c .before .before .before in
+    let after-first-entry = after-atom-len .before in
+    let entry = after-first-entry .before .before .before in
+    let a = entry .args in
+    passes.both-kinds (atomReader (a .names) (a .atom)) (atomReader (a .names) Block) (atomTest (a .atom)) (atomTest Block) (a .kinds .now)
+    (a .words .now) _
+    (items.atom-is (a .names) (a .atom) (entries (a .kinds .now) (a .words .now)) _ _ (after-first-entry .first-entry .ensures)
+    (after-atom-len .atom-len .ensures)) _ _ (c .before .n .given .1)
+    (items.atom-within (a .names) (a .atom) (entries (a .kinds .now) (a .words .now)) _ _ (after-first-entry .first-entry .ensures)
+    (after-atom-len .atom-len .ensures))
 
 part-first-entry-end : tie.Need-part-first-entry-end
 part-first-entry-end c = search needs
 
 mul-first-entry-2 : tie.Need-mul-first-entry-2
 mul-first-entry-2 c =
-    let a = c .before .before .before .before .before .before .before .before .args in
-    omega (arith, passes.both-words (atomReader (a .names) (a .atom)) (atomReader (a .names) Block) (atomTest (a .atom)) (atomTest Block) (a .kinds .now) (a .words .now) _ (items.atom-is (a .names) (a .atom) (entries (a .kinds .now) (a .words .now)) _ _ (c .before .before .before .before .before .first-entry .ensures) (c .before .before .before .before .atom-len .ensures)) _ _ (c .before .before .n .given .1) (items.atom-within (a .names) (a .atom) (entries (a .kinds .now) (a .words .now)) _ _ (c .before .before .before .before .before .first-entry .ensures) (c .before .before .before .before .atom-len .ensures)), c .before .before .before .before .before .before .before .before .good)
+    let after-atom-len = c .before .before .before .before in
+    let after-first-entry = after-atom-len .before in
+    let entry = after-first-entry .before .before .before in
+    let a = entry .args in
+    omega (
+      arith,
+      passes.both-words (atomReader (a .names) (a .atom)) (atomReader (a .names) Block) (atomTest (a .atom)) (atomTest Block)
+          (a .kinds .now) (a .words .now) _
+          (items.atom-is (a .names) (a .atom) (entries (a .kinds .now) (a .words .now)) _ _ (after-first-entry .first-entry .ensures)
+          (after-atom-len .atom-len .ensures)) _ _ (c .before .before .n .given .1)
+          (items.atom-within (a .names) (a .atom) (entries (a .kinds .now) (a .words .now)) _ _ (after-first-entry .first-entry .ensures)
+          (after-atom-len .atom-len .ensures)),
+      entry .good,
+    )
 
 sub-first-entry-2 : tie.Need-sub-first-entry-2
 sub-first-entry-2 c =
-    let a = c .before .before .before .before .before .before .before .before .args in
-    passes.both-words (atomReader (a .names) (a .atom)) (atomReader (a .names) Block) (atomTest (a .atom)) (atomTest Block) (a .kinds .now) (a .words .now) _ (items.atom-is (a .names) (a .atom) (entries (a .kinds .now) (a .words .now)) _ _ (c .before .before .before .before .before .first-entry .ensures) (c .before .before .before .before .atom-len .ensures)) _ _ (c .before .before .n .given .1) (items.atom-within (a .names) (a .atom) (entries (a .kinds .now) (a .words .now)) _ _ (c .before .before .before .before .before .first-entry .ensures) (c .before .before .before .before .atom-len .ensures))
+    let after-atom-len = c .before .before .before .before in
+    let after-first-entry = after-atom-len .before in
+    let entry = after-first-entry .before .before .before in
+    let a = entry .args in
+    passes.both-words (atomReader (a .names) (a .atom)) (atomReader (a .names) Block) (atomTest (a .atom)) (atomTest Block) (a .kinds .now)
+    (a .words .now) _
+    (items.atom-is (a .names) (a .atom) (entries (a .kinds .now) (a .words .now)) _ _ (after-first-entry .first-entry .ensures)
+    (after-atom-len .atom-len .ensures)) _ _ (c .before .before .n .given .1)
+    (items.atom-within (a .names) (a .atom) (entries (a .kinds .now) (a .words .now)) _ _ (after-first-entry .first-entry .ensures)
+    (after-atom-len .atom-len .ensures))
 
 part-first-entry-start-2 : tie.Need-part-first-entry-start-2
 part-first-entry-start-2 c =
-    let a = c .before .before .before .before .before .before .before .before .args in
-    passes.both-words (atomReader (a .names) (a .atom)) (atomReader (a .names) Block) (atomTest (a .atom)) (atomTest Block) (a .kinds .now) (a .words .now) _ (items.atom-is (a .names) (a .atom) (entries (a .kinds .now) (a .words .now)) _ _ (c .before .before .before .before .before .first-entry .ensures) (c .before .before .before .before .atom-len .ensures)) _ _ (c .before .before .n .given .1) (items.atom-within (a .names) (a .atom) (entries (a .kinds .now) (a .words .now)) _ _ (c .before .before .before .before .before .first-entry .ensures) (c .before .before .before .before .atom-len .ensures))
+    let after-atom-len = c .before .before .before .before in
+    let after-first-entry = after-atom-len .before in
+    let entry = after-first-entry .before .before .before in
+    let a = entry .args in
+    passes.both-words (atomReader (a .names) (a .atom)) (atomReader (a .names) Block) (atomTest (a .atom)) (atomTest Block) (a .kinds .now)
+    (a .words .now) _
+    (items.atom-is (a .names) (a .atom) (entries (a .kinds .now) (a .words .now)) _ _ (after-first-entry .first-entry .ensures)
+    (after-atom-len .atom-len .ensures)) _ _ (c .before .before .n .given .1)
+    (items.atom-within (a .names) (a .atom) (entries (a .kinds .now) (a .words .now)) _ _ (after-first-entry .first-entry .ensures)
+    (after-atom-len .atom-len .ensures))
 
 part-first-entry-end-2 : tie.Need-part-first-entry-end-2
 part-first-entry-end-2 c = search needs
@@ -74,13 +135,33 @@ atom-len-requires-2 c κs = search needs
 
 join-found-requires : tie.Need-join-found-requires
 join-found-requires c κs =
-    let a = c .before .before .before .before .before .before .before .before .before .before .before .args in
-    passes.both-room (atomReader (a .names) (a .atom)) (atomReader (a .names) Block) (atomTest (a .atom)) (atomTest Block) (a .kinds .now) (a .words .now) _ (items.atom-is (a .names) (a .atom) (entries (a .kinds .now) (a .words .now)) _ _ (c .before .before .before .before .before .before .before .before .first-entry .ensures) (c .before .before .before .before .before .before .before .atom-len .ensures)) _ _ (c .before .before .before .before .before .n .given .1) (items.atom-within (a .names) (a .atom) (entries (a .kinds .now) (a .words .now)) _ _ (c .before .before .before .before .before .before .before .before .first-entry .ensures) (c .before .before .before .before .before .before .before .atom-len .ensures)) (omega arith) _ (items.atom-within (a .names) Block (lentFrom (a .kinds .now) (a .words .now) (c .before .before .before .before .before .n .given .0 .0)) _ _ (c .before .first-entry2 .ensures) (c .atom-len2 .ensures))
+    let after-n = c .before .before .before .before .before in
+    let after-atom-len = after-n .before .before in
+    let after-first-entry = after-atom-len .before in
+    let entry = after-first-entry .before .before .before in
+    let a = entry .args in
+    passes.both-room (atomReader (a .names) (a .atom)) (atomReader (a .names) Block) (atomTest (a .atom)) (atomTest Block) (a .kinds .now)
+    (a .words .now) _
+    (items.atom-is (a .names) (a .atom) (entries (a .kinds .now) (a .words .now)) _ _ (after-first-entry .first-entry .ensures)
+    (after-atom-len .atom-len .ensures)) _ _ (after-n .n .given .1)
+    (items.atom-within (a .names) (a .atom) (entries (a .kinds .now) (a .words .now)) _ _ (after-first-entry .first-entry .ensures)
+    (after-atom-len .atom-len .ensures)) (omega arith) _
+    (items.atom-within (a .names) Block (lentFrom (a .kinds .now) (a .words .now) (after-n .n .given .0 .0)) _ _
+    (c .before .first-entry2 .ensures) (c .atom-len2 .ensures))
 
 returns-2 : tie.Need-returns-2
 returns-2 c =
-    let a = c .before .before .before .before .before .before .before .before .before .before .before .before .args in
-    passes.both-arm (atomReader (a .names) (a .atom)) (atomReader (a .names) Block) (atomTest (a .atom)) (atomTest Block) (a .kinds .now) (a .words .now) _ (items.atom-is (a .names) (a .atom) (entries (a .kinds .now) (a .words .now)) _ _ (c .before .before .before .before .before .before .before .before .before .first-entry .ensures) (c .before .before .before .before .before .before .before .before .atom-len .ensures)) _ _ (c .before .before .before .before .before .before .n .given .1) _ _ (items.atom-is (a .names) Block (lentFrom (a .kinds .now) (a .words .now) (c .before .before .before .before .before .before .n .given .0 .0)) _ _ (c .before .before .first-entry2 .ensures) (c .before .atom-len2 .ensures)) (c .join-found .ensures)
+    let after-n = c .before .before .before .before .before .before in
+    let after-atom-len = after-n .before .before in
+    let after-first-entry = after-atom-len .before in
+    let entry = after-first-entry .before .before .before in
+    let a = entry .args in
+    passes.both-arm (atomReader (a .names) (a .atom)) (atomReader (a .names) Block) (atomTest (a .atom)) (atomTest Block) (a .kinds .now)
+    (a .words .now) _
+    (items.atom-is (a .names) (a .atom) (entries (a .kinds .now) (a .words .now)) _ _ (after-first-entry .first-entry .ensures)
+    (after-atom-len .atom-len .ensures)) _ _ (after-n .n .given .1) _ _
+    (items.atom-is (a .names) Block (lentFrom (a .kinds .now) (a .words .now) (after-n .n .given .0 .0)) _ _
+    (c .before .before .first-entry2 .ensures) (c .before .atom-len2 .ensures)) (c .join-found .ensures)
 
 pub pair-len-spec : {M : Type 1} → statement M
 pair-len-spec =

@@ -32,41 +32,95 @@ enum-told c = search needs
 
 returns : tie.Need-returns
 returns c =
-    let a = c .before .before .before .before .before .before .args in
-    passes.both-bad (atomReader (a .names) Param) (type (a .names)) (atomTest Param) never (a .kinds .now) (a .words .now) _ (items.atom-is (a .names) Param (entries (a .kinds .now) (a .words .now)) _ _ (c .before .before .before .first-entry .ensures) (c .before .before .atom-len .ensures)) (c .enum-told .given .1)
+    let after-first-entry = c .before .before .before in
+    let entry = after-first-entry .before .before .before in
+    let a = entry .args in
+    passes.both-bad (atomReader (a .names) Param) (type (a .names)) (atomTest Param) never (a .kinds .now) (a .words .now) _
+    (items.atom-is (a .names) Param (entries (a .kinds .now) (a .words .now)) _ _ (after-first-entry .first-entry .ensures)
+    (c .before .before .atom-len .ensures)) (c .enum-told .given .1)
 
 mul-type-len : tie.Need-mul-type-len
 mul-type-len c =
-    let a = c .before .before .before .before .before .before .before .args in
-    omega (arith, passes.both-kinds (atomReader (a .names) Param) (type (a .names)) (atomTest Param) never (a .kinds .now) (a .words .now) _ (items.atom-is (a .names) Param (entries (a .kinds .now) (a .words .now)) _ _ (c .before .before .before .before .first-entry .ensures) (c .before .before .before .atom-len .ensures)) _ _ (c .before .n .given .1) (items.atom-within (a .names) Param (entries (a .kinds .now) (a .words .now)) _ _ (c .before .before .before .before .first-entry .ensures) (c .before .before .before .atom-len .ensures)), c .before .before .before .before .before .before .before .good)
+    let after-atom-len = c .before .before .before in
+    let after-first-entry = after-atom-len .before in
+    let entry = after-first-entry .before .before .before in
+    let a = entry .args in
+    omega (
+      arith,
+      passes.both-kinds (atomReader (a .names) Param) (type (a .names)) (atomTest Param) never (a .kinds .now) (a .words .now) _
+          (items.atom-is (a .names) Param (entries (a .kinds .now) (a .words .now)) _ _ (after-first-entry .first-entry .ensures)
+          (after-atom-len .atom-len .ensures)) _ _ (c .before .n .given .1)
+          (items.atom-within (a .names) Param (entries (a .kinds .now) (a .words .now)) _ _ (after-first-entry .first-entry .ensures)
+          (after-atom-len .atom-len .ensures)),
+      entry .good,
+    )
 
 sub-type-len : tie.Need-sub-type-len
 sub-type-len c =
-    let a = c .before .before .before .before .before .before .before .args in
-    passes.both-kinds (atomReader (a .names) Param) (type (a .names)) (atomTest Param) never (a .kinds .now) (a .words .now) _ (items.atom-is (a .names) Param (entries (a .kinds .now) (a .words .now)) _ _ (c .before .before .before .before .first-entry .ensures) (c .before .before .before .atom-len .ensures)) _ _ (c .before .n .given .1) (items.atom-within (a .names) Param (entries (a .kinds .now) (a .words .now)) _ _ (c .before .before .before .before .first-entry .ensures) (c .before .before .before .atom-len .ensures))
+    let after-atom-len = c .before .before .before in
+    let after-first-entry = after-atom-len .before in
+    let entry = after-first-entry .before .before .before in
+    let a = entry .args in
+    passes.both-kinds (atomReader (a .names) Param) (type (a .names)) (atomTest Param) never (a .kinds .now) (a .words .now) _
+    (items.atom-is (a .names) Param (entries (a .kinds .now) (a .words .now)) _ _ (after-first-entry .first-entry .ensures)
+    (after-atom-len .atom-len .ensures)) _ _ (c .before .n .given .1)
+    (items.atom-within (a .names) Param (entries (a .kinds .now) (a .words .now)) _ _ (after-first-entry .first-entry .ensures)
+    (after-atom-len .atom-len .ensures))
 
 part-type-len-start : tie.Need-part-type-len-start
 part-type-len-start c =
-    let a = c .before .before .before .before .before .before .before .args in
-    passes.both-kinds (atomReader (a .names) Param) (type (a .names)) (atomTest Param) never (a .kinds .now) (a .words .now) _ (items.atom-is (a .names) Param (entries (a .kinds .now) (a .words .now)) _ _ (c .before .before .before .before .first-entry .ensures) (c .before .before .before .atom-len .ensures)) _ _ (c .before .n .given .1) (items.atom-within (a .names) Param (entries (a .kinds .now) (a .words .now)) _ _ (c .before .before .before .before .first-entry .ensures) (c .before .before .before .atom-len .ensures))
+    let after-atom-len = c .before .before .before in
+    let after-first-entry = after-atom-len .before in
+    let entry = after-first-entry .before .before .before in
+    let a = entry .args in
+    passes.both-kinds (atomReader (a .names) Param) (type (a .names)) (atomTest Param) never (a .kinds .now) (a .words .now) _
+    (items.atom-is (a .names) Param (entries (a .kinds .now) (a .words .now)) _ _ (after-first-entry .first-entry .ensures)
+    (after-atom-len .atom-len .ensures)) _ _ (c .before .n .given .1)
+    (items.atom-within (a .names) Param (entries (a .kinds .now) (a .words .now)) _ _ (after-first-entry .first-entry .ensures)
+    (after-atom-len .atom-len .ensures))
 
 part-type-len-end : tie.Need-part-type-len-end
 part-type-len-end c = search needs
 
 mul-type-len-2 : tie.Need-mul-type-len-2
 mul-type-len-2 c =
-    let a = c .before .before .before .before .before .before .before .before .args in
-    omega (arith, passes.both-words (atomReader (a .names) Param) (type (a .names)) (atomTest Param) never (a .kinds .now) (a .words .now) _ (items.atom-is (a .names) Param (entries (a .kinds .now) (a .words .now)) _ _ (c .before .before .before .before .before .first-entry .ensures) (c .before .before .before .before .atom-len .ensures)) _ _ (c .before .before .n .given .1) (items.atom-within (a .names) Param (entries (a .kinds .now) (a .words .now)) _ _ (c .before .before .before .before .before .first-entry .ensures) (c .before .before .before .before .atom-len .ensures)), c .before .before .before .before .before .before .before .before .good)
+    let after-atom-len = c .before .before .before .before in
+    let after-first-entry = after-atom-len .before in
+    let entry = after-first-entry .before .before .before in
+    let a = entry .args in
+    omega (
+      arith,
+      passes.both-words (atomReader (a .names) Param) (type (a .names)) (atomTest Param) never (a .kinds .now) (a .words .now) _
+          (items.atom-is (a .names) Param (entries (a .kinds .now) (a .words .now)) _ _ (after-first-entry .first-entry .ensures)
+          (after-atom-len .atom-len .ensures)) _ _ (c .before .before .n .given .1)
+          (items.atom-within (a .names) Param (entries (a .kinds .now) (a .words .now)) _ _ (after-first-entry .first-entry .ensures)
+          (after-atom-len .atom-len .ensures)),
+      entry .good,
+    )
 
 sub-type-len-2 : tie.Need-sub-type-len-2
 sub-type-len-2 c =
-    let a = c .before .before .before .before .before .before .before .before .args in
-    passes.both-words (atomReader (a .names) Param) (type (a .names)) (atomTest Param) never (a .kinds .now) (a .words .now) _ (items.atom-is (a .names) Param (entries (a .kinds .now) (a .words .now)) _ _ (c .before .before .before .before .before .first-entry .ensures) (c .before .before .before .before .atom-len .ensures)) _ _ (c .before .before .n .given .1) (items.atom-within (a .names) Param (entries (a .kinds .now) (a .words .now)) _ _ (c .before .before .before .before .before .first-entry .ensures) (c .before .before .before .before .atom-len .ensures))
+    let after-atom-len = c .before .before .before .before in
+    let after-first-entry = after-atom-len .before in
+    let entry = after-first-entry .before .before .before in
+    let a = entry .args in
+    passes.both-words (atomReader (a .names) Param) (type (a .names)) (atomTest Param) never (a .kinds .now) (a .words .now) _
+    (items.atom-is (a .names) Param (entries (a .kinds .now) (a .words .now)) _ _ (after-first-entry .first-entry .ensures)
+    (after-atom-len .atom-len .ensures)) _ _ (c .before .before .n .given .1)
+    (items.atom-within (a .names) Param (entries (a .kinds .now) (a .words .now)) _ _ (after-first-entry .first-entry .ensures)
+    (after-atom-len .atom-len .ensures))
 
 part-type-len-start-2 : tie.Need-part-type-len-start-2
 part-type-len-start-2 c =
-    let a = c .before .before .before .before .before .before .before .before .args in
-    passes.both-words (atomReader (a .names) Param) (type (a .names)) (atomTest Param) never (a .kinds .now) (a .words .now) _ (items.atom-is (a .names) Param (entries (a .kinds .now) (a .words .now)) _ _ (c .before .before .before .before .before .first-entry .ensures) (c .before .before .before .before .atom-len .ensures)) _ _ (c .before .before .n .given .1) (items.atom-within (a .names) Param (entries (a .kinds .now) (a .words .now)) _ _ (c .before .before .before .before .before .first-entry .ensures) (c .before .before .before .before .atom-len .ensures))
+    let after-atom-len = c .before .before .before .before in
+    let after-first-entry = after-atom-len .before in
+    let entry = after-first-entry .before .before .before in
+    let a = entry .args in
+    passes.both-words (atomReader (a .names) Param) (type (a .names)) (atomTest Param) never (a .kinds .now) (a .words .now) _
+    (items.atom-is (a .names) Param (entries (a .kinds .now) (a .words .now)) _ _ (after-first-entry .first-entry .ensures)
+    (after-atom-len .atom-len .ensures)) _ _ (c .before .before .n .given .1)
+    (items.atom-within (a .names) Param (entries (a .kinds .now) (a .words .now)) _ _ (after-first-entry .first-entry .ensures)
+    (after-atom-len .atom-len .ensures))
 
 part-type-len-end-2 : tie.Need-part-type-len-end-2
 part-type-len-end-2 c = search needs
@@ -79,13 +133,32 @@ plain-requires c κs = search needs
 
 join-found-requires : tie.Need-join-found-requires
 join-found-requires c κs =
-    let a = c .before .before .before .before .before .before .before .before .before .before .before .args in
-    passes.both-room (atomReader (a .names) Param) (type (a .names)) (atomTest Param) never (a .kinds .now) (a .words .now) _ (items.atom-is (a .names) Param (entries (a .kinds .now) (a .words .now)) _ _ (c .before .before .before .before .before .before .before .before .first-entry .ensures) (c .before .before .before .before .before .before .before .atom-len .ensures)) _ _ (c .before .before .before .before .before .n .given .1) (items.atom-within (a .names) Param (entries (a .kinds .now) (a .words .now)) _ _ (c .before .before .before .before .before .before .before .before .first-entry .ensures) (c .before .before .before .before .before .before .before .atom-len .ensures)) (omega arith) _ (passes.within never (agrees-type _) (lentFrom (a .kinds .now) (a .words .now) (c .before .before .before .before .before .n .given .0 .0)) _ (passes.plain-is (type (a .names) (lentFrom (a .kinds .now) (a .words .now) (c .before .before .before .before .before .n .given .0 .0))) _ _ (c .before .type-len .ensures) (c .plain .ensures)))
+    let after-n = c .before .before .before .before .before in
+    let after-atom-len = after-n .before .before in
+    let after-first-entry = after-atom-len .before in
+    let entry = after-first-entry .before .before .before in
+    let a = entry .args in
+    passes.both-room (atomReader (a .names) Param) (type (a .names)) (atomTest Param) never (a .kinds .now) (a .words .now) _
+    (items.atom-is (a .names) Param (entries (a .kinds .now) (a .words .now)) _ _ (after-first-entry .first-entry .ensures)
+    (after-atom-len .atom-len .ensures)) _ _ (after-n .n .given .1)
+    (items.atom-within (a .names) Param (entries (a .kinds .now) (a .words .now)) _ _ (after-first-entry .first-entry .ensures)
+    (after-atom-len .atom-len .ensures)) (omega arith) _
+    (passes.within never (agrees-type _) (lentFrom (a .kinds .now) (a .words .now) (after-n .n .given .0 .0)) _
+    (passes.plain-is (type (a .names) (lentFrom (a .kinds .now) (a .words .now) (after-n .n .given .0 .0))) _ _ (c .before .type-len .ensures)
+    (c .plain .ensures)))
 
 returns-2 : tie.Need-returns-2
 returns-2 c =
-    let a = c .before .before .before .before .before .before .before .before .before .before .before .before .args in
-    passes.both-arm (atomReader (a .names) Param) (type (a .names)) (atomTest Param) never (a .kinds .now) (a .words .now) _ (items.atom-is (a .names) Param (entries (a .kinds .now) (a .words .now)) _ _ (c .before .before .before .before .before .before .before .before .before .first-entry .ensures) (c .before .before .before .before .before .before .before .before .atom-len .ensures)) _ _ (c .before .before .before .before .before .before .n .given .1) _ _ (passes.plain-is (type (a .names) (lentFrom (a .kinds .now) (a .words .now) (c .before .before .before .before .before .before .n .given .0 .0))) _ _ (c .before .before .type-len .ensures) (c .before .plain .ensures)) (c .join-found .ensures)
+    let after-n = c .before .before .before .before .before .before in
+    let after-atom-len = after-n .before .before in
+    let after-first-entry = after-atom-len .before in
+    let entry = after-first-entry .before .before .before in
+    let a = entry .args in
+    passes.both-arm (atomReader (a .names) Param) (type (a .names)) (atomTest Param) never (a .kinds .now) (a .words .now) _
+    (items.atom-is (a .names) Param (entries (a .kinds .now) (a .words .now)) _ _ (after-first-entry .first-entry .ensures)
+    (after-atom-len .atom-len .ensures)) _ _ (after-n .n .given .1) _ _
+    (passes.plain-is (type (a .names) (lentFrom (a .kinds .now) (a .words .now) (after-n .n .given .0 .0))) _ _
+    (c .before .before .type-len .ensures) (c .before .plain .ensures)) (c .join-found .ensures)
 
 pub param-len-spec : {M : Type 1} → statement M
 param-len-spec =

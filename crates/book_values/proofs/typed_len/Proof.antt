@@ -31,41 +31,101 @@ enum-told c = search needs
 
 returns : tie.Need-returns
 returns c =
-    let a = c .before .before .before .before .before .before .args in
-    passes.both-bad (type (a .names)) (atomReader (a .names) (a .atom)) never (atomTest (a .atom)) (a .kinds .now) (a .words .now) _ (passes.plain-is (type (a .names) (entries (a .kinds .now) (a .words .now))) _ _ (c .before .before .before .type-len .ensures) (c .before .before .plain .ensures)) (c .enum-told .given .1)
+    let after-type-len = c .before .before .before in
+    let entry = after-type-len .before .before .before in
+    let a = entry .args in
+    passes.both-bad (type (a .names)) (atomReader (a .names) (a .atom)) never (atomTest (a .atom)) (a .kinds .now) (a .words .now) _
+    (passes.plain-is (type (a .names) (entries (a .kinds .now) (a .words .now))) _ _ (after-type-len .type-len .ensures)
+    (c .before .before .plain .ensures)) (c .enum-told .given .1)
 
 mul-first-entry : tie.Need-mul-first-entry
 mul-first-entry c =
-    let a = c .before .before .before .before .before .before .before .args in
-    omega (arith, passes.both-kinds (type (a .names)) (atomReader (a .names) (a .atom)) never (atomTest (a .atom)) (a .kinds .now) (a .words .now) _ (passes.plain-is (type (a .names) (entries (a .kinds .now) (a .words .now))) _ _ (c .before .before .before .before .type-len .ensures) (c .before .before .before .plain .ensures)) _ _ (c .before .n .given .1) (passes.within never (agrees-type _) (entries (a .kinds .now) (a .words .now)) _ (passes.plain-is (type (a .names) (entries (a .kinds .now) (a .words .now))) _ _ (c .before .before .before .before .type-len .ensures) (c .before .before .before .plain .ensures))), c .before .before .before .before .before .before .before .good)
+    let after-plain = c .before .before .before in
+    let after-type-len = after-plain .before in
+    let entry = after-type-len .before .before .before in
+    let a = entry .args in
+    omega (
+      arith,
+      passes.both-kinds (type (a .names)) (atomReader (a .names) (a .atom)) never (atomTest (a .atom)) (a .kinds .now) (a .words .now) _
+          (passes.plain-is (type (a .names) (entries (a .kinds .now) (a .words .now))) _ _ (after-type-len .type-len .ensures)
+          (after-plain .plain .ensures)) _ _ (c .before .n .given .1)
+          (passes.within never (agrees-type _) (entries (a .kinds .now) (a .words .now)) _
+          (passes.plain-is (type (a .names) (entries (a .kinds .now) (a .words .now))) _ _ (after-type-len .type-len .ensures)
+          (after-plain .plain .ensures))),
+      entry .good,
+    )
 
 sub-first-entry : tie.Need-sub-first-entry
 sub-first-entry c =
-    let a = c .before .before .before .before .before .before .before .args in
-    passes.both-kinds (type (a .names)) (atomReader (a .names) (a .atom)) never (atomTest (a .atom)) (a .kinds .now) (a .words .now) _ (passes.plain-is (type (a .names) (entries (a .kinds .now) (a .words .now))) _ _ (c .before .before .before .before .type-len .ensures) (c .before .before .before .plain .ensures)) _ _ (c .before .n .given .1) (passes.within never (agrees-type _) (entries (a .kinds .now) (a .words .now)) _ (passes.plain-is (type (a .names) (entries (a .kinds .now) (a .words .now))) _ _ (c .before .before .before .before .type-len .ensures) (c .before .before .before .plain .ensures)))
+    let after-plain = c .before .before .before in
+    let after-type-len = after-plain .before in
+    let entry = after-type-len .before .before .before in
+    let a = entry .args in
+    passes.both-kinds (type (a .names)) (atomReader (a .names) (a .atom)) never (atomTest (a .atom)) (a .kinds .now) (a .words .now) _
+    (passes.plain-is (type (a .names) (entries (a .kinds .now) (a .words .now))) _ _ (after-type-len .type-len .ensures)
+    (after-plain .plain .ensures)) _ _ (c .before .n .given .1)
+    (passes.within never (agrees-type _) (entries (a .kinds .now) (a .words .now)) _
+    (passes.plain-is (type (a .names) (entries (a .kinds .now) (a .words .now))) _ _ (after-type-len .type-len .ensures)
+    (after-plain .plain .ensures)))
 
 part-first-entry-start : tie.Need-part-first-entry-start
 part-first-entry-start c =
-    let a = c .before .before .before .before .before .before .before .args in
-    passes.both-kinds (type (a .names)) (atomReader (a .names) (a .atom)) never (atomTest (a .atom)) (a .kinds .now) (a .words .now) _ (passes.plain-is (type (a .names) (entries (a .kinds .now) (a .words .now))) _ _ (c .before .before .before .before .type-len .ensures) (c .before .before .before .plain .ensures)) _ _ (c .before .n .given .1) (passes.within never (agrees-type _) (entries (a .kinds .now) (a .words .now)) _ (passes.plain-is (type (a .names) (entries (a .kinds .now) (a .words .now))) _ _ (c .before .before .before .before .type-len .ensures) (c .before .before .before .plain .ensures)))
+    let after-plain = c .before .before .before in
+    let after-type-len = after-plain .before in
+    let entry = after-type-len .before .before .before in
+    let a = entry .args in
+    passes.both-kinds (type (a .names)) (atomReader (a .names) (a .atom)) never (atomTest (a .atom)) (a .kinds .now) (a .words .now) _
+    (passes.plain-is (type (a .names) (entries (a .kinds .now) (a .words .now))) _ _ (after-type-len .type-len .ensures)
+    (after-plain .plain .ensures)) _ _ (c .before .n .given .1)
+    (passes.within never (agrees-type _) (entries (a .kinds .now) (a .words .now)) _
+    (passes.plain-is (type (a .names) (entries (a .kinds .now) (a .words .now))) _ _ (after-type-len .type-len .ensures)
+    (after-plain .plain .ensures)))
 
 part-first-entry-end : tie.Need-part-first-entry-end
 part-first-entry-end c = search needs
 
 mul-first-entry-2 : tie.Need-mul-first-entry-2
 mul-first-entry-2 c =
-    let a = c .before .before .before .before .before .before .before .before .args in
-    omega (arith, passes.both-words (type (a .names)) (atomReader (a .names) (a .atom)) never (atomTest (a .atom)) (a .kinds .now) (a .words .now) _ (passes.plain-is (type (a .names) (entries (a .kinds .now) (a .words .now))) _ _ (c .before .before .before .before .before .type-len .ensures) (c .before .before .before .before .plain .ensures)) _ _ (c .before .before .n .given .1) (passes.within never (agrees-type _) (entries (a .kinds .now) (a .words .now)) _ (passes.plain-is (type (a .names) (entries (a .kinds .now) (a .words .now))) _ _ (c .before .before .before .before .before .type-len .ensures) (c .before .before .before .before .plain .ensures))), c .before .before .before .before .before .before .before .before .good)
+    let after-plain = c .before .before .before .before in
+    let after-type-len = after-plain .before in
+    let entry = after-type-len .before .before .before in
+    let a = entry .args in
+    omega (
+      arith,
+      passes.both-words (type (a .names)) (atomReader (a .names) (a .atom)) never (atomTest (a .atom)) (a .kinds .now) (a .words .now) _
+          (passes.plain-is (type (a .names) (entries (a .kinds .now) (a .words .now))) _ _ (after-type-len .type-len .ensures)
+          (after-plain .plain .ensures)) _ _ (c .before .before .n .given .1)
+          (passes.within never (agrees-type _) (entries (a .kinds .now) (a .words .now)) _
+          (passes.plain-is (type (a .names) (entries (a .kinds .now) (a .words .now))) _ _ (after-type-len .type-len .ensures)
+          (after-plain .plain .ensures))),
+      entry .good,
+    )
 
 sub-first-entry-2 : tie.Need-sub-first-entry-2
 sub-first-entry-2 c =
-    let a = c .before .before .before .before .before .before .before .before .args in
-    passes.both-words (type (a .names)) (atomReader (a .names) (a .atom)) never (atomTest (a .atom)) (a .kinds .now) (a .words .now) _ (passes.plain-is (type (a .names) (entries (a .kinds .now) (a .words .now))) _ _ (c .before .before .before .before .before .type-len .ensures) (c .before .before .before .before .plain .ensures)) _ _ (c .before .before .n .given .1) (passes.within never (agrees-type _) (entries (a .kinds .now) (a .words .now)) _ (passes.plain-is (type (a .names) (entries (a .kinds .now) (a .words .now))) _ _ (c .before .before .before .before .before .type-len .ensures) (c .before .before .before .before .plain .ensures)))
+    let after-plain = c .before .before .before .before in
+    let after-type-len = after-plain .before in
+    let entry = after-type-len .before .before .before in
+    let a = entry .args in
+    passes.both-words (type (a .names)) (atomReader (a .names) (a .atom)) never (atomTest (a .atom)) (a .kinds .now) (a .words .now) _
+    (passes.plain-is (type (a .names) (entries (a .kinds .now) (a .words .now))) _ _ (after-type-len .type-len .ensures)
+    (after-plain .plain .ensures)) _ _ (c .before .before .n .given .1)
+    (passes.within never (agrees-type _) (entries (a .kinds .now) (a .words .now)) _
+    (passes.plain-is (type (a .names) (entries (a .kinds .now) (a .words .now))) _ _ (after-type-len .type-len .ensures)
+    (after-plain .plain .ensures)))
 
 part-first-entry-start-2 : tie.Need-part-first-entry-start-2
 part-first-entry-start-2 c =
-    let a = c .before .before .before .before .before .before .before .before .args in
-    passes.both-words (type (a .names)) (atomReader (a .names) (a .atom)) never (atomTest (a .atom)) (a .kinds .now) (a .words .now) _ (passes.plain-is (type (a .names) (entries (a .kinds .now) (a .words .now))) _ _ (c .before .before .before .before .before .type-len .ensures) (c .before .before .before .before .plain .ensures)) _ _ (c .before .before .n .given .1) (passes.within never (agrees-type _) (entries (a .kinds .now) (a .words .now)) _ (passes.plain-is (type (a .names) (entries (a .kinds .now) (a .words .now))) _ _ (c .before .before .before .before .before .type-len .ensures) (c .before .before .before .before .plain .ensures)))
+    let after-plain = c .before .before .before .before in
+    let after-type-len = after-plain .before in
+    let entry = after-type-len .before .before .before in
+    let a = entry .args in
+    passes.both-words (type (a .names)) (atomReader (a .names) (a .atom)) never (atomTest (a .atom)) (a .kinds .now) (a .words .now) _
+    (passes.plain-is (type (a .names) (entries (a .kinds .now) (a .words .now))) _ _ (after-type-len .type-len .ensures)
+    (after-plain .plain .ensures)) _ _ (c .before .before .n .given .1)
+    (passes.within never (agrees-type _) (entries (a .kinds .now) (a .words .now)) _
+    (passes.plain-is (type (a .names) (entries (a .kinds .now) (a .words .now))) _ _ (after-type-len .type-len .ensures)
+    (after-plain .plain .ensures)))
 
 part-first-entry-end-2 : tie.Need-part-first-entry-end-2
 part-first-entry-end-2 c = search needs
@@ -78,13 +138,32 @@ atom-len-requires c κs = search needs
 
 join-found-requires : tie.Need-join-found-requires
 join-found-requires c κs =
-    let a = c .before .before .before .before .before .before .before .before .before .before .before .args in
-    passes.both-room (type (a .names)) (atomReader (a .names) (a .atom)) never (atomTest (a .atom)) (a .kinds .now) (a .words .now) _ (passes.plain-is (type (a .names) (entries (a .kinds .now) (a .words .now))) _ _ (c .before .before .before .before .before .before .before .before .type-len .ensures) (c .before .before .before .before .before .before .before .plain .ensures)) _ _ (c .before .before .before .before .before .n .given .1) (passes.within never (agrees-type _) (entries (a .kinds .now) (a .words .now)) _ (passes.plain-is (type (a .names) (entries (a .kinds .now) (a .words .now))) _ _ (c .before .before .before .before .before .before .before .before .type-len .ensures) (c .before .before .before .before .before .before .before .plain .ensures))) (omega arith) _ (items.atom-within (a .names) (a .atom) (lentFrom (a .kinds .now) (a .words .now) (c .before .before .before .before .before .n .given .0 .0)) _ _ (c .before .first-entry .ensures) (c .atom-len .ensures))
+    let after-n = c .before .before .before .before .before in
+    let after-plain = after-n .before .before in
+    let after-type-len = after-plain .before in
+    let entry = after-type-len .before .before .before in
+    let a = entry .args in
+    passes.both-room (type (a .names)) (atomReader (a .names) (a .atom)) never (atomTest (a .atom)) (a .kinds .now) (a .words .now) _
+    (passes.plain-is (type (a .names) (entries (a .kinds .now) (a .words .now))) _ _ (after-type-len .type-len .ensures)
+    (after-plain .plain .ensures)) _ _ (after-n .n .given .1)
+    (passes.within never (agrees-type _) (entries (a .kinds .now) (a .words .now)) _
+    (passes.plain-is (type (a .names) (entries (a .kinds .now) (a .words .now))) _ _ (after-type-len .type-len .ensures)
+    (after-plain .plain .ensures))) (omega arith) _
+    (items.atom-within (a .names) (a .atom) (lentFrom (a .kinds .now) (a .words .now) (after-n .n .given .0 .0)) _ _
+    (c .before .first-entry .ensures) (c .atom-len .ensures))
 
 returns-2 : tie.Need-returns-2
 returns-2 c =
-    let a = c .before .before .before .before .before .before .before .before .before .before .before .before .args in
-    passes.both-arm (type (a .names)) (atomReader (a .names) (a .atom)) never (atomTest (a .atom)) (a .kinds .now) (a .words .now) _ (passes.plain-is (type (a .names) (entries (a .kinds .now) (a .words .now))) _ _ (c .before .before .before .before .before .before .before .before .before .type-len .ensures) (c .before .before .before .before .before .before .before .before .plain .ensures)) _ _ (c .before .before .before .before .before .before .n .given .1) _ _ (items.atom-is (a .names) (a .atom) (lentFrom (a .kinds .now) (a .words .now) (c .before .before .before .before .before .before .n .given .0 .0)) _ _ (c .before .before .first-entry .ensures) (c .before .atom-len .ensures)) (c .join-found .ensures)
+    let after-n = c .before .before .before .before .before .before in
+    let after-plain = after-n .before .before in
+    let after-type-len = after-plain .before in
+    let entry = after-type-len .before .before .before in
+    let a = entry .args in
+    passes.both-arm (type (a .names)) (atomReader (a .names) (a .atom)) never (atomTest (a .atom)) (a .kinds .now) (a .words .now) _
+    (passes.plain-is (type (a .names) (entries (a .kinds .now) (a .words .now))) _ _ (after-type-len .type-len .ensures)
+    (after-plain .plain .ensures)) _ _ (after-n .n .given .1) _ _
+    (items.atom-is (a .names) (a .atom) (lentFrom (a .kinds .now) (a .words .now) (after-n .n .given .0 .0)) _ _
+    (c .before .before .first-entry .ensures) (c .before .atom-len .ensures)) (c .join-found .ensures)
 
 pub typed-len-spec : {M : Type 1} → statement M
 typed-len-spec =

@@ -124,7 +124,9 @@ align-of-enum-told-2 : (t : ℕ) → align-of-lts.Need-enum-told-2 (align-of-cla
 align-of-enum-told-2 t c = search needs
 
 align-of-add-t16 : (t : ℕ) → align-of-lts.Need-add-t16 (align-of-claims t) (align-of-at t) align-of.Post
-align-of-add-t16 t c = omega (arith, calls.int-width _ _ _ _ _ _ (c .before .before .before .before .before .before .before .before .before .before .before .pre .1) _ (c .before .before .type-group .ensures) (c .enum-told2 .given .1))
+align-of-add-t16 t c =
+    let entry = c .before .before .before .before .before .before .before .before .before .before .before in
+    omega (arith, calls.int-width _ _ _ _ _ _ (entry .pre .1) _ (c .before .before .type-group .ensures) (c .enum-told2 .given .1))
 
 align-of-enum-told-3 : (t : ℕ) → align-of-lts.Need-enum-told-3 (align-of-claims t) (align-of-at t) align-of.Post
 align-of-enum-told-3 t c = search needs
@@ -154,16 +156,29 @@ align-of-sub-align-of-3 : (t : ℕ) → align-of-lts.Need-sub-align-of-3 (align-
 align-of-sub-align-of-3 t c = search needs
 
 align-of-align-of-requires : (t : ℕ) → align-of-lts.Need-align-of-requires (align-of-claims t) (align-of-at t) align-of.Post
-align-of-align-of-requires t c κs = (omega arith, calls.array-ask _ _ _ _ _ _ (c .before .before .before .before .before .before .before .before .before .before .before .before .before .before .pre .1) _ (c .before .before .before .before .before .type-group .ensures) _ (c .before .before .before .enum-told4 .given .1))
+align-of-align-of-requires t c κs =
+    let after-enum-told4 = c .before .before .before in
+    let after-type-group = after-enum-told4 .before .before in
+    let entry = after-type-group .before .before .before .before .before .before .before .before .before in
+    (omega arith, calls.array-ask _ _ _ _ _ _ (entry .pre .1) _ (after-type-group .type-group .ensures) _ (after-enum-told4 .enum-told4 .given .1))
 
 align-of-one-more-requires : (t : ℕ) → align-of-lts.Need-one-more-requires (align-of-claims t) (align-of-at t) align-of.Post
-align-of-one-more-requires t c κs = calls.outcome-few (omega (arith, c .before .before .before .before .before .before .before .before .before .before .before .before .before .before .before .before .before .pre .1 .levels)) (c .before .before .align-of .ensures)
+align-of-one-more-requires t c κs =
+    let entry = c .before .before .before .before .before .before .before .before .before .before .before .before .before .before .before .before .before in
+    calls.outcome-few (omega (arith, entry .pre .1 .levels)) (c .before .before .align-of .ensures)
 
 align-of-enum-told-5 : (t : ℕ) → align-of-lts.Need-enum-told-5 (align-of-claims t) (align-of-at t) align-of.Post
 align-of-enum-told-5 t c = search needs
 
 align-of-named-align-requires : (t : ℕ) → align-of-lts.Need-named-align-requires (align-of-claims t) (align-of-at t) align-of.Post
-align-of-named-align-requires t c κs = (omega arith, calls.named-ask _ _ _ _ _ _ (c .before .before .before .before .before .before .before .before .before .before .before .before .pre .1) _ (c .before .before .before .type-group .ensures) (c .before .before .before .before .before .before .if1 .left) (c .before .enum-told5 .given .1))
+align-of-named-align-requires t c κs =
+    let after-type-group = c .before .before .before in
+    let else1 = after-type-group .before .before .before in
+    let entry = else1 .before .before .before .before .before .before in (
+      omega arith,
+      calls.named-ask _ _ _ _ _ _ (entry .pre .1) _ (after-type-group .type-group .ensures) (else1 .if1 .left)
+          (c .before .enum-told5 .given .1),
+    )
 
 align-of-enum-known-packed : (t : ℕ) → align-of-lts.Need-enum-known-packed (align-of-claims t) (align-of-at t) align-of.Post
 align-of-enum-known-packed t c = search needs
@@ -178,10 +193,16 @@ align-of-part-struct-align-end : (t : ℕ) → align-of-lts.Need-part-struct-ali
 align-of-part-struct-align-end t c = search needs
 
 align-of-sub-struct-align-2 : (t : ℕ) → align-of-lts.Need-sub-struct-align-2 (align-of-claims t) (align-of-at t) align-of.Post
-align-of-sub-struct-align-2 t c = let h = calls.words-there _ _ _ _ _ _ (c .before .before .before .before .before .before .before .before .before .before .before .before .before .pre .1) in search needs
+align-of-sub-struct-align-2 t c =
+    let entry = c .before .before .before .before .before .before .before .before .before .before .before .before .before in
+    let h = calls.words-there _ _ _ _ _ _ (entry .pre .1) in
+    search needs
 
 align-of-part-struct-align-start-2 : (t : ℕ) → align-of-lts.Need-part-struct-align-start-2 (align-of-claims t) (align-of-at t) align-of.Post
-align-of-part-struct-align-start-2 t c = let h = calls.words-there _ _ _ _ _ _ (c .before .before .before .before .before .before .before .before .before .before .before .before .before .pre .1) in search needs
+align-of-part-struct-align-start-2 t c =
+    let entry = c .before .before .before .before .before .before .before .before .before .before .before .before .before in
+    let h = calls.words-there _ _ _ _ _ _ (entry .pre .1) in
+    search needs
 
 align-of-part-struct-align-end-2 : (t : ℕ) → align-of-lts.Need-part-struct-align-end-2 (align-of-claims t) (align-of-at t) align-of.Post
 align-of-part-struct-align-end-2 t c = search needs
@@ -190,10 +211,16 @@ align-of-sub-struct-align-3 : (t : ℕ) → align-of-lts.Need-sub-struct-align-3
 align-of-sub-struct-align-3 t c = search needs
 
 align-of-struct-align-requires : (t : ℕ) → align-of-lts.Need-struct-align-requires (align-of-claims t) (align-of-at t) align-of.Post
-align-of-struct-align-requires t c κs = (omega arith, calls.struct-ask _ _ _ _ _ _ (c .before .before .before .before .before .before .before .before .before .before .before .before .before .before .before .pre .1) _ (c .before .before .before .before .before .before .type-group .ensures) _ (c .before .before .before .before .packed .given .1))
+align-of-struct-align-requires t c κs =
+    let after-packed = c .before .before .before .before in
+    let after-type-group = after-packed .before .before in
+    let entry = after-type-group .before .before .before .before .before .before .before .before .before in
+    (omega arith, calls.struct-ask _ _ _ _ _ _ (entry .pre .1) _ (after-type-group .type-group .ensures) _ (after-packed .packed .given .1))
 
 align-of-one-more-requires-2 : (t : ℕ) → align-of-lts.Need-one-more-requires-2 (align-of-claims t) (align-of-at t) align-of.Post
-align-of-one-more-requires-2 t c κs = calls.outcome-few (omega (arith, c .before .before .before .before .before .before .before .before .before .before .before .before .before .before .before .before .before .before .pre .1 .levels)) (c .before .before .struct-align .ensures)
+align-of-one-more-requires-2 t c κs =
+    let entry = c .before .before .before .before .before .before .before .before .before .before .before .before .before .before .before .before .before .before in
+    calls.outcome-few (omega (arith, entry .pre .1 .levels)) (c .before .before .struct-align .ensures)
 
 align-of-enum-told-6 : (t : ℕ) → align-of-lts.Need-enum-told-6 (align-of-claims t) (align-of-at t) align-of.Post
 align-of-enum-told-6 t c = search needs
@@ -202,37 +229,72 @@ align-of-enum-told-7 : (t : ℕ) → align-of-lts.Need-enum-told-7 (align-of-cla
 align-of-enum-told-7 t c = search needs
 
 align-of-returns-2 : (t : ℕ) → align-of-lts.Need-returns-2 (align-of-claims t) (align-of-at t) align-of.Post
-align-of-returns-2 t c = calls.align-void _ _ _ _ _ _ (c .before .before .before .before .before .before .before .before .before .before .before .pre .1) _ (c .before .before .type-group .ensures) (c .before .before .before .before .before .if1 .left) (c .enum-told .given .1)
+align-of-returns-2 t c =
+    let else1 = c .before .before .before .before .before in
+    let entry = else1 .before .before .before .before .before .before in
+    calls.align-void _ _ _ _ _ _ (entry .pre .1) _ (c .before .before .type-group .ensures) (else1 .if1 .left) (c .enum-told .given .1)
 
 align-of-returns-3 : (t : ℕ) → align-of-lts.Need-returns-3 (align-of-claims t) (align-of-at t) align-of.Post
-align-of-returns-3 t c = calls.align-int _ _ _ _ _ _ (c .before .before .before .before .before .before .before .before .before .before .before .pre .1) _ (c .before .before .type-group .ensures) (c .before .before .before .before .before .if1 .left) (c .enum-told2 .given .1)
+align-of-returns-3 t c =
+    let else1 = c .before .before .before .before .before in
+    let entry = else1 .before .before .before .before .before .before in
+    calls.align-int _ _ _ _ _ _ (entry .pre .1) _ (c .before .before .type-group .ensures) (else1 .if1 .left) (c .enum-told2 .given .1)
 
 align-of-returns-4 : (t : ℕ) → align-of-lts.Need-returns-4 (align-of-claims t) (align-of-at t) align-of.Post
-align-of-returns-4 t c = calls.align-ptr _ _ _ _ _ _ (c .before .before .before .before .before .before .before .before .before .before .before .pre .1) _ (c .before .before .type-group .ensures) (c .before .before .before .before .before .if1 .left) (c .enum-told3 .given .1)
+align-of-returns-4 t c =
+    let else1 = c .before .before .before .before .before in
+    let entry = else1 .before .before .before .before .before .before in
+    calls.align-ptr _ _ _ _ _ _ (entry .pre .1) _ (c .before .before .type-group .ensures) (else1 .if1 .left) (c .enum-told3 .given .1)
 
 align-of-same-length : (t : ℕ) → align-of-lts.Need-same-length (align-of-claims t) (align-of-at t) align-of.Post
 align-of-same-length t c = search needs
 
 align-of-returns-5 : (t : ℕ) → align-of-lts.Need-returns-5 (align-of-claims t) (align-of-at t) align-of.Post
-align-of-returns-5 t c = calls.align-array _ _ _ _ _ _ (c .before .before .before .before .before .before .before .before .before .before .before .before .before .before .before .before .before .before .pre .1) _ (c .before .before .before .before .before .before .before .before .before .type-group .ensures) (c .before .before .before .before .before .before .before .before .before .before .before .before .if1 .left) _ (c .before .before .before .before .before .before .before .enum-told4 .given .1) (c .before .before .before .align-of .ensures) _ (c .one-more .ensures)
+align-of-returns-5 t c =
+    let after-align-of = c .before .before .before in
+    let after-enum-told4 = after-align-of .before .before .before .before in
+    let after-type-group = after-enum-told4 .before .before in
+    let else1 = after-type-group .before .before .before in
+    let entry = else1 .before .before .before .before .before .before in
+    calls.align-array _ _ _ _ _ _ (entry .pre .1) _ (after-type-group .type-group .ensures) (else1 .if1 .left) _
+    (after-enum-told4 .enum-told4 .given .1) (after-align-of .align-of .ensures) _ (c .one-more .ensures)
 
 align-of-same-length-2 : (t : ℕ) → align-of-lts.Need-same-length-2 (align-of-claims t) (align-of-at t) align-of.Post
 align-of-same-length-2 t c = search needs
 
 align-of-returns-6 : (t : ℕ) → align-of-lts.Need-returns-6 (align-of-claims t) (align-of-at t) align-of.Post
-align-of-returns-6 t c = calls.align-named _ _ _ _ _ _ (c .before .before .before .before .before .before .before .before .before .before .before .before .before .before .before .pre .1) _ (c .before .before .before .before .before .before .type-group .ensures) (c .before .before .before .before .before .before .before .before .before .if1 .left) (c .before .before .before .before .enum-told5 .given .1) (c .before .before .named-align .ensures)
+align-of-returns-6 t c =
+    let after-enum-told5 = c .before .before .before .before in
+    let after-type-group = after-enum-told5 .before .before in
+    let else1 = after-type-group .before .before .before in
+    let entry = else1 .before .before .before .before .before .before in
+    calls.align-named _ _ _ _ _ _ (entry .pre .1) _ (after-type-group .type-group .ensures) (else1 .if1 .left)
+    (after-enum-told5 .enum-told5 .given .1) (c .before .before .named-align .ensures)
 
 align-of-same-length-3 : (t : ℕ) → align-of-lts.Need-same-length-3 (align-of-claims t) (align-of-at t) align-of.Post
 align-of-same-length-3 t c = search needs
 
 align-of-returns-7 : (t : ℕ) → align-of-lts.Need-returns-7 (align-of-claims t) (align-of-at t) align-of.Post
-align-of-returns-7 t c = calls.align-struct _ _ _ _ _ _ (c .before .before .before .before .before .before .before .before .before .before .before .before .before .before .before .before .before .before .before .pre .1) _ (c .before .before .before .before .before .before .before .before .before .before .type-group .ensures) (c .before .before .before .before .before .before .before .before .before .before .before .before .before .if1 .left) _ (c .before .before .before .before .before .before .before .before .packed .given .1) (c .before .before .before .struct-align .ensures) _ (c .one-more2 .ensures)
+align-of-returns-7 t c =
+    let after-struct-align = c .before .before .before in
+    let after-packed = after-struct-align .before .before .before .before .before in
+    let after-type-group = after-packed .before .before in
+    let else1 = after-type-group .before .before .before in
+    let entry = else1 .before .before .before .before .before .before in
+    calls.align-struct _ _ _ _ _ _ (entry .pre .1) _ (after-type-group .type-group .ensures) (else1 .if1 .left) _ (after-packed .packed .given .1)
+    (after-struct-align .struct-align .ensures) _ (c .one-more2 .ensures)
 
 align-of-returns-8 : (t : ℕ) → align-of-lts.Need-returns-8 (align-of-claims t) (align-of-at t) align-of.Post
-align-of-returns-8 t c = calls.align-sizeless _ _ _ _ _ _ (c .before .before .before .before .before .before .before .before .before .before .before .pre .1) _ (c .before .before .type-group .ensures) (c .before .before .before .before .before .if1 .left) (c .enum-told6 .given .1)
+align-of-returns-8 t c =
+    let else1 = c .before .before .before .before .before in
+    let entry = else1 .before .before .before .before .before .before in
+    calls.align-sizeless _ _ _ _ _ _ (entry .pre .1) _ (c .before .before .type-group .ensures) (else1 .if1 .left) (c .enum-told6 .given .1)
 
 align-of-returns-9 : (t : ℕ) → align-of-lts.Need-returns-9 (align-of-claims t) (align-of-at t) align-of.Post
-align-of-returns-9 t c = calls.other _ _ _ _ _ _ (c .before .before .before .before .before .before .before .before .before .before .before .pre .1) _ (c .before .before .type-group .ensures) (c .before .before .before .before .before .if1 .left) (c .enum-told7 .given .1)
+align-of-returns-9 t c =
+    let else1 = c .before .before .before .before .before in
+    let entry = else1 .before .before .before .before .before .before in
+    calls.other _ _ _ _ _ _ (entry .pre .1) _ (c .before .before .type-group .ensures) (else1 .if1 .left) (c .enum-told7 .given .1)
 
 named-align-mul-at : (t : ℕ) → named-align-lts.Need-mul-at (named-align-claims t) (named-align-at t) named-align.Post
 named-align-mul-at t c = search needs
@@ -295,10 +357,15 @@ named-align-sub-align-of-3 : (t : ℕ) → named-align-lts.Need-sub-align-of-3 (
 named-align-sub-align-of-3 t c = search needs
 
 named-align-align-of-requires : (t : ℕ) → named-align-lts.Need-align-of-requires (named-align-claims t) (named-align-at t) named-align.Post
-named-align-align-of-requires t c κs = (omega arith, calls.body-ask _ _ _ _ _ _ (c .before .before .before .before .before .before .before .before .before .before .pre .1) (c .before .before .before .if2 .left))
+named-align-align-of-requires t c κs =
+    let else2 = c .before .before .before in
+    let entry = else2 .before .before .before .before .before .before .before in
+    (omega arith, calls.body-ask _ _ _ _ _ _ (entry .pre .1) (else2 .if2 .left))
 
 named-align-one-more-requires : (t : ℕ) → named-align-lts.Need-one-more-requires (named-align-claims t) (named-align-at t) named-align.Post
-named-align-one-more-requires t c κs = calls.outcome-few (omega (arith, c .before .before .before .before .before .before .before .before .before .before .before .before .before .pre .1 .levels)) (c .before .before .align-of .ensures)
+named-align-one-more-requires t c κs =
+    let entry = c .before .before .before .before .before .before .before .before .before .before .before .before .before in
+    calls.outcome-few (omega (arith, entry .pre .1 .levels)) (c .before .before .align-of .ensures)
 
 named-align-add-with-align : (t : ℕ) → named-align-lts.Need-add-with-align (named-align-claims t) (named-align-at t) named-align.Post
 named-align-add-with-align t c = search needs
@@ -310,7 +377,11 @@ named-align-slice-read-with-align : (t : ℕ) → named-align-lts.Need-slice-rea
 named-align-slice-read-with-align t c = search needs
 
 named-align-with-align-requires : (t : ℕ) → named-align-lts.Need-with-align-requires (named-align-claims t) (named-align-at t) named-align.Post
-named-align-with-align-requires t c κs = calls.align-body-small _ _ _ _ _ _ (c .before .before .before .before .before .before .before .before .before .before .before .before .before .before .before .pre .1) (c .before .before .before .before .before .before .before .before .if2 .left) _ (c .before .one-more .ensures) (c .before .before .before .before .align-of .ensures)
+named-align-with-align-requires t c κs =
+    let after-align-of = c .before .before .before .before in
+    let else2 = after-align-of .before .before .before .before in
+    let entry = else2 .before .before .before .before .before .before .before in
+    calls.align-body-small _ _ _ _ _ _ (entry .pre .1) (else2 .if2 .left) _ (c .before .one-more .ensures) (after-align-of .align-of .ensures)
 
 named-align-add-work : (t : ℕ) → named-align-lts.Need-add-work (named-align-claims t) (named-align-at t) named-align.Post
 named-align-add-work t c = search needs
@@ -325,7 +396,12 @@ named-align-same-length : (t : ℕ) → named-align-lts.Need-same-length (named-
 named-align-same-length t c = search needs
 
 named-align-returns-3 : (t : ℕ) → named-align-lts.Need-returns-3 (named-align-claims t) (named-align-at t) named-align.Post
-named-align-returns-3 t c = calls.align-stored _ _ _ _ _ _ (c .before .before .before .before .before .before .before .before .before .before .before .before .before .before .before .before .pre .1) (c .before .before .before .before .before .before .before .before .before .if2 .left) _ (c .before .before .one-more .ensures) (c .before .before .before .before .before .align-of .ensures) _ (c .with-align .ensures)
+named-align-returns-3 t c =
+    let after-align-of = c .before .before .before .before .before in
+    let else2 = after-align-of .before .before .before .before in
+    let entry = else2 .before .before .before .before .before .before .before in
+    calls.align-stored _ _ _ _ _ _ (entry .pre .1) (else2 .if2 .left) _ (c .before .before .one-more .ensures) (after-align-of .align-of .ensures) _
+    (c .with-align .ensures)
 
 abbrev struct-align-Inv-loop : struct-align-lts.InvT-loop
 struct-align-Inv-loop kinds words book-kinds book-words work₀ names level packed at₀ align₀ levels₀ work at align levels =
@@ -335,25 +411,42 @@ abbrev struct-align-μ-loop : struct-align-lts.MeasureT-loop
 struct-align-μ-loop kinds words book-kinds book-words work₀ names level packed at₀ align₀ levels₀ work at align levels = length kinds - at
 
 struct-align-returns : (t : ℕ) → struct-align-lts.Need-returns (struct-align-claims t) (struct-align-at t) struct-align.Post struct-align-Inv-loop struct-align-μ-loop
-struct-align-returns t c = lc.align-packed (c .before .before .before .before .before .before .args .names) (c .before .before .before .before .before .before .args .kinds .now) (c .before .before .before .before .before .before .args .words .now) (entries (c .before .before .before .before .before .before .args .book-kinds .now) (c .before .before .before .before .before .before .args .book-words .now)) (c .before .before .before .before .before .before .args .work .now) (c .before .before .before .before .before .before .args .level) (c .before .before .before .before .before .before .args .packed) (c .before .before .before .before .before .before .pre .1) (c .if1 .taken)
+struct-align-returns t c =
+    let entry = c .before .before .before .before .before .before in
+    lc.align-packed (entry .args .names) (entry .args .kinds .now) (entry .args .words .now)
+    (entries (entry .args .book-kinds .now) (entry .args .book-words .now)) (entry .args .work .now) (entry .args .level) (entry .args .packed)
+    (entry .pre .1) (c .if1 .taken)
 
 struct-align-loop-holds : (t : ℕ) → struct-align-lts.Need-loop-holds (struct-align-claims t) (struct-align-at t) struct-align.Post struct-align-Inv-loop struct-align-μ-loop
-struct-align-loop-holds t c = lc.align-start (c .before .before .before .before .before .before .args .names) (c .before .before .before .before .before .before .args .kinds .now) (c .before .before .before .before .before .before .args .words .now) (entries (c .before .before .before .before .before .before .args .book-kinds .now) (c .before .before .before .before .before .before .args .book-words .now)) (c .before .before .before .before .before .before .args .work .now) (c .before .before .before .before .before .before .args .level) (c .before .before .before .before .before .before .args .packed) (c .before .before .before .before .before .before .pre .1)
+struct-align-loop-holds t c =
+    let entry = c .before .before .before .before .before .before in
+    lc.align-start (entry .args .names) (entry .args .kinds .now) (entry .args .words .now)
+    (entries (entry .args .book-kinds .now) (entry .args .book-words .now)) (entry .args .work .now) (entry .args .level) (entry .args .packed)
+    (entry .pre .1)
 
 struct-align-mul-if2 : (t : ℕ) → struct-align-lts.Need-mul-if2 (struct-align-claims t) (struct-align-at t) struct-align.Post struct-align-Inv-loop struct-align-μ-loop
 struct-align-mul-if2 t c = search needs
 
 struct-align-shared-slice-read-if2 : (t : ℕ) → struct-align-lts.Need-shared-slice-read-if2 (struct-align-claims t) (struct-align-at t) struct-align.Post struct-align-Inv-loop struct-align-μ-loop
-struct-align-shared-slice-read-if2 t c = let h = fields.place-kinds (c .before .before .before .before .before .before .before .before .args .names) (c .before .before .before .before .before .before .before .before .args .kinds .now) (c .before .before .before .before .before .before .before .before .args .words .now) _ (c .before .loop .inv .0 .place) in search needs
+struct-align-shared-slice-read-if2 t c =
+    let entry = c .before .before .before .before .before .before .before .before in
+    let h = fields.place-kinds (entry .args .names) (entry .args .kinds .now) (entry .args .words .now) _ (c .before .loop .inv .0 .place) in
+    search needs
 
 struct-align-mul-ks : (t : ℕ) → struct-align-lts.Need-mul-ks (struct-align-claims t) (struct-align-at t) struct-align.Post struct-align-Inv-loop struct-align-μ-loop
 struct-align-mul-ks t c = search needs
 
 struct-align-sub-ks : (t : ℕ) → struct-align-lts.Need-sub-ks (struct-align-claims t) (struct-align-at t) struct-align.Post struct-align-Inv-loop struct-align-μ-loop
-struct-align-sub-ks t c = let h = fields.place-kinds (c .before .before .before .before .before .before .before .before .before .args .names) (c .before .before .before .before .before .before .before .before .before .args .kinds .now) (c .before .before .before .before .before .before .before .before .before .args .words .now) _ (c .before .before .loop .inv .0 .place) in search needs
+struct-align-sub-ks t c =
+    let entry = c .before .before .before .before .before .before .before .before .before in
+    let h = fields.place-kinds (entry .args .names) (entry .args .kinds .now) (entry .args .words .now) _ (c .before .before .loop .inv .0 .place) in
+    search needs
 
 struct-align-part-ks-start : (t : ℕ) → struct-align-lts.Need-part-ks-start (struct-align-claims t) (struct-align-at t) struct-align.Post struct-align-Inv-loop struct-align-μ-loop
-struct-align-part-ks-start t c = let h = fields.place-kinds (c .before .before .before .before .before .before .before .before .before .args .names) (c .before .before .before .before .before .before .before .before .before .args .kinds .now) (c .before .before .before .before .before .before .before .before .before .args .words .now) _ (c .before .before .loop .inv .0 .place) in search needs
+struct-align-part-ks-start t c =
+    let entry = c .before .before .before .before .before .before .before .before .before in
+    let h = fields.place-kinds (entry .args .names) (entry .args .kinds .now) (entry .args .words .now) _ (c .before .before .loop .inv .0 .place) in
+    search needs
 
 struct-align-part-ks-end : (t : ℕ) → struct-align-lts.Need-part-ks-end (struct-align-claims t) (struct-align-at t) struct-align.Post struct-align-Inv-loop struct-align-μ-loop
 struct-align-part-ks-end t c = search needs
@@ -362,16 +455,32 @@ struct-align-mul-ws : (t : ℕ) → struct-align-lts.Need-mul-ws (struct-align-c
 struct-align-mul-ws t c = search needs
 
 struct-align-sub-ws : (t : ℕ) → struct-align-lts.Need-sub-ws (struct-align-claims t) (struct-align-at t) struct-align.Post struct-align-Inv-loop struct-align-μ-loop
-struct-align-sub-ws t c = let h = fields.place-words (c .before .before .before .before .before .before .before .before .before .before .args .names) (c .before .before .before .before .before .before .before .before .before .before .args .kinds .now) (c .before .before .before .before .before .before .before .before .before .before .args .words .now) _ (c .before .before .before .loop .inv .0 .place) in search needs
+struct-align-sub-ws t c =
+    let at-loop = c .before .before .before in
+    let entry = at-loop .before .before .before .before .before .before .before in
+    let h = fields.place-words (entry .args .names) (entry .args .kinds .now) (entry .args .words .now) _ (at-loop .loop .inv .0 .place) in
+    search needs
 
 struct-align-part-ws-start : (t : ℕ) → struct-align-lts.Need-part-ws-start (struct-align-claims t) (struct-align-at t) struct-align.Post struct-align-Inv-loop struct-align-μ-loop
-struct-align-part-ws-start t c = let h = fields.place-words (c .before .before .before .before .before .before .before .before .before .before .args .names) (c .before .before .before .before .before .before .before .before .before .before .args .kinds .now) (c .before .before .before .before .before .before .before .before .before .before .args .words .now) _ (c .before .before .before .loop .inv .0 .place) in search needs
+struct-align-part-ws-start t c =
+    let at-loop = c .before .before .before in
+    let entry = at-loop .before .before .before .before .before .before .before in
+    let h = fields.place-words (entry .args .names) (entry .args .kinds .now) (entry .args .words .now) _ (at-loop .loop .inv .0 .place) in
+    search needs
 
 struct-align-part-ws-end : (t : ℕ) → struct-align-lts.Need-part-ws-end (struct-align-claims t) (struct-align-at t) struct-align.Post struct-align-Inv-loop struct-align-μ-loop
 struct-align-part-ws-end t c = search needs
 
 struct-align-align-of-requires : (t : ℕ) → struct-align-lts.Need-align-of-requires (struct-align-claims t) (struct-align-at t) struct-align.Post struct-align-Inv-loop struct-align-μ-loop
-struct-align-align-of-requires t c κs = (omega arith, lc.align-ask (c .before .before .before .before .before .before .before .before .before .before .before .before .args .names) (c .before .before .before .before .before .before .before .before .before .before .before .before .args .kinds .now) (c .before .before .before .before .before .before .before .before .before .before .before .before .args .words .now) (entries (c .before .before .before .before .before .before .before .before .before .before .before .before .args .book-kinds .now) (c .before .before .before .before .before .before .before .before .before .before .before .before .args .book-words .now)) (c .before .before .before .before .before .before .before .before .before .before .before .before .args .work .now) (c .before .before .before .before .before .before .before .before .before .before .before .before .args .level) (c .before .before .before .before .before .before .before .before .before .before .before .before .args .packed) (c .before .before .before .before .before .loop .inv) (c .before .before .before .if2 .taken) (c .before .before .before .before .before .before .before .before .before .before .before .before .pre .1 .levels))
+struct-align-align-of-requires t c κs =
+    let then2 = c .before .before .before in
+    let at-loop = then2 .before .before in
+    let entry = at-loop .before .before .before .before .before .before .before in (
+      omega arith,
+      lc.align-ask (entry .args .names) (entry .args .kinds .now) (entry .args .words .now)
+          (entries (entry .args .book-kinds .now) (entry .args .book-words .now)) (entry .args .work .now) (entry .args .level)
+          (entry .args .packed) (at-loop .loop .inv) (then2 .if2 .taken) (entry .pre .1 .levels),
+    )
 
 struct-align-enum-known-e : (t : ℕ) → struct-align-lts.Need-enum-known-e (struct-align-claims t) (struct-align-at t) struct-align.Post struct-align-Inv-loop struct-align-μ-loop
 struct-align-enum-known-e t c = search needs
@@ -380,7 +489,15 @@ struct-align-same-length : (t : ℕ) → struct-align-lts.Need-same-length (stru
 struct-align-same-length t c = search needs
 
 struct-align-returns-2 : (t : ℕ) → struct-align-lts.Need-returns-2 (struct-align-claims t) (struct-align-at t) struct-align.Post struct-align-Inv-loop struct-align-μ-loop
-struct-align-returns-2 t c = lc.align-refused (c .before .before .before .before .before .before .before .before .before .before .before .before .before .before .before .before .before .before .args .names) (c .before .before .before .before .before .before .before .before .before .before .before .before .before .before .before .before .before .before .args .kinds .now) (c .before .before .before .before .before .before .before .before .before .before .before .before .before .before .before .before .before .before .args .words .now) (entries (c .before .before .before .before .before .before .before .before .before .before .before .before .before .before .before .before .before .before .args .book-kinds .now) (c .before .before .before .before .before .before .before .before .before .before .before .before .before .before .before .before .before .before .args .book-words .now)) (c .before .before .before .before .before .before .before .before .before .before .before .before .before .before .before .before .before .before .args .work .now) (c .before .before .before .before .before .before .before .before .before .before .before .before .before .before .before .before .before .before .args .level) (c .before .before .before .before .before .before .before .before .before .before .before .before .before .before .before .before .before .before .args .packed) (c .before .before .before .before .before .before .before .before .before .before .before .loop .inv) (c .before .before .before .before .before .before .before .before .before .if2 .taken) (c .before .before .before .before .before .align-of .ensures) (c .before .before .before .before .before .before .before .before .before .before .before .before .if1 .left) _ (c .before .e .given .1)
+struct-align-returns-2 t c =
+    let after-align-of = c .before .before .before .before .before in
+    let then2 = after-align-of .before .before .before .before in
+    let at-loop = then2 .before .before in
+    let else1 = at-loop .before in
+    let entry = else1 .before .before .before .before .before .before in
+    lc.align-refused (entry .args .names) (entry .args .kinds .now) (entry .args .words .now)
+    (entries (entry .args .book-kinds .now) (entry .args .book-words .now)) (entry .args .work .now) (entry .args .level) (entry .args .packed)
+    (at-loop .loop .inv) (then2 .if2 .taken) (after-align-of .align-of .ensures) (else1 .if1 .left) _ (c .before .e .given .1)
 
 struct-align-enum-known-a : (t : ℕ) → struct-align-lts.Need-enum-known-a (struct-align-claims t) (struct-align-at t) struct-align.Post struct-align-Inv-loop struct-align-μ-loop
 struct-align-enum-known-a t c = search needs
@@ -395,19 +512,47 @@ struct-align-skip-requires : (t : ℕ) → struct-align-lts.Need-skip-requires (
 struct-align-skip-requires t c κs = search needs
 
 struct-align-add-at : (t : ℕ) → struct-align-lts.Need-add-at (struct-align-claims t) (struct-align-at t) struct-align.Post struct-align-Inv-loop struct-align-μ-loop
-struct-align-add-at t c = let h = fields.place-next (c .before .before .before .before .before .before .before .before .before .before .before .before .before .before .before .before .before .before .before .before .before .args .names) (c .before .before .before .before .before .before .before .before .before .before .before .before .before .before .before .before .before .before .before .before .before .args .kinds .now) (c .before .before .before .before .before .before .before .before .before .before .before .before .before .before .before .before .before .before .before .before .before .args .words .now) _ (c .before .before .before .before .before .before .before .before .before .before .before .before .before .before .loop .inv .0 .place) (c .before .before .before .before .before .before .before .before .before .before .before .before .if2 .taken) _ (c .skip .ensures) in search needs
+struct-align-add-at t c =
+    let then2 = c .before .before .before .before .before .before .before .before .before .before .before .before in
+    let at-loop = then2 .before .before in
+    let entry = at-loop .before .before .before .before .before .before .before in
+    let h = fields.place-next (entry .args .names) (entry .args .kinds .now) (entry .args .words .now) _ (at-loop .loop .inv .0 .place)
+    (then2 .if2 .taken) _ (c .skip .ensures) in
+    search needs
 
 struct-align-loop-less : (t : ℕ) → struct-align-lts.Need-loop-less (struct-align-claims t) (struct-align-at t) struct-align.Post struct-align-Inv-loop struct-align-μ-loop
-struct-align-loop-less t c = let h = fields.place-next (c .before .before .before .before .before .before .before .before .before .before .before .before .before .before .before .before .before .before .before .before .before .args .names) (c .before .before .before .before .before .before .before .before .before .before .before .before .before .before .before .before .before .before .before .before .before .args .kinds .now) (c .before .before .before .before .before .before .before .before .before .before .before .before .before .before .before .before .before .before .before .before .before .args .words .now) _ (c .before .before .before .before .before .before .before .before .before .before .before .before .before .before .loop .inv .0 .place) (c .before .before .before .before .before .before .before .before .before .before .before .before .if2 .taken) _ (c .skip .ensures) in let g = fields.place-moves (c .before .before .before .before .before .before .before .before .before .before .before .before .before .before .before .before .before .before .before .before .before .args .names) (c .before .before .before .before .before .before .before .before .before .before .before .before .before .before .before .before .before .before .before .before .before .args .kinds .now) (c .before .before .before .before .before .before .before .before .before .before .before .before .before .before .before .before .before .before .before .before .before .args .words .now) _ (c .before .before .before .before .before .before .before .before .before .before .before .before .before .before .loop .inv .0 .place) (c .before .before .before .before .before .before .before .before .before .before .before .before .if2 .taken) _ (c .skip .ensures) in omega arith
+struct-align-loop-less t c =
+    let then2 = c .before .before .before .before .before .before .before .before .before .before .before .before in
+    let at-loop = then2 .before .before in
+    let entry = at-loop .before .before .before .before .before .before .before in
+    let h = fields.place-next (entry .args .names) (entry .args .kinds .now) (entry .args .words .now) _ (at-loop .loop .inv .0 .place)
+    (then2 .if2 .taken) _ (c .skip .ensures) in
+    let g = fields.place-moves (entry .args .names) (entry .args .kinds .now) (entry .args .words .now) _ (at-loop .loop .inv .0 .place)
+    (then2 .if2 .taken) _ (c .skip .ensures) in
+    omega arith
 
 struct-align-loop-again : (t : ℕ) → struct-align-lts.Need-loop-again (struct-align-claims t) (struct-align-at t) struct-align.Post struct-align-Inv-loop struct-align-μ-loop
-struct-align-loop-again t c = lc.align-next (c .before .before .before .before .before .before .before .before .before .before .before .before .before .before .before .before .before .before .before .before .before .args .names) (c .before .before .before .before .before .before .before .before .before .before .before .before .before .before .before .before .before .before .before .before .before .args .kinds .now) (c .before .before .before .before .before .before .before .before .before .before .before .before .before .before .before .before .before .before .before .before .before .args .words .now) (entries (c .before .before .before .before .before .before .before .before .before .before .before .before .before .before .before .before .before .before .before .before .before .args .book-kinds .now) (c .before .before .before .before .before .before .before .before .before .before .before .before .before .before .before .before .before .before .before .before .before .args .book-words .now)) (c .before .before .before .before .before .before .before .before .before .before .before .before .before .before .before .before .before .before .before .before .before .args .work .now) (c .before .before .before .before .before .before .before .before .before .before .before .before .before .before .before .before .before .before .before .before .before .args .level) (c .before .before .before .before .before .before .before .before .before .before .before .before .before .before .before .before .before .before .before .before .before .args .packed) (c .before .before .before .before .before .before .before .before .before .before .before .before .before .before .loop .inv) (c .before .before .before .before .before .before .before .before .before .before .before .before .if2 .taken) (c .before .before .before .before .before .before .before .before .align-of .ensures) _ _ (c .before .before .before .before .a .given .1) _ (c .skip .ensures) _ _ (c .before .before .larger .ensures) (c .before .deeper .ensures)
+struct-align-loop-again t c =
+    let after-a = c .before .before .before .before in
+    let after-align-of = after-a .before .before .before .before in
+    let then2 = after-align-of .before .before .before .before in
+    let at-loop = then2 .before .before in
+    let entry = at-loop .before .before .before .before .before .before .before in
+    lc.align-next (entry .args .names) (entry .args .kinds .now) (entry .args .words .now)
+    (entries (entry .args .book-kinds .now) (entry .args .book-words .now)) (entry .args .work .now) (entry .args .level) (entry .args .packed)
+    (at-loop .loop .inv) (then2 .if2 .taken) (after-align-of .align-of .ensures) _ _ (after-a .a .given .1) _ (c .skip .ensures) _ _
+    (c .before .before .larger .ensures) (c .before .deeper .ensures)
 
 struct-align-same-length-2 : (t : ℕ) → struct-align-lts.Need-same-length-2 (struct-align-claims t) (struct-align-at t) struct-align.Post struct-align-Inv-loop struct-align-μ-loop
 struct-align-same-length-2 t c = search needs
 
 struct-align-returns-3 : (t : ℕ) → struct-align-lts.Need-returns-3 (struct-align-claims t) (struct-align-at t) struct-align.Post struct-align-Inv-loop struct-align-μ-loop
-struct-align-returns-3 t c = lc.align-done (c .before .before .before .before .before .before .before .before .before .args .names) (c .before .before .before .before .before .before .before .before .before .args .kinds .now) (c .before .before .before .before .before .before .before .before .before .args .words .now) (entries (c .before .before .before .before .before .before .before .before .before .args .book-kinds .now) (c .before .before .before .before .before .before .before .before .before .args .book-words .now)) (c .before .before .before .before .before .before .before .before .before .args .work .now) (c .before .before .before .before .before .before .before .before .before .args .level) (c .before .before .before .before .before .before .before .before .before .args .packed) (c .before .before .loop .inv) (c .before .before .before .if1 .left) (c .if2 .left)
+struct-align-returns-3 t c =
+    let else1 = c .before .before .before in
+    let entry = else1 .before .before .before .before .before .before in
+    lc.align-done (entry .args .names) (entry .args .kinds .now) (entry .args .words .now)
+    (entries (entry .args .book-kinds .now) (entry .args .book-words .now)) (entry .args .work .now) (entry .args .level) (entry .args .packed)
+    (c .before .before .loop .inv) (else1 .if1 .left) (c .if2 .left)
 
 pub +align-of+named-align+struct-align-spec : {M : Type 1} → statement M
 +align-of+named-align+struct-align-spec =

@@ -24,10 +24,17 @@ mul-if1 : tie.Need-mul-if1 Inv-loop μ-loop
 mul-if1 c = search needs
 
 shared-slice-read-if1 : tie.Need-shared-slice-read-if1 Inv-loop μ-loop
-shared-slice-read-if1 c = let h = fields.place-kinds (c .before .before .before .before .args .names) (c .before .before .before .before .args .kinds .now) (c .before .before .before .before .args .words .now) _ (c .before .loop .inv .place) in search needs
+shared-slice-read-if1 c =
+    let entry = c .before .before .before .before in
+    let h = fields.place-kinds (entry .args .names) (entry .args .kinds .now) (entry .args .words .now) _ (c .before .loop .inv .place) in
+    search needs
 
 returns : tie.Need-returns Inv-loop μ-loop
-returns c = laws.find-here (c .before .before .before .before .before .before .args .names) (c .before .before .before .before .before .before .args .kinds .now) (c .before .before .before .before .before .before .args .words .now) (c .before .before .before .before .before .before .args .index) (c .before .before .before .loop .inv) (c .before .if1 .taken) (c .if2 .taken)
+returns c =
+    let at-loop = c .before .before .before in
+    let entry = at-loop .before .before .before in
+    laws.find-here (entry .args .names) (entry .args .kinds .now) (entry .args .words .now) (entry .args .index) (at-loop .loop .inv)
+    (c .before .if1 .taken) (c .if2 .taken)
 
 sub-left : tie.Need-sub-left Inv-loop μ-loop
 sub-left c = search needs
@@ -36,10 +43,18 @@ mul-skip : tie.Need-mul-skip Inv-loop μ-loop
 mul-skip c = search needs
 
 sub-skip : tie.Need-sub-skip Inv-loop μ-loop
-sub-skip c = let h = fields.place-kinds (c .before .before .before .before .before .before .args .names) (c .before .before .before .before .before .before .args .kinds .now) (c .before .before .before .before .before .before .args .words .now) _ (c .before .before .before .loop .inv .place) in search needs
+sub-skip c =
+    let at-loop = c .before .before .before in
+    let entry = at-loop .before .before .before in
+    let h = fields.place-kinds (entry .args .names) (entry .args .kinds .now) (entry .args .words .now) _ (at-loop .loop .inv .place) in
+    search needs
 
 part-skip-start : tie.Need-part-skip-start Inv-loop μ-loop
-part-skip-start c = let h = fields.place-kinds (c .before .before .before .before .before .before .args .names) (c .before .before .before .before .before .before .args .kinds .now) (c .before .before .before .before .before .before .args .words .now) _ (c .before .before .before .loop .inv .place) in search needs
+part-skip-start c =
+    let at-loop = c .before .before .before in
+    let entry = at-loop .before .before .before in
+    let h = fields.place-kinds (entry .args .names) (entry .args .kinds .now) (entry .args .words .now) _ (at-loop .loop .inv .place) in
+    search needs
 
 part-skip-end : tie.Need-part-skip-end Inv-loop μ-loop
 part-skip-end c = search needs
@@ -48,10 +63,18 @@ mul-skip-2 : tie.Need-mul-skip-2 Inv-loop μ-loop
 mul-skip-2 c = search needs
 
 sub-skip-2 : tie.Need-sub-skip-2 Inv-loop μ-loop
-sub-skip-2 c = let h = fields.place-words (c .before .before .before .before .before .before .before .args .names) (c .before .before .before .before .before .before .before .args .kinds .now) (c .before .before .before .before .before .before .before .args .words .now) _ (c .before .before .before .before .loop .inv .place) in search needs
+sub-skip-2 c =
+    let at-loop = c .before .before .before .before in
+    let entry = at-loop .before .before .before in
+    let h = fields.place-words (entry .args .names) (entry .args .kinds .now) (entry .args .words .now) _ (at-loop .loop .inv .place) in
+    search needs
 
 part-skip-start-2 : tie.Need-part-skip-start-2 Inv-loop μ-loop
-part-skip-start-2 c = let h = fields.place-words (c .before .before .before .before .before .before .before .args .names) (c .before .before .before .before .before .before .before .args .kinds .now) (c .before .before .before .before .before .before .before .args .words .now) _ (c .before .before .before .before .loop .inv .place) in search needs
+part-skip-start-2 c =
+    let at-loop = c .before .before .before .before in
+    let entry = at-loop .before .before .before in
+    let h = fields.place-words (entry .args .names) (entry .args .kinds .now) (entry .args .words .now) _ (at-loop .loop .inv .place) in
+    search needs
 
 part-skip-end-2 : tie.Need-part-skip-end-2 Inv-loop μ-loop
 part-skip-end-2 c = search needs
@@ -60,16 +83,41 @@ skip-requires : tie.Need-skip-requires Inv-loop μ-loop
 skip-requires c κs = search needs
 
 add-at : tie.Need-add-at Inv-loop μ-loop
-add-at c = omega (arith, fields.next-few (c .before .before .before .before .before .before .before .before .before .args .names) (c .before .before .before .before .before .before .before .before .before .args .kinds .now) (c .before .before .before .before .before .before .before .before .before .args .words .now) _ (c .before .before .before .before .before .before .loop .inv .place) (c .before .before .before .before .if1 .taken) _ (c .skip .ensures))
+add-at c =
+    let then1 = c .before .before .before .before in
+    let at-loop = then1 .before .before in
+    let entry = at-loop .before .before .before in
+    omega (
+      arith,
+      fields.next-few (entry .args .names) (entry .args .kinds .now) (entry .args .words .now) _ (at-loop .loop .inv .place)
+          (then1 .if1 .taken) _ (c .skip .ensures),
+    )
 
 loop-less : tie.Need-loop-less Inv-loop μ-loop
-loop-less c = let h = fields.place-next (c .before .before .before .before .before .before .before .before .before .args .names) (c .before .before .before .before .before .before .before .before .before .args .kinds .now) (c .before .before .before .before .before .before .before .before .before .args .words .now) _ (c .before .before .before .before .before .before .loop .inv .place) (c .before .before .before .before .if1 .taken) _ (c .skip .ensures) in let g = fields.place-moves (c .before .before .before .before .before .before .before .before .before .args .names) (c .before .before .before .before .before .before .before .before .before .args .kinds .now) (c .before .before .before .before .before .before .before .before .before .args .words .now) _ (c .before .before .before .before .before .before .loop .inv .place) (c .before .before .before .before .if1 .taken) _ (c .skip .ensures) in omega arith
+loop-less c =
+    let then1 = c .before .before .before .before in
+    let at-loop = then1 .before .before in
+    let entry = at-loop .before .before .before in
+    let h = fields.place-next (entry .args .names) (entry .args .kinds .now) (entry .args .words .now) _ (at-loop .loop .inv .place)
+    (then1 .if1 .taken) _ (c .skip .ensures) in
+    let g = fields.place-moves (entry .args .names) (entry .args .kinds .now) (entry .args .words .now) _ (at-loop .loop .inv .place)
+    (then1 .if1 .taken) _ (c .skip .ensures) in
+    omega arith
 
 loop-again : tie.Need-loop-again Inv-loop μ-loop
-loop-again c = laws.find-next (c .before .before .before .before .before .before .before .before .before .args .names) (c .before .before .before .before .before .before .before .before .before .args .kinds .now) (c .before .before .before .before .before .before .before .before .before .args .words .now) (c .before .before .before .before .before .before .before .before .before .args .index) (c .before .before .before .before .before .before .loop .inv) (c .before .before .before .before .if1 .taken) (c .before .before .before .if2 .left) _ (c .skip .ensures)
+loop-again c =
+    let else2 = c .before .before .before in
+    let then1 = else2 .before in
+    let at-loop = then1 .before .before in
+    let entry = at-loop .before .before .before in
+    laws.find-next (entry .args .names) (entry .args .kinds .now) (entry .args .words .now) (entry .args .index) (at-loop .loop .inv)
+    (then1 .if1 .taken) (else2 .if2 .left) _ (c .skip .ensures)
 
 returns-2 : tie.Need-returns-2 Inv-loop μ-loop
-returns-2 c = laws.find-none (c .before .before .before .before .before .args .names) (c .before .before .before .before .before .args .kinds .now) (c .before .before .before .before .before .args .words .now) (c .before .before .before .before .before .args .index) (c .before .before .loop .inv) (c .if1 .left)
+returns-2 c =
+    let entry = c .before .before .before .before .before in
+    laws.find-none (entry .args .names) (entry .args .kinds .now) (entry .args .words .now) (entry .args .index) (c .before .before .loop .inv)
+    (c .if1 .left)
 
 pub field-at-spec : {M : Type 1} → statement M
 field-at-spec =

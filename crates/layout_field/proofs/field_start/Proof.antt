@@ -12,7 +12,11 @@ use Rattle.layout_align.proofs.align_of.Reads as align-of-reads
 use Rattle.layout_size.proofs.placed.Reads as placed-reads
 
 returns : tie.Need-returns
-returns c = laws.start-packed (c .before .before .before .before .before .before .args .names) (entries (c .before .before .before .before .before .before .args .kinds .now) (c .before .before .before .before .before .before .args .words .now)) (entries (c .before .before .before .before .before .before .args .book-kinds .now) (c .before .before .before .before .before .before .args .book-words .now)) (c .before .before .before .before .before .before .args .work .now) (c .before .before .before .before .before .before .args .packed) (c .before .before .before .before .before .before .args .offset) (c .before .before .before .before .before .before .pre) (c .if1 .taken)
+returns c =
+    let entry = c .before .before .before .before .before .before in
+    laws.start-packed (entry .args .names) (entries (entry .args .kinds .now) (entry .args .words .now))
+    (entries (entry .args .book-kinds .now) (entry .args .book-words .now)) (entry .args .work .now) (entry .args .packed) (entry .args .offset)
+    (entry .pre) (c .if1 .taken)
 
 align-of-requires : tie.Need-align-of-requires
 align-of-requires c κs = search needs
@@ -24,19 +28,37 @@ enum-known-a : tie.Need-enum-known-a
 enum-known-a c = search needs
 
 placed-requires : tie.Need-placed-requires
-placed-requires c κs = laws.start-small (c .before .before .before .before .before .before .before .before .before .before .before .before .before .args .names) (entries (c .before .before .before .before .before .before .before .before .before .before .before .before .before .args .kinds .now) (c .before .before .before .before .before .before .before .before .before .before .before .before .before .args .words .now)) (entries (c .before .before .before .before .before .before .before .before .before .before .before .before .before .args .book-kinds .now) (c .before .before .before .before .before .before .before .before .before .before .before .before .before .args .book-words .now)) (c .before .before .before .before .before .before .before .before .before .before .before .before .before .args .work .now) (c .before .before .before .before .before .before .before .before .before .before .before .before .before .args .packed) (c .before .before .before .before .before .before .before .before .before .before .before .before .before .args .offset) (c .before .before .before .before .before .before .before .before .before .before .before .before .before .pre) (c .before .before .before .before .before .before .before .if1 .left) _ (c .before .before .before .before .before .align-of .ensures) _ _ (c .before .a .given .1)
+placed-requires c κs =
+    let after-align-of = c .before .before .before .before .before in
+    let else1 = after-align-of .before .before in
+    let entry = else1 .before .before .before .before .before .before in
+    laws.start-small (entry .args .names) (entries (entry .args .kinds .now) (entry .args .words .now))
+    (entries (entry .args .book-kinds .now) (entry .args .book-words .now)) (entry .args .work .now) (entry .args .packed) (entry .args .offset)
+    (entry .pre) (else1 .if1 .left) _ (after-align-of .align-of .ensures) _ _ (c .before .a .given .1)
 
 same-length : tie.Need-same-length
 same-length c = search needs
 
 returns-2 : tie.Need-returns-2
-returns-2 c = laws.start-refused (c .before .before .before .before .before .before .before .before .before .before .before .before .before .args .names) (entries (c .before .before .before .before .before .before .before .before .before .before .before .before .before .args .kinds .now) (c .before .before .before .before .before .before .before .before .before .before .before .before .before .args .words .now)) (entries (c .before .before .before .before .before .before .before .before .before .before .before .before .before .args .book-kinds .now) (c .before .before .before .before .before .before .before .before .before .before .before .before .before .args .book-words .now)) (c .before .before .before .before .before .before .before .before .before .before .before .before .before .args .work .now) (c .before .before .before .before .before .before .before .before .before .before .before .before .before .args .packed) (c .before .before .before .before .before .before .before .before .before .before .before .before .before .args .offset) (c .before .before .before .before .before .before .before .before .before .before .before .before .before .pre) (c .before .before .before .before .before .before .before .if1 .left) _ (c .before .before .before .before .before .align-of .ensures) _ (c .before .e .given .1)
+returns-2 c =
+    let after-align-of = c .before .before .before .before .before in
+    let else1 = after-align-of .before .before in
+    let entry = else1 .before .before .before .before .before .before in
+    laws.start-refused (entry .args .names) (entries (entry .args .kinds .now) (entry .args .words .now))
+    (entries (entry .args .book-kinds .now) (entry .args .book-words .now)) (entry .args .work .now) (entry .args .packed) (entry .args .offset)
+    (entry .pre) (else1 .if1 .left) _ (after-align-of .align-of .ensures) _ (c .before .e .given .1)
 
 same-length-2 : tie.Need-same-length-2
 same-length-2 c = search needs
 
 returns-3 : tie.Need-returns-3
-returns-3 c = laws.start-at (c .before .before .before .before .before .before .before .before .before .before .before .before .before .before .args .names) (entries (c .before .before .before .before .before .before .before .before .before .before .before .before .before .before .args .kinds .now) (c .before .before .before .before .before .before .before .before .before .before .before .before .before .before .args .words .now)) (entries (c .before .before .before .before .before .before .before .before .before .before .before .before .before .before .args .book-kinds .now) (c .before .before .before .before .before .before .before .before .before .before .before .before .before .before .args .book-words .now)) (c .before .before .before .before .before .before .before .before .before .before .before .before .before .before .args .work .now) (c .before .before .before .before .before .before .before .before .before .before .before .before .before .before .args .packed) (c .before .before .before .before .before .before .before .before .before .before .before .before .before .before .args .offset) (c .before .before .before .before .before .before .before .before .before .before .before .before .before .before .pre) (c .before .before .before .before .before .before .before .before .if1 .left) _ (c .before .before .before .before .before .before .align-of .ensures) _ _ (c .before .before .a .given .1) _ (c .placed .ensures)
+returns-3 c =
+    let after-align-of = c .before .before .before .before .before .before in
+    let else1 = after-align-of .before .before in
+    let entry = else1 .before .before .before .before .before .before in
+    laws.start-at (entry .args .names) (entries (entry .args .kinds .now) (entry .args .words .now))
+    (entries (entry .args .book-kinds .now) (entry .args .book-words .now)) (entry .args .work .now) (entry .args .packed) (entry .args .offset)
+    (entry .pre) (else1 .if1 .left) _ (after-align-of .align-of .ensures) _ _ (c .before .before .a .given .1) _ (c .placed .ensures)
 
 pub field-start-spec : {M : Type 1} → statement M
 field-start-spec =

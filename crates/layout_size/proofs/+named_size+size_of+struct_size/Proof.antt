@@ -166,10 +166,15 @@ named-size-sub-size-of-3 : (t : ℕ) → named-size-lts.Need-sub-size-of-3 (name
 named-size-sub-size-of-3 t c = search needs
 
 named-size-size-of-requires : (t : ℕ) → named-size-lts.Need-size-of-requires (named-size-claims t) (named-size-at t) named-size.Post
-named-size-size-of-requires t c κs = (omega arith, calls.body-ask _ _ _ _ _ _ (c .before .before .before .before .before .before .before .before .before .before .pre .1) (c .before .before .before .if2 .left))
+named-size-size-of-requires t c κs =
+    let else2 = c .before .before .before in
+    let entry = else2 .before .before .before .before .before .before .before in
+    (omega arith, calls.body-ask _ _ _ _ _ _ (entry .pre .1) (else2 .if2 .left))
 
 named-size-one-more-requires : (t : ℕ) → named-size-lts.Need-one-more-requires (named-size-claims t) (named-size-at t) named-size.Post
-named-size-one-more-requires t c κs = calls.outcome-few (omega (arith, c .before .before .before .before .before .before .before .before .before .before .before .before .before .pre .1 .levels)) (c .before .before .size-of .ensures)
+named-size-one-more-requires t c κs =
+    let entry = c .before .before .before .before .before .before .before .before .before .before .before .before .before in
+    calls.outcome-few (omega (arith, entry .pre .1 .levels)) (c .before .before .size-of .ensures)
 
 named-size-add-with-size : (t : ℕ) → named-size-lts.Need-add-with-size (named-size-claims t) (named-size-at t) named-size.Post
 named-size-add-with-size t c = search needs
@@ -181,7 +186,11 @@ named-size-slice-read-with-size : (t : ℕ) → named-size-lts.Need-slice-read-w
 named-size-slice-read-with-size t c = search needs
 
 named-size-with-size-requires : (t : ℕ) → named-size-lts.Need-with-size-requires (named-size-claims t) (named-size-at t) named-size.Post
-named-size-with-size-requires t c κs = calls.size-body-small _ _ _ _ _ _ (c .before .before .before .before .before .before .before .before .before .before .before .before .before .before .before .pre .1) (c .before .before .before .before .before .before .before .before .if2 .left) _ (c .before .one-more .ensures) (c .before .before .before .before .size-of .ensures)
+named-size-with-size-requires t c κs =
+    let after-size-of = c .before .before .before .before in
+    let else2 = after-size-of .before .before .before .before in
+    let entry = else2 .before .before .before .before .before .before .before in
+    calls.size-body-small _ _ _ _ _ _ (entry .pre .1) (else2 .if2 .left) _ (c .before .one-more .ensures) (after-size-of .size-of .ensures)
 
 named-size-add-work : (t : ℕ) → named-size-lts.Need-add-work (named-size-claims t) (named-size-at t) named-size.Post
 named-size-add-work t c = search needs
@@ -196,7 +205,12 @@ named-size-same-length : (t : ℕ) → named-size-lts.Need-same-length (named-si
 named-size-same-length t c = search needs
 
 named-size-returns-3 : (t : ℕ) → named-size-lts.Need-returns-3 (named-size-claims t) (named-size-at t) named-size.Post
-named-size-returns-3 t c = calls.size-stored _ _ _ _ _ _ (c .before .before .before .before .before .before .before .before .before .before .before .before .before .before .before .before .pre .1) (c .before .before .before .before .before .before .before .before .before .if2 .left) _ (c .before .before .one-more .ensures) (c .before .before .before .before .before .size-of .ensures) _ (c .with-size .ensures)
+named-size-returns-3 t c =
+    let after-size-of = c .before .before .before .before .before in
+    let else2 = after-size-of .before .before .before .before in
+    let entry = else2 .before .before .before .before .before .before .before in
+    calls.size-stored _ _ _ _ _ _ (entry .pre .1) (else2 .if2 .left) _ (c .before .before .one-more .ensures) (after-size-of .size-of .ensures) _
+    (c .with-size .ensures)
 
 size-of-returns : (t : ℕ) → size-of-lts.Need-returns (size-of-claims t) (size-of-at t) size-of.Post
 size-of-returns t c = calls.size-none _ _ _ _ _ _ (c .before .before .before .before .before .before .pre .1) (c .if1 .taken)
@@ -217,7 +231,9 @@ size-of-enum-told-2 : (t : ℕ) → size-of-lts.Need-enum-told-2 (size-of-claims
 size-of-enum-told-2 t c = search needs
 
 size-of-add-t16 : (t : ℕ) → size-of-lts.Need-add-t16 (size-of-claims t) (size-of-at t) size-of.Post
-size-of-add-t16 t c = omega (arith, calls.int-width _ _ _ _ _ _ (c .before .before .before .before .before .before .before .before .before .before .before .pre .1) _ (c .before .before .type-group .ensures) (c .enum-told2 .given .1))
+size-of-add-t16 t c =
+    let entry = c .before .before .before .before .before .before .before .before .before .before .before in
+    omega (arith, calls.int-width _ _ _ _ _ _ (entry .pre .1) _ (c .before .before .type-group .ensures) (c .enum-told2 .given .1))
 
 size-of-enum-told-3 : (t : ℕ) → size-of-lts.Need-enum-told-3 (size-of-claims t) (size-of-at t) size-of.Post
 size-of-enum-told-3 t c = search needs
@@ -247,19 +263,36 @@ size-of-sub-size-of-3 : (t : ℕ) → size-of-lts.Need-sub-size-of-3 (size-of-cl
 size-of-sub-size-of-3 t c = search needs
 
 size-of-size-of-requires : (t : ℕ) → size-of-lts.Need-size-of-requires (size-of-claims t) (size-of-at t) size-of.Post
-size-of-size-of-requires t c κs = (omega arith, calls.array-ask _ _ _ _ _ _ (c .before .before .before .before .before .before .before .before .before .before .before .before .before .before .pre .1) _ (c .before .before .before .before .before .type-group .ensures) _ (c .before .before .before .enum-told4 .given .1))
+size-of-size-of-requires t c κs =
+    let after-enum-told4 = c .before .before .before in
+    let after-type-group = after-enum-told4 .before .before in
+    let entry = after-type-group .before .before .before .before .before .before .before .before .before in
+    (omega arith, calls.array-ask _ _ _ _ _ _ (entry .pre .1) _ (after-type-group .type-group .ensures) _ (after-enum-told4 .enum-told4 .given .1))
 
 size-of-array-bytes-requires : (t : ℕ) → size-of-lts.Need-array-bytes-requires (size-of-claims t) (size-of-at t) size-of.Post
-size-of-array-bytes-requires t c κs = calls.size-outcome-small (omega (arith, c .before .before .before .before .before .before .before .before .before .before .before .before .before .before .before .before .before .pre .1 .levels)) _ (c .before .before .size-of .ensures)
+size-of-array-bytes-requires t c κs =
+    let entry = c .before .before .before .before .before .before .before .before .before .before .before .before .before .before .before .before .before in
+    calls.size-outcome-small (omega (arith, entry .pre .1 .levels)) _ (c .before .before .size-of .ensures)
 
 size-of-one-more-requires : (t : ℕ) → size-of-lts.Need-one-more-requires (size-of-claims t) (size-of-at t) size-of.Post
-size-of-one-more-requires t c κs = calls.times-few (getD (c .before .before .before .before .before .before .before .before .before .before .before .before .before .before .before .before .before .before .args .words .now) 0 0) (c .before .before .before .size-of .result) _ (c .array-bytes .ensures) (calls.outcome-few (omega (arith, c .before .before .before .before .before .before .before .before .before .before .before .before .before .before .before .before .before .before .pre .1 .levels)) (c .before .before .before .size-of .ensures))
+size-of-one-more-requires t c κs =
+    let after-size-of = c .before .before .before in
+    let entry = after-size-of .before .before .before .before .before .before .before .before .before .before .before .before .before .before .before in
+    calls.times-few (getD (entry .args .words .now) 0 0) (after-size-of .size-of .result) _ (c .array-bytes .ensures)
+    (calls.outcome-few (omega (arith, entry .pre .1 .levels)) (after-size-of .size-of .ensures))
 
 size-of-enum-told-5 : (t : ℕ) → size-of-lts.Need-enum-told-5 (size-of-claims t) (size-of-at t) size-of.Post
 size-of-enum-told-5 t c = search needs
 
 size-of-named-size-requires : (t : ℕ) → size-of-lts.Need-named-size-requires (size-of-claims t) (size-of-at t) size-of.Post
-size-of-named-size-requires t c κs = (omega arith, calls.named-ask _ _ _ _ _ _ (c .before .before .before .before .before .before .before .before .before .before .before .before .pre .1) _ (c .before .before .before .type-group .ensures) (c .before .before .before .before .before .before .if1 .left) (c .before .enum-told5 .given .1))
+size-of-named-size-requires t c κs =
+    let after-type-group = c .before .before .before in
+    let else1 = after-type-group .before .before .before in
+    let entry = else1 .before .before .before .before .before .before in (
+      omega arith,
+      calls.named-ask _ _ _ _ _ _ (entry .pre .1) _ (after-type-group .type-group .ensures) (else1 .if1 .left)
+          (c .before .enum-told5 .given .1),
+    )
 
 size-of-enum-known-packed : (t : ℕ) → size-of-lts.Need-enum-known-packed (size-of-claims t) (size-of-at t) size-of.Post
 size-of-enum-known-packed t c = search needs
@@ -274,10 +307,16 @@ size-of-part-struct-size-end : (t : ℕ) → size-of-lts.Need-part-struct-size-e
 size-of-part-struct-size-end t c = search needs
 
 size-of-sub-struct-size-2 : (t : ℕ) → size-of-lts.Need-sub-struct-size-2 (size-of-claims t) (size-of-at t) size-of.Post
-size-of-sub-struct-size-2 t c = let h = calls.words-there _ _ _ _ _ _ (c .before .before .before .before .before .before .before .before .before .before .before .before .before .pre .1) in search needs
+size-of-sub-struct-size-2 t c =
+    let entry = c .before .before .before .before .before .before .before .before .before .before .before .before .before in
+    let h = calls.words-there _ _ _ _ _ _ (entry .pre .1) in
+    search needs
 
 size-of-part-struct-size-start-2 : (t : ℕ) → size-of-lts.Need-part-struct-size-start-2 (size-of-claims t) (size-of-at t) size-of.Post
-size-of-part-struct-size-start-2 t c = let h = calls.words-there _ _ _ _ _ _ (c .before .before .before .before .before .before .before .before .before .before .before .before .before .pre .1) in search needs
+size-of-part-struct-size-start-2 t c =
+    let entry = c .before .before .before .before .before .before .before .before .before .before .before .before .before in
+    let h = calls.words-there _ _ _ _ _ _ (entry .pre .1) in
+    search needs
 
 size-of-part-struct-size-end-2 : (t : ℕ) → size-of-lts.Need-part-struct-size-end-2 (size-of-claims t) (size-of-at t) size-of.Post
 size-of-part-struct-size-end-2 t c = search needs
@@ -286,10 +325,16 @@ size-of-sub-struct-size-3 : (t : ℕ) → size-of-lts.Need-sub-struct-size-3 (si
 size-of-sub-struct-size-3 t c = search needs
 
 size-of-struct-size-requires : (t : ℕ) → size-of-lts.Need-struct-size-requires (size-of-claims t) (size-of-at t) size-of.Post
-size-of-struct-size-requires t c κs = (omega arith, calls.struct-ask _ _ _ _ _ _ (c .before .before .before .before .before .before .before .before .before .before .before .before .before .before .before .pre .1) _ (c .before .before .before .before .before .before .type-group .ensures) _ (c .before .before .before .before .packed .given .1))
+size-of-struct-size-requires t c κs =
+    let after-packed = c .before .before .before .before in
+    let after-type-group = after-packed .before .before in
+    let entry = after-type-group .before .before .before .before .before .before .before .before .before in
+    (omega arith, calls.struct-ask _ _ _ _ _ _ (entry .pre .1) _ (after-type-group .type-group .ensures) _ (after-packed .packed .given .1))
 
 size-of-one-more-requires-2 : (t : ℕ) → size-of-lts.Need-one-more-requires-2 (size-of-claims t) (size-of-at t) size-of.Post
-size-of-one-more-requires-2 t c κs = calls.outcome-few (omega (arith, c .before .before .before .before .before .before .before .before .before .before .before .before .before .before .before .before .before .before .pre .1 .levels)) (c .before .before .struct-size .ensures)
+size-of-one-more-requires-2 t c κs =
+    let entry = c .before .before .before .before .before .before .before .before .before .before .before .before .before .before .before .before .before .before in
+    calls.outcome-few (omega (arith, entry .pre .1 .levels)) (c .before .before .struct-size .ensures)
 
 size-of-enum-told-6 : (t : ℕ) → size-of-lts.Need-enum-told-6 (size-of-claims t) (size-of-at t) size-of.Post
 size-of-enum-told-6 t c = search needs
@@ -298,37 +343,72 @@ size-of-enum-told-7 : (t : ℕ) → size-of-lts.Need-enum-told-7 (size-of-claims
 size-of-enum-told-7 t c = search needs
 
 size-of-returns-2 : (t : ℕ) → size-of-lts.Need-returns-2 (size-of-claims t) (size-of-at t) size-of.Post
-size-of-returns-2 t c = calls.size-void _ _ _ _ _ _ (c .before .before .before .before .before .before .before .before .before .before .before .pre .1) _ (c .before .before .type-group .ensures) (c .before .before .before .before .before .if1 .left) (c .enum-told .given .1)
+size-of-returns-2 t c =
+    let else1 = c .before .before .before .before .before in
+    let entry = else1 .before .before .before .before .before .before in
+    calls.size-void _ _ _ _ _ _ (entry .pre .1) _ (c .before .before .type-group .ensures) (else1 .if1 .left) (c .enum-told .given .1)
 
 size-of-returns-3 : (t : ℕ) → size-of-lts.Need-returns-3 (size-of-claims t) (size-of-at t) size-of.Post
-size-of-returns-3 t c = calls.size-int _ _ _ _ _ _ (c .before .before .before .before .before .before .before .before .before .before .before .pre .1) _ (c .before .before .type-group .ensures) (c .before .before .before .before .before .if1 .left) (c .enum-told2 .given .1)
+size-of-returns-3 t c =
+    let else1 = c .before .before .before .before .before in
+    let entry = else1 .before .before .before .before .before .before in
+    calls.size-int _ _ _ _ _ _ (entry .pre .1) _ (c .before .before .type-group .ensures) (else1 .if1 .left) (c .enum-told2 .given .1)
 
 size-of-returns-4 : (t : ℕ) → size-of-lts.Need-returns-4 (size-of-claims t) (size-of-at t) size-of.Post
-size-of-returns-4 t c = calls.size-ptr _ _ _ _ _ _ (c .before .before .before .before .before .before .before .before .before .before .before .pre .1) _ (c .before .before .type-group .ensures) (c .before .before .before .before .before .if1 .left) (c .enum-told3 .given .1)
+size-of-returns-4 t c =
+    let else1 = c .before .before .before .before .before in
+    let entry = else1 .before .before .before .before .before .before in
+    calls.size-ptr _ _ _ _ _ _ (entry .pre .1) _ (c .before .before .type-group .ensures) (else1 .if1 .left) (c .enum-told3 .given .1)
 
 size-of-same-length : (t : ℕ) → size-of-lts.Need-same-length (size-of-claims t) (size-of-at t) size-of.Post
 size-of-same-length t c = search needs
 
 size-of-returns-5 : (t : ℕ) → size-of-lts.Need-returns-5 (size-of-claims t) (size-of-at t) size-of.Post
-size-of-returns-5 t c = calls.size-array _ _ _ _ _ _ (c .before .before .before .before .before .before .before .before .before .before .before .before .before .before .before .before .before .before .before .pre .1) _ (c .before .before .before .before .before .before .before .before .before .before .type-group .ensures) (c .before .before .before .before .before .before .before .before .before .before .before .before .before .if1 .left) _ (c .before .before .before .before .before .before .before .before .enum-told4 .given .1) (c .before .before .before .before .size-of .ensures) _ (c .before .array-bytes .ensures) _ (c .one-more .ensures)
+size-of-returns-5 t c =
+    let after-size-of = c .before .before .before .before in
+    let after-enum-told4 = after-size-of .before .before .before .before in
+    let after-type-group = after-enum-told4 .before .before in
+    let else1 = after-type-group .before .before .before in
+    let entry = else1 .before .before .before .before .before .before in
+    calls.size-array _ _ _ _ _ _ (entry .pre .1) _ (after-type-group .type-group .ensures) (else1 .if1 .left) _
+    (after-enum-told4 .enum-told4 .given .1) (after-size-of .size-of .ensures) _ (c .before .array-bytes .ensures) _ (c .one-more .ensures)
 
 size-of-same-length-2 : (t : ℕ) → size-of-lts.Need-same-length-2 (size-of-claims t) (size-of-at t) size-of.Post
 size-of-same-length-2 t c = search needs
 
 size-of-returns-6 : (t : ℕ) → size-of-lts.Need-returns-6 (size-of-claims t) (size-of-at t) size-of.Post
-size-of-returns-6 t c = calls.size-named _ _ _ _ _ _ (c .before .before .before .before .before .before .before .before .before .before .before .before .before .before .before .pre .1) _ (c .before .before .before .before .before .before .type-group .ensures) (c .before .before .before .before .before .before .before .before .before .if1 .left) (c .before .before .before .before .enum-told5 .given .1) (c .before .before .named-size .ensures)
+size-of-returns-6 t c =
+    let after-enum-told5 = c .before .before .before .before in
+    let after-type-group = after-enum-told5 .before .before in
+    let else1 = after-type-group .before .before .before in
+    let entry = else1 .before .before .before .before .before .before in
+    calls.size-named _ _ _ _ _ _ (entry .pre .1) _ (after-type-group .type-group .ensures) (else1 .if1 .left) (after-enum-told5 .enum-told5 .given .1)
+    (c .before .before .named-size .ensures)
 
 size-of-same-length-3 : (t : ℕ) → size-of-lts.Need-same-length-3 (size-of-claims t) (size-of-at t) size-of.Post
 size-of-same-length-3 t c = search needs
 
 size-of-returns-7 : (t : ℕ) → size-of-lts.Need-returns-7 (size-of-claims t) (size-of-at t) size-of.Post
-size-of-returns-7 t c = calls.size-struct _ _ _ _ _ _ (c .before .before .before .before .before .before .before .before .before .before .before .before .before .before .before .before .before .before .before .pre .1) _ (c .before .before .before .before .before .before .before .before .before .before .type-group .ensures) (c .before .before .before .before .before .before .before .before .before .before .before .before .before .if1 .left) _ (c .before .before .before .before .before .before .before .before .packed .given .1) (c .before .before .before .struct-size .ensures) _ (c .one-more2 .ensures)
+size-of-returns-7 t c =
+    let after-struct-size = c .before .before .before in
+    let after-packed = after-struct-size .before .before .before .before .before in
+    let after-type-group = after-packed .before .before in
+    let else1 = after-type-group .before .before .before in
+    let entry = else1 .before .before .before .before .before .before in
+    calls.size-struct _ _ _ _ _ _ (entry .pre .1) _ (after-type-group .type-group .ensures) (else1 .if1 .left) _ (after-packed .packed .given .1)
+    (after-struct-size .struct-size .ensures) _ (c .one-more2 .ensures)
 
 size-of-returns-8 : (t : ℕ) → size-of-lts.Need-returns-8 (size-of-claims t) (size-of-at t) size-of.Post
-size-of-returns-8 t c = calls.size-sizeless _ _ _ _ _ _ (c .before .before .before .before .before .before .before .before .before .before .before .pre .1) _ (c .before .before .type-group .ensures) (c .before .before .before .before .before .if1 .left) (c .enum-told6 .given .1)
+size-of-returns-8 t c =
+    let else1 = c .before .before .before .before .before in
+    let entry = else1 .before .before .before .before .before .before in
+    calls.size-sizeless _ _ _ _ _ _ (entry .pre .1) _ (c .before .before .type-group .ensures) (else1 .if1 .left) (c .enum-told6 .given .1)
 
 size-of-returns-9 : (t : ℕ) → size-of-lts.Need-returns-9 (size-of-claims t) (size-of-at t) size-of.Post
-size-of-returns-9 t c = calls.other _ _ _ _ _ _ (c .before .before .before .before .before .before .before .before .before .before .before .pre .1) _ (c .before .before .type-group .ensures) (c .before .before .before .before .before .if1 .left) (c .enum-told7 .given .1)
+size-of-returns-9 t c =
+    let else1 = c .before .before .before .before .before in
+    let entry = else1 .before .before .before .before .before .before in
+    calls.other _ _ _ _ _ _ (entry .pre .1) _ (c .before .before .type-group .ensures) (else1 .if1 .left) (c .enum-told7 .given .1)
 
 abbrev struct-size-Inv-loop : struct-size-lts.InvT-loop
 struct-size-Inv-loop kinds words book-kinds book-words work₀ names level packed at₀ sum₀ work at sum =
@@ -338,22 +418,37 @@ abbrev struct-size-μ-loop : struct-size-lts.MeasureT-loop
 struct-size-μ-loop kinds words book-kinds book-words work₀ names level packed at₀ sum₀ work at sum = length kinds - at
 
 struct-size-loop-holds : (t : ℕ) → struct-size-lts.Need-loop-holds (struct-size-claims t) (struct-size-at t) struct-size.Post struct-size-Inv-loop struct-size-μ-loop
-struct-size-loop-holds t c = (c .before .before .before .before .before .pre .1 .levels, lc.size-start (c .before .before .before .before .before .args .names) (c .before .before .before .before .before .args .kinds .now) (c .before .before .before .before .before .args .words .now) (entries (c .before .before .before .before .before .args .book-kinds .now) (c .before .before .before .before .before .args .book-words .now)) (c .before .before .before .before .before .args .work .now) (c .before .before .before .before .before .args .level) (c .before .before .before .before .before .args .packed) (c .before .before .before .before .before .pre .1 .levels) (c .before .before .before .before .before .pre .1))
+struct-size-loop-holds t c =
+    let entry = c .before .before .before .before .before in (
+      entry .pre .1 .levels,
+      lc.size-start (entry .args .names) (entry .args .kinds .now) (entry .args .words .now)
+          (entries (entry .args .book-kinds .now) (entry .args .book-words .now)) (entry .args .work .now) (entry .args .level)
+          (entry .args .packed) (entry .pre .1 .levels) (entry .pre .1),
+    )
 
 struct-size-mul-if1 : (t : ℕ) → struct-size-lts.Need-mul-if1 (struct-size-claims t) (struct-size-at t) struct-size.Post struct-size-Inv-loop struct-size-μ-loop
 struct-size-mul-if1 t c = search needs
 
 struct-size-shared-slice-read-if1 : (t : ℕ) → struct-size-lts.Need-shared-slice-read-if1 (struct-size-claims t) (struct-size-at t) struct-size.Post struct-size-Inv-loop struct-size-μ-loop
-struct-size-shared-slice-read-if1 t c = let h = fields.place-kinds (c .before .before .before .before .before .before .before .args .names) (c .before .before .before .before .before .before .before .args .kinds .now) (c .before .before .before .before .before .before .before .args .words .now) _ (c .before .loop .inv .1 .0 .place) in search needs
+struct-size-shared-slice-read-if1 t c =
+    let entry = c .before .before .before .before .before .before .before in
+    let h = fields.place-kinds (entry .args .names) (entry .args .kinds .now) (entry .args .words .now) _ (c .before .loop .inv .1 .0 .place) in
+    search needs
 
 struct-size-mul-ks : (t : ℕ) → struct-size-lts.Need-mul-ks (struct-size-claims t) (struct-size-at t) struct-size.Post struct-size-Inv-loop struct-size-μ-loop
 struct-size-mul-ks t c = search needs
 
 struct-size-sub-ks : (t : ℕ) → struct-size-lts.Need-sub-ks (struct-size-claims t) (struct-size-at t) struct-size.Post struct-size-Inv-loop struct-size-μ-loop
-struct-size-sub-ks t c = let h = fields.place-kinds (c .before .before .before .before .before .before .before .before .args .names) (c .before .before .before .before .before .before .before .before .args .kinds .now) (c .before .before .before .before .before .before .before .before .args .words .now) _ (c .before .before .loop .inv .1 .0 .place) in search needs
+struct-size-sub-ks t c =
+    let entry = c .before .before .before .before .before .before .before .before in
+    let h = fields.place-kinds (entry .args .names) (entry .args .kinds .now) (entry .args .words .now) _ (c .before .before .loop .inv .1 .0 .place) in
+    search needs
 
 struct-size-part-ks-start : (t : ℕ) → struct-size-lts.Need-part-ks-start (struct-size-claims t) (struct-size-at t) struct-size.Post struct-size-Inv-loop struct-size-μ-loop
-struct-size-part-ks-start t c = let h = fields.place-kinds (c .before .before .before .before .before .before .before .before .args .names) (c .before .before .before .before .before .before .before .before .args .kinds .now) (c .before .before .before .before .before .before .before .before .args .words .now) _ (c .before .before .loop .inv .1 .0 .place) in search needs
+struct-size-part-ks-start t c =
+    let entry = c .before .before .before .before .before .before .before .before in
+    let h = fields.place-kinds (entry .args .names) (entry .args .kinds .now) (entry .args .words .now) _ (c .before .before .loop .inv .1 .0 .place) in
+    search needs
 
 struct-size-part-ks-end : (t : ℕ) → struct-size-lts.Need-part-ks-end (struct-size-claims t) (struct-size-at t) struct-size.Post struct-size-Inv-loop struct-size-μ-loop
 struct-size-part-ks-end t c = search needs
@@ -362,16 +457,30 @@ struct-size-mul-ws : (t : ℕ) → struct-size-lts.Need-mul-ws (struct-size-clai
 struct-size-mul-ws t c = search needs
 
 struct-size-sub-ws : (t : ℕ) → struct-size-lts.Need-sub-ws (struct-size-claims t) (struct-size-at t) struct-size.Post struct-size-Inv-loop struct-size-μ-loop
-struct-size-sub-ws t c = let h = fields.place-words (c .before .before .before .before .before .before .before .before .before .args .names) (c .before .before .before .before .before .before .before .before .before .args .kinds .now) (c .before .before .before .before .before .before .before .before .before .args .words .now) _ (c .before .before .before .loop .inv .1 .0 .place) in search needs
+struct-size-sub-ws t c =
+    let at-loop = c .before .before .before in
+    let entry = at-loop .before .before .before .before .before .before in
+    let h = fields.place-words (entry .args .names) (entry .args .kinds .now) (entry .args .words .now) _ (at-loop .loop .inv .1 .0 .place) in
+    search needs
 
 struct-size-part-ws-start : (t : ℕ) → struct-size-lts.Need-part-ws-start (struct-size-claims t) (struct-size-at t) struct-size.Post struct-size-Inv-loop struct-size-μ-loop
-struct-size-part-ws-start t c = let h = fields.place-words (c .before .before .before .before .before .before .before .before .before .args .names) (c .before .before .before .before .before .before .before .before .before .args .kinds .now) (c .before .before .before .before .before .before .before .before .before .args .words .now) _ (c .before .before .before .loop .inv .1 .0 .place) in search needs
+struct-size-part-ws-start t c =
+    let at-loop = c .before .before .before in
+    let entry = at-loop .before .before .before .before .before .before in
+    let h = fields.place-words (entry .args .names) (entry .args .kinds .now) (entry .args .words .now) _ (at-loop .loop .inv .1 .0 .place) in
+    search needs
 
 struct-size-part-ws-end : (t : ℕ) → struct-size-lts.Need-part-ws-end (struct-size-claims t) (struct-size-at t) struct-size.Post struct-size-Inv-loop struct-size-μ-loop
 struct-size-part-ws-end t c = search needs
 
 struct-size-align-of-requires : (t : ℕ) → struct-size-lts.Need-align-of-requires (struct-size-claims t) (struct-size-at t) struct-size.Post struct-size-Inv-loop struct-size-μ-loop
-struct-size-align-of-requires t c κs = lc.size-align-ask (c .before .before .before .before .before .before .before .before .before .before .before .args .names) (c .before .before .before .before .before .before .before .before .before .before .before .args .kinds .now) (c .before .before .before .before .before .before .before .before .before .before .before .args .words .now) (entries (c .before .before .before .before .before .before .before .before .before .before .before .args .book-kinds .now) (c .before .before .before .before .before .before .before .before .before .before .before .args .book-words .now)) (c .before .before .before .before .before .before .before .before .before .before .before .args .work .now) (c .before .before .before .before .before .before .before .before .before .before .before .args .level) (c .before .before .before .before .before .before .before .before .before .before .before .args .packed) (c .before .before .before .before .before .loop .inv .0) (c .before .before .before .before .before .loop .inv .1) (c .before .before .before .if1 .taken)
+struct-size-align-of-requires t c κs =
+    let then1 = c .before .before .before in
+    let at-loop = then1 .before .before in
+    let entry = at-loop .before .before .before .before .before .before in
+    lc.size-align-ask (entry .args .names) (entry .args .kinds .now) (entry .args .words .now)
+    (entries (entry .args .book-kinds .now) (entry .args .book-words .now)) (entry .args .work .now) (entry .args .level) (entry .args .packed)
+    (at-loop .loop .inv .0) (at-loop .loop .inv .1) (then1 .if1 .taken)
 
 struct-size-enum-known-e : (t : ℕ) → struct-size-lts.Need-enum-known-e (struct-size-claims t) (struct-size-at t) struct-size.Post struct-size-Inv-loop struct-size-μ-loop
 struct-size-enum-known-e t c = search needs
@@ -380,13 +489,29 @@ struct-size-same-length : (t : ℕ) → struct-size-lts.Need-same-length (struct
 struct-size-same-length t c = search needs
 
 struct-size-returns : (t : ℕ) → struct-size-lts.Need-returns (struct-size-claims t) (struct-size-at t) struct-size.Post struct-size-Inv-loop struct-size-μ-loop
-struct-size-returns t c = lc.size-align-refused (c .before .before .before .before .before .before .before .before .before .before .before .before .before .before .before .before .before .args .names) (c .before .before .before .before .before .before .before .before .before .before .before .before .before .before .before .before .before .args .kinds .now) (c .before .before .before .before .before .before .before .before .before .before .before .before .before .before .before .before .before .args .words .now) (entries (c .before .before .before .before .before .before .before .before .before .before .before .before .before .before .before .before .before .args .book-kinds .now) (c .before .before .before .before .before .before .before .before .before .before .before .before .before .before .before .before .before .args .book-words .now)) (c .before .before .before .before .before .before .before .before .before .before .before .before .before .before .before .before .before .args .work .now) (c .before .before .before .before .before .before .before .before .before .before .before .before .before .before .before .before .before .args .level) (c .before .before .before .before .before .before .before .before .before .before .before .before .before .before .before .before .before .args .packed) (c .before .before .before .before .before .before .before .before .before .before .before .loop .inv .0) (c .before .before .before .before .before .before .before .before .before .before .before .loop .inv .1) (c .before .before .before .before .before .before .before .before .before .if1 .taken) (c .before .before .before .before .before .align-of .ensures) _ (c .before .e .given .1)
+struct-size-returns t c =
+    let after-align-of = c .before .before .before .before .before in
+    let then1 = after-align-of .before .before .before .before in
+    let at-loop = then1 .before .before in
+    let entry = at-loop .before .before .before .before .before .before in
+    lc.size-align-refused (entry .args .names) (entry .args .kinds .now) (entry .args .words .now)
+    (entries (entry .args .book-kinds .now) (entry .args .book-words .now)) (entry .args .work .now) (entry .args .level) (entry .args .packed)
+    (at-loop .loop .inv .0) (at-loop .loop .inv .1) (then1 .if1 .taken) (after-align-of .align-of .ensures) _ (c .before .e .given .1)
 
 struct-size-enum-known-a : (t : ℕ) → struct-size-lts.Need-enum-known-a (struct-size-claims t) (struct-size-at t) struct-size.Post struct-size-Inv-loop struct-size-μ-loop
 struct-size-enum-known-a t c = search needs
 
 struct-size-size-of-requires : (t : ℕ) → struct-size-lts.Need-size-of-requires (struct-size-claims t) (struct-size-at t) struct-size.Post struct-size-Inv-loop struct-size-μ-loop
-struct-size-size-of-requires t c κs = (omega arith, lc.size-ask (c .before .before .before .before .before .before .before .before .before .before .before .before .before .before .before .before .before .before .args .names) (c .before .before .before .before .before .before .before .before .before .before .before .before .before .before .before .before .before .before .args .kinds .now) (c .before .before .before .before .before .before .before .before .before .before .before .before .before .before .before .before .before .before .args .words .now) (entries (c .before .before .before .before .before .before .before .before .before .before .before .before .before .before .before .before .before .before .args .book-kinds .now) (c .before .before .before .before .before .before .before .before .before .before .before .before .before .before .before .before .before .before .args .book-words .now)) (c .before .before .before .before .before .before .before .before .before .before .before .before .before .before .before .before .before .before .args .work .now) (c .before .before .before .before .before .before .before .before .before .before .before .before .before .before .before .before .before .before .args .level) (c .before .before .before .before .before .before .before .before .before .before .before .before .before .before .before .before .before .before .args .packed) (c .before .before .before .before .before .before .before .before .before .before .before .before .loop .inv .0) (c .before .before .before .before .before .before .before .before .before .before .before .before .loop .inv .1) (c .before .before .before .before .before .before .before .before .before .before .if1 .taken) (c .before .before .before .before .before .before .align-of .ensures))
+struct-size-size-of-requires t c κs =
+    let after-align-of = c .before .before .before .before .before .before in
+    let then1 = after-align-of .before .before .before .before in
+    let at-loop = then1 .before .before in
+    let entry = at-loop .before .before .before .before .before .before in (
+      omega arith,
+      lc.size-ask (entry .args .names) (entry .args .kinds .now) (entry .args .words .now)
+          (entries (entry .args .book-kinds .now) (entry .args .book-words .now)) (entry .args .work .now) (entry .args .level)
+          (entry .args .packed) (at-loop .loop .inv .0) (at-loop .loop .inv .1) (then1 .if1 .taken) (after-align-of .align-of .ensures),
+    )
 
 struct-size-enum-known-e-2 : (t : ℕ) → struct-size-lts.Need-enum-known-e-2 (struct-size-claims t) (struct-size-at t) struct-size.Post struct-size-Inv-loop struct-size-μ-loop
 struct-size-enum-known-e-2 t c = search needs
@@ -395,25 +520,74 @@ struct-size-same-length-2 : (t : ℕ) → struct-size-lts.Need-same-length-2 (st
 struct-size-same-length-2 t c = search needs
 
 struct-size-returns-2 : (t : ℕ) → struct-size-lts.Need-returns-2 (struct-size-claims t) (struct-size-at t) struct-size.Post struct-size-Inv-loop struct-size-μ-loop
-struct-size-returns-2 t c = lc.size-refused (c .before .before .before .before .before .before .before .before .before .before .before .before .before .before .before .before .before .before .before .before .before .before .before .before .args .names) (c .before .before .before .before .before .before .before .before .before .before .before .before .before .before .before .before .before .before .before .before .before .before .before .before .args .kinds .now) (c .before .before .before .before .before .before .before .before .before .before .before .before .before .before .before .before .before .before .before .before .before .before .before .before .args .words .now) (entries (c .before .before .before .before .before .before .before .before .before .before .before .before .before .before .before .before .before .before .before .before .before .before .before .before .args .book-kinds .now) (c .before .before .before .before .before .before .before .before .before .before .before .before .before .before .before .before .before .before .before .before .before .before .before .before .args .book-words .now)) (c .before .before .before .before .before .before .before .before .before .before .before .before .before .before .before .before .before .before .before .before .before .before .before .before .args .work .now) (c .before .before .before .before .before .before .before .before .before .before .before .before .before .before .before .before .before .before .before .before .before .before .before .before .args .level) (c .before .before .before .before .before .before .before .before .before .before .before .before .before .before .before .before .before .before .before .before .before .before .before .before .args .packed) (c .before .before .before .before .before .before .before .before .before .before .before .before .before .before .before .before .before .before .loop .inv .0) (c .before .before .before .before .before .before .before .before .before .before .before .before .before .before .before .before .before .before .loop .inv .1) (c .before .before .before .before .before .before .before .before .before .before .before .before .before .before .before .before .if1 .taken) (c .before .before .before .before .before .before .before .before .before .before .before .before .align-of .ensures) _ _ (c .before .before .before .before .before .before .before .before .a .given .1) (c .before .before .before .before .before .size-of .ensures) _ (c .before .e2 .given .1)
+struct-size-returns-2 t c =
+    let after-size-of = c .before .before .before .before .before in
+    let after-a = after-size-of .before .before .before in
+    let after-align-of = after-a .before .before .before .before in
+    let then1 = after-align-of .before .before .before .before in
+    let at-loop = then1 .before .before in
+    let entry = at-loop .before .before .before .before .before .before in
+    lc.size-refused (entry .args .names) (entry .args .kinds .now) (entry .args .words .now)
+    (entries (entry .args .book-kinds .now) (entry .args .book-words .now)) (entry .args .work .now) (entry .args .level) (entry .args .packed)
+    (at-loop .loop .inv .0) (at-loop .loop .inv .1) (then1 .if1 .taken) (after-align-of .align-of .ensures) _ _ (after-a .a .given .1)
+    (after-size-of .size-of .ensures) _ (c .before .e2 .given .1)
 
 struct-size-enum-known-s : (t : ℕ) → struct-size-lts.Need-enum-known-s (struct-size-claims t) (struct-size-at t) struct-size.Post struct-size-Inv-loop struct-size-μ-loop
 struct-size-enum-known-s t c = search needs
 
 struct-size-add-field-requires : (t : ℕ) → struct-size-lts.Need-add-field-requires (struct-size-claims t) (struct-size-at t) struct-size.Post struct-size-Inv-loop struct-size-μ-loop
-struct-size-add-field-requires t c κs = lc.field-small (c .before .before .before .before .before .before .before .before .before .before .before .before .before .before .before .before .before .before .before .before .before .before .before .before .args .names) (c .before .before .before .before .before .before .before .before .before .before .before .before .before .before .before .before .before .before .before .before .before .before .before .before .args .kinds .now) (c .before .before .before .before .before .before .before .before .before .before .before .before .before .before .before .before .before .before .before .before .before .before .before .before .args .words .now) (entries (c .before .before .before .before .before .before .before .before .before .before .before .before .before .before .before .before .before .before .before .before .before .before .before .before .args .book-kinds .now) (c .before .before .before .before .before .before .before .before .before .before .before .before .before .before .before .before .before .before .before .before .before .before .before .before .args .book-words .now)) (c .before .before .before .before .before .before .before .before .before .before .before .before .before .before .before .before .before .before .before .before .before .before .before .before .args .work .now) (c .before .before .before .before .before .before .before .before .before .before .before .before .before .before .before .before .before .before .before .before .before .before .before .before .args .level) (c .before .before .before .before .before .before .before .before .before .before .before .before .before .before .before .before .before .before .before .before .before .before .before .before .args .packed) (c .before .before .before .before .before .before .before .before .before .before .before .before .before .before .before .before .before .before .loop .inv .0) (c .before .before .before .before .before .before .before .before .before .before .before .before .before .before .before .before .before .before .loop .inv .1) (c .before .before .before .before .before .before .before .before .before .before .before .before .before .before .before .before .if1 .taken) (c .before .before .before .before .before .before .before .before .before .before .before .before .align-of .ensures) _ _ (c .before .before .before .before .before .before .before .before .a .given .1) (c .before .before .before .before .before .size-of .ensures) _ _ (c .before .s .given .1)
+struct-size-add-field-requires t c κs =
+    let after-size-of = c .before .before .before .before .before in
+    let after-a = after-size-of .before .before .before in
+    let after-align-of = after-a .before .before .before .before in
+    let then1 = after-align-of .before .before .before .before in
+    let at-loop = then1 .before .before in
+    let entry = at-loop .before .before .before .before .before .before in
+    lc.field-small (entry .args .names) (entry .args .kinds .now) (entry .args .words .now)
+    (entries (entry .args .book-kinds .now) (entry .args .book-words .now)) (entry .args .work .now) (entry .args .level) (entry .args .packed)
+    (at-loop .loop .inv .0) (at-loop .loop .inv .1) (then1 .if1 .taken) (after-align-of .align-of .ensures) _ _ (after-a .a .given .1)
+    (after-size-of .size-of .ensures) _ _ (c .before .s .given .1)
 
 struct-size-skip-requires : (t : ℕ) → struct-size-lts.Need-skip-requires (struct-size-claims t) (struct-size-at t) struct-size.Post struct-size-Inv-loop struct-size-μ-loop
 struct-size-skip-requires t c κs = search needs
 
 struct-size-add-at : (t : ℕ) → struct-size-lts.Need-add-at (struct-size-claims t) (struct-size-at t) struct-size.Post struct-size-Inv-loop struct-size-μ-loop
-struct-size-add-at t c = omega (arith, fields.next-few (c .before .before .before .before .before .before .before .before .before .before .before .before .before .before .before .before .before .before .before .before .before .before .before .before .before .before .args .names) (c .before .before .before .before .before .before .before .before .before .before .before .before .before .before .before .before .before .before .before .before .before .before .before .before .before .before .args .kinds .now) (c .before .before .before .before .before .before .before .before .before .before .before .before .before .before .before .before .before .before .before .before .before .before .before .before .before .before .args .words .now) _ (c .before .before .before .before .before .before .before .before .before .before .before .before .before .before .before .before .before .before .before .before .loop .inv .1 .0 .place) (c .before .before .before .before .before .before .before .before .before .before .before .before .before .before .before .before .before .before .if1 .taken) _ (c .skip .ensures))
+struct-size-add-at t c =
+    let then1 = c .before .before .before .before .before .before .before .before .before .before .before .before .before .before .before .before .before .before in
+    let at-loop = then1 .before .before in
+    let entry = at-loop .before .before .before .before .before .before in
+    omega (
+      arith,
+      fields.next-few (entry .args .names) (entry .args .kinds .now) (entry .args .words .now) _ (at-loop .loop .inv .1 .0 .place)
+          (then1 .if1 .taken) _ (c .skip .ensures),
+    )
 
 struct-size-loop-less : (t : ℕ) → struct-size-lts.Need-loop-less (struct-size-claims t) (struct-size-at t) struct-size.Post struct-size-Inv-loop struct-size-μ-loop
-struct-size-loop-less t c = let h = fields.place-next (c .before .before .before .before .before .before .before .before .before .before .before .before .before .before .before .before .before .before .before .before .before .before .before .before .before .before .args .names) (c .before .before .before .before .before .before .before .before .before .before .before .before .before .before .before .before .before .before .before .before .before .before .before .before .before .before .args .kinds .now) (c .before .before .before .before .before .before .before .before .before .before .before .before .before .before .before .before .before .before .before .before .before .before .before .before .before .before .args .words .now) _ (c .before .before .before .before .before .before .before .before .before .before .before .before .before .before .before .before .before .before .before .before .loop .inv .1 .0 .place) (c .before .before .before .before .before .before .before .before .before .before .before .before .before .before .before .before .before .before .if1 .taken) _ (c .skip .ensures) in let g = fields.place-moves (c .before .before .before .before .before .before .before .before .before .before .before .before .before .before .before .before .before .before .before .before .before .before .before .before .before .before .args .names) (c .before .before .before .before .before .before .before .before .before .before .before .before .before .before .before .before .before .before .before .before .before .before .before .before .before .before .args .kinds .now) (c .before .before .before .before .before .before .before .before .before .before .before .before .before .before .before .before .before .before .before .before .before .before .before .before .before .before .args .words .now) _ (c .before .before .before .before .before .before .before .before .before .before .before .before .before .before .before .before .before .before .before .before .loop .inv .1 .0 .place) (c .before .before .before .before .before .before .before .before .before .before .before .before .before .before .before .before .before .before .if1 .taken) _ (c .skip .ensures) in omega arith
+struct-size-loop-less t c =
+    let then1 = c .before .before .before .before .before .before .before .before .before .before .before .before .before .before .before .before .before .before in
+    let at-loop = then1 .before .before in
+    let entry = at-loop .before .before .before .before .before .before in
+    let h = fields.place-next (entry .args .names) (entry .args .kinds .now) (entry .args .words .now) _ (at-loop .loop .inv .1 .0 .place)
+    (then1 .if1 .taken) _ (c .skip .ensures) in
+    let g = fields.place-moves (entry .args .names) (entry .args .kinds .now) (entry .args .words .now) _ (at-loop .loop .inv .1 .0 .place)
+    (then1 .if1 .taken) _ (c .skip .ensures) in
+    omega arith
 
 struct-size-loop-again : (t : ℕ) → struct-size-lts.Need-loop-again (struct-size-claims t) (struct-size-at t) struct-size.Post struct-size-Inv-loop struct-size-μ-loop
-struct-size-loop-again t c = (c .before .before .before .before .before .before .before .before .before .before .before .before .before .before .before .before .before .before .before .before .loop .inv .0, lc.size-next (c .before .before .before .before .before .before .before .before .before .before .before .before .before .before .before .before .before .before .before .before .before .before .before .before .before .before .args .names) (c .before .before .before .before .before .before .before .before .before .before .before .before .before .before .before .before .before .before .before .before .before .before .before .before .before .before .args .kinds .now) (c .before .before .before .before .before .before .before .before .before .before .before .before .before .before .before .before .before .before .before .before .before .before .before .before .before .before .args .words .now) (entries (c .before .before .before .before .before .before .before .before .before .before .before .before .before .before .before .before .before .before .before .before .before .before .before .before .before .before .args .book-kinds .now) (c .before .before .before .before .before .before .before .before .before .before .before .before .before .before .before .before .before .before .before .before .before .before .before .before .before .before .args .book-words .now)) (c .before .before .before .before .before .before .before .before .before .before .before .before .before .before .before .before .before .before .before .before .before .before .before .before .before .before .args .work .now) (c .before .before .before .before .before .before .before .before .before .before .before .before .before .before .before .before .before .before .before .before .before .before .before .before .before .before .args .level) (c .before .before .before .before .before .before .before .before .before .before .before .before .before .before .before .before .before .before .before .before .before .before .before .before .before .before .args .packed) (c .before .before .before .before .before .before .before .before .before .before .before .before .before .before .before .before .before .before .before .before .loop .inv .0) (c .before .before .before .before .before .before .before .before .before .before .before .before .before .before .before .before .before .before .before .before .loop .inv .1) (c .before .before .before .before .before .before .before .before .before .before .before .before .before .before .before .before .before .before .if1 .taken) (c .before .before .before .before .before .before .before .before .before .before .before .before .before .before .align-of .ensures) _ _ (c .before .before .before .before .before .before .before .before .before .before .a .given .1) (c .before .before .before .before .before .before .before .size-of .ensures) _ _ (c .before .before .before .s .given .1) _ (c .skip .ensures) _ (c .before .add-field .ensures))
+struct-size-loop-again t c =
+    let after-s = c .before .before .before in
+    let after-size-of = after-s .before .before .before .before in
+    let after-a = after-size-of .before .before .before in
+    let after-align-of = after-a .before .before .before .before in
+    let then1 = after-align-of .before .before .before .before in
+    let at-loop = then1 .before .before in
+    let entry = at-loop .before .before .before .before .before .before in (
+      at-loop .loop .inv .0,
+      lc.size-next (entry .args .names) (entry .args .kinds .now) (entry .args .words .now)
+          (entries (entry .args .book-kinds .now) (entry .args .book-words .now)) (entry .args .work .now) (entry .args .level)
+          (entry .args .packed) (at-loop .loop .inv .0) (at-loop .loop .inv .1) (then1 .if1 .taken) (after-align-of .align-of .ensures) _ _
+          (after-a .a .given .1) (after-size-of .size-of .ensures) _ _ (after-s .s .given .1) _ (c .skip .ensures) _ (c .before .add-field .ensures),
+    )
 
 struct-size-closed-requires : (t : ℕ) → struct-size-lts.Need-closed-requires (struct-size-claims t) (struct-size-at t) struct-size.Post struct-size-Inv-loop struct-size-μ-loop
 struct-size-closed-requires t c κs = search needs
@@ -422,7 +596,12 @@ struct-size-same-length-3 : (t : ℕ) → struct-size-lts.Need-same-length-3 (st
 struct-size-same-length-3 t c = search needs
 
 struct-size-returns-3 : (t : ℕ) → struct-size-lts.Need-returns-3 (struct-size-claims t) (struct-size-at t) struct-size.Post struct-size-Inv-loop struct-size-μ-loop
-struct-size-returns-3 t c = lc.size-done (c .before .before .before .before .before .before .before .before .before .args .names) (c .before .before .before .before .before .before .before .before .before .args .kinds .now) (c .before .before .before .before .before .before .before .before .before .args .words .now) (entries (c .before .before .before .before .before .before .before .before .before .args .book-kinds .now) (c .before .before .before .before .before .before .before .before .before .args .book-words .now)) (c .before .before .before .before .before .before .before .before .before .args .work .now) (c .before .before .before .before .before .before .before .before .before .args .level) (c .before .before .before .before .before .before .before .before .before .args .packed) (c .before .before .before .loop .inv .0) (c .before .before .before .loop .inv .1) (c .before .if1 .left) _ (c .closed .ensures)
+struct-size-returns-3 t c =
+    let at-loop = c .before .before .before in
+    let entry = at-loop .before .before .before .before .before .before in
+    lc.size-done (entry .args .names) (entry .args .kinds .now) (entry .args .words .now)
+    (entries (entry .args .book-kinds .now) (entry .args .book-words .now)) (entry .args .work .now) (entry .args .level) (entry .args .packed)
+    (at-loop .loop .inv .0) (at-loop .loop .inv .1) (c .before .if1 .left) _ (c .closed .ensures)
 
 pub +named-size+size-of+struct-size-spec : {M : Type 1} → statement M
 +named-size+size-of+struct-size-spec =

@@ -28,7 +28,11 @@ deeper-requires-2 : tie.Need-deeper-requires-2
 deeper-requires-2 c κs = search needs
 
 returns : tie.Need-returns
-returns c = λ i. record { offset = c .before .before .before .placed .ensures i + c .before .before .before .before .args .size; align = c .before .before .larger .ensures i; levels = (c .deeper2 .ensures ∙ ap (λ (x : ℕ). max x (c .before .before .before .before .args .size-levels)) (c .before .deeper .ensures)) i }
+returns c =
+    let after-placed = c .before .before .before in
+    let entry = after-placed .before in
+    λ i. record
+    { offset = after-placed .placed .ensures i + entry .args .size; align = c .before .before .larger .ensures i; levels = (c .deeper2 .ensures ∙ ap (λ (x : ℕ). max x (entry .args .size-levels)) (c .before .deeper .ensures)) i }
 
 pub add-field-spec : {M : Type 1} → statement M
 add-field-spec =

@@ -7,31 +7,58 @@ use Rattle.layout_size.proofs.size_of.Reads as size-of-reads
 use Rattle.numbers.proofs.wrap.wrapping_mul.Reads as wrapping-mul-reads
 
 mul-size-of : tie.Need-mul-size-of
-mul-size-of c = let h = laws.at-kinds (c .before .before .before .args .names) (c .before .before .before .args .book-kinds .now) (c .before .before .before .args .book-words .now) (c .before .before .before .args .work .now) (c .before .before .before .args .at) (c .before .before .before .args .index) (c .before .before .before .pre) in search needs
+mul-size-of c =
+    let entry = c .before .before .before in
+    let h = laws.at-kinds (entry .args .names) (entry .args .book-kinds .now) (entry .args .book-words .now) (entry .args .work .now)
+    (entry .args .at) (entry .args .index) (entry .pre) in
+    search needs
 
 sub-size-of : tie.Need-sub-size-of
-sub-size-of c = let h = laws.at-kinds (c .before .before .before .args .names) (c .before .before .before .args .book-kinds .now) (c .before .before .before .args .book-words .now) (c .before .before .before .args .work .now) (c .before .before .before .args .at) (c .before .before .before .args .index) (c .before .before .before .pre) in search needs
+sub-size-of c =
+    let entry = c .before .before .before in
+    let h = laws.at-kinds (entry .args .names) (entry .args .book-kinds .now) (entry .args .book-words .now) (entry .args .work .now)
+    (entry .args .at) (entry .args .index) (entry .pre) in
+    search needs
 
 part-size-of-start : tie.Need-part-size-of-start
-part-size-of-start c = let h = laws.at-kinds (c .before .before .before .args .names) (c .before .before .before .args .book-kinds .now) (c .before .before .before .args .book-words .now) (c .before .before .before .args .work .now) (c .before .before .before .args .at) (c .before .before .before .args .index) (c .before .before .before .pre) in search needs
+part-size-of-start c =
+    let entry = c .before .before .before in
+    let h = laws.at-kinds (entry .args .names) (entry .args .book-kinds .now) (entry .args .book-words .now) (entry .args .work .now)
+    (entry .args .at) (entry .args .index) (entry .pre) in
+    search needs
 
 part-size-of-end : tie.Need-part-size-of-end
 part-size-of-end c = search needs
 
 mul-size-of-2 : tie.Need-mul-size-of-2
-mul-size-of-2 c = let h = laws.at-words (c .before .before .before .before .args .names) (c .before .before .before .before .args .book-kinds .now) (c .before .before .before .before .args .book-words .now) (c .before .before .before .before .args .work .now) (c .before .before .before .before .args .at) (c .before .before .before .before .args .index) (c .before .before .before .before .pre) in search needs
+mul-size-of-2 c =
+    let entry = c .before .before .before .before in
+    let h = laws.at-words (entry .args .names) (entry .args .book-kinds .now) (entry .args .book-words .now) (entry .args .work .now)
+    (entry .args .at) (entry .args .index) (entry .pre) in
+    search needs
 
 sub-size-of-2 : tie.Need-sub-size-of-2
-sub-size-of-2 c = let h = laws.at-words (c .before .before .before .before .args .names) (c .before .before .before .before .args .book-kinds .now) (c .before .before .before .before .args .book-words .now) (c .before .before .before .before .args .work .now) (c .before .before .before .before .args .at) (c .before .before .before .before .args .index) (c .before .before .before .before .pre) in search needs
+sub-size-of-2 c =
+    let entry = c .before .before .before .before in
+    let h = laws.at-words (entry .args .names) (entry .args .book-kinds .now) (entry .args .book-words .now) (entry .args .work .now)
+    (entry .args .at) (entry .args .index) (entry .pre) in
+    search needs
 
 part-size-of-start-2 : tie.Need-part-size-of-start-2
-part-size-of-start-2 c = let h = laws.at-words (c .before .before .before .before .args .names) (c .before .before .before .before .args .book-kinds .now) (c .before .before .before .before .args .book-words .now) (c .before .before .before .before .args .work .now) (c .before .before .before .before .args .at) (c .before .before .before .before .args .index) (c .before .before .before .before .pre) in search needs
+part-size-of-start-2 c =
+    let entry = c .before .before .before .before in
+    let h = laws.at-words (entry .args .names) (entry .args .book-kinds .now) (entry .args .book-words .now) (entry .args .work .now)
+    (entry .args .at) (entry .args .index) (entry .pre) in
+    search needs
 
 part-size-of-end-2 : tie.Need-part-size-of-end-2
 part-size-of-end-2 c = search needs
 
 size-of-requires : tie.Need-size-of-requires
-size-of-requires c κs = laws.array-ask (c .before .before .before .before .before .before .args .names) (c .before .before .before .before .before .before .args .book-kinds .now) (c .before .before .before .before .before .before .args .book-words .now) (c .before .before .before .before .before .before .args .work .now) (c .before .before .before .before .before .before .args .at) (c .before .before .before .before .before .before .args .index) (c .before .before .before .before .before .before .pre)
+size-of-requires c κs =
+    let entry = c .before .before .before .before .before .before in
+    laws.array-ask (entry .args .names) (entry .args .book-kinds .now) (entry .args .book-words .now) (entry .args .work .now) (entry .args .at)
+    (entry .args .index) (entry .pre)
 
 enum-known-e : tie.Need-enum-known-e
 enum-known-e c = search needs
@@ -52,19 +79,34 @@ same-length : tie.Need-same-length
 same-length c = search needs
 
 returns : tie.Need-returns
-returns c = laws.array-refused (c .before .before .before .before .before .before .before .before .before .before .before .before .args .names) (c .before .before .before .before .before .before .before .before .before .before .before .before .args .book-kinds .now) (c .before .before .before .before .before .before .before .before .before .before .before .before .args .book-words .now) (c .before .before .before .before .before .before .before .before .before .before .before .before .args .work .now) (c .before .before .before .before .before .before .before .before .before .before .before .before .args .at) (c .before .before .before .before .before .before .before .before .before .before .before .before .args .index) (c .before .before .before .before .before .before .before .before .before .before .before .before .pre) _ (c .before .before .before .before .before .size-of .ensures) _ (c .before .e .given .1)
+returns c =
+    let after-size-of = c .before .before .before .before .before in
+    let entry = after-size-of .before .before .before .before .before .before .before in
+    laws.array-refused (entry .args .names) (entry .args .book-kinds .now) (entry .args .book-words .now) (entry .args .work .now) (entry .args .at)
+    (entry .args .index) (entry .pre) _ (after-size-of .size-of .ensures) _ (c .before .e .given .1)
 
 same-length-2 : tie.Need-same-length-2
 same-length-2 c = search needs
 
 returns-2 : tie.Need-returns-2
-returns-2 c = laws.array-const (c .before .before .before .before .before .before .before .before .before .before .before .before .before .before .before .before .args .names) (c .before .before .before .before .before .before .before .before .before .before .before .before .before .before .before .before .args .book-kinds .now) (c .before .before .before .before .before .before .before .before .before .before .before .before .before .before .before .before .args .book-words .now) (c .before .before .before .before .before .before .before .before .before .before .before .before .before .before .before .before .args .work .now) (c .before .before .before .before .before .before .before .before .before .before .before .before .before .before .before .before .args .at) (c .before .before .before .before .before .before .before .before .before .before .before .before .before .before .before .before .args .index) (c .before .before .before .before .before .before .before .before .before .before .before .before .before .before .before .before .pre) _ (c .before .before .before .before .before .before .before .before .before .size-of .ensures) _ _ (c .before .before .before .before .before .size .given .1) _ (c .before .before .index .given .1) _ (c .wrapping-mul .ensures)
+returns-2 c =
+    let after-size = c .before .before .before .before .before in
+    let after-size-of = after-size .before .before .before .before in
+    let entry = after-size-of .before .before .before .before .before .before .before in
+    laws.array-const (entry .args .names) (entry .args .book-kinds .now) (entry .args .book-words .now) (entry .args .work .now) (entry .args .at)
+    (entry .args .index) (entry .pre) _ (after-size-of .size-of .ensures) _ _ (after-size .size .given .1) _ (c .before .before .index .given .1)
+    _ (c .wrapping-mul .ensures)
 
 same-length-3 : tie.Need-same-length-3
 same-length-3 c = search needs
 
 returns-3 : tie.Need-returns-3
-returns-3 c = laws.array-varying (c .before .before .before .before .before .before .before .before .before .before .before .before .before .before .args .names) (c .before .before .before .before .before .before .before .before .before .before .before .before .before .before .args .book-kinds .now) (c .before .before .before .before .before .before .before .before .before .before .before .before .before .before .args .book-words .now) (c .before .before .before .before .before .before .before .before .before .before .before .before .before .before .args .work .now) (c .before .before .before .before .before .before .before .before .before .before .before .before .before .before .args .at) (c .before .before .before .before .before .before .before .before .before .before .before .before .before .before .args .index) (c .before .before .before .before .before .before .before .before .before .before .before .before .before .before .pre) _ (c .before .before .before .before .before .before .before .size-of .ensures) _ _ (c .before .before .before .size .given .1) (c .enum-told .given .1)
+returns-3 c =
+    let after-size = c .before .before .before in
+    let after-size-of = after-size .before .before .before .before in
+    let entry = after-size-of .before .before .before .before .before .before .before in
+    laws.array-varying (entry .args .names) (entry .args .book-kinds .now) (entry .args .book-words .now) (entry .args .work .now) (entry .args .at)
+    (entry .args .index) (entry .pre) _ (after-size-of .size-of .ensures) _ _ (after-size .size .given .1) (c .enum-told .given .1)
 
 pub array-step-spec : {M : Type 1} → statement M
 array-step-spec =

@@ -19,16 +19,27 @@ slice-read-body : tie.Need-slice-read-body
 slice-read-body c = search needs
 
 returns : tie.Need-returns
-returns c = laws.named-absent (c .before .before .before .before .before .args .names) (c .before .before .before .before .before .args .book-kinds .now) (c .before .before .before .before .before .args .book-words .now) (c .before .before .before .before .before .args .work .now) (c .before .before .before .before .before .args .name) (c .before .before .before .before .before .args .index) (c .before .before .before .before .before .pre) (c .if1 .taken)
+returns c =
+    let entry = c .before .before .before .before .before in
+    laws.named-absent (entry .args .names) (entry .args .book-kinds .now) (entry .args .book-words .now) (entry .args .work .now) (entry .args .name)
+    (entry .args .index) (entry .pre) (c .if1 .taken)
 
 sub-at : tie.Need-sub-at
 sub-at c = search needs
 
 mul-type-group : tie.Need-mul-type-group
-mul-type-group c = let h = laws.body-kinds (c .before .before .before .before .before .args .names) (c .before .before .before .before .before .args .book-kinds .now) (c .before .before .before .before .before .args .book-words .now) (c .before .before .before .before .before .args .work .now) (c .before .before .before .before .before .args .name) (c .before .before .before .before .before .args .index) (c .before .before .before .before .before .pre) (c .if1 .left) in search needs
+mul-type-group c =
+    let entry = c .before .before .before .before .before in
+    let h = laws.body-kinds (entry .args .names) (entry .args .book-kinds .now) (entry .args .book-words .now) (entry .args .work .now)
+    (entry .args .name) (entry .args .index) (entry .pre) (c .if1 .left) in
+    search needs
 
 shared-slice-read-type-group : tie.Need-shared-slice-read-type-group
-shared-slice-read-type-group c = let h = laws.body-kinds (c .before .before .before .before .before .before .args .names) (c .before .before .before .before .before .before .args .book-kinds .now) (c .before .before .before .before .before .before .args .book-words .now) (c .before .before .before .before .before .before .args .work .now) (c .before .before .before .before .before .before .args .name) (c .before .before .before .before .before .before .args .index) (c .before .before .before .before .before .before .pre) (c .before .if1 .left) in search needs
+shared-slice-read-type-group c =
+    let entry = c .before .before .before .before .before .before in
+    let h = laws.body-kinds (entry .args .names) (entry .args .book-kinds .now) (entry .args .book-words .now) (entry .args .work .now)
+    (entry .args .name) (entry .args .index) (entry .pre) (c .before .if1 .left) in
+    search needs
 
 type-group-requires : tie.Need-type-group-requires
 type-group-requires c κs = search needs
@@ -37,10 +48,20 @@ enum-known-packed : tie.Need-enum-known-packed
 enum-known-packed c = search needs
 
 add-struct-step : tie.Need-add-struct-step
-add-struct-step c = let h = laws.body-kinds (c .before .before .before .before .before .before .before .before .before .before .before .args .names) (c .before .before .before .before .before .before .before .before .before .before .before .args .book-kinds .now) (c .before .before .before .before .before .before .before .before .before .before .before .args .book-words .now) (c .before .before .before .before .before .before .before .before .before .before .before .args .work .now) (c .before .before .before .before .before .before .before .before .before .before .before .args .name) (c .before .before .before .before .before .before .before .before .before .before .before .args .index) (c .before .before .before .before .before .before .before .before .before .before .before .pre) (c .before .before .before .before .before .before .if1 .left) in search needs
+add-struct-step c =
+    let else1 = c .before .before .before .before .before .before in
+    let entry = else1 .before .before .before .before .before in
+    let h = laws.body-kinds (entry .args .names) (entry .args .book-kinds .now) (entry .args .book-words .now) (entry .args .work .now)
+    (entry .args .name) (entry .args .index) (entry .pre) (else1 .if1 .left) in
+    search needs
 
 struct-step-requires : tie.Need-struct-step-requires
-struct-step-requires c κs = laws.named-ask (c .before .before .before .before .before .before .before .before .before .before .before .args .names) (c .before .before .before .before .before .before .before .before .before .before .before .args .book-kinds .now) (c .before .before .before .before .before .before .before .before .before .before .before .args .book-words .now) (c .before .before .before .before .before .before .before .before .before .before .before .args .work .now) (c .before .before .before .before .before .before .before .before .before .before .before .args .name) (c .before .before .before .before .before .before .before .before .before .before .before .args .index) (c .before .before .before .before .before .before .before .before .before .before .before .pre) (c .before .before .before .before .before .before .if1 .left) _ (c .before .before .before .before .type-group .ensures) _ (c .before .before .packed .given .1)
+struct-step-requires c κs =
+    let after-type-group = c .before .before .before .before in
+    let else1 = after-type-group .before .before in
+    let entry = else1 .before .before .before .before .before in
+    laws.named-ask (entry .args .names) (entry .args .book-kinds .now) (entry .args .book-words .now) (entry .args .work .now) (entry .args .name)
+    (entry .args .index) (entry .pre) (else1 .if1 .left) _ (after-type-group .type-group .ensures) _ (c .before .before .packed .given .1)
 
 enum-told : tie.Need-enum-told
 enum-told c = search needs
@@ -67,28 +88,63 @@ same-length : tie.Need-same-length
 same-length c = search needs
 
 returns-2 : tie.Need-returns-2
-returns-2 c = laws.named-struct (c .before .before .before .before .before .before .before .before .before .before .before .before .before .before .args .names) (c .before .before .before .before .before .before .before .before .before .before .before .before .before .before .args .book-kinds .now) (c .before .before .before .before .before .before .before .before .before .before .before .before .before .before .args .book-words .now) (c .before .before .before .before .before .before .before .before .before .before .before .before .before .before .args .work .now) (c .before .before .before .before .before .before .before .before .before .before .before .before .before .before .args .name) (c .before .before .before .before .before .before .before .before .before .before .before .before .before .before .args .index) (c .before .before .before .before .before .before .before .before .before .before .before .before .before .before .pre) (c .before .before .before .before .before .before .before .before .before .if1 .left) _ (c .before .before .before .before .before .before .before .type-group .ensures) _ (c .before .before .before .before .before .packed .given .1) (c .before .before .struct-step .ensures)
+returns-2 c =
+    let after-packed = c .before .before .before .before .before in
+    let after-type-group = after-packed .before .before in
+    let else1 = after-type-group .before .before in
+    let entry = else1 .before .before .before .before .before in
+    laws.named-struct (entry .args .names) (entry .args .book-kinds .now) (entry .args .book-words .now) (entry .args .work .now) (entry .args .name)
+    (entry .args .index) (entry .pre) (else1 .if1 .left) _ (after-type-group .type-group .ensures) _ (after-packed .packed .given .1)
+    (c .before .before .struct-step .ensures)
 
 returns-3 : tie.Need-returns-3
-returns-3 c = laws.named-void (c .before .before .before .before .before .before .before .before .before .args .names) (c .before .before .before .before .before .before .before .before .before .args .book-kinds .now) (c .before .before .before .before .before .before .before .before .before .args .book-words .now) (c .before .before .before .before .before .before .before .before .before .args .work .now) (c .before .before .before .before .before .before .before .before .before .args .name) (c .before .before .before .before .before .before .before .before .before .args .index) (c .before .before .before .before .before .before .before .before .before .pre) (c .before .before .before .before .if1 .left) _ (c .before .before .type-group .ensures) (c .enum-told .given .1)
+returns-3 c =
+    let else1 = c .before .before .before .before in
+    let entry = else1 .before .before .before .before .before in
+    laws.named-void (entry .args .names) (entry .args .book-kinds .now) (entry .args .book-words .now) (entry .args .work .now) (entry .args .name)
+    (entry .args .index) (entry .pre) (else1 .if1 .left) _ (c .before .before .type-group .ensures) (c .enum-told .given .1)
 
 returns-4 : tie.Need-returns-4
-returns-4 c = laws.named-int (c .before .before .before .before .before .before .before .before .before .args .names) (c .before .before .before .before .before .before .before .before .before .args .book-kinds .now) (c .before .before .before .before .before .before .before .before .before .args .book-words .now) (c .before .before .before .before .before .before .before .before .before .args .work .now) (c .before .before .before .before .before .before .before .before .before .args .name) (c .before .before .before .before .before .before .before .before .before .args .index) (c .before .before .before .before .before .before .before .before .before .pre) (c .before .before .before .before .if1 .left) _ (c .before .before .type-group .ensures) (c .enum-told2 .given .1)
+returns-4 c =
+    let else1 = c .before .before .before .before in
+    let entry = else1 .before .before .before .before .before in
+    laws.named-int (entry .args .names) (entry .args .book-kinds .now) (entry .args .book-words .now) (entry .args .work .now) (entry .args .name)
+    (entry .args .index) (entry .pre) (else1 .if1 .left) _ (c .before .before .type-group .ensures) (c .enum-told2 .given .1)
 
 returns-5 : tie.Need-returns-5
-returns-5 c = laws.named-ptr (c .before .before .before .before .before .before .before .before .before .args .names) (c .before .before .before .before .before .before .before .before .before .args .book-kinds .now) (c .before .before .before .before .before .before .before .before .before .args .book-words .now) (c .before .before .before .before .before .before .before .before .before .args .work .now) (c .before .before .before .before .before .before .before .before .before .args .name) (c .before .before .before .before .before .before .before .before .before .args .index) (c .before .before .before .before .before .before .before .before .before .pre) (c .before .before .before .before .if1 .left) _ (c .before .before .type-group .ensures) (c .enum-told3 .given .1)
+returns-5 c =
+    let else1 = c .before .before .before .before in
+    let entry = else1 .before .before .before .before .before in
+    laws.named-ptr (entry .args .names) (entry .args .book-kinds .now) (entry .args .book-words .now) (entry .args .work .now) (entry .args .name)
+    (entry .args .index) (entry .pre) (else1 .if1 .left) _ (c .before .before .type-group .ensures) (c .enum-told3 .given .1)
 
 returns-6 : tie.Need-returns-6
-returns-6 c = laws.named-array (c .before .before .before .before .before .before .before .before .before .args .names) (c .before .before .before .before .before .before .before .before .before .args .book-kinds .now) (c .before .before .before .before .before .before .before .before .before .args .book-words .now) (c .before .before .before .before .before .before .before .before .before .args .work .now) (c .before .before .before .before .before .before .before .before .before .args .name) (c .before .before .before .before .before .before .before .before .before .args .index) (c .before .before .before .before .before .before .before .before .before .pre) (c .before .before .before .before .if1 .left) _ (c .before .before .type-group .ensures) _ (c .enum-told4 .given .1)
+returns-6 c =
+    let else1 = c .before .before .before .before in
+    let entry = else1 .before .before .before .before .before in
+    laws.named-array (entry .args .names) (entry .args .book-kinds .now) (entry .args .book-words .now) (entry .args .work .now) (entry .args .name)
+    (entry .args .index) (entry .pre) (else1 .if1 .left) _ (c .before .before .type-group .ensures) _ (c .enum-told4 .given .1)
 
 returns-7 : tie.Need-returns-7
-returns-7 c = laws.named-named (c .before .before .before .before .before .before .before .before .before .args .names) (c .before .before .before .before .before .before .before .before .before .args .book-kinds .now) (c .before .before .before .before .before .before .before .before .before .args .book-words .now) (c .before .before .before .before .before .before .before .before .before .args .work .now) (c .before .before .before .before .before .before .before .before .before .args .name) (c .before .before .before .before .before .before .before .before .before .args .index) (c .before .before .before .before .before .before .before .before .before .pre) (c .before .before .before .before .if1 .left) _ (c .before .before .type-group .ensures) (c .enum-told5 .given .1)
+returns-7 c =
+    let else1 = c .before .before .before .before in
+    let entry = else1 .before .before .before .before .before in
+    laws.named-named (entry .args .names) (entry .args .book-kinds .now) (entry .args .book-words .now) (entry .args .work .now) (entry .args .name)
+    (entry .args .index) (entry .pre) (else1 .if1 .left) _ (c .before .before .type-group .ensures) (c .enum-told5 .given .1)
 
 returns-8 : tie.Need-returns-8
-returns-8 c = laws.named-sizeless (c .before .before .before .before .before .before .before .before .before .args .names) (c .before .before .before .before .before .before .before .before .before .args .book-kinds .now) (c .before .before .before .before .before .before .before .before .before .args .book-words .now) (c .before .before .before .before .before .before .before .before .before .args .work .now) (c .before .before .before .before .before .before .before .before .before .args .name) (c .before .before .before .before .before .before .before .before .before .args .index) (c .before .before .before .before .before .before .before .before .before .pre) (c .before .before .before .before .if1 .left) _ (c .before .before .type-group .ensures) (c .enum-told6 .given .1)
+returns-8 c =
+    let else1 = c .before .before .before .before in
+    let entry = else1 .before .before .before .before .before in
+    laws.named-sizeless (entry .args .names) (entry .args .book-kinds .now) (entry .args .book-words .now) (entry .args .work .now)
+    (entry .args .name) (entry .args .index) (entry .pre) (else1 .if1 .left) _ (c .before .before .type-group .ensures) (c .enum-told6 .given .1)
 
 returns-9 : tie.Need-returns-9
-returns-9 c = laws.named-other (c .before .before .before .before .before .before .before .before .before .args .names) (c .before .before .before .before .before .before .before .before .before .args .book-kinds .now) (c .before .before .before .before .before .before .before .before .before .args .book-words .now) (c .before .before .before .before .before .before .before .before .before .args .work .now) (c .before .before .before .before .before .before .before .before .before .args .name) (c .before .before .before .before .before .before .before .before .before .args .index) (c .before .before .before .before .before .before .before .before .before .pre) (c .before .before .before .before .if1 .left) _ (c .before .before .type-group .ensures) (c .enum-told7 .given .1)
+returns-9 c =
+    let else1 = c .before .before .before .before in
+    let entry = else1 .before .before .before .before .before in
+    laws.named-other (entry .args .names) (entry .args .book-kinds .now) (entry .args .book-words .now) (entry .args .work .now) (entry .args .name)
+    (entry .args .index) (entry .pre) (else1 .if1 .left) _ (c .before .before .type-group .ensures) (c .enum-told7 .given .1)
 
 pub named-step-spec : {M : Type 1} → statement M
 named-step-spec =

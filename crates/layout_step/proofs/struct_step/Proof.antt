@@ -13,16 +13,27 @@ enum-told : tie.Need-enum-told
 enum-told c = search needs
 
 returns : tie.Need-returns
-returns c = laws.struct-varying (c .before .before .before .before .before .args .names) (c .before .before .before .before .before .args .book-kinds .now) (c .before .before .before .before .before .args .book-words .now) (c .before .before .before .before .before .args .work .now) (c .before .before .before .before .before .args .at) (c .before .before .before .before .before .args .packed) (c .before .before .before .before .before .args .index) (c .before .before .before .before .before .pre) (c .enum-told .given .1)
+returns c =
+    let entry = c .before .before .before .before .before in
+    laws.struct-varying (entry .args .names) (entry .args .book-kinds .now) (entry .args .book-words .now) (entry .args .work .now) (entry .args .at)
+    (entry .args .packed) (entry .args .index) (entry .pre) (c .enum-told .given .1)
 
 mul-ks : tie.Need-mul-ks
 mul-ks c = search needs
 
 sub-ks : tie.Need-sub-ks
-sub-ks c = let h = laws.struct-kinds (c .before .before .before .before .before .before .args .names) (c .before .before .before .before .before .before .args .book-kinds .now) (c .before .before .before .before .before .before .args .book-words .now) (c .before .before .before .before .before .before .args .work .now) (c .before .before .before .before .before .before .args .at) (c .before .before .before .before .before .before .args .packed) (c .before .before .before .before .before .before .args .index) (c .before .before .before .before .before .before .pre) in search needs
+sub-ks c =
+    let entry = c .before .before .before .before .before .before in
+    let h = laws.struct-kinds (entry .args .names) (entry .args .book-kinds .now) (entry .args .book-words .now) (entry .args .work .now)
+    (entry .args .at) (entry .args .packed) (entry .args .index) (entry .pre) in
+    search needs
 
 part-ks-start : tie.Need-part-ks-start
-part-ks-start c = let h = laws.struct-kinds (c .before .before .before .before .before .before .args .names) (c .before .before .before .before .before .before .args .book-kinds .now) (c .before .before .before .before .before .before .args .book-words .now) (c .before .before .before .before .before .before .args .work .now) (c .before .before .before .before .before .before .args .at) (c .before .before .before .before .before .before .args .packed) (c .before .before .before .before .before .before .args .index) (c .before .before .before .before .before .before .pre) in search needs
+part-ks-start c =
+    let entry = c .before .before .before .before .before .before in
+    let h = laws.struct-kinds (entry .args .names) (entry .args .book-kinds .now) (entry .args .book-words .now) (entry .args .work .now)
+    (entry .args .at) (entry .args .packed) (entry .args .index) (entry .pre) in
+    search needs
 
 part-ks-end : tie.Need-part-ks-end
 part-ks-end c = search needs
@@ -31,16 +42,27 @@ mul-ws : tie.Need-mul-ws
 mul-ws c = search needs
 
 sub-ws : tie.Need-sub-ws
-sub-ws c = let h = laws.struct-words (c .before .before .before .before .before .before .before .args .names) (c .before .before .before .before .before .before .before .args .book-kinds .now) (c .before .before .before .before .before .before .before .args .book-words .now) (c .before .before .before .before .before .before .before .args .work .now) (c .before .before .before .before .before .before .before .args .at) (c .before .before .before .before .before .before .before .args .packed) (c .before .before .before .before .before .before .before .args .index) (c .before .before .before .before .before .before .before .pre) in search needs
+sub-ws c =
+    let entry = c .before .before .before .before .before .before .before in
+    let h = laws.struct-words (entry .args .names) (entry .args .book-kinds .now) (entry .args .book-words .now) (entry .args .work .now)
+    (entry .args .at) (entry .args .packed) (entry .args .index) (entry .pre) in
+    search needs
 
 part-ws-start : tie.Need-part-ws-start
-part-ws-start c = let h = laws.struct-words (c .before .before .before .before .before .before .before .args .names) (c .before .before .before .before .before .before .before .args .book-kinds .now) (c .before .before .before .before .before .before .before .args .book-words .now) (c .before .before .before .before .before .before .before .args .work .now) (c .before .before .before .before .before .before .before .args .at) (c .before .before .before .before .before .before .before .args .packed) (c .before .before .before .before .before .before .before .args .index) (c .before .before .before .before .before .before .before .pre) in search needs
+part-ws-start c =
+    let entry = c .before .before .before .before .before .before .before in
+    let h = laws.struct-words (entry .args .names) (entry .args .book-kinds .now) (entry .args .book-words .now) (entry .args .work .now)
+    (entry .args .at) (entry .args .packed) (entry .args .index) (entry .pre) in
+    search needs
 
 part-ws-end : tie.Need-part-ws-end
 part-ws-end c = search needs
 
 field-at-requires : tie.Need-field-at-requires
-field-at-requires c κs = laws.struct-front (c .before .before .before .before .before .before .before .before .args .names) (c .before .before .before .before .before .before .before .before .args .book-kinds .now) (c .before .before .before .before .before .before .before .before .args .book-words .now) (c .before .before .before .before .before .before .before .before .args .work .now) (c .before .before .before .before .before .before .before .before .args .at) (c .before .before .before .before .before .before .before .before .args .packed) (c .before .before .before .before .before .before .before .before .args .index) (c .before .before .before .before .before .before .before .before .pre)
+field-at-requires c κs =
+    let entry = c .before .before .before .before .before .before .before .before in
+    laws.struct-front (entry .args .names) (entry .args .book-kinds .now) (entry .args .book-words .now) (entry .args .work .now) (entry .args .at)
+    (entry .args .packed) (entry .args .index) (entry .pre)
 
 enum-known-n : tie.Need-enum-known-n
 enum-known-n c = search needs
@@ -49,10 +71,18 @@ enum-told-2 : tie.Need-enum-told-2
 enum-told-2 c = search needs
 
 returns-2 : tie.Need-returns-2
-returns-2 c = laws.struct-nothing (c .before .before .before .before .before .before .before .before .before .before .before .args .names) (c .before .before .before .before .before .before .before .before .before .before .before .args .book-kinds .now) (c .before .before .before .before .before .before .before .before .before .before .before .args .book-words .now) (c .before .before .before .before .before .before .before .before .before .before .before .args .work .now) (c .before .before .before .before .before .before .before .before .before .before .before .args .at) (c .before .before .before .before .before .before .before .before .before .before .before .args .packed) (c .before .before .before .before .before .before .before .before .before .before .before .args .index) (c .before .before .before .before .before .before .before .before .before .before .before .pre) _ (c .before .before .before .before .before .before .index .given .1) _ (c .before .before .field-at .ensures) (c .enum-told2 .given .1)
+returns-2 c =
+    let after-index = c .before .before .before .before .before .before in
+    let entry = after-index .before .before .before .before .before in
+    laws.struct-nothing (entry .args .names) (entry .args .book-kinds .now) (entry .args .book-words .now) (entry .args .work .now) (entry .args .at)
+    (entry .args .packed) (entry .args .index) (entry .pre) _ (after-index .index .given .1) _ (c .before .before .field-at .ensures)
+    (c .enum-told2 .given .1)
 
 field-offset-requires : tie.Need-field-offset-requires
-field-offset-requires c κs = laws.struct-ask (c .before .before .before .before .before .before .before .before .before .before .before .before .before .args .names) (c .before .before .before .before .before .before .before .before .before .before .before .before .before .args .book-kinds .now) (c .before .before .before .before .before .before .before .before .before .before .before .before .before .args .book-words .now) (c .before .before .before .before .before .before .before .before .before .before .before .before .before .args .work .now) (c .before .before .before .before .before .before .before .before .before .before .before .before .before .args .at) (c .before .before .before .before .before .before .before .before .before .before .before .before .before .args .packed) (c .before .before .before .before .before .before .before .before .before .before .before .before .before .args .index) (c .before .before .before .before .before .before .before .before .before .before .before .before .before .pre)
+field-offset-requires c κs =
+    let entry = c .before .before .before .before .before .before .before .before .before .before .before .before .before in
+    laws.struct-ask (entry .args .names) (entry .args .book-kinds .now) (entry .args .book-words .now) (entry .args .work .now) (entry .args .at)
+    (entry .args .packed) (entry .args .index) (entry .pre)
 
 enum-known-e : tie.Need-enum-known-e
 enum-known-e c = search needs
@@ -61,19 +91,43 @@ enum-known-offset : tie.Need-enum-known-offset
 enum-known-offset c = search needs
 
 add-t25 : tie.Need-add-t25
-add-t25 c = let h = laws.struct-fits (c .before .before .before .before .before .before .before .before .before .before .before .before .before .before .before .before .before .before .before .args .names) (c .before .before .before .before .before .before .before .before .before .before .before .before .before .before .before .before .before .before .before .args .book-kinds .now) (c .before .before .before .before .before .before .before .before .before .before .before .before .before .before .before .before .before .before .before .args .book-words .now) (c .before .before .before .before .before .before .before .before .before .before .before .before .before .before .before .before .before .before .before .args .work .now) (c .before .before .before .before .before .before .before .before .before .before .before .before .before .before .before .before .before .before .before .args .at) (c .before .before .before .before .before .before .before .before .before .before .before .before .before .before .before .before .before .before .before .args .packed) (c .before .before .before .before .before .before .before .before .before .before .before .before .before .before .before .before .before .before .before .args .index) (c .before .before .before .before .before .before .before .before .before .before .before .before .before .before .before .before .before .before .before .pre) _ (c .before .before .before .before .before .before .before .before .before .before .before .before .before .before .index .given .1) _ (c .before .before .before .before .before .before .before .before .before .before .field-at .ensures) _ (c .before .before .before .before .before .before .before .before .n .given .1) in search needs
+add-t25 c =
+    let after-n = c .before .before .before .before .before .before .before .before in
+    let after-field-at = after-n .before .before in
+    let after-index = after-field-at .before .before .before .before in
+    let entry = after-index .before .before .before .before .before in
+    let h = laws.struct-fits (entry .args .names) (entry .args .book-kinds .now) (entry .args .book-words .now) (entry .args .work .now)
+    (entry .args .at) (entry .args .packed) (entry .args .index) (entry .pre) _ (after-index .index .given .1) _
+    (after-field-at .field-at .ensures) _ (after-n .n .given .1) in
+    search needs
 
 same-length : tie.Need-same-length
 same-length c = search needs
 
 returns-3 : tie.Need-returns-3
-returns-3 c = laws.struct-refused (c .before .before .before .before .before .before .before .before .before .before .before .before .before .before .before .before .before .before .before .args .names) (c .before .before .before .before .before .before .before .before .before .before .before .before .before .before .before .before .before .before .before .args .book-kinds .now) (c .before .before .before .before .before .before .before .before .before .before .before .before .before .before .before .before .before .before .before .args .book-words .now) (c .before .before .before .before .before .before .before .before .before .before .before .before .before .before .before .before .before .before .before .args .work .now) (c .before .before .before .before .before .before .before .before .before .before .before .before .before .before .before .before .before .before .before .args .at) (c .before .before .before .before .before .before .before .before .before .before .before .before .before .before .before .before .before .before .before .args .packed) (c .before .before .before .before .before .before .before .before .before .before .before .before .before .before .before .before .before .before .before .args .index) (c .before .before .before .before .before .before .before .before .before .before .before .before .before .before .before .before .before .before .before .pre) _ (c .before .before .before .before .before .before .before .before .before .before .before .before .before .before .index .given .1) _ (c .before .before .before .before .before .before .before .before .before .before .field-at .ensures) _ (c .before .before .before .before .before .before .before .before .n .given .1) _ (c .before .before .before .before .before .field-offset .ensures) _ (c .before .e .given .1)
+returns-3 c =
+    let after-field-offset = c .before .before .before .before .before in
+    let after-n = after-field-offset .before .before .before in
+    let after-field-at = after-n .before .before in
+    let after-index = after-field-at .before .before .before .before in
+    let entry = after-index .before .before .before .before .before in
+    laws.struct-refused (entry .args .names) (entry .args .book-kinds .now) (entry .args .book-words .now) (entry .args .work .now) (entry .args .at)
+    (entry .args .packed) (entry .args .index) (entry .pre) _ (after-index .index .given .1) _ (after-field-at .field-at .ensures) _
+    (after-n .n .given .1) _ (after-field-offset .field-offset .ensures) _ (c .before .e .given .1)
 
 same-length-2 : tie.Need-same-length-2
 same-length-2 c = search needs
 
 returns-4 : tie.Need-returns-4
-returns-4 c = laws.struct-const (c .before .before .before .before .before .before .before .before .before .before .before .before .before .before .before .before .before .before .before .args .names) (c .before .before .before .before .before .before .before .before .before .before .before .before .before .before .before .before .before .before .before .args .book-kinds .now) (c .before .before .before .before .before .before .before .before .before .before .before .before .before .before .before .before .before .before .before .args .book-words .now) (c .before .before .before .before .before .before .before .before .before .before .before .before .before .before .before .before .before .before .before .args .work .now) (c .before .before .before .before .before .before .before .before .before .before .before .before .before .before .before .before .before .before .before .args .at) (c .before .before .before .before .before .before .before .before .before .before .before .before .before .before .before .before .before .before .before .args .packed) (c .before .before .before .before .before .before .before .before .before .before .before .before .before .before .before .before .before .before .before .args .index) (c .before .before .before .before .before .before .before .before .before .before .before .before .before .before .before .before .before .before .before .pre) _ (c .before .before .before .before .before .before .before .before .before .before .before .before .before .before .index .given .1) _ (c .before .before .before .before .before .before .before .before .before .before .field-at .ensures) _ (c .before .before .before .before .before .before .before .before .n .given .1) _ (c .before .before .before .before .before .field-offset .ensures) _ (c .before .offset .given .1)
+returns-4 c =
+    let after-field-offset = c .before .before .before .before .before in
+    let after-n = after-field-offset .before .before .before in
+    let after-field-at = after-n .before .before in
+    let after-index = after-field-at .before .before .before .before in
+    let entry = after-index .before .before .before .before .before in
+    laws.struct-const (entry .args .names) (entry .args .book-kinds .now) (entry .args .book-words .now) (entry .args .work .now) (entry .args .at)
+    (entry .args .packed) (entry .args .index) (entry .pre) _ (after-index .index .given .1) _ (after-field-at .field-at .ensures) _
+    (after-n .n .given .1) _ (after-field-offset .field-offset .ensures) _ (c .before .offset .given .1)
 
 pub struct-step-spec : {M : Type 1} → statement M
 struct-step-spec =

@@ -41,7 +41,14 @@ allowed-requires : tie.Need-allowed-requires Inv-loop μ-loop
 allowed-requires c κs = search needs
 
 returns-2 : tie.Need-returns-2 Inv-loop μ-loop
-returns-2 c = sym (c .before .before .before .before .before .before .before .loop .inv ∙ checked-false _ _ _ _ _ _ _ (c .before .before .before .before .before .before .loop-test .taken) (c .before .before .before .before .before .if1 .left) (rw (sym (c .before .before .before .form-of .ensures)) (sym (c .before .allowed .ensures) ∙ not-true _ (c .if2 .taken))))
+returns-2 c =
+    let after-form-of = c .before .before .before in
+    let else1 = after-form-of .before .before in
+    let in-loop = else1 .before in
+    let at-loop = in-loop .before in
+    sym
+    (at-loop .loop .inv ∙ checked-false _ _ _ _ _ _ _ (in-loop .loop-test .taken) (else1 .if1 .left)
+    (rw (sym (after-form-of .form-of .ensures)) (sym (c .before .allowed .ensures) ∙ not-true _ (c .if2 .taken))))
 
 add-i : tie.Need-add-i Inv-loop μ-loop
 add-i c = search needs
@@ -50,7 +57,13 @@ loop-less : tie.Need-loop-less Inv-loop μ-loop
 loop-less c = search needs
 
 loop-again : tie.Need-loop-again Inv-loop μ-loop
-loop-again c = c .before .before .before .before .before .before .before .loop .inv ∙ checked-true _ _ _ _ _ _ _ (c .before .before .before .before .before .before .loop-test .taken) (c .before .before .before .before .before .if1 .left) (rw (sym (c .before .before .before .form-of .ensures)) (sym (c .before .allowed .ensures) ∙ not-false _ (c .if2 .left)))
+loop-again c =
+    let after-form-of = c .before .before .before in
+    let else1 = after-form-of .before .before in
+    let in-loop = else1 .before in
+    let at-loop = in-loop .before in
+    at-loop .loop .inv ∙ checked-true _ _ _ _ _ _ _ (in-loop .loop-test .taken) (else1 .if1 .left)
+    (rw (sym (after-form-of .form-of .ensures)) (sym (c .before .allowed .ensures) ∙ not-false _ (c .if2 .left)))
 
 returns-3 : tie.Need-returns-3 Inv-loop μ-loop
 returns-3 c = sym (c .before .loop .inv ∙ checked-kinds _ _ _ _ _ _ _ (c .loop-test .left))

@@ -35,7 +35,15 @@ same-length c = search needs
 
 returns : tie.Need-returns
 unfolding bytes comment
-returns c = then-put (c .before .before .before .before .before .before .before .before .before .before .before .before .before .before .before .before .before .before .before .put-bytes .ensures) (then-put (c .before .before .before .before .before .before .before .before .before .before .before .before .before .before .before .put-type .ensures) (then-put (c .before .before .before .before .before .before .before .before .before .before .put-bytes2 .ensures) (then-put (c .before .before .before .before .before .before .put-bytes3 .ensures) (c .before .before .put-params .ensures))))
+returns c =
+    let after-put-bytes3 = c .before .before .before .before .before .before in
+    let after-put-bytes2 = after-put-bytes3 .before .before .before .before in
+    let after-put-type = after-put-bytes2 .before .before .before .before .before in
+    let after-put-bytes = after-put-type .before .before .before .before in
+    then-put (after-put-bytes .put-bytes .ensures)
+    (then-put (after-put-type .put-type .ensures)
+    (then-put (after-put-bytes2 .put-bytes2 .ensures)
+    (then-put (after-put-bytes3 .put-bytes3 .ensures) (c .before .before .put-params .ensures))))
 
 pub put-comment-spec : {M : Type 1} → statement M
 put-comment-spec =

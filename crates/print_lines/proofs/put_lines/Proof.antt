@@ -41,7 +41,20 @@ shared-slice-read-put-line-2 : tie.Need-shared-slice-read-put-line-2 Inv-loop μ
 shared-slice-read-put-line-2 c = search needs
 
 put-line-requires : tie.Need-put-line-requires Inv-loop μ-loop
-put-line-requires c κs = (c .before .before .before .before .before .before .before .before .before .before .before .before .before .before .pre .0, (c .before .before .before .before .before .before .before .before .before .before .before .before .before .before .pre .1 .0, (c .before .before .before .before .before .before .before .before .before .before .before .before .before .before .pre .1 .1 .0 .names _ (c .before .before .before .before .loop-test .taken) (c .before .before .before .if1 .left), c .before .before .before .before .before .before .before .before .before .before .before .before .before .before .pre .1 .1 .0 .known _ (c .before .before .before .before .loop-test .taken) (c .before .before .before .if1 .left))))
+put-line-requires c κs =
+    let else1 = c .before .before .before in
+    let in-loop = else1 .before in
+    let entry = in-loop .before .before .before .before .before .before .before .before .before .before in (
+      entry .pre .0,
+      (
+        entry .pre .1 .0,
+        (
+          entry .pre .1 .1 .0 .names _ (in-loop .loop-test .taken) (else1 .if1 .left),
+          entry .pre .1 .1 .0 .known _ (in-loop .loop-test .taken)
+              (else1 .if1 .left),
+        ),
+      ),
+    )
 
 add-i : tie.Need-add-i Inv-loop μ-loop
 add-i c = search needs
@@ -50,7 +63,11 @@ loop-less : tie.Need-loop-less Inv-loop μ-loop
 loop-less c = search needs
 
 loop-again : tie.Need-loop-again Inv-loop μ-loop
-loop-again c = putting-next (c .before .before .before .before .before .before .before .before .loop .inv) _ _ (c .before .before .before .before .before .before .before .loop-test .taken) (c .before .before .before .before .before .before .if1 .left) (c .before .before .put-line .ensures)
+loop-again c =
+    let else1 = c .before .before .before .before .before .before in
+    let in-loop = else1 .before in
+    let at-loop = in-loop .before in
+    putting-next (at-loop .loop .inv) _ _ (in-loop .loop-test .taken) (else1 .if1 .left) (c .before .before .put-line .ensures)
 
 same-length-2 : tie.Need-same-length-2 Inv-loop μ-loop
 same-length-2 c = search needs

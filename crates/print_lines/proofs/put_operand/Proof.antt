@@ -34,7 +34,9 @@ enum-told-2 : tie.Need-enum-told-2
 enum-told-2 c = search needs
 
 name-of-requires-2 : tie.Need-name-of-requires-2
-name-of-requires-2 c κs = (c .before .before .before .before .before .before .before .pre .0, rw (c .before .enum-told2 .given .1) at (c .before .before .before .before .before .before .before .pre .1))
+name-of-requires-2 c κs =
+    let entry = c .before .before .before .before .before .before .before in
+    (entry .pre .0, rw (c .before .enum-told2 .given .1) at (entry .pre .1))
 
 put-block-requires : tie.Need-put-block-requires
 put-block-requires c κs = search needs
@@ -43,7 +45,9 @@ enum-told-3 : tie.Need-enum-told-3
 enum-told-3 c = search needs
 
 name-of-requires-3 : tie.Need-name-of-requires-3
-name-of-requires-3 c κs = (c .before .before .before .before .before .before .before .pre .0, rw (c .before .enum-told3 .given .1) at (c .before .before .before .before .before .before .before .pre .1))
+name-of-requires-3 c κs =
+    let entry = c .before .before .before .before .before .before .before in
+    (entry .pre .0, rw (c .before .enum-told3 .given .1) at (entry .pre .1))
 
 put-call-requires : tie.Need-put-call-requires
 put-call-requires c κs = search needs
@@ -52,10 +56,16 @@ enum-told-4 : tie.Need-enum-told-4
 enum-told-4 c = search needs
 
 name-of-requires-4 : tie.Need-name-of-requires-4
-name-of-requires-4 c κs = let r : Ready Form.Syscall (lines (c .before .before .before .before .before .before .before .args .names .now)) (c .before .before .before .before .before .before .before .args .x) = rw (c .before .enum-told4 .given .1) at (c .before .before .before .before .before .before .before .pre .1) in (c .before .before .before .before .before .before .before .pre .0, r .0)
+name-of-requires-4 c κs =
+    let entry = c .before .before .before .before .before .before .before in
+    let r : Ready Form.Syscall (lines (entry .args .names .now)) (entry .args .x) = rw (c .before .enum-told4 .given .1) at (entry .pre .1) in
+    (entry .pre .0, r .0)
 
 put-syscall-requires : tie.Need-put-syscall-requires
-put-syscall-requires c κs = let r : Ready Form.Syscall (lines (c .before .before .before .before .before .before .before .before .args .names .now)) (c .before .before .before .before .before .before .before .before .args .x) = rw (c .before .before .enum-told4 .given .1) at (c .before .before .before .before .before .before .before .before .pre .1) in rw (c .name-of4 .ensures) (r .1)
+put-syscall-requires c κs =
+    let entry = c .before .before .before .before .before .before .before .before in
+    let r : Ready Form.Syscall (lines (entry .args .names .now)) (entry .args .x) = rw (c .before .before .enum-told4 .given .1) at (entry .pre .1) in
+    rw (c .name-of4 .ensures) (r .1)
 
 enum-told-5 : tie.Need-enum-told-5
 enum-told-5 c = search needs
@@ -118,13 +128,27 @@ same-length-2 : tie.Need-same-length-2
 same-length-2 c = search needs
 
 returns-2 : tie.Need-returns-2
-returns-2 c = put-same (rw (c .before .before .before .before .before .enum-told2 .given .1) (ap (λ s. sanitize (c .before .before .before .before .before .before .before .before .before .before .before .args .function .now) ++ (bytes "__" ++ sanitize s)) (c .before .before .before .name-of2 .ensures))) (c .before .before .put-block .ensures)
+returns-2 c =
+    let after-name-of2 = c .before .before .before in
+    let after-enum-told2 = after-name-of2 .before .before in
+    let entry = after-enum-told2 .before .before .before .before .before .before in
+    put-same
+    (rw (after-enum-told2 .enum-told2 .given .1)
+    (ap (λ s. sanitize (entry .args .function .now) ++ (bytes "__" ++ sanitize s)) (after-name-of2 .name-of2 .ensures)))
+    (c .before .before .put-block .ensures)
 
 same-length-3 : tie.Need-same-length-3
 same-length-3 c = search needs
 
 returns-3 : tie.Need-returns-3
-returns-3 c = put-same (rw (c .before .before .before .before .before .enum-told3 .given .1) (ap (λ s. sanitize s ++ (bytes ", " ++ decimal (c .before .before .before .before .before .before .before .before .before .before .before .args .x % 256))) (c .before .before .before .name-of3 .ensures))) (c .before .before .put-call .ensures)
+returns-3 c =
+    let after-name-of3 = c .before .before .before in
+    let after-enum-told3 = after-name-of3 .before .before in
+    let entry = after-enum-told3 .before .before .before .before .before .before in
+    put-same
+    (rw (after-enum-told3 .enum-told3 .given .1)
+    (ap (λ s. sanitize s ++ (bytes ", " ++ decimal (entry .args .x % 256))) (after-name-of3 .name-of3 .ensures)))
+    (c .before .before .put-call .ensures)
 
 same-length-4 : tie.Need-same-length-4
 same-length-4 c = search needs

@@ -18,7 +18,9 @@ form-of-requires : tie.Need-form-of-requires
 form-of-requires c κs = search needs
 
 put-operand-requires : tie.Need-put-operand-requires
-put-operand-requires c κs = (c .before .before .before .before .before .before .before .before .before .before .pre .0, rw (c .form-of .ensures) (c .before .before .before .before .before .before .before .before .before .before .pre .1 .0))
+put-operand-requires c κs =
+    let entry = c .before .before .before .before .before .before .before .before .before .before in
+    (entry .pre .0, rw (c .form-of .ensures) (entry .pre .1 .0))
 
 put-end-requires : tie.Need-put-end-requires
 put-end-requires c κs = search needs
@@ -28,7 +30,16 @@ same-length c = search needs
 
 returns : tie.Need-returns
 unfolding partsText
-returns c = then-put (c .before .before .before .before .before .before .before .before .before .before .before .put-word .ensures) (then-put (put-same (ap (λ f. operandText (lines (c .before .before .before .before .before .before .before .before .before .before .before .before .before .before .before .before .before .args .names .now)) (c .before .before .before .before .before .before .before .before .before .before .before .before .before .before .before .before .before .args .function .now) f (c .before .before .before .before .before .before .before .before .before .before .before .before .before .before .before .before .before .args .x)) (c .before .before .before .before .before .before .before .form-of .ensures)) (c .before .before .before .before .before .before .put-operand .ensures)) (c .before .before .put-end .ensures))
+returns c =
+    let after-put-operand = c .before .before .before .before .before .before in
+    let after-form-of = after-put-operand .before in
+    let after-put-word = after-form-of .before .before .before .before in
+    let entry = after-put-word .before .before .before .before .before .before in
+    then-put (after-put-word .put-word .ensures)
+    (then-put
+    (put-same
+    (ap (λ f. operandText (lines (entry .args .names .now)) (entry .args .function .now) f (entry .args .x))
+    (after-form-of .form-of .ensures)) (after-put-operand .put-operand .ensures)) (c .before .before .put-end .ensures))
 
 pub put-parts-spec : {M : Type 1} → statement M
 put-parts-spec =

@@ -15,10 +15,19 @@ enum-known-next : tie.Need-enum-known-next
 enum-known-next c = search needs
 
 sub-copy : tie.Need-sub-copy
-sub-copy c = end-fits (c .before .before .before .before .before .before .before .args .src .now) _ (c .before .before .before .before .before .before .before .args .text .now) (c .before .before .before .before .before .before .before .args .pen) _ (refl) (c .before .before .before .before .reach .ensures) _ (c .before .before .next .given .1) .0
+sub-copy c =
+    let after-reach = c .before .before .before .before in
+    let entry = after-reach .before .before .before in
+    end-fits (entry .args .src .now) _ (entry .args .text .now) (entry .args .pen) _ (refl) (after-reach .reach .ensures) _
+    (c .before .before .next .given .1) .0
 
 copy-requires : tie.Need-copy-requires
-copy-requires c κs = let e = end-fits (c .before .before .before .before .before .before .before .args .src .now) _ (c .before .before .before .before .before .before .before .args .text .now) (c .before .before .before .before .before .before .before .args .pen) _ (refl) (c .before .before .before .before .reach .ensures) _ (c .before .before .next .given .1) in omega (arith)
+copy-requires c κs =
+    let after-reach = c .before .before .before .before in
+    let entry = after-reach .before .before .before in
+    let e = end-fits (entry .args .src .now) _ (entry .args .text .now) (entry .args .pen) _ (refl) (after-reach .reach .ensures) _
+    (c .before .before .next .given .1) in
+    omega (arith)
 
 enum-told : tie.Need-enum-told
 enum-told c = search needs
@@ -30,7 +39,10 @@ same-length : tie.Need-same-length
 same-length c = search needs
 
 returns : tie.Need-returns
-returns c = put-wrote _ _ _ _ _ (refl) (c .before .before .before .before .before .before .before .reach .ensures) _ _ (c .before .before .before .before .before .next .given .1) (c .before .before .copy .ensures)
+returns c =
+    let after-next = c .before .before .before .before .before in
+    let after-reach = after-next .before .before in
+    put-wrote _ _ _ _ _ (refl) (after-reach .reach .ensures) _ _ (after-next .next .given .1) (c .before .before .copy .ensures)
 
 returns-2 : tie.Need-returns-2
 returns-2 c = put-none _ _ _ _ _ (refl) (c .before .before .reach .ensures) _ (c .enum-told .given .1)

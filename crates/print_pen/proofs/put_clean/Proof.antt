@@ -17,10 +17,19 @@ enum-known-next : tie.Need-enum-known-next
 enum-known-next c = search needs
 
 sub-copy-clean : tie.Need-sub-copy-clean
-sub-copy-clean c = end-fits (sanitize (c .before .before .before .before .before .before .before .args .src .now)) _ (c .before .before .before .before .before .before .before .args .text .now) (c .before .before .before .before .before .before .before .args .pen) _ (sym (sanitize-length (c .before .before .before .before .before .before .before .args .src .now))) (c .before .before .before .before .reach .ensures) _ (c .before .before .next .given .1) .0
+sub-copy-clean c =
+    let after-reach = c .before .before .before .before in
+    let entry = after-reach .before .before .before in
+    end-fits (sanitize (entry .args .src .now)) _ (entry .args .text .now) (entry .args .pen) _ (sym (sanitize-length (entry .args .src .now)))
+    (after-reach .reach .ensures) _ (c .before .before .next .given .1) .0
 
 copy-clean-requires : tie.Need-copy-clean-requires
-copy-clean-requires c κs = let e = end-fits (sanitize (c .before .before .before .before .before .before .before .args .src .now)) _ (c .before .before .before .before .before .before .before .args .text .now) (c .before .before .before .before .before .before .before .args .pen) _ (sym (sanitize-length (c .before .before .before .before .before .before .before .args .src .now))) (c .before .before .before .before .reach .ensures) _ (c .before .before .next .given .1) in omega (arith)
+copy-clean-requires c κs =
+    let after-reach = c .before .before .before .before in
+    let entry = after-reach .before .before .before in
+    let e = end-fits (sanitize (entry .args .src .now)) _ (entry .args .text .now) (entry .args .pen) _
+    (sym (sanitize-length (entry .args .src .now))) (after-reach .reach .ensures) _ (c .before .before .next .given .1) in
+    omega (arith)
 
 enum-told : tie.Need-enum-told
 enum-told c = search needs
@@ -32,7 +41,11 @@ same-length : tie.Need-same-length
 same-length c = search needs
 
 returns : tie.Need-returns
-returns c = put-wrote _ _ _ _ _ (sym (sanitize-length _)) (c .before .before .before .before .before .before .before .reach .ensures) _ _ (c .before .before .before .before .before .next .given .1) (c .before .before .copy-clean .ensures)
+returns c =
+    let after-next = c .before .before .before .before .before in
+    let after-reach = after-next .before .before in
+    put-wrote _ _ _ _ _ (sym (sanitize-length _)) (after-reach .reach .ensures) _ _ (after-next .next .given .1)
+    (c .before .before .copy-clean .ensures)
 
 returns-2 : tie.Need-returns-2
 returns-2 c = put-none _ _ _ _ _ (sym (sanitize-length _)) (c .before .before .reach .ensures) _ (c .enum-told .given .1)

@@ -19,10 +19,21 @@ enum-known-next : tie.Need-enum-known-next
 enum-known-next c = search needs
 
 sub-put-decimal : tie.Need-sub-put-decimal
-sub-put-decimal c = end-fits (decimal (c .before .before .before .before .before .before .before .args .n)) _ (c .before .before .before .before .before .before .before .args .text .now) (c .before .before .before .before .before .before .before .args .pen) _ (c .before .before .before .before .before .decimal-len .ensures) (c .before .before .before .before .reach .ensures) _ (c .before .before .next .given .1) .0
+sub-put-decimal c =
+    let after-reach = c .before .before .before .before in
+    let after-decimal-len = after-reach .before in
+    let entry = after-decimal-len .before .before in
+    end-fits (decimal (entry .args .n)) _ (entry .args .text .now) (entry .args .pen) _ (after-decimal-len .decimal-len .ensures)
+    (after-reach .reach .ensures) _ (c .before .before .next .given .1) .0
 
 put-decimal-requires : tie.Need-put-decimal-requires
-put-decimal-requires c κs = let e = end-fits (decimal (c .before .before .before .before .before .before .before .args .n)) _ (c .before .before .before .before .before .before .before .args .text .now) (c .before .before .before .before .before .before .before .args .pen) _ (c .before .before .before .before .before .decimal-len .ensures) (c .before .before .before .before .reach .ensures) _ (c .before .before .next .given .1) in omega (arith, c .before .before .before .before .before .decimal-len .ensures)
+put-decimal-requires c κs =
+    let after-reach = c .before .before .before .before in
+    let after-decimal-len = after-reach .before in
+    let entry = after-decimal-len .before .before in
+    let e = end-fits (decimal (entry .args .n)) _ (entry .args .text .now) (entry .args .pen) _ (after-decimal-len .decimal-len .ensures)
+    (after-reach .reach .ensures) _ (c .before .before .next .given .1) in
+    omega (arith, after-decimal-len .decimal-len .ensures)
 
 enum-told : tie.Need-enum-told
 enum-told c = search needs
@@ -34,7 +45,12 @@ same-length : tie.Need-same-length
 same-length c = search needs
 
 returns : tie.Need-returns
-returns c = put-wrote _ _ _ _ _ (c .before .before .before .before .before .before .before .before .decimal-len .ensures) (c .before .before .before .before .before .before .before .reach .ensures) _ _ (c .before .before .before .before .before .next .given .1) (c .before .before .put-decimal .ensures .1)
+returns c =
+    let after-next = c .before .before .before .before .before in
+    let after-reach = after-next .before .before in
+    let after-decimal-len = after-reach .before in
+    put-wrote _ _ _ _ _ (after-decimal-len .decimal-len .ensures) (after-reach .reach .ensures) _ _ (after-next .next .given .1)
+    (c .before .before .put-decimal .ensures .1)
 
 returns-2 : tie.Need-returns-2
 returns-2 c = put-none _ _ _ _ _ (c .before .before .before .decimal-len .ensures) (c .before .before .reach .ensures) _ (c .enum-told .given .1)

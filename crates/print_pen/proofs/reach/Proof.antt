@@ -13,7 +13,9 @@ fits-requires : tie.Need-fits-requires
 fits-requires c κs = search needs
 
 add-t9 : tie.Need-add-t9
-add-t9 c = record { fits = sum-fits (c .before .before .before .before .before .args .pen) _ _ _ _ (c .before .fits2 .ensures) (fits-lt-pow (c .before .before .before .before .before .fits .room)) (c .if1 .taken) }
+add-t9 c =
+    let entry = c .before .before .before .before .before in
+    record { fits = sum-fits (entry .args .pen) _ _ _ _ (c .before .fits2 .ensures) (fits-lt-pow (entry .fits .room)) (c .if1 .taken) }
 
 enum-known-pen-2 : tie.Need-enum-known-pen-2
 enum-known-pen-2 c = search needs
@@ -22,7 +24,9 @@ fits-requires-2 : tie.Need-fits-requires-2
 fits-requires-2 c κs = search needs
 
 add-t12 : tie.Need-add-t12
-add-t12 c = record { fits = sum-fits (c .before .before .before .before .before .args .pen) _ _ _ _ (c .before .fits3 .ensures) (fits-lt-pow (c .before .before .before .before .before .fits .room)) (c .if2 .taken) }
+add-t12 c =
+    let entry = c .before .before .before .before .before in
+    record { fits = sum-fits (entry .args .pen) _ _ _ _ (c .before .fits3 .ensures) (fits-lt-pow (entry .fits .room)) (c .if2 .taken) }
 
 enum-told : tie.Need-enum-told
 enum-told c = search needs

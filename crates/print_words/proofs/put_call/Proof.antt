@@ -25,7 +25,10 @@ same-length c = search needs
 
 returns : tie.Need-returns
 unfolding bytes
-returns c = then-put (c .before .before .before .before .before .before .before .before .before .before .before .put-clean .ensures) (then-put (c .before .before .before .before .before .before .put-bytes .ensures) (c .before .before .put-number .ensures))
+returns c =
+    let after-put-bytes = c .before .before .before .before .before .before in
+    let after-put-clean = after-put-bytes .before .before .before .before .before in
+    then-put (after-put-clean .put-clean .ensures) (then-put (after-put-bytes .put-bytes .ensures) (c .before .before .put-number .ensures))
 
 pub put-call-spec : {M : Type 1} → statement M
 put-call-spec =

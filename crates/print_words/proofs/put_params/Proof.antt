@@ -29,7 +29,10 @@ same-length c = search needs
 
 returns : tie.Need-returns
 unfolding bytes paramsText ended
-returns c = then-put (c .before .before .before .before .before .before .before .before .before .before .before .put-bytes .ensures) (then-put (c .before .before .before .before .before .before .before .put-number .ensures) (c .before .before .put-bytes2 .ensures))
+returns c =
+    let after-put-number = c .before .before .before .before .before .before .before in
+    let after-put-bytes = after-put-number .before .before .before .before in
+    then-put (after-put-bytes .put-bytes .ensures) (then-put (after-put-number .put-number .ensures) (c .before .before .put-bytes2 .ensures))
 
 pub put-params-spec : {M : Type 1} → statement M
 put-params-spec =

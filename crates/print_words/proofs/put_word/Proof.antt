@@ -42,7 +42,11 @@ same-length c = search needs
 
 returns : tie.Need-returns
 unfolding wordStarts letters
-returns c = put-same (rw (c .before .before .before .before .before .before .place .ensures, c .before .before .before .before .before .place2 .ensures) (word-at _ (c .before .before .before .before .before .before .before .before .pre) .is)) (c .before .before .put-part .ensures)
+returns c =
+    let after-place2 = c .before .before .before .before .before in
+    let after-place = after-place2 .before in
+    let entry = after-place .before .before in
+    put-same (rw (after-place .place .ensures, after-place2 .place2 .ensures) (word-at _ (entry .pre) .is)) (c .before .before .put-part .ensures)
 
 pub put-word-spec : {M : Type 1} → statement M
 put-word-spec =

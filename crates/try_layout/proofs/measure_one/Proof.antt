@@ -80,7 +80,12 @@ part-size-of-end-2 : tie.Need-part-size-of-end-2
 part-size-of-end-2 c = search needs
 
 size-of-requires : tie.Need-size-of-requires
-size-of-requires c κs = laws.ask (c .before .before .before .before .before .before .before .before .before .before .before .before .before .before .args .names) (c .before .before .before .before .before .before .before .before .before .before .before .before .before .before .args .kinds .now) (c .before .before .before .before .before .before .before .before .before .before .before .before .before .before .args .words .now) (c .before .before .before .before .before .before .before .before .before .before .before .before .before .before .args .at) (c .before .before .before .before .before .before .before .before .before .before .before .before .before .before .pre .few) _ (c .before .before .before .before .before .before .type-len .ensures) _ (c .before .before .before .before .n .given .1) (c .before .before .before .before .before .before .before .before .before .before .before .before .before .before .pre)
+size-of-requires c κs =
+    let after-n = c .before .before .before .before in
+    let after-type-len = after-n .before .before in
+    let entry = after-type-len .before .before .before .before .before .before .before .before in
+    laws.ask (entry .args .names) (entry .args .kinds .now) (entry .args .words .now) (entry .args .at) (entry .pre .few) _
+    (after-type-len .type-len .ensures) _ (after-n .n .given .1) (entry .pre)
 
 mul-align-of : tie.Need-mul-align-of
 mul-align-of c = search needs
@@ -107,7 +112,13 @@ part-align-of-end-2 : tie.Need-part-align-of-end-2
 part-align-of-end-2 c = search needs
 
 align-of-requires : tie.Need-align-of-requires
-align-of-requires c κs = laws.ask (c .before .before .before .before .before .before .before .before .before .before .before .before .before .before .before .before .before .before .before .before .args .names) (c .before .before .before .before .before .before .before .before .before .before .before .before .before .before .before .before .before .before .before .before .args .kinds .now) (c .before .before .before .before .before .before .before .before .before .before .before .before .before .before .before .before .before .before .before .before .args .words .now) (c .before .before .before .before .before .before .before .before .before .before .before .before .before .before .before .before .before .before .before .before .args .at) (c .before .before .before .before .before .before .before .before .before .before .before .before .before .before .before .before .before .before .before .before .pre .few) _ (c .before .before .before .before .before .before .before .before .before .before .before .before .type-len .ensures) _ (c .before .before .before .before .before .before .before .before .before .before .n .given .1) (c .before .before .before .before .before .size-of .ensures .after .ready)
+align-of-requires c κs =
+    let after-size-of = c .before .before .before .before .before in
+    let after-n = after-size-of .before .before .before .before .before in
+    let after-type-len = after-n .before .before in
+    let entry = after-type-len .before .before .before .before .before .before .before .before in
+    laws.ask (entry .args .names) (entry .args .kinds .now) (entry .args .words .now) (entry .args .at) (entry .pre .few) _
+    (after-type-len .type-len .ensures) _ (after-n .n .given .1) (after-size-of .size-of .ensures .after .ready)
 
 show-requires : tie.Need-show-requires
 show-requires c κs = search needs
@@ -128,13 +139,29 @@ write-all-requires-2 : tie.Need-write-all-requires-2
 write-all-requires-2 c κs = search needs
 
 add-result : tie.Need-add-result
-add-result c = omega (arith, laws.read-few (c .before .before .before .before .before .before .before .before .before .before .before .before .before .before .before .before .before .before .before .before .before .before .before .before .before .before .before .before .before .args .names) (c .before .before .before .before .before .before .before .before .before .before .before .before .before .before .before .before .before .before .before .before .before .before .before .before .before .before .before .before .before .args .kinds .now) (c .before .before .before .before .before .before .before .before .before .before .before .before .before .before .before .before .before .before .before .before .before .before .before .before .before .before .before .before .before .args .words .now) (c .before .before .before .before .before .before .before .before .before .before .before .before .before .before .before .before .before .before .before .before .before .before .before .before .before .before .before .before .before .args .at) (c .before .before .before .before .before .before .before .before .before .before .before .before .before .before .before .before .before .before .before .before .before .before .before .before .before .before .before .before .before .pre .few) _ (c .before .before .before .before .before .before .before .before .before .before .before .before .before .before .before .before .before .before .before .before .before .type-len .ensures) _ (c .before .before .before .before .before .before .before .before .before .before .before .before .before .before .before .before .before .before .before .n .given .1), laws.at-few (c .before .before .before .before .before .before .before .before .before .before .before .before .before .before .before .before .before .before .before .before .before .before .before .before .before .before .before .before .before .args .kinds .now) (c .before .before .before .before .before .before .before .before .before .before .before .before .before .before .before .before .before .before .before .before .before .before .before .before .before .before .before .before .before .args .words .now) (c .before .before .before .before .before .before .before .before .before .before .before .before .before .before .before .before .before .before .before .before .before .before .before .before .before .before .before .before .before .args .at) (c .before .before .before .before .before .before .before .before .before .before .before .before .before .before .before .before .before .before .before .before .before .before .before .before .before .before .before .before .before .pre .few) (c .before .before .before .before .before .before .before .before .before .before .before .before .before .before .before .before .before .before .before .before .before .before .before .before .before .if1 .left) (c .before .before .before .before .before .before .before .before .before .before .before .before .before .before .before .before .before .before .before .before .before .before .before .before .if2 .left))
+add-result c =
+    let after-n = c .before .before .before .before .before .before .before .before .before .before .before .before .before .before .before .before .before .before .before in
+    let after-type-len = after-n .before .before in
+    let else2 = after-type-len .before .before .before in
+    let else1 = else2 .before in
+    let entry = else1 .before .before .before .before in
+    omega (
+      arith,
+      laws.read-few (entry .args .names) (entry .args .kinds .now) (entry .args .words .now) (entry .args .at) (entry .pre .few) _
+          (after-type-len .type-len .ensures) _ (after-n .n .given .1),
+      laws.at-few (entry .args .kinds .now) (entry .args .words .now)
+          (entry .args .at) (entry .pre .few) (else1 .if1 .left) (else2 .if2 .left),
+    )
 
 same-length : tie.Need-same-length
 same-length c = search needs
 
 returns-4 : tie.Need-returns-4
-returns-4 c = record { ready = c .before .before .before .before .before .before .before .before .align-of .ensures .after .ready; long = c .before .before .before .before .before .before .before .before .align-of .ensures .after .kept .long ∙ c .before .before .before .before .before .before .before .before .before .before .before .before .before .before .size-of .ensures .after .kept .long; further = laws.further-by _ _ }
+returns-4 c =
+    let after-align-of = c .before .before .before .before .before .before .before .before in
+    let after-size-of = after-align-of .before .before .before .before .before .before in
+    record
+    { ready = after-align-of .align-of .ensures .after .ready; long = after-align-of .align-of .ensures .after .kept .long ∙ after-size-of .size-of .ensures .after .kept .long; further = laws.further-by _ _ }
 
 pub measure-one-spec : {M : Type 1} → statement M
 measure-one-spec =

@@ -29,36 +29,68 @@ returns c =
 
 mul-first-entry : tie.Need-mul-first-entry
 mul-first-entry c =
-    let a = c .before .before .before .before .before .before .before .args in
-    omega (arith, within-kinds _ (a .kinds .now) (a .words .now) (len-fits (agrees-type (a .names)) (entries (a .kinds .now) (a .words .now)) _ (sym (c .before .before .before .type-len .ensures) ∙ c .before .n .given .1)), c .before .before .before .before .before .before .before .good)
+    let after-type-len = c .before .before .before in
+    let entry = after-type-len .before .before .before .before in
+    let a = entry .args in
+    omega (
+      arith,
+      within-kinds _ (a .kinds .now) (a .words .now)
+          (len-fits (agrees-type (a .names)) (entries (a .kinds .now) (a .words .now)) _
+          (sym (after-type-len .type-len .ensures) ∙ c .before .n .given .1)),
+      entry .good,
+    )
 
 sub-first-entry : tie.Need-sub-first-entry
 sub-first-entry c =
-    let a = c .before .before .before .before .before .before .before .args in
-    within-kinds _ (a .kinds .now) (a .words .now) (len-fits (agrees-type (a .names)) (entries (a .kinds .now) (a .words .now)) _ (sym (c .before .before .before .type-len .ensures) ∙ c .before .n .given .1))
+    let after-type-len = c .before .before .before in
+    let entry = after-type-len .before .before .before .before in
+    let a = entry .args in
+    within-kinds _ (a .kinds .now) (a .words .now)
+    (len-fits (agrees-type (a .names)) (entries (a .kinds .now) (a .words .now)) _
+    (sym (after-type-len .type-len .ensures) ∙ c .before .n .given .1))
 
 part-first-entry-start : tie.Need-part-first-entry-start
 part-first-entry-start c =
-    let a = c .before .before .before .before .before .before .before .args in
-    within-kinds _ (a .kinds .now) (a .words .now) (len-fits (agrees-type (a .names)) (entries (a .kinds .now) (a .words .now)) _ (sym (c .before .before .before .type-len .ensures) ∙ c .before .n .given .1))
+    let after-type-len = c .before .before .before in
+    let entry = after-type-len .before .before .before .before in
+    let a = entry .args in
+    within-kinds _ (a .kinds .now) (a .words .now)
+    (len-fits (agrees-type (a .names)) (entries (a .kinds .now) (a .words .now)) _
+    (sym (after-type-len .type-len .ensures) ∙ c .before .n .given .1))
 
 part-first-entry-end : tie.Need-part-first-entry-end
 part-first-entry-end c = search needs
 
 mul-first-entry-2 : tie.Need-mul-first-entry-2
 mul-first-entry-2 c =
-    let a = c .before .before .before .before .before .before .before .before .args in
-    omega (arith, within-words _ (a .kinds .now) (a .words .now) (len-fits (agrees-type (a .names)) (entries (a .kinds .now) (a .words .now)) _ (sym (c .before .before .before .before .type-len .ensures) ∙ c .before .before .n .given .1)), c .before .before .before .before .before .before .before .before .good)
+    let after-type-len = c .before .before .before .before in
+    let entry = after-type-len .before .before .before .before in
+    let a = entry .args in
+    omega (
+      arith,
+      within-words _ (a .kinds .now) (a .words .now)
+          (len-fits (agrees-type (a .names)) (entries (a .kinds .now) (a .words .now)) _
+          (sym (after-type-len .type-len .ensures) ∙ c .before .before .n .given .1)),
+      entry .good,
+    )
 
 sub-first-entry-2 : tie.Need-sub-first-entry-2
 sub-first-entry-2 c =
-    let a = c .before .before .before .before .before .before .before .before .args in
-    within-words _ (a .kinds .now) (a .words .now) (len-fits (agrees-type (a .names)) (entries (a .kinds .now) (a .words .now)) _ (sym (c .before .before .before .before .type-len .ensures) ∙ c .before .before .n .given .1))
+    let after-type-len = c .before .before .before .before in
+    let entry = after-type-len .before .before .before .before in
+    let a = entry .args in
+    within-words _ (a .kinds .now) (a .words .now)
+    (len-fits (agrees-type (a .names)) (entries (a .kinds .now) (a .words .now)) _
+    (sym (after-type-len .type-len .ensures) ∙ c .before .before .n .given .1))
 
 part-first-entry-start-2 : tie.Need-part-first-entry-start-2
 part-first-entry-start-2 c =
-    let a = c .before .before .before .before .before .before .before .before .args in
-    within-words _ (a .kinds .now) (a .words .now) (len-fits (agrees-type (a .names)) (entries (a .kinds .now) (a .words .now)) _ (sym (c .before .before .before .before .type-len .ensures) ∙ c .before .before .n .given .1))
+    let after-type-len = c .before .before .before .before in
+    let entry = after-type-len .before .before .before .before in
+    let a = entry .args in
+    within-words _ (a .kinds .now) (a .words .now)
+    (len-fits (agrees-type (a .names)) (entries (a .kinds .now) (a .words .now)) _
+    (sym (after-type-len .type-len .ensures) ∙ c .before .before .n .given .1))
 
 part-first-entry-end-2 : tie.Need-part-first-entry-end-2
 part-first-entry-end-2 c = search needs
@@ -71,8 +103,12 @@ callee-barred-requires c κs = search needs
 
 returns-2 : tie.Need-returns-2
 returns-2 c =
-    let a = c .before .before .before .before .before .before .before .before .before .before .before .args in
-    calls.behind-arm (bitAt (a .barred .now)) (a .names) (a .kinds .now) (a .words .now) _ _ (c .before .before .before .before .before .before .before .type-len .ensures) (c .before .before .before .before .before .n .given .1) _ _ (c .before .first-entry .ensures) (c .callee-barred .ensures)
+    let after-n = c .before .before .before .before .before in
+    let after-type-len = after-n .before .before in
+    let entry = after-type-len .before .before .before .before in
+    let a = entry .args in
+    calls.behind-arm (bitAt (a .barred .now)) (a .names) (a .kinds .now) (a .words .now) _ _ (after-type-len .type-len .ensures)
+    (after-n .n .given .1) _ _ (c .before .first-entry .ensures) (c .callee-barred .ensures)
 
 pub behind-type-spec : {M : Type 1} → statement M
 behind-type-spec =

@@ -56,13 +56,22 @@ behind-type-requires c κs = search needs
 
 returns-2 : tie.Need-returns-2
 returns-2 c =
-    let a = c .before .before .before .before .before .before .before .before .before .before .before .args in
-    calls.call-arm (bitAt (a .barred .now)) (a .names) (entries (a .kinds .now) (a .words .now)) _ _ (sym (c .before .before .before .before .before .before .before .first-entry .ensures) ∙ c .before .before .before .before .before .kind .given .1) (c .before .before .before .if1 .taken) _ (c .behind-type .ensures ∙ ap (behindCall (bitAt (a .barred .now)) (a .names)) (entries-part 1 (a .kinds .now) (a .words .now)))
+    let then1 = c .before .before .before in
+    let after-kind = then1 .before .before in
+    let after-first-entry = after-kind .before .before in
+    let entry = after-first-entry .before .before .before .before in
+    let a = entry .args in
+    calls.call-arm (bitAt (a .barred .now)) (a .names) (entries (a .kinds .now) (a .words .now)) _ _
+    (sym (after-first-entry .first-entry .ensures) ∙ after-kind .kind .given .1) (then1 .if1 .taken) _
+    (c .behind-type .ensures ∙ ap (behindCall (bitAt (a .barred .now)) (a .names)) (entries-part 1 (a .kinds .now) (a .words .now)))
 
 returns-3 : tie.Need-returns-3
 returns-3 c =
-    let a = c .before .before .before .before .before .before .before .before .args in
-    calls.call-plain (bitAt (a .barred .now)) (a .names) (entries (a .kinds .now) (a .words .now)) _ _ (sym (c .before .before .before .before .first-entry .ensures) ∙ c .before .before .kind .given .1) (c .if1 .left)
+    let after-first-entry = c .before .before .before .before in
+    let entry = after-first-entry .before .before .before .before in
+    let a = entry .args in
+    calls.call-plain (bitAt (a .barred .now)) (a .names) (entries (a .kinds .now) (a .words .now)) _ _
+    (sym (after-first-entry .first-entry .ensures) ∙ c .before .before .kind .given .1) (c .if1 .left)
 
 pub call-barred-spec : {M : Type 1} → statement M
 call-barred-spec =

@@ -27,8 +27,11 @@ call-barred-requires c κs = search needs
 
 returns-2 : tie.Need-returns-2
 returns-2 c =
-    let a = c .before .before .before .before .before .before .before .before .args in
-    calls.call-found (bitAt (a .barred .now)) (a .names) (entries (a .kinds .now) (a .words .now)) _ (c .before .before .before .before .inst-len .ensures) _ _ (c .before .before .n .given .1) _ (c .call-barred .ensures)
+    let after-inst-len = c .before .before .before .before in
+    let entry = after-inst-len .before .before .before .before in
+    let a = entry .args in
+    calls.call-found (bitAt (a .barred .now)) (a .names) (entries (a .kinds .now) (a .words .now)) _ (after-inst-len .inst-len .ensures) _ _
+    (c .before .before .n .given .1) _ (c .call-barred .ensures)
 
 pub call-len-spec : {M : Type 1} → statement M
 call-len-spec =

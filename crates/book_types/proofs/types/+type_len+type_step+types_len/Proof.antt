@@ -150,8 +150,12 @@ type-len-sub-type-len : (t : ℕ) → type-len-lts.Need-sub-type-len (
   types-len.Post,
 ) (type-len-at t) type-len.Post
 type-len-sub-type-len t c =
-    let a = c .before .before .before .before .before .before .before .args in
-    laws.within-kinds 1 _ _ (types.head-there (a .names) (a .level) (a .kinds .now) (a .words .now) _ _ (c .before .before .before .first-entry .ensures) (c .before .before .type-head .ensures) (types.not-array _ (c .enum-told2 .given .1)))
+    let after-first-entry = c .before .before .before in
+    let entry = after-first-entry .before .before .before .before in
+    let a = entry .args in
+    laws.within-kinds 1 _ _
+    (types.head-there (a .names) (a .level) (a .kinds .now) (a .words .now) _ _ (after-first-entry .first-entry .ensures)
+    (c .before .before .type-head .ensures) (types.not-array _ (c .enum-told2 .given .1)))
 
 -- src/types.rt:110:46
 type-len-part-type-len-start : (t : ℕ) → type-len-lts.Need-part-type-len-start (
@@ -167,8 +171,12 @@ type-len-part-type-len-start : (t : ℕ) → type-len-lts.Need-part-type-len-sta
   types-len.Post,
 ) (type-len-at t) type-len.Post
 type-len-part-type-len-start t c =
-    let a = c .before .before .before .before .before .before .before .args in
-    laws.within-kinds 1 _ _ (types.head-there (a .names) (a .level) (a .kinds .now) (a .words .now) _ _ (c .before .before .before .first-entry .ensures) (c .before .before .type-head .ensures) (types.not-array _ (c .enum-told2 .given .1)))
+    let after-first-entry = c .before .before .before in
+    let entry = after-first-entry .before .before .before .before in
+    let a = entry .args in
+    laws.within-kinds 1 _ _
+    (types.head-there (a .names) (a .level) (a .kinds .now) (a .words .now) _ _ (after-first-entry .first-entry .ensures)
+    (c .before .before .type-head .ensures) (types.not-array _ (c .enum-told2 .given .1)))
 
 -- src/types.rt:110:46
 type-len-part-type-len-end : (t : ℕ) → type-len-lts.Need-part-type-len-end (
@@ -199,8 +207,13 @@ type-len-sub-type-len-2 : (t : ℕ) → type-len-lts.Need-sub-type-len-2 (
   types-len.Post,
 ) (type-len-at t) type-len.Post
 type-len-sub-type-len-2 t c =
-    let a = c .before .before .before .before .before .before .before .before .args in
-    laws.within-words 1 _ _ (types.head-there (a .names) (a .level) (a .kinds .now) (a .words .now) _ _ (c .before .before .before .before .first-entry .ensures) (c .before .before .before .type-head .ensures) (types.not-array _ (c .before .enum-told2 .given .1)))
+    let after-type-head = c .before .before .before in
+    let after-first-entry = after-type-head .before in
+    let entry = after-first-entry .before .before .before .before in
+    let a = entry .args in
+    laws.within-words 1 _ _
+    (types.head-there (a .names) (a .level) (a .kinds .now) (a .words .now) _ _ (after-first-entry .first-entry .ensures)
+    (after-type-head .type-head .ensures) (types.not-array _ (c .before .enum-told2 .given .1)))
 
 -- src/types.rt:110:59
 type-len-part-type-len-start-2 : (t : ℕ) → type-len-lts.Need-part-type-len-start-2 (
@@ -216,8 +229,13 @@ type-len-part-type-len-start-2 : (t : ℕ) → type-len-lts.Need-part-type-len-s
   types-len.Post,
 ) (type-len-at t) type-len.Post
 type-len-part-type-len-start-2 t c =
-    let a = c .before .before .before .before .before .before .before .before .args in
-    laws.within-words 1 _ _ (types.head-there (a .names) (a .level) (a .kinds .now) (a .words .now) _ _ (c .before .before .before .before .first-entry .ensures) (c .before .before .before .type-head .ensures) (types.not-array _ (c .before .enum-told2 .given .1)))
+    let after-type-head = c .before .before .before in
+    let after-first-entry = after-type-head .before in
+    let entry = after-first-entry .before .before .before .before in
+    let a = entry .args in
+    laws.within-words 1 _ _
+    (types.head-there (a .names) (a .level) (a .kinds .now) (a .words .now) _ _ (after-first-entry .first-entry .ensures)
+    (after-type-head .type-head .ensures) (types.not-array _ (c .before .enum-told2 .given .1)))
 
 -- src/types.rt:110:59
 type-len-part-type-len-end-2 : (t : ℕ) → type-len-lts.Need-part-type-len-end-2 (
@@ -278,8 +296,15 @@ type-len-then-len-requires : (t : ℕ) → type-len-lts.Need-then-len-requires (
   types-len.Post,
 ) (type-len-at t) type-len.Post
 type-len-then-len-requires t c κs =
-    let a = c .before .before .before .before .before .before .before .before .before .before .args in
-    types.behind-room (agrees-typeTo _ _) (a .kinds .now) (a .words .now) _ (omega arith) (laws.within-kinds 1 _ _ (types.head-there (a .names) (a .level) (a .kinds .now) (a .words .now) _ _ (c .before .before .before .before .before .before .first-entry .ensures) (c .before .before .before .before .before .type-head .ensures) (types.not-array _ (c .before .before .before .enum-told2 .given .1)))) (c .type-len .ensures)
+    let after-enum-told2 = c .before .before .before in
+    let after-type-head = after-enum-told2 .before .before in
+    let after-first-entry = after-type-head .before in
+    let entry = after-first-entry .before .before .before .before in
+    let a = entry .args in
+    types.behind-room (agrees-typeTo _ _) (a .kinds .now) (a .words .now) _ (omega arith)
+    (laws.within-kinds 1 _ _
+    (types.head-there (a .names) (a .level) (a .kinds .now) (a .words .now) _ _ (after-first-entry .first-entry .ensures)
+    (after-type-head .type-head .ensures) (types.not-array _ (after-enum-told2 .enum-told2 .given .1)))) (c .type-len .ensures)
 
 -- src/types.rt:111:48
 type-len-enum-told-3 : (t : ℕ) → type-len-lts.Need-enum-told-3 (
@@ -310,8 +335,12 @@ type-len-sub-types-len : (t : ℕ) → type-len-lts.Need-sub-types-len (
   types-len.Post,
 ) (type-len-at t) type-len.Post
 type-len-sub-types-len t c =
-    let a = c .before .before .before .before .before .before .before .args in
-    laws.within-kinds 1 _ _ (types.head-there (a .names) (a .level) (a .kinds .now) (a .words .now) _ _ (c .before .before .before .first-entry .ensures) (c .before .before .type-head .ensures) (types.not-struct _ (c .enum-told3 .given .1)))
+    let after-first-entry = c .before .before .before in
+    let entry = after-first-entry .before .before .before .before in
+    let a = entry .args in
+    laws.within-kinds 1 _ _
+    (types.head-there (a .names) (a .level) (a .kinds .now) (a .words .now) _ _ (after-first-entry .first-entry .ensures)
+    (c .before .before .type-head .ensures) (types.not-struct _ (c .enum-told3 .given .1)))
 
 -- src/types.rt:111:48
 type-len-part-types-len-start : (t : ℕ) → type-len-lts.Need-part-types-len-start (
@@ -327,8 +356,12 @@ type-len-part-types-len-start : (t : ℕ) → type-len-lts.Need-part-types-len-s
   types-len.Post,
 ) (type-len-at t) type-len.Post
 type-len-part-types-len-start t c =
-    let a = c .before .before .before .before .before .before .before .args in
-    laws.within-kinds 1 _ _ (types.head-there (a .names) (a .level) (a .kinds .now) (a .words .now) _ _ (c .before .before .before .first-entry .ensures) (c .before .before .type-head .ensures) (types.not-struct _ (c .enum-told3 .given .1)))
+    let after-first-entry = c .before .before .before in
+    let entry = after-first-entry .before .before .before .before in
+    let a = entry .args in
+    laws.within-kinds 1 _ _
+    (types.head-there (a .names) (a .level) (a .kinds .now) (a .words .now) _ _ (after-first-entry .first-entry .ensures)
+    (c .before .before .type-head .ensures) (types.not-struct _ (c .enum-told3 .given .1)))
 
 -- src/types.rt:111:48
 type-len-part-types-len-end : (t : ℕ) → type-len-lts.Need-part-types-len-end (
@@ -359,8 +392,13 @@ type-len-sub-types-len-2 : (t : ℕ) → type-len-lts.Need-sub-types-len-2 (
   types-len.Post,
 ) (type-len-at t) type-len.Post
 type-len-sub-types-len-2 t c =
-    let a = c .before .before .before .before .before .before .before .before .args in
-    laws.within-words 1 _ _ (types.head-there (a .names) (a .level) (a .kinds .now) (a .words .now) _ _ (c .before .before .before .before .first-entry .ensures) (c .before .before .before .type-head .ensures) (types.not-struct _ (c .before .enum-told3 .given .1)))
+    let after-type-head = c .before .before .before in
+    let after-first-entry = after-type-head .before in
+    let entry = after-first-entry .before .before .before .before in
+    let a = entry .args in
+    laws.within-words 1 _ _
+    (types.head-there (a .names) (a .level) (a .kinds .now) (a .words .now) _ _ (after-first-entry .first-entry .ensures)
+    (after-type-head .type-head .ensures) (types.not-struct _ (c .before .enum-told3 .given .1)))
 
 -- src/types.rt:111:61
 type-len-part-types-len-start-2 : (t : ℕ) → type-len-lts.Need-part-types-len-start-2 (
@@ -376,8 +414,13 @@ type-len-part-types-len-start-2 : (t : ℕ) → type-len-lts.Need-part-types-len
   types-len.Post,
 ) (type-len-at t) type-len.Post
 type-len-part-types-len-start-2 t c =
-    let a = c .before .before .before .before .before .before .before .before .args in
-    laws.within-words 1 _ _ (types.head-there (a .names) (a .level) (a .kinds .now) (a .words .now) _ _ (c .before .before .before .before .first-entry .ensures) (c .before .before .before .type-head .ensures) (types.not-struct _ (c .before .enum-told3 .given .1)))
+    let after-type-head = c .before .before .before in
+    let after-first-entry = after-type-head .before in
+    let entry = after-first-entry .before .before .before .before in
+    let a = entry .args in
+    laws.within-words 1 _ _
+    (types.head-there (a .names) (a .level) (a .kinds .now) (a .words .now) _ _ (after-first-entry .first-entry .ensures)
+    (after-type-head .type-head .ensures) (types.not-struct _ (c .before .enum-told3 .given .1)))
 
 -- src/types.rt:111:61
 type-len-part-types-len-end-2 : (t : ℕ) → type-len-lts.Need-part-types-len-end-2 (
@@ -438,8 +481,15 @@ type-len-then-len-requires-2 : (t : ℕ) → type-len-lts.Need-then-len-requires
   types-len.Post,
 ) (type-len-at t) type-len.Post
 type-len-then-len-requires-2 t c κs =
-    let a = c .before .before .before .before .before .before .before .before .before .before .args in
-    types.behind-room (types.agrees-types _ _) (a .kinds .now) (a .words .now) _ (omega arith) (laws.within-kinds 1 _ _ (types.head-there (a .names) (a .level) (a .kinds .now) (a .words .now) _ _ (c .before .before .before .before .before .before .first-entry .ensures) (c .before .before .before .before .before .type-head .ensures) (types.not-struct _ (c .before .before .before .enum-told3 .given .1)))) (c .types-len .ensures)
+    let after-enum-told3 = c .before .before .before in
+    let after-type-head = after-enum-told3 .before .before in
+    let after-first-entry = after-type-head .before in
+    let entry = after-first-entry .before .before .before .before in
+    let a = entry .args in
+    types.behind-room (types.agrees-types _ _) (a .kinds .now) (a .words .now) _ (omega arith)
+    (laws.within-kinds 1 _ _
+    (types.head-there (a .names) (a .level) (a .kinds .now) (a .words .now) _ _ (after-first-entry .first-entry .ensures)
+    (after-type-head .type-head .ensures) (types.not-struct _ (after-enum-told3 .enum-told3 .given .1)))) (c .types-len .ensures)
 
 -- src/types.rt:112:26
 type-len-enum-told-4 : (t : ℕ) → type-len-lts.Need-enum-told-4 (
@@ -470,8 +520,12 @@ type-len-returns-2 : (t : ℕ) → type-len-lts.Need-returns-2 (
   types-len.Post,
 ) (type-len-at t) type-len.Post
 type-len-returns-2 t c =
-    let a = c .before .before .before .before .before .before .before .args in
-    types.leaf-arm (a .names) (a .level) (a .kinds .now) (a .words .now) _ _ (c .before .before .before .first-entry .ensures) (c .before .before .type-head .ensures) (c .before .before .before .before .if1 .left) (c .enum-told .given .1)
+    let after-first-entry = c .before .before .before in
+    let else1 = after-first-entry .before in
+    let entry = else1 .before .before .before in
+    let a = entry .args in
+    types.leaf-arm (a .names) (a .level) (a .kinds .now) (a .words .now) _ _ (after-first-entry .first-entry .ensures)
+    (c .before .before .type-head .ensures) (else1 .if1 .left) (c .enum-told .given .1)
 
 -- src/types.rt:102:1
 type-len-returns-3 : (t : ℕ) → type-len-lts.Need-returns-3 (
@@ -487,8 +541,15 @@ type-len-returns-3 : (t : ℕ) → type-len-lts.Need-returns-3 (
   types-len.Post,
 ) (type-len-at t) type-len.Post
 type-len-returns-3 t c =
-    let a = c .before .before .before .before .before .before .before .before .before .before .before .args in
-    types.array-arm (a .names) (a .level) (a .kinds .now) (a .words .now) _ _ (c .before .before .before .before .before .before .before .first-entry .ensures) (c .before .before .before .before .before .before .type-head .ensures) (c .before .before .before .before .before .before .before .before .if1 .left) (c .before .before .before .before .enum-told2 .given .1) _ _ (c .before .type-len .ensures) (c .then-len .ensures)
+    let after-enum-told2 = c .before .before .before .before in
+    let after-type-head = after-enum-told2 .before .before in
+    let after-first-entry = after-type-head .before in
+    let else1 = after-first-entry .before in
+    let entry = else1 .before .before .before in
+    let a = entry .args in
+    types.array-arm (a .names) (a .level) (a .kinds .now) (a .words .now) _ _ (after-first-entry .first-entry .ensures)
+    (after-type-head .type-head .ensures) (else1 .if1 .left) (after-enum-told2 .enum-told2 .given .1) _ _ (c .before .type-len .ensures)
+    (c .then-len .ensures)
 
 -- src/types.rt:102:1
 type-len-returns-4 : (t : ℕ) → type-len-lts.Need-returns-4 (
@@ -504,8 +565,15 @@ type-len-returns-4 : (t : ℕ) → type-len-lts.Need-returns-4 (
   types-len.Post,
 ) (type-len-at t) type-len.Post
 type-len-returns-4 t c =
-    let a = c .before .before .before .before .before .before .before .before .before .before .before .args in
-    types.struct-arm (a .names) (a .level) (a .kinds .now) (a .words .now) _ _ (c .before .before .before .before .before .before .before .first-entry .ensures) (c .before .before .before .before .before .before .type-head .ensures) (c .before .before .before .before .before .before .before .before .if1 .left) (c .before .before .before .before .enum-told3 .given .1) _ _ (c .before .types-len .ensures) (c .then-len2 .ensures)
+    let after-enum-told3 = c .before .before .before .before in
+    let after-type-head = after-enum-told3 .before .before in
+    let after-first-entry = after-type-head .before in
+    let else1 = after-first-entry .before in
+    let entry = else1 .before .before .before in
+    let a = entry .args in
+    types.struct-arm (a .names) (a .level) (a .kinds .now) (a .words .now) _ _ (after-first-entry .first-entry .ensures)
+    (after-type-head .type-head .ensures) (else1 .if1 .left) (after-enum-told3 .enum-told3 .given .1) _ _ (c .before .types-len .ensures)
+    (c .then-len2 .ensures)
 
 -- src/types.rt:102:1
 type-len-returns-5 : (t : ℕ) → type-len-lts.Need-returns-5 (
@@ -521,8 +589,12 @@ type-len-returns-5 : (t : ℕ) → type-len-lts.Need-returns-5 (
   types-len.Post,
 ) (type-len-at t) type-len.Post
 type-len-returns-5 t c =
-    let a = c .before .before .before .before .before .before .before .args in
-    types.bad-arm (a .names) (a .level) (a .kinds .now) (a .words .now) _ _ (c .before .before .before .first-entry .ensures) (c .before .before .type-head .ensures) (c .before .before .before .before .if1 .left) (c .enum-told4 .given .1)
+    let after-first-entry = c .before .before .before in
+    let else1 = after-first-entry .before in
+    let entry = else1 .before .before .before in
+    let a = entry .args in
+    types.bad-arm (a .names) (a .level) (a .kinds .now) (a .words .now) _ _ (after-first-entry .first-entry .ensures)
+    (c .before .before .type-head .ensures) (else1 .if1 .left) (c .enum-told4 .given .1)
 
 -- src/types.rt:120:21
 type-step-first-entry-requires : (t : ℕ) → type-step-lts.Need-first-entry-requires (
@@ -627,8 +699,11 @@ type-step-returns : (t : ℕ) → type-step-lts.Need-returns (
   next-step-reads.Learnt,
 ) (type-step-at t) type-step.Post
 type-step-returns t c =
-    let a = c .before .before .before .before .before .before .args in
-    types.closing-arm (typeTo (a .names) (a .level)) (a .kinds .now) (a .words .now) _ _ (c .before .before .before .first-entry .ensures) (c .before .before .list-head .ensures) (c .enum-told .given .1)
+    let after-first-entry = c .before .before .before in
+    let entry = after-first-entry .before .before .before in
+    let a = entry .args in
+    types.closing-arm (typeTo (a .names) (a .level)) (a .kinds .now) (a .words .now) _ _ (after-first-entry .first-entry .ensures)
+    (c .before .before .list-head .ensures) (c .enum-told .given .1)
 
 -- src/types.rt:117:1
 type-step-returns-2 : (t : ℕ) → type-step-lts.Need-returns-2 (
@@ -642,8 +717,12 @@ type-step-returns-2 : (t : ℕ) → type-step-lts.Need-returns-2 (
   next-step-reads.Learnt,
 ) (type-step-at t) type-step.Post
 type-step-returns-2 t c =
-    let a = c .before .before .before .before .before .before .before .before .args in
-    types.item-arm (typeTo (a .names) (a .level)) (a .kinds .now) (a .words .now) _ _ (c .before .before .before .before .before .first-entry .ensures) (c .before .before .before .before .list-head .ensures) (c .before .before .enum-told2 .given .1) _ _ (c .before .type-len .ensures) (c .next-step .ensures)
+    let after-list-head = c .before .before .before .before in
+    let after-first-entry = after-list-head .before in
+    let entry = after-first-entry .before .before .before in
+    let a = entry .args in
+    types.item-arm (typeTo (a .names) (a .level)) (a .kinds .now) (a .words .now) _ _ (after-first-entry .first-entry .ensures)
+    (after-list-head .list-head .ensures) (c .before .before .enum-told2 .given .1) _ _ (c .before .type-len .ensures) (c .next-step .ensures)
 
 -- src/types.rt:117:1
 type-step-returns-3 : (t : ℕ) → type-step-lts.Need-returns-3 (
@@ -657,8 +736,11 @@ type-step-returns-3 : (t : ℕ) → type-step-lts.Need-returns-3 (
   next-step-reads.Learnt,
 ) (type-step-at t) type-step.Post
 type-step-returns-3 t c =
-    let a = c .before .before .before .before .before .before .args in
-    types.none-arm (typeTo (a .names) (a .level)) (a .kinds .now) (a .words .now) _ _ (c .before .before .before .first-entry .ensures) (c .before .before .list-head .ensures) (c .enum-told3 .given .1)
+    let after-first-entry = c .before .before .before in
+    let entry = after-first-entry .before .before .before in
+    let a = entry .args in
+    types.none-arm (typeTo (a .names) (a .level)) (a .kinds .now) (a .words .now) _ _ (after-first-entry .first-entry .ensures)
+    (c .before .before .list-head .ensures) (c .enum-told3 .given .1)
 
 abbrev types-len-Inv-loop : types-len-lts.InvT-loop
 types-len-Inv-loop kinds words names level at₀ left₀ at left =
@@ -785,8 +867,17 @@ types-len-add-t20 : (t : ℕ) → types-len-lts.Need-add-t20 (
   type-step.Post,
 ) (types-len-at t) types-len.Post types-len-Inv-loop types-len-μ-loop
 types-len-add-t20 t c =
-    let a = c .before .before .before .before .before .before .before .before .before .before .args in
-    omega (arith, passes.plain-there isClosing (typeTo (a .names) (a .level)) closing (length (entries (a .kinds .now) (a .words .now))) (a .kinds .now) (a .words .now) _ _ (c .before .before .before .before .before .before .loop .inv) _ (c .before .before .before .type-step .ensures) (agrees-typeTo _ _) agrees-closing _ (c .before .n .given .1), c .before .before .before .before .before .before .before .before .before .before .good)
+    let after-type-step = c .before .before .before in
+    let at-loop = after-type-step .before .before .before in
+    let entry = at-loop .before .before .before .before in
+    let a = entry .args in
+    omega (
+      arith,
+      passes.plain-there isClosing (typeTo (a .names) (a .level)) closing (length (entries (a .kinds .now) (a .words .now))) (a .kinds .now)
+          (a .words .now) _ _ (at-loop .loop .inv) _ (after-type-step .type-step .ensures) (agrees-typeTo _ _) agrees-closing _
+          (c .before .n .given .1),
+      entry .good,
+    )
 
 -- src/types.rt:135:30
 types-len-returns : (t : ℕ) → types-len-lts.Need-returns (
@@ -796,8 +887,12 @@ types-len-returns : (t : ℕ) → types-len-lts.Need-returns (
   type-step.Post,
 ) (types-len-at t) types-len.Post types-len-Inv-loop types-len-μ-loop
 types-len-returns t c =
-    let a = c .before .before .before .before .before .before .before .before .before .before .args in
-    passes.plain-done isClosing (typeTo (a .names) (a .level)) closing (length (entries (a .kinds .now) (a .words .now))) (a .kinds .now) (a .words .now) _ _ (c .before .before .before .before .before .before .loop .inv) _ (c .before .before .before .type-step .ensures) _ (c .before .n .given .1) ∙ sym (types.many-len _ _)
+    let after-type-step = c .before .before .before in
+    let at-loop = after-type-step .before .before .before in
+    let entry = at-loop .before .before .before .before in
+    let a = entry .args in
+    passes.plain-done isClosing (typeTo (a .names) (a .level)) closing (length (entries (a .kinds .now) (a .words .now))) (a .kinds .now)
+    (a .words .now) _ _ (at-loop .loop .inv) _ (after-type-step .type-step .ensures) _ (c .before .n .given .1) ∙ sym (types.many-len _ _)
 
 -- src/types.rt:136:26
 types-len-enum-told : (t : ℕ) → types-len-lts.Need-enum-told (
@@ -816,8 +911,11 @@ types-len-returns-2 : (t : ℕ) → types-len-lts.Need-returns-2 (
   type-step.Post,
 ) (types-len-at t) types-len.Post types-len-Inv-loop types-len-μ-loop
 types-len-returns-2 t c =
-    let a = c .before .before .before .before .before .before .before .before .before .args in
-    passes.plain-bad isClosing (typeTo (a .names) (a .level)) closing (length (entries (a .kinds .now) (a .words .now))) (a .kinds .now) (a .words .now) _ _ (c .before .before .before .before .before .loop .inv) _ (c .before .before .type-step .ensures) (c .enum-told .given .1) ∙ sym (types.many-len _ _)
+    let at-loop = c .before .before .before .before .before in
+    let entry = at-loop .before .before .before .before in
+    let a = entry .args in
+    passes.plain-bad isClosing (typeTo (a .names) (a .level)) closing (length (entries (a .kinds .now) (a .words .now))) (a .kinds .now)
+    (a .words .now) _ _ (at-loop .loop .inv) _ (c .before .before .type-step .ensures) (c .enum-told .given .1) ∙ sym (types.many-len _ _)
 
 -- src/types.rt:137:24
 types-len-enum-known-n-2 : (t : ℕ) → types-len-lts.Need-enum-known-n-2 (
@@ -836,8 +934,13 @@ types-len-returns-3 : (t : ℕ) → types-len-lts.Need-returns-3 (
   type-step.Post,
 ) (types-len-at t) types-len.Post types-len-Inv-loop types-len-μ-loop
 types-len-returns-3 t c =
-    let a = c .before .before .before .before .before .before .before .before .before .before .before .args in
-    passes.plain-full isClosing (typeTo (a .names) (a .level)) closing (length (entries (a .kinds .now) (a .words .now))) (a .kinds .now) (a .words .now) _ _ (c .before .before .before .before .before .before .before .loop .inv) _ (c .before .before .before .before .type-step .ensures) _ (c .before .before .n2 .given .1) (c .if1 .taken) ∙ sym (types.many-len _ _)
+    let after-type-step = c .before .before .before .before in
+    let at-loop = after-type-step .before .before .before in
+    let entry = at-loop .before .before .before .before in
+    let a = entry .args in
+    passes.plain-full isClosing (typeTo (a .names) (a .level)) closing (length (entries (a .kinds .now) (a .words .now))) (a .kinds .now)
+    (a .words .now) _ _ (at-loop .loop .inv) _ (after-type-step .type-step .ensures) _ (c .before .before .n2 .given .1) (c .if1 .taken) ∙ sym
+    (types.many-len _ _)
 
 -- src/types.rt:141:22
 types-len-add-at : (t : ℕ) → types-len-lts.Need-add-at (
@@ -847,8 +950,17 @@ types-len-add-at : (t : ℕ) → types-len-lts.Need-add-at (
   type-step.Post,
 ) (types-len-at t) types-len.Post types-len-Inv-loop types-len-μ-loop
 types-len-add-at t c =
-    let a = c .before .before .before .before .before .before .before .before .before .before .before .args in
-    omega (arith, passes.plain-next isClosing (typeTo (a .names) (a .level)) closing (length (entries (a .kinds .now) (a .words .now))) (a .kinds .now) (a .words .now) _ _ (c .before .before .before .before .before .before .before .loop .inv) _ (c .before .before .before .before .type-step .ensures) (agrees-typeTo _ _) agrees-closing _ (c .before .before .n2 .given .1) (c .if1 .left) .kinds, c .before .before .before .before .before .before .before .before .before .before .before .good)
+    let after-type-step = c .before .before .before .before in
+    let at-loop = after-type-step .before .before .before in
+    let entry = at-loop .before .before .before .before in
+    let a = entry .args in
+    omega (
+      arith,
+      passes.plain-next isClosing (typeTo (a .names) (a .level)) closing (length (entries (a .kinds .now) (a .words .now))) (a .kinds .now)
+          (a .words .now) _ _ (at-loop .loop .inv) _ (after-type-step .type-step .ensures) (agrees-typeTo _ _) agrees-closing _
+          (c .before .before .n2 .given .1) (c .if1 .left) .kinds,
+      entry .good,
+    )
 
 -- src/types.rt:142:24
 types-len-sub-left : (t : ℕ) → types-len-lts.Need-sub-left (
@@ -876,8 +988,13 @@ types-len-loop-again : (t : ℕ) → types-len-lts.Need-loop-again (
   type-step.Post,
 ) (types-len-at t) types-len.Post types-len-Inv-loop types-len-μ-loop
 types-len-loop-again t c =
-    let a = c .before .before .before .before .before .before .before .before .before .before .before .args in
-    passes.plain-next isClosing (typeTo (a .names) (a .level)) closing (length (entries (a .kinds .now) (a .words .now))) (a .kinds .now) (a .words .now) _ _ (c .before .before .before .before .before .before .before .loop .inv) _ (c .before .before .before .before .type-step .ensures) (agrees-typeTo _ _) agrees-closing _ (c .before .before .n2 .given .1) (c .if1 .left)
+    let after-type-step = c .before .before .before .before in
+    let at-loop = after-type-step .before .before .before in
+    let entry = at-loop .before .before .before .before in
+    let a = entry .args in
+    passes.plain-next isClosing (typeTo (a .names) (a .level)) closing (length (entries (a .kinds .now) (a .words .now))) (a .kinds .now)
+    (a .words .now) _ _ (at-loop .loop .inv) _ (after-type-step .type-step .ensures) (agrees-typeTo _ _) agrees-closing _
+    (c .before .before .n2 .given .1) (c .if1 .left)
 
 pub +type-len+type-step+types-len-spec : {M : Type 1} → statement M
 +type-len+type-step+types-len-spec =

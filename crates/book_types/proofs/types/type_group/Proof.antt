@@ -57,8 +57,25 @@ Rest k = ((((((((Unit {0} × (k ≡ 10 → ⊥)) × (k ≡ 11 → ⊥)) × (k �
 returns-11 : tie.Need-returns-11
 unfolding tyTag find tyTags
 returns-11 c =
-    in-range (λ k. Rest k → Sizeless ≡ typeGroupOf (tyTag k)) 10 11
-    (λ r. absurd (r .0 .0 .0 .0 .0 .0 .0 .1 refl), (λ r. absurd (r .0 .0 .0 .0 .0 .0 .1 refl), (λ r. absurd (r .0 .0 .0 .0 .0 .1 refl), (λ r. absurd (r .0 .0 .0 .0 .1 refl), (λ r. absurd (r .0 .0 .0 .1 refl), (λ r. absurd (r .0 .0 .1 refl), (λ r. absurd (r .0 .1 refl), (λ r. absurd (r .1 refl), (λ r. refl, (λ r. refl, (λ r. refl, tt)))))))))))
+    in-range (λ k. Rest k → Sizeless ≡ typeGroupOf (tyTag k)) 10 11 (
+      λ r. absurd (r .0 .0 .0 .0 .0 .0 .0 .1 refl),
+      (
+        λ r. absurd (r .0 .0 .0 .0 .0 .0 .1 refl),
+        (
+          λ r. absurd (r .0 .0 .0 .0 .0 .1 refl),
+          (
+            λ r. absurd (r .0 .0 .0 .0 .1 refl),
+            (
+              λ r. absurd (r .0 .0 .0 .1 refl),
+              (
+                λ r. absurd (r .0 .0 .1 refl),
+                (λ r. absurd (r .0 .1 refl), (λ r. absurd (r .1 refl), (λ r. refl, (λ r. refl, (λ r. refl, tt))))),
+              ),
+            ),
+          ),
+        ),
+      ),
+    )
     _ (c .before .before .if1 .left) (suc-le-suc (c .before .if2 .left)) (c .match .rest)
 
 pub type-group-spec : {M : Type 1} → statement M

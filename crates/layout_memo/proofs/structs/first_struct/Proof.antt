@@ -26,16 +26,26 @@ shared-slice-read-if1 : tie.Need-shared-slice-read-if1 Inv-loop μ-loop
 shared-slice-read-if1 c = let h = laws.marks-kinds (c .before .before .args .names) (c .before .before .args .kinds .now) (c .before .before .args .words .now) _ (c .before .loop .inv) in search needs
 
 add-at : tie.Need-add-at Inv-loop μ-loop
-add-at c = let h = laws.marks-kinds (c .before .before .before .args .names) (c .before .before .before .args .kinds .now) (c .before .before .before .args .words .now) _ (c .before .before .loop .inv) in search needs
+add-at c =
+    let entry = c .before .before .before in
+    let h = laws.marks-kinds (entry .args .names) (entry .args .kinds .now) (entry .args .words .now) _ (c .before .before .loop .inv) in
+    search needs
 
 loop-less : tie.Need-loop-less Inv-loop μ-loop
-loop-less c = let h = laws.marks-kinds (c .before .before .before .args .names) (c .before .before .before .args .kinds .now) (c .before .before .before .args .words .now) _ (c .before .before .loop .inv) in omega arith
+loop-less c =
+    let entry = c .before .before .before in
+    let h = laws.marks-kinds (entry .args .names) (entry .args .kinds .now) (entry .args .words .now) _ (c .before .before .loop .inv) in
+    omega arith
 
 loop-again : tie.Need-loop-again Inv-loop μ-loop
-loop-again c = laws.marks-next (c .before .before .before .args .names) (c .before .before .before .args .kinds .now) (c .before .before .before .args .words .now) _ (c .before .before .loop .inv) (c .if1 .taken)
+loop-again c =
+    let entry = c .before .before .before in
+    laws.marks-next (entry .args .names) (entry .args .kinds .now) (entry .args .words .now) _ (c .before .before .loop .inv) (c .if1 .taken)
 
 returns : tie.Need-returns Inv-loop μ-loop
-returns c = laws.marks-done (c .before .before .before .args .names) (c .before .before .before .args .kinds .now) (c .before .before .before .args .words .now) _ (c .before .before .loop .inv) (c .if1 .left)
+returns c =
+    let entry = c .before .before .before in
+    laws.marks-done (entry .args .names) (entry .args .kinds .now) (entry .args .words .now) _ (c .before .before .loop .inv) (c .if1 .left)
 
 pub first-struct-spec : {M : Type 1} → statement M
 first-struct-spec =

@@ -25,16 +25,28 @@ loop-holds : tie.Need-loop-holds Inv-loop μ-loop
 loop-holds c = (laws.placing-start _ _ _ _ (c .before .before .before .before .pre) (c .first-struct .ensures), laws.kept-none)
 
 mul-if1 : tie.Need-mul-if1 Inv-loop μ-loop
-mul-if1 c = let h = laws.placing-kinds (c .before .before .before .before .before .args .names) (c .before .before .before .before .before .args .kinds .now) (c .before .before .before .before .before .args .words .now) _ _ (c .loop .inv .0) in search needs
+mul-if1 c =
+    let entry = c .before .before .before .before .before in
+    let h = laws.placing-kinds (entry .args .names) (entry .args .kinds .now) (entry .args .words .now) _ _ (c .loop .inv .0) in
+    search needs
 
 shared-slice-read-if1 : tie.Need-shared-slice-read-if1 Inv-loop μ-loop
-shared-slice-read-if1 c = let h = laws.placing-kinds (c .before .before .before .before .before .before .args .names) (c .before .before .before .before .before .before .args .kinds .now) (c .before .before .before .before .before .before .args .words .now) _ _ (c .before .loop .inv .0) in search needs
+shared-slice-read-if1 c =
+    let entry = c .before .before .before .before .before .before in
+    let h = laws.placing-kinds (entry .args .names) (entry .args .kinds .now) (entry .args .words .now) _ _ (c .before .loop .inv .0) in
+    search needs
 
 place-struct-requires : tie.Need-place-struct-requires Inv-loop μ-loop
 place-struct-requires c κs = record { placing = c .before .before .before .loop .inv .0; kind = c .before .if1 .taken }
 
 loop-less : tie.Need-loop-less Inv-loop μ-loop
-loop-less c = let h = laws.placing-kinds (c .before .before .before .before .before .before .before .before .before .before .before .args .names) (c .before .before .before .before .before .before .before .before .before .before .before .args .kinds .now) (c .before .before .before .before .before .before .before .before .before .before .before .args .words .now) _ _ (c .before .before .place-struct .ensures .next) in let g = c .before .before .place-struct .ensures .more in omega arith
+loop-less c =
+    let after-place-struct = c .before .before in
+    let entry = after-place-struct .before .before .before .before .before .before .before .before .before in
+    let h = laws.placing-kinds (entry .args .names) (entry .args .kinds .now) (entry .args .words .now) _ _
+    (after-place-struct .place-struct .ensures .next) in
+    let g = after-place-struct .place-struct .ensures .more in
+    omega arith
 
 loop-again : tie.Need-loop-again Inv-loop μ-loop
 loop-again c = (c .before .before .place-struct .ensures .next, laws.kept-then (c .before .before .before .before .before .before .loop .inv .1) (c .before .before .place-struct .ensures .kept))
@@ -43,7 +55,11 @@ same-length : tie.Need-same-length Inv-loop μ-loop
 same-length c = search needs
 
 returns : tie.Need-returns Inv-loop μ-loop
-returns c = record { ready = laws.placing-done (c .before .before .before .before .before .before .before .args .names) (c .before .before .before .before .before .before .before .args .kinds .now) (c .before .before .before .before .before .before .before .args .words .now) _ _ (c .before .before .loop .inv .0) (c .if1 .left); kept = c .before .before .loop .inv .1 }
+returns c =
+    let at-loop = c .before .before in
+    let entry = at-loop .before .before .before .before .before in
+    record
+    { ready = laws.placing-done (entry .args .names) (entry .args .kinds .now) (entry .args .words .now) _ _ (at-loop .loop .inv .0) (c .if1 .left); kept = at-loop .loop .inv .1 }
 
 pub place-structs-spec : {M : Type 1} → statement M
 place-structs-spec =

@@ -16,13 +16,19 @@ check-names-requires : tie.Need-check-names-requires
 check-names-requires c κs = search needs
 
 returns : tie.Need-returns
-returns c = booked-names (c .before .before .before .before .before .before .before .before .args .book .now) (c .before .before .before .before .before .before .before .before .pre) _ _ _ _ _ (c .before .check-names .ensures) (not-true _ (c .if1 .taken))
+returns c =
+    let entry = c .before .before .before .before .before .before .before .before in
+    booked-names (entry .args .book .now) (entry .pre) _ _ _ _ _ (c .before .check-names .ensures) (not-true _ (c .if1 .taken))
 
 shared-slice-read-middle : tie.Need-shared-slice-read-middle
-shared-slice-read-middle c = omega (arith, book-long (c .before .before .before .before .before .before .before .before .before .args .book .now) (c .before .before .before .before .before .before .before .before .before .pre))
+shared-slice-read-middle c =
+    let entry = c .before .before .before .before .before .before .before .before .before in
+    omega (arith, book-long (entry .args .book .now) (entry .pre))
 
 add-middle : tie.Need-add-middle
-add-middle c = omega (arith, middle-inside (c .before .before .before .before .before .before .before .before .before .args .book .now) (c .before .before .before .before .before .before .before .before .before .pre), c .before .before .before .before .before .before .before .before .before .good)
+add-middle c =
+    let entry = c .before .before .before .before .before .before .before .before .before in
+    omega (arith, middle-inside (entry .args .book .now) (entry .pre), entry .good)
 
 sub-print-entries : tie.Need-sub-print-entries
 sub-print-entries c = search needs
@@ -31,28 +37,52 @@ part-print-entries-start : tie.Need-part-print-entries-start
 part-print-entries-start c = search needs
 
 part-print-entries-end : tie.Need-part-print-entries-end
-part-print-entries-end c = middle-inside (c .before .before .before .before .before .before .before .before .before .args .book .now) (c .before .before .before .before .before .before .before .before .before .pre)
+part-print-entries-end c =
+    let entry = c .before .before .before .before .before .before .before .before .before in
+    middle-inside (entry .args .book .now) (entry .pre)
 
 mul-print-entries : tie.Need-mul-print-entries
-mul-print-entries c = omega (arith, middle-inside (c .before .before .before .before .before .before .before .before .before .before .args .book .now) (c .before .before .before .before .before .before .before .before .before .before .pre), c .before .before .before .before .before .before .before .before .before .before .good)
+mul-print-entries c =
+    let entry = c .before .before .before .before .before .before .before .before .before .before in
+    omega (arith, middle-inside (entry .args .book .now) (entry .pre), entry .good)
 
 sub-print-entries-2 : tie.Need-sub-print-entries-2
-sub-print-entries-2 c = middle-inside (c .before .before .before .before .before .before .before .before .before .before .args .book .now) (c .before .before .before .before .before .before .before .before .before .before .pre)
+sub-print-entries-2 c =
+    let entry = c .before .before .before .before .before .before .before .before .before .before in
+    middle-inside (entry .args .book .now) (entry .pre)
 
 part-print-entries-start-2 : tie.Need-part-print-entries-start-2
-part-print-entries-start-2 c = middle-inside (c .before .before .before .before .before .before .before .before .before .before .args .book .now) (c .before .before .before .before .before .before .before .before .before .before .pre)
+part-print-entries-start-2 c =
+    let entry = c .before .before .before .before .before .before .before .before .before .before in
+    middle-inside (entry .args .book .now) (entry .pre)
 
 part-print-entries-end-2 : tie.Need-part-print-entries-end-2
 part-print-entries-end-2 c = search needs
 
 print-entries-requires : tie.Need-print-entries-requires
-print-entries-requires c κs = (book-decoded (c .before .before .before .before .before .before .before .before .before .before .before .before .args .book .now) (c .before .before .before .before .before .before .before .before .before .before .before .before .pre), (booked-sound (c .before .before .before .before .before .before .before .before .before .before .before .before .args .book .now) (c .before .before .before .before .before .before .before .before .before .before .before .before .pre) (c .before .before .before .before .before .before .before .before .before .before .before .before .args .names .now) [] [] [] _ (c .before .before .before .before .before .check-names .ensures) (not-false _ (c .before .before .before .before .if1 .left)), booked-count (c .before .before .before .before .before .before .before .before .before .before .before .before .args .book .now) (c .before .before .before .before .before .before .before .before .before .before .before .before .pre) (c .before .before .before .before .before .before .before .before .before .before .before .before .args .names .now) [] [] [] _ (c .before .before .before .before .before .check-names .ensures) (not-false _ (c .before .before .before .before .if1 .left))))
+print-entries-requires c κs =
+    let else1 = c .before .before .before .before in
+    let after-check-names = else1 .before in
+    let entry = after-check-names .before .before .before .before .before .before .before in (
+      book-decoded (entry .args .book .now) (entry .pre),
+      (
+        booked-sound (entry .args .book .now) (entry .pre) (entry .args .names .now) [] [] [] _ (after-check-names .check-names .ensures)
+            (not-false _ (else1 .if1 .left)),
+        booked-count (entry .args .book .now) (entry .pre) (entry .args .names .now) [] [] [] _
+            (after-check-names .check-names .ensures) (not-false _ (else1 .if1 .left)),
+      ),
+    )
 
 same-length : tie.Need-same-length
 same-length c = search needs
 
 returns-2 : tie.Need-returns-2
-returns-2 c = booked-printed (c .before .before .before .before .before .before .before .before .before .before .before .before .before .before .before .args .book .now) (c .before .before .before .before .before .before .before .before .before .before .before .before .before .before .before .pre) _ _ _ _ _ (c .before .before .before .before .before .before .before .before .check-names .ensures) (not-false _ (c .before .before .before .before .before .before .before .if1 .left)) _ (c .before .before .print-entries .ensures)
+returns-2 c =
+    let else1 = c .before .before .before .before .before .before .before in
+    let after-check-names = else1 .before in
+    let entry = after-check-names .before .before .before .before .before .before .before in
+    booked-printed (entry .args .book .now) (entry .pre) _ _ _ _ _ (after-check-names .check-names .ensures) (not-false _ (else1 .if1 .left)) _
+    (c .before .before .print-entries .ensures)
 
 pub print-booked-spec : {M : Type 1} → statement M
 print-booked-spec =

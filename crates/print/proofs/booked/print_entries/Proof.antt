@@ -11,37 +11,69 @@ function-place-requires : tie.Need-function-place-requires
 function-place-requires c κs = search needs
 
 mul-print-sound : tie.Need-mul-print-sound
-mul-print-sound c = omega (arith, place-kinds (c .before .before .before .before .before .before .before .args .count) (c .before .before .before .before .before .before .before .args .kinds .now) (c .before .before .before .before .before .before .before .args .words .now) (c .before .before .before .before .before .before .before .pre .0) _ (c .function-place .ensures), c .before .before .before .before .before .before .before .good)
+mul-print-sound c =
+    let entry = c .before .before .before .before .before .before .before in
+    omega (
+      arith,
+      place-kinds (entry .args .count) (entry .args .kinds .now) (entry .args .words .now) (entry .pre .0) _ (c .function-place .ensures),
+      entry .good,
+    )
 
 sub-print-sound : tie.Need-sub-print-sound
-sub-print-sound c = place-kinds (c .before .before .before .before .before .before .before .args .count) (c .before .before .before .before .before .before .before .args .kinds .now) (c .before .before .before .before .before .before .before .args .words .now) (c .before .before .before .before .before .before .before .pre .0) _ (c .function-place .ensures)
+sub-print-sound c =
+    let entry = c .before .before .before .before .before .before .before in
+    place-kinds (entry .args .count) (entry .args .kinds .now) (entry .args .words .now) (entry .pre .0) _ (c .function-place .ensures)
 
 part-print-sound-start : tie.Need-part-print-sound-start
-part-print-sound-start c = place-kinds (c .before .before .before .before .before .before .before .args .count) (c .before .before .before .before .before .before .before .args .kinds .now) (c .before .before .before .before .before .before .before .args .words .now) (c .before .before .before .before .before .before .before .pre .0) _ (c .function-place .ensures)
+part-print-sound-start c =
+    let entry = c .before .before .before .before .before .before .before in
+    place-kinds (entry .args .count) (entry .args .kinds .now) (entry .args .words .now) (entry .pre .0) _ (c .function-place .ensures)
 
 part-print-sound-end : tie.Need-part-print-sound-end
 part-print-sound-end c = search needs
 
 mul-print-sound-2 : tie.Need-mul-print-sound-2
-mul-print-sound-2 c = omega (arith, place-words (c .before .before .before .before .before .before .before .before .args .count) (c .before .before .before .before .before .before .before .before .args .kinds .now) (c .before .before .before .before .before .before .before .before .args .words .now) (c .before .before .before .before .before .before .before .before .pre .0) _ (c .before .function-place .ensures), c .before .before .before .before .before .before .before .before .good)
+mul-print-sound-2 c =
+    let entry = c .before .before .before .before .before .before .before .before in
+    omega (
+      arith,
+      place-words (entry .args .count) (entry .args .kinds .now) (entry .args .words .now) (entry .pre .0) _
+          (c .before .function-place .ensures),
+      entry .good,
+    )
 
 sub-print-sound-2 : tie.Need-sub-print-sound-2
-sub-print-sound-2 c = place-words (c .before .before .before .before .before .before .before .before .args .count) (c .before .before .before .before .before .before .before .before .args .kinds .now) (c .before .before .before .before .before .before .before .before .args .words .now) (c .before .before .before .before .before .before .before .before .pre .0) _ (c .before .function-place .ensures)
+sub-print-sound-2 c =
+    let entry = c .before .before .before .before .before .before .before .before in
+    place-words (entry .args .count) (entry .args .kinds .now) (entry .args .words .now) (entry .pre .0) _ (c .before .function-place .ensures)
 
 part-print-sound-start-2 : tie.Need-part-print-sound-start-2
-part-print-sound-start-2 c = place-words (c .before .before .before .before .before .before .before .before .args .count) (c .before .before .before .before .before .before .before .before .args .kinds .now) (c .before .before .before .before .before .before .before .before .args .words .now) (c .before .before .before .before .before .before .before .before .pre .0) _ (c .before .function-place .ensures)
+part-print-sound-start-2 c =
+    let entry = c .before .before .before .before .before .before .before .before in
+    place-words (entry .args .count) (entry .args .kinds .now) (entry .args .words .now) (entry .pre .0) _ (c .before .function-place .ensures)
 
 part-print-sound-end-2 : tie.Need-part-print-sound-end-2
 part-print-sound-end-2 c = search needs
 
 print-sound-requires : tie.Need-print-sound-requires
-print-sound-requires c κs = (function-lent (c .before .before .before .before .before .before .before .before .before .before .args .count) (c .before .before .before .before .before .before .before .before .before .before .args .kinds .now) (c .before .before .before .before .before .before .before .before .before .before .args .words .now) (c .before .before .before .before .before .before .before .before .before .before .pre .0) _ (c .before .before .before .function-place .ensures), (c .before .before .before .before .before .before .before .before .before .before .pre .1 .0, c .before .before .before .before .before .before .before .before .before .before .pre .1 .1))
+print-sound-requires c κs =
+    let after-function-place = c .before .before .before in
+    let entry = after-function-place .before .before .before .before .before .before .before in (
+      function-lent (entry .args .count) (entry .args .kinds .now) (entry .args .words .now) (entry .pre .0) _
+          (after-function-place .function-place .ensures),
+      (entry .pre .1 .0, entry .pre .1 .1),
+    )
 
 same-length : tie.Need-same-length
 same-length c = search needs
 
 returns : tie.Need-returns
-returns c = λ b e. c .before .before .print-sound .ensures b _ (function-here (c .before .before .before .before .before .before .before .before .before .before .before .before .before .args .count) (c .before .before .before .before .before .before .before .before .before .before .before .before .before .args .kinds .now) (c .before .before .before .before .before .before .before .before .before .before .before .before .before .args .words .now) (c .before .before .before .before .before .before .before .before .before .before .before .before .before .pre .0) _ (c .before .before .before .before .before .before .function-place .ensures) b e)
+returns c =
+    let after-function-place = c .before .before .before .before .before .before in
+    let entry = after-function-place .before .before .before .before .before .before .before in
+    λ b e. c .before .before .print-sound .ensures b _
+    (function-here (entry .args .count) (entry .args .kinds .now) (entry .args .words .now) (entry .pre .0) _
+    (after-function-place .function-place .ensures) b e)
 
 pub print-entries-spec : {M : Type 1} → statement M
 print-entries-spec =

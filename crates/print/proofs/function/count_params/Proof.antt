@@ -32,7 +32,11 @@ loop-less : tie.Need-loop-less Inv-loop μ-loop
 loop-less c = search needs
 
 loop-again : tie.Need-loop-again Inv-loop μ-loop
-loop-again c = ⊎-elim (λ w. rw (w .1) (counting-six (c .before .before .before .loop .inv) (c .before .before .loop-test .taken) (w .0 .taken))) (λ w. rw (w .1) (counting-other (c .before .before .before .loop .inv) (c .before .before .loop-test .taken) (w .0 .left))) (c .if1 .came)
+loop-again c =
+    let in-loop = c .before .before in
+    let at-loop = in-loop .before in
+    ⊎-elim (λ w. rw (w .1) (counting-six (at-loop .loop .inv) (in-loop .loop-test .taken) (w .0 .taken)))
+    (λ w. rw (w .1) (counting-other (at-loop .loop .inv) (in-loop .loop-test .taken) (w .0 .left))) (c .if1 .came)
 
 returns : tie.Need-returns Inv-loop μ-loop
 returns c = counting-end (c .before .loop .inv) (c .loop-test .left)

@@ -36,40 +36,93 @@ enum-told : tie.Need-enum-told
 enum-told c = search needs
 
 returns : tie.Need-returns
-returns c = fn-no-type (c .before .before .before .before .before .before .before .args .names) (c .before .before .before .before .before .before .before .args .kinds .now) (c .before .before .before .before .before .before .before .args .words .now) (c .before .before .before .before .before .before .before .pre) (sym (c .enum-told .given .1) ∙ c .before .before .type-len .ensures)
+returns c =
+    let entry = c .before .before .before .before .before .before .before in
+    fn-no-type (entry .args .names) (entry .args .kinds .now) (entry .args .words .now) (entry .pre)
+    (sym (c .enum-told .given .1) ∙ c .before .before .type-len .ensures)
 
 add-at : tie.Need-add-at
-add-at c = omega (arith, fn-kinds-at (c .before .before .before .before .before .before .before .before .args .names) (c .before .before .before .before .before .before .before .before .args .kinds .now) (c .before .before .before .before .before .before .before .before .args .words .now) (c .before .before .before .before .before .before .before .before .pre) _ (sym (c .before .n .given .1) ∙ c .before .before .before .type-len .ensures), c .before .before .before .before .before .before .before .before .good)
+add-at c =
+    let after-type-len = c .before .before .before in
+    let entry = after-type-len .before .before .before .before .before in
+    omega (
+      arith,
+      fn-kinds-at (entry .args .names) (entry .args .kinds .now) (entry .args .words .now) (entry .pre) _
+          (sym (c .before .n .given .1) ∙ after-type-len .type-len .ensures),
+      entry .good,
+    )
 
 mul-list-params : tie.Need-mul-list-params
-mul-list-params c = omega (arith, fn-kinds-at (c .before .before .before .before .before .before .before .before .args .names) (c .before .before .before .before .before .before .before .before .args .kinds .now) (c .before .before .before .before .before .before .before .before .args .words .now) (c .before .before .before .before .before .before .before .before .pre) _ (sym (c .before .n .given .1) ∙ c .before .before .before .type-len .ensures), c .before .before .before .before .before .before .before .before .good)
+mul-list-params c =
+    let after-type-len = c .before .before .before in
+    let entry = after-type-len .before .before .before .before .before in
+    omega (
+      arith,
+      fn-kinds-at (entry .args .names) (entry .args .kinds .now) (entry .args .words .now) (entry .pre) _
+          (sym (c .before .n .given .1) ∙ after-type-len .type-len .ensures),
+      entry .good,
+    )
 
 sub-list-params : tie.Need-sub-list-params
-sub-list-params c = fn-kinds-at (c .before .before .before .before .before .before .before .before .args .names) (c .before .before .before .before .before .before .before .before .args .kinds .now) (c .before .before .before .before .before .before .before .before .args .words .now) (c .before .before .before .before .before .before .before .before .pre) _ (sym (c .before .n .given .1) ∙ c .before .before .before .type-len .ensures)
+sub-list-params c =
+    let after-type-len = c .before .before .before in
+    let entry = after-type-len .before .before .before .before .before in
+    fn-kinds-at (entry .args .names) (entry .args .kinds .now) (entry .args .words .now) (entry .pre) _
+    (sym (c .before .n .given .1) ∙ after-type-len .type-len .ensures)
 
 part-list-params-start : tie.Need-part-list-params-start
-part-list-params-start c = fn-kinds-at (c .before .before .before .before .before .before .before .before .args .names) (c .before .before .before .before .before .before .before .before .args .kinds .now) (c .before .before .before .before .before .before .before .before .args .words .now) (c .before .before .before .before .before .before .before .before .pre) _ (sym (c .before .n .given .1) ∙ c .before .before .before .type-len .ensures)
+part-list-params-start c =
+    let after-type-len = c .before .before .before in
+    let entry = after-type-len .before .before .before .before .before in
+    fn-kinds-at (entry .args .names) (entry .args .kinds .now) (entry .args .words .now) (entry .pre) _
+    (sym (c .before .n .given .1) ∙ after-type-len .type-len .ensures)
 
 part-list-params-end : tie.Need-part-list-params-end
 part-list-params-end c = search needs
 
 mul-list-params-2 : tie.Need-mul-list-params-2
-mul-list-params-2 c = omega (arith, fn-words-at (c .before .before .before .before .before .before .before .before .before .args .names) (c .before .before .before .before .before .before .before .before .before .args .kinds .now) (c .before .before .before .before .before .before .before .before .before .args .words .now) (c .before .before .before .before .before .before .before .before .before .pre) _ (sym (c .before .before .n .given .1) ∙ c .before .before .before .before .type-len .ensures), c .before .before .before .before .before .before .before .before .before .good)
+mul-list-params-2 c =
+    let after-type-len = c .before .before .before .before in
+    let entry = after-type-len .before .before .before .before .before in
+    omega (
+      arith,
+      fn-words-at (entry .args .names) (entry .args .kinds .now) (entry .args .words .now) (entry .pre) _
+          (sym (c .before .before .n .given .1) ∙ after-type-len .type-len .ensures),
+      entry .good,
+    )
 
 sub-list-params-2 : tie.Need-sub-list-params-2
-sub-list-params-2 c = fn-words-at (c .before .before .before .before .before .before .before .before .before .args .names) (c .before .before .before .before .before .before .before .before .before .args .kinds .now) (c .before .before .before .before .before .before .before .before .before .args .words .now) (c .before .before .before .before .before .before .before .before .before .pre) _ (sym (c .before .before .n .given .1) ∙ c .before .before .before .before .type-len .ensures)
+sub-list-params-2 c =
+    let after-type-len = c .before .before .before .before in
+    let entry = after-type-len .before .before .before .before .before in
+    fn-words-at (entry .args .names) (entry .args .kinds .now) (entry .args .words .now) (entry .pre) _
+    (sym (c .before .before .n .given .1) ∙ after-type-len .type-len .ensures)
 
 part-list-params-start-2 : tie.Need-part-list-params-start-2
-part-list-params-start-2 c = fn-words-at (c .before .before .before .before .before .before .before .before .before .args .names) (c .before .before .before .before .before .before .before .before .before .args .kinds .now) (c .before .before .before .before .before .before .before .before .before .args .words .now) (c .before .before .before .before .before .before .before .before .before .pre) _ (sym (c .before .before .n .given .1) ∙ c .before .before .before .before .type-len .ensures)
+part-list-params-start-2 c =
+    let after-type-len = c .before .before .before .before in
+    let entry = after-type-len .before .before .before .before .before in
+    fn-words-at (entry .args .names) (entry .args .kinds .now) (entry .args .words .now) (entry .pre) _
+    (sym (c .before .before .n .given .1) ∙ after-type-len .type-len .ensures)
 
 part-list-params-end-2 : tie.Need-part-list-params-end-2
 part-list-params-end-2 c = search needs
 
 list-params-requires : tie.Need-list-params-requires
-list-params-requires c κs = fn-params-there (c .before .before .before .before .before .before .before .before .before .before .args .names) (c .before .before .before .before .before .before .before .before .before .before .args .kinds .now) (c .before .before .before .before .before .before .before .before .before .before .args .words .now) (c .before .before .before .before .before .before .before .before .before .before .pre) _ (sym (c .before .before .before .n .given .1) ∙ c .before .before .before .before .before .type-len .ensures)
+list-params-requires c κs =
+    let after-n = c .before .before .before in
+    let after-type-len = after-n .before .before in
+    let entry = after-type-len .before .before .before .before .before in
+    fn-params-there (entry .args .names) (entry .args .kinds .now) (entry .args .words .now) (entry .pre) _
+    (sym (after-n .n .given .1) ∙ after-type-len .type-len .ensures)
 
 returns-2 : tie.Need-returns-2
-returns-2 c = fn-params (c .before .before .before .before .before .before .before .before .before .before .before .args .names) (c .before .before .before .before .before .before .before .before .before .before .before .args .kinds .now) (c .before .before .before .before .before .before .before .before .before .before .before .args .words .now) (c .before .before .before .before .before .before .before .before .before .before .before .pre) _ (sym (c .before .before .before .before .n .given .1) ∙ c .before .before .before .before .before .before .type-len .ensures) _ (c .list-params .ensures)
+returns-2 c =
+    let after-n = c .before .before .before .before in
+    let after-type-len = after-n .before .before in
+    let entry = after-type-len .before .before .before .before .before in
+    fn-params (entry .args .names) (entry .args .kinds .now) (entry .args .words .now) (entry .pre) _
+    (sym (after-n .n .given .1) ∙ after-type-len .type-len .ensures) _ (c .list-params .ensures)
 
 pub function-params-spec : {M : Type 1} → statement M
 function-params-spec =

@@ -29,21 +29,41 @@ enum-told c = search needs
 
 returns : tie.Need-returns
 returns c =
-    let a = c .before .before .before .before .before .before .args in
-    no-params (a .names) (a .kinds .now) (a .words .now) (c .before .before .before .before .before .before .pre) (none-len (any (otherItem BookItem.param)) (many (item (a .names) BookItem.param) (entries (a .kinds .now) (a .words .now))) _ (listed (otherItem BookItem.param) (item (a .names) BookItem.param) (entries (a .kinds .now) (a .words .now)) _ _ (c .before .before .list-len .ensures) (c .before .before .before .shorter .ensures)) (c .enum-told .given .1))
+    let after-shorter = c .before .before .before in
+    let entry = after-shorter .before .before .before in
+    let a = entry .args in
+    no-params (a .names) (a .kinds .now) (a .words .now) (entry .pre)
+    (none-len (any (otherItem BookItem.param)) (many (item (a .names) BookItem.param) (entries (a .kinds .now) (a .words .now))) _
+    (listed (otherItem BookItem.param) (item (a .names) BookItem.param) (entries (a .kinds .now) (a .words .now)) _ _
+    (c .before .before .list-len .ensures) (after-shorter .shorter .ensures)) (c .enum-told .given .1))
 
 slice-aggregate-count-params : tie.Need-slice-aggregate-count-params
 slice-aggregate-count-params c =
-    let a = c .before .before .before .before .before .before .before .before .args in
-    sym (length-take-le _ _ (list-fits (a .names) (a .kinds .now) (a .words .now) (c .before .before .before .before .before .before .before .before .pre) _ (found-len (any (otherItem BookItem.param)) (many (item (a .names) BookItem.param) (entries (a .kinds .now) (a .words .now))) _ _ _ (listed (otherItem BookItem.param) (item (a .names) BookItem.param) (entries (a .kinds .now) (a .words .now)) _ _ (c .before .before .before .before .list-len .ensures) (c .before .before .before .before .before .shorter .ensures)) (c .before .before .n .given .1))))
+    let after-list-len = c .before .before .before .before in
+    let after-shorter = after-list-len .before in
+    let entry = after-shorter .before .before .before in
+    let a = entry .args in
+    sym
+    (length-take-le _ _
+    (list-fits (a .names) (a .kinds .now) (a .words .now) (entry .pre) _
+    (found-len (any (otherItem BookItem.param)) (many (item (a .names) BookItem.param) (entries (a .kinds .now) (a .words .now))) _ _ _
+    (listed (otherItem BookItem.param) (item (a .names) BookItem.param) (entries (a .kinds .now) (a .words .now)) _ _
+    (after-list-len .list-len .ensures) (after-shorter .shorter .ensures)) (c .before .before .n .given .1))))
 
 count-params-requires : tie.Need-count-params-requires
 count-params-requires c κs = search needs
 
 returns-2 : tie.Need-returns-2
 returns-2 c =
-    let a = c .before .before .before .before .before .before .before .before .before .args in
-    list-count (a .names) (a .kinds .now) (a .words .now) (c .before .before .before .before .before .before .before .before .before .pre) _ (found-len (any (otherItem BookItem.param)) (many (item (a .names) BookItem.param) (entries (a .kinds .now) (a .words .now))) _ _ _ (listed (otherItem BookItem.param) (item (a .names) BookItem.param) (entries (a .kinds .now) (a .words .now)) _ _ (c .before .before .before .before .before .list-len .ensures) (c .before .before .before .before .before .before .shorter .ensures)) (c .before .before .before .n .given .1)) _ (c .count-params .ensures)
+    let after-n = c .before .before .before in
+    let after-list-len = after-n .before .before in
+    let after-shorter = after-list-len .before in
+    let entry = after-shorter .before .before .before in
+    let a = entry .args in
+    list-count (a .names) (a .kinds .now) (a .words .now) (entry .pre) _
+    (found-len (any (otherItem BookItem.param)) (many (item (a .names) BookItem.param) (entries (a .kinds .now) (a .words .now))) _ _ _
+    (listed (otherItem BookItem.param) (item (a .names) BookItem.param) (entries (a .kinds .now) (a .words .now)) _ _
+    (after-list-len .list-len .ensures) (after-shorter .shorter .ensures)) (after-n .n .given .1)) _ (c .count-params .ensures)
 
 pub list-params-spec : {M : Type 1} → statement M
 list-params-spec =

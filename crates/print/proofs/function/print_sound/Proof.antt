@@ -8,7 +8,9 @@ use Rattle.print.proofs.passes.print_known.Reads as print-known-reads
 use Rattle.print_types.proofs.starts.note_starts.Reads as note-starts-reads
 
 shared-slice-read-function : tie.Need-shared-slice-read-function
-shared-slice-read-function c = fn-words (c .before .before .before .before .before .before .before .args .count) (c .before .before .before .before .before .before .before .args .kinds .now) (c .before .before .before .before .before .before .before .args .words .now) (c .before .before .before .before .before .before .before .pre .0)
+shared-slice-read-function c =
+    let entry = c .before .before .before .before .before .before .before in
+    fn-words (entry .args .count) (entry .args .kinds .now) (entry .args .words .now) (entry .pre .0)
 
 function-params-requires : tie.Need-function-params-requires
 function-params-requires c κs = search needs
@@ -23,31 +25,52 @@ slice-aggregate-print-known : tie.Need-slice-aggregate-print-known
 slice-aggregate-print-known c = search needs
 
 sub-print-known : tie.Need-sub-print-known
-sub-print-known c = fn-kinds (c .before .before .before .before .before .before .before .before .before .before .before .before .args .count) (c .before .before .before .before .before .before .before .before .before .before .before .before .args .kinds .now) (c .before .before .before .before .before .before .before .before .before .before .before .before .args .words .now) (c .before .before .before .before .before .before .before .before .before .before .before .before .pre .0)
+sub-print-known c =
+    let entry = c .before .before .before .before .before .before .before .before .before .before .before .before in
+    fn-kinds (entry .args .count) (entry .args .kinds .now) (entry .args .words .now) (entry .pre .0)
 
 part-print-known-start : tie.Need-part-print-known-start
-part-print-known-start c = fn-kinds (c .before .before .before .before .before .before .before .before .before .before .before .before .args .count) (c .before .before .before .before .before .before .before .before .before .before .before .before .args .kinds .now) (c .before .before .before .before .before .before .before .before .before .before .before .before .args .words .now) (c .before .before .before .before .before .before .before .before .before .before .before .before .pre .0)
+part-print-known-start c =
+    let entry = c .before .before .before .before .before .before .before .before .before .before .before .before in
+    fn-kinds (entry .args .count) (entry .args .kinds .now) (entry .args .words .now) (entry .pre .0)
 
 part-print-known-end : tie.Need-part-print-known-end
 part-print-known-end c = search needs
 
 sub-print-known-2 : tie.Need-sub-print-known-2
-sub-print-known-2 c = fn-words (c .before .before .before .before .before .before .before .before .before .before .before .before .before .args .count) (c .before .before .before .before .before .before .before .before .before .before .before .before .before .args .kinds .now) (c .before .before .before .before .before .before .before .before .before .before .before .before .before .args .words .now) (c .before .before .before .before .before .before .before .before .before .before .before .before .before .pre .0)
+sub-print-known-2 c =
+    let entry = c .before .before .before .before .before .before .before .before .before .before .before .before .before in
+    fn-words (entry .args .count) (entry .args .kinds .now) (entry .args .words .now) (entry .pre .0)
 
 part-print-known-start-2 : tie.Need-part-print-known-start-2
-part-print-known-start-2 c = fn-words (c .before .before .before .before .before .before .before .before .before .before .before .before .before .args .count) (c .before .before .before .before .before .before .before .before .before .before .before .before .before .args .kinds .now) (c .before .before .before .before .before .before .before .before .before .before .before .before .before .args .words .now) (c .before .before .before .before .before .before .before .before .before .before .before .before .before .pre .0)
+part-print-known-start-2 c =
+    let entry = c .before .before .before .before .before .before .before .before .before .before .before .before .before in
+    fn-words (entry .args .count) (entry .args .kinds .now) (entry .args .words .now) (entry .pre .0)
 
 part-print-known-end-2 : tie.Need-part-print-known-end-2
 part-print-known-end-2 c = search needs
 
 print-known-requires : tie.Need-print-known-requires
-print-known-requires c κs = (c .before .before .before .before .before .note-starts .ensures, (rw (c .before .before .before .before .before .before .before .before .before .before .before .before .before .before .before .pre .1 .1) at (fn-typed (c .before .before .before .before .before .before .before .before .before .before .before .before .before .before .before .args .count) (c .before .before .before .before .before .before .before .before .before .before .before .before .before .before .before .args .kinds .now) (c .before .before .before .before .before .before .before .before .before .before .before .before .before .before .before .args .words .now) (c .before .before .before .before .before .before .before .before .before .before .before .before .before .before .before .pre .0)), (c .before .before .before .before .before .before .before .before .before .before .before .before .before .before .before .pre .1 .1, fn-below (c .before .before .before .before .before .before .before .before .before .before .before .before .before .before .before .args .count) (c .before .before .before .before .before .before .before .before .before .before .before .before .before .before .before .args .kinds .now) (c .before .before .before .before .before .before .before .before .before .before .before .before .before .before .before .args .words .now) (c .before .before .before .before .before .before .before .before .before .before .before .before .before .before .before .pre .0))))
+print-known-requires c κs =
+    let after-note-starts = c .before .before .before .before .before in
+    let entry = after-note-starts .before .before .before .before .before .before .before .before .before .before in (
+      after-note-starts .note-starts .ensures,
+      (
+        rw (entry .pre .1 .1) at (fn-typed (entry .args .count) (entry .args .kinds .now) (entry .args .words .now) (entry .pre .0)),
+        (entry .pre .1 .1, fn-below (entry .args .count) (entry .args .kinds .now) (entry .args .words .now) (entry .pre .0)),
+      ),
+    )
 
 same-length : tie.Need-same-length
 same-length c = search needs
 
 returns : tie.Need-returns
-returns c = λ b n g. c .before .before .print-known .ensures b (fn-known (c .before .before .before .before .before .before .before .before .before .before .before .before .before .before .before .before .before .before .args .count) (c .before .before .before .before .before .before .before .before .before .before .before .before .before .before .before .before .before .before .args .kinds .now) (c .before .before .before .before .before .before .before .before .before .before .before .before .before .before .before .before .before .before .args .words .now) (c .before .before .before .before .before .before .before .before .before .before .before .before .before .before .before .before .before .before .pre .0) (c .before .before .before .before .before .before .before .before .before .before .before .before .before .before .before .before .before .before .args .names .now) (c .before .before .before .before .before .before .before .before .before .before .before .before .before .before .before .before .before .before .pre .1 .1) _ (c .before .before .before .before .before .before .before .before .before .before .function-params .ensures) b n g)
+returns c =
+    let after-function-params = c .before .before .before .before .before .before .before .before .before .before in
+    let entry = after-function-params .before .before .before .before .before .before .before .before in
+    λ b n g. c .before .before .print-known .ensures b
+    (fn-known (entry .args .count) (entry .args .kinds .now) (entry .args .words .now) (entry .pre .0) (entry .args .names .now)
+    (entry .pre .1 .1) _ (after-function-params .function-params .ensures) b n g)
 
 pub print-sound-spec : {M : Type 1} → statement M
 print-sound-spec =

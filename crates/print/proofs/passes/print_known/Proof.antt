@@ -21,21 +21,42 @@ check-lines-requires c κs = search needs
 
 returns : tie.Need-returns
 unfolding bytes
-returns c = λ b k. lines-barred (c .before .before .before .before .before .before .before .before .before .before .before .pre .0) _ _ (c .before .before .prefix-range .ensures) _ _ (c .before .before .before .before .before .before .before .before .before .before .before .pre .1 .1 .0) _ _ _ _ _ _ b _ (c .before .check-lines .ensures) (not-true _ (c .if1 .taken)) k
+returns c =
+    let entry = c .before .before .before .before .before .before .before .before .before .before .before in
+    λ b k. lines-barred (entry .pre .0) _ _ (c .before .before .prefix-range .ensures) _ _ (entry .pre .1 .1 .0) _ _ _ _ _ _ b _
+    (c .before .check-lines .ensures) (not-true _ (c .if1 .taken)) k
 
 name-of-requires : tie.Need-name-of-requires
 name-of-requires c κs = search needs
 
 put-twice-requires : tie.Need-put-twice-requires
 unfolding bytes
-put-twice-requires c κs = (c .before .before .before .before .before .before .before .before .before .before .before .before .before .pre .0, (c .before .before .before .before .before .before .before .before .before .before .before .before .before .pre .1 .0, lines-ready (c .before .before .before .before .before .before .before .before .before .before .before .before .before .pre .0) _ _ (c .before .before .before .before .prefix-range .ensures) _ _ (c .before .before .before .before .before .before .before .before .before .before .before .before .before .pre .1 .1 .0) _ _ _ (c .before .before .before .check-lines .ensures) (not-false _ (c .before .before .if1 .left))))
+put-twice-requires c κs =
+    let after-check-lines = c .before .before .before in
+    let after-prefix-range = after-check-lines .before in
+    let entry = after-prefix-range .before .before .before .before .before .before .before .before .before in (
+      entry .pre .0,
+      (
+        entry .pre .1 .0,
+        lines-ready (entry .pre .0) _ _ (after-prefix-range .prefix-range .ensures) _ _ (entry .pre .1 .1 .0) _ _ _
+            (after-check-lines .check-lines .ensures) (not-false _ (c .before .before .if1 .left)),
+      ),
+    )
 
 same-length : tie.Need-same-length
 same-length c = search needs
 
 returns-2 : tie.Need-returns-2
 unfolding bytes
-returns-2 c = λ b k. lines-put (c .before .before .before .before .before .before .before .before .before .before .before .before .before .before .before .before .pre .0) _ _ (c .before .before .before .before .before .before .before .prefix-range .ensures) _ _ (c .before .before .before .before .before .before .before .before .before .before .before .before .before .before .before .before .pre .1 .1 .0) _ _ _ _ _ _ b _ _ _ (c .before .before .before .before .before .before .check-lines .ensures) (not-false _ (c .before .before .before .before .before .if1 .left)) k (c .before .before .before .before .name-of .ensures) (c .before .before .put-twice .ensures)
+returns-2 c =
+    let after-name-of = c .before .before .before .before in
+    let else1 = after-name-of .before in
+    let after-check-lines = else1 .before in
+    let after-prefix-range = after-check-lines .before in
+    let entry = after-prefix-range .before .before .before .before .before .before .before .before .before in
+    λ b k. lines-put (entry .pre .0) _ _ (after-prefix-range .prefix-range .ensures) _ _ (entry .pre .1 .1 .0) _ _ _ _ _ _ b _ _ _
+    (after-check-lines .check-lines .ensures) (not-false _ (else1 .if1 .left)) k (after-name-of .name-of .ensures)
+    (c .before .before .put-twice .ensures)
 
 pub print-known-spec : {M : Type 1} → statement M
 print-known-spec =

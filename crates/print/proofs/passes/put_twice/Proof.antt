@@ -6,13 +6,18 @@ use Rattle.print.proofs.passes.put_twice.Tie as tie
 use Rattle.print_lines.proofs.put_lines.Reads as put-lines-reads
 
 put-lines-requires : tie.Need-put-lines-requires
-put-lines-requires c κs = (c .before .before .before .before .before .before .before .before .before .pre .0, (c .before .before .before .before .before .before .before .before .before .pre .1 .0, (c .before .before .before .before .before .before .before .before .before .pre .1 .1, start-counting (c .before .before .before .before .before .before .before .before .before .args .text .now))))
+put-lines-requires c κs =
+    let entry = c .before .before .before .before .before .before .before .before .before in
+    (entry .pre .0, (entry .pre .1 .0, (entry .pre .1 .1, start-counting (entry .args .text .now))))
 
 enum-known-counted : tie.Need-enum-known-counted
 enum-known-counted c = search needs
 
 put-lines-requires-2 : tie.Need-put-lines-requires-2
-put-lines-requires-2 c κs = (c .before .before .before .before .before .before .before .before .before .before .before .before .before .before .before .before .pre .0, (c .before .before .before .before .before .before .before .before .before .before .before .before .before .before .before .before .pre .1 .0, (c .before .before .before .before .before .before .before .before .before .before .before .before .before .before .before .before .pre .1 .1, start-writing (c .before .before .before .before .before .before .put-lines .last .0))))
+put-lines-requires-2 c κs =
+    let after-put-lines = c .before .before .before .before .before .before in
+    let entry = after-put-lines .before .before .before .before .before .before .before .before .before .before in
+    (entry .pre .0, (entry .pre .1 .0, (entry .pre .1 .1, start-writing (after-put-lines .put-lines .last .0))))
 
 enum-told : tie.Need-enum-told
 enum-told c = search needs
@@ -24,7 +29,10 @@ same-length : tie.Need-same-length
 same-length c = search needs
 
 returns : tie.Need-returns
-returns c = passes-done (c .before .before .before .before .before .before .before .before .before .put-lines .ensures) _ _ _ (c .before .before .before .before .before .counted .given .1) (c .before .before .put-lines2 .ensures)
+returns c =
+    let after-counted = c .before .before .before .before .before in
+    let after-put-lines = after-counted .before .before .before .before in
+    passes-done (after-put-lines .put-lines .ensures) _ _ _ (after-counted .counted .given .1) (c .before .before .put-lines2 .ensures)
 
 same-length-2 : tie.Need-same-length-2
 same-length-2 c = search needs

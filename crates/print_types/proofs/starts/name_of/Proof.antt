@@ -19,10 +19,15 @@ part-result-start : tie.Need-part-result-start
 part-result-start c = search needs
 
 part-result-end : tie.Need-part-result-end
-part-result-end c = let e = end-below _ (c .before .before .before .before .pre .0 .sound) _ _ _ (c .before .before .before .before .pre .1) (c .before .name-start .ensures) (c .name-end .ensures) in search needs
+part-result-end c =
+    let entry = c .before .before .before .before in
+    let e = end-below _ (entry .pre .0 .sound) _ _ _ (entry .pre .1) (c .before .name-start .ensures) (c .name-end .ensures) in
+    search needs
 
 returns : tie.Need-returns
-returns c = name-bytes _ (c .before .before .before .before .before .pre .0 .sound) _ _ _ (c .before .before .before .before .before .pre .1) (c .before .before .name-start .ensures) (c .before .name-end .ensures)
+returns c =
+    let entry = c .before .before .before .before .before in
+    name-bytes _ (entry .pre .0 .sound) _ _ _ (entry .pre .1) (c .before .before .name-start .ensures) (c .before .name-end .ensures)
 
 pub name-of-spec : {M : Type 1} → statement M
 name-of-spec =

@@ -26,7 +26,10 @@ name-end-requires : tie.Need-name-end-requires Inv-loop μ-loop
 name-end-requires c κs = search needs
 
 add-at : tie.Need-add-at Inv-loop μ-loop
-add-at c = let b = stepping-below (c .before .before .before .before .before .before .pre .0 .sound) (c .before .before .loop .inv) (c .before .before .before .before .before .before .pre .1) (c .before .loop-test .taken) _ (c .name-end .ensures) in omega arith
+add-at c =
+    let entry = c .before .before .before .before .before .before in
+    let b = stepping-below (entry .pre .0 .sound) (c .before .before .loop .inv) (entry .pre .1) (c .before .loop-test .taken) _ (c .name-end .ensures) in
+    omega arith
 
 sub-left : tie.Need-sub-left Inv-loop μ-loop
 sub-left c = search needs
@@ -35,7 +38,9 @@ loop-less : tie.Need-loop-less Inv-loop μ-loop
 loop-less c = search needs
 
 loop-again : tie.Need-loop-again Inv-loop μ-loop
-loop-again c = stepping-next (c .before .before .before .before .before .before .pre .0 .sound) (c .before .before .loop .inv) (c .before .before .before .before .before .before .pre .1) (c .before .loop-test .taken) _ (c .name-end .ensures)
+loop-again c =
+    let entry = c .before .before .before .before .before .before in
+    stepping-next (entry .pre .0 .sound) (c .before .before .loop .inv) (entry .pre .1) (c .before .loop-test .taken) _ (c .name-end .ensures)
 
 returns : tie.Need-returns Inv-loop μ-loop
 returns c = stepping-end (c .before .loop .inv) (c .loop-test .left)

@@ -23,13 +23,20 @@ mul-starts : tie.Need-mul-starts Inv-loop μ-loop
 mul-starts c = search needs
 
 slice-write-starts : tie.Need-slice-write-starts Inv-loop μ-loop
-slice-write-starts c = omega (arith, noting-inside (c .before .before .before .before .before .pre .0) (c .before .before .loop .inv) (c .before .loop-test .taken), c .before .before .before .before .before .pre .0 .few, c .before .before .loop .inv .room)
+slice-write-starts c =
+    let at-loop = c .before .before in
+    let entry = at-loop .before .before .before in
+    omega (arith, noting-inside (entry .pre .0) (at-loop .loop .inv) (c .before .loop-test .taken), entry .pre .0 .few, at-loop .loop .inv .room)
 
 name-end-requires : tie.Need-name-end-requires Inv-loop μ-loop
 name-end-requires c κs = search needs
 
 add-at : tie.Need-add-at Inv-loop μ-loop
-add-at c = let b = noting-below (c .before .before .before .before .before .before .pre .0) (c .before .before .before .loop .inv) _ (c .before .before .loop-test .taken) (c .name-end .ensures) in omega arith
+add-at c =
+    let at-loop = c .before .before .before in
+    let entry = at-loop .before .before .before in
+    let b = noting-below (entry .pre .0) (at-loop .loop .inv) _ (c .before .before .loop-test .taken) (c .name-end .ensures) in
+    omega arith
 
 add-i : tie.Need-add-i Inv-loop μ-loop
 add-i c = search needs
@@ -38,7 +45,13 @@ loop-less : tie.Need-loop-less Inv-loop μ-loop
 loop-less c = search needs
 
 loop-again : tie.Need-loop-again Inv-loop μ-loop
-loop-again c = ⊎-elim (λ w. rw (w .1) (noting-note (c .before .before .before .before .before .before .pre .0) (c .before .before .before .loop .inv) _ (c .before .before .loop-test .taken) (c .name-end .ensures) (w .0 .taken))) (λ w. rw (w .1) (noting-skip (c .before .before .before .before .before .before .pre .0) (c .before .before .before .loop .inv) _ (c .before .before .loop-test .taken) (c .name-end .ensures) (w .0 .left))) (c .before .if1 .came)
+loop-again c =
+    let in-loop = c .before .before in
+    let at-loop = in-loop .before in
+    let entry = at-loop .before .before .before in
+    ⊎-elim (λ w. rw (w .1) (noting-note (entry .pre .0) (at-loop .loop .inv) _ (in-loop .loop-test .taken) (c .name-end .ensures) (w .0 .taken)))
+    (λ w. rw (w .1) (noting-skip (entry .pre .0) (at-loop .loop .inv) _ (in-loop .loop-test .taken) (c .name-end .ensures) (w .0 .left)))
+    (c .before .if1 .came)
 
 same-length : tie.Need-same-length Inv-loop μ-loop
 same-length c = search needs

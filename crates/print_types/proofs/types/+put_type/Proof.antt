@@ -55,7 +55,10 @@ put-type-shared-slice-read-kind : (t : ℕ) → put-type-lts.Need-shared-slice-r
   put-sizeless-reads.Asked,
   put-sizeless-reads.Learnt,
 ) (put-type-at t) put-type.Post
-put-type-shared-slice-read-kind t c = typed-kinds [] (length (lines (c .before .before .before .before .before .before .args .names .now))) (c .before .before .before .before .before .before .args .level) (c .before .before .before .before .before .before .args .kinds .now) (c .before .before .before .before .before .before .args .words .now) (c .before .before .before .before .before .before .pre .1 .1)
+put-type-shared-slice-read-kind t c =
+    let entry = c .before .before .before .before .before .before in
+    typed-kinds [] (length (lines (entry .args .names .now))) (entry .args .level) (entry .args .kinds .now) (entry .args .words .now)
+    (entry .pre .1 .1)
 
 put-type-shared-slice-read-word : (t : ℕ) → put-type-lts.Need-shared-slice-read-word (
   type-group-reads.Asked,
@@ -77,7 +80,10 @@ put-type-shared-slice-read-word : (t : ℕ) → put-type-lts.Need-shared-slice-r
   put-sizeless-reads.Asked,
   put-sizeless-reads.Learnt,
 ) (put-type-at t) put-type.Post
-put-type-shared-slice-read-word t c = typed-words [] (length (lines (c .before .before .before .before .before .before .before .args .names .now))) (c .before .before .before .before .before .before .before .args .level) (c .before .before .before .before .before .before .before .args .kinds .now) (c .before .before .before .before .before .before .before .args .words .now) (c .before .before .before .before .before .before .before .pre .1 .1)
+put-type-shared-slice-read-word t c =
+    let entry = c .before .before .before .before .before .before .before in
+    typed-words [] (length (lines (entry .args .names .now))) (entry .args .level) (entry .args .kinds .now) (entry .args .words .now)
+    (entry .pre .1 .1)
 
 put-type-type-group-requires : (t : ℕ) → put-type-lts.Need-type-group-requires (
   type-group-reads.Asked,
@@ -165,7 +171,10 @@ put-type-sub-put-type : (t : ℕ) → put-type-lts.Need-sub-put-type (
   put-sizeless-reads.Asked,
   put-sizeless-reads.Learnt,
 ) (put-type-at t) put-type.Post
-put-type-sub-put-type t c = typed-kinds [] (length (lines (c .before .before .before .before .before .before .before .before .before .before .before .before .before .before .before .before .args .names .now))) (c .before .before .before .before .before .before .before .before .before .before .before .before .before .before .before .before .args .level) (c .before .before .before .before .before .before .before .before .before .before .before .before .before .before .before .before .args .kinds .now) (c .before .before .before .before .before .before .before .before .before .before .before .before .before .before .before .before .args .words .now) (c .before .before .before .before .before .before .before .before .before .before .before .before .before .before .before .before .pre .1 .1)
+put-type-sub-put-type t c =
+    let entry = c .before .before .before .before .before .before .before .before .before .before .before .before .before .before .before .before in
+    typed-kinds [] (length (lines (entry .args .names .now))) (entry .args .level) (entry .args .kinds .now) (entry .args .words .now)
+    (entry .pre .1 .1)
 
 put-type-part-put-type-start : (t : ℕ) → put-type-lts.Need-part-put-type-start (
   type-group-reads.Asked,
@@ -187,7 +196,10 @@ put-type-part-put-type-start : (t : ℕ) → put-type-lts.Need-part-put-type-sta
   put-sizeless-reads.Asked,
   put-sizeless-reads.Learnt,
 ) (put-type-at t) put-type.Post
-put-type-part-put-type-start t c = typed-kinds [] (length (lines (c .before .before .before .before .before .before .before .before .before .before .before .before .before .before .before .before .args .names .now))) (c .before .before .before .before .before .before .before .before .before .before .before .before .before .before .before .before .args .level) (c .before .before .before .before .before .before .before .before .before .before .before .before .before .before .before .before .args .kinds .now) (c .before .before .before .before .before .before .before .before .before .before .before .before .before .before .before .before .args .words .now) (c .before .before .before .before .before .before .before .before .before .before .before .before .before .before .before .before .pre .1 .1)
+put-type-part-put-type-start t c =
+    let entry = c .before .before .before .before .before .before .before .before .before .before .before .before .before .before .before .before in
+    typed-kinds [] (length (lines (entry .args .names .now))) (entry .args .level) (entry .args .kinds .now) (entry .args .words .now)
+    (entry .pre .1 .1)
 
 put-type-part-put-type-end : (t : ℕ) → put-type-lts.Need-part-put-type-end (
   type-group-reads.Asked,
@@ -231,7 +243,10 @@ put-type-sub-put-type-2 : (t : ℕ) → put-type-lts.Need-sub-put-type-2 (
   put-sizeless-reads.Asked,
   put-sizeless-reads.Learnt,
 ) (put-type-at t) put-type.Post
-put-type-sub-put-type-2 t c = typed-words [] (length (lines (c .before .before .before .before .before .before .before .before .before .before .before .before .before .before .before .before .before .args .names .now))) (c .before .before .before .before .before .before .before .before .before .before .before .before .before .before .before .before .before .args .level) (c .before .before .before .before .before .before .before .before .before .before .before .before .before .before .before .before .before .args .kinds .now) (c .before .before .before .before .before .before .before .before .before .before .before .before .before .before .before .before .before .args .words .now) (c .before .before .before .before .before .before .before .before .before .before .before .before .before .before .before .before .before .pre .1 .1)
+put-type-sub-put-type-2 t c =
+    let entry = c .before .before .before .before .before .before .before .before .before .before .before .before .before .before .before .before .before in
+    typed-words [] (length (lines (entry .args .names .now))) (entry .args .level) (entry .args .kinds .now) (entry .args .words .now)
+    (entry .pre .1 .1)
 
 put-type-part-put-type-start-2 : (t : ℕ) → put-type-lts.Need-part-put-type-start-2 (
   type-group-reads.Asked,
@@ -253,7 +268,10 @@ put-type-part-put-type-start-2 : (t : ℕ) → put-type-lts.Need-part-put-type-s
   put-sizeless-reads.Asked,
   put-sizeless-reads.Learnt,
 ) (put-type-at t) put-type.Post
-put-type-part-put-type-start-2 t c = typed-words [] (length (lines (c .before .before .before .before .before .before .before .before .before .before .before .before .before .before .before .before .before .args .names .now))) (c .before .before .before .before .before .before .before .before .before .before .before .before .before .before .before .before .before .args .level) (c .before .before .before .before .before .before .before .before .before .before .before .before .before .before .before .before .before .args .kinds .now) (c .before .before .before .before .before .before .before .before .before .before .before .before .before .before .before .before .before .args .words .now) (c .before .before .before .before .before .before .before .before .before .before .before .before .before .before .before .before .before .pre .1 .1)
+put-type-part-put-type-start-2 t c =
+    let entry = c .before .before .before .before .before .before .before .before .before .before .before .before .before .before .before .before .before in
+    typed-words [] (length (lines (entry .args .names .now))) (entry .args .level) (entry .args .kinds .now) (entry .args .words .now)
+    (entry .pre .1 .1)
 
 put-type-part-put-type-end-2 : (t : ℕ) → put-type-lts.Need-part-put-type-end-2 (
   type-group-reads.Asked,
@@ -297,7 +315,13 @@ put-type-sub-put-type-3 : (t : ℕ) → put-type-lts.Need-sub-put-type-3 (
   put-sizeless-reads.Asked,
   put-sizeless-reads.Learnt,
 ) (put-type-at t) put-type.Post
-put-type-sub-put-type-3 t c = omega (arith, typed-level [] (length (lines (c .before .before .before .before .before .before .before .before .before .before .before .before .before .before .before .before .before .before .args .names .now))) (c .before .before .before .before .before .before .before .before .before .before .before .before .before .before .before .before .before .before .args .level) (c .before .before .before .before .before .before .before .before .before .before .before .before .before .before .before .before .before .before .args .kinds .now) (c .before .before .before .before .before .before .before .before .before .before .before .before .before .before .before .before .before .before .args .words .now) (c .before .before .before .before .before .before .before .before .before .before .before .before .before .before .before .before .before .before .pre .1 .1))
+put-type-sub-put-type-3 t c =
+    let entry = c .before .before .before .before .before .before .before .before .before .before .before .before .before .before .before .before .before .before in
+    omega (
+      arith,
+      typed-level [] (length (lines (entry .args .names .now))) (entry .args .level) (entry .args .kinds .now) (entry .args .words .now)
+          (entry .pre .1 .1),
+    )
 
 put-type-put-type-requires : (t : ℕ) → put-type-lts.Need-put-type-requires (
   type-group-reads.Asked,
@@ -319,7 +343,22 @@ put-type-put-type-requires : (t : ℕ) → put-type-lts.Need-put-type-requires (
   put-sizeless-reads.Asked,
   put-sizeless-reads.Learnt,
 ) (put-type-at t) put-type.Post
-put-type-put-type-requires t c κs = (omega (arith, c .before .before .before .before .before .before .before .before .before .before .before .before .before .before .before .before .before .before .pre .0, typed-level [] (length (lines (c .before .before .before .before .before .before .before .before .before .before .before .before .before .before .before .before .before .before .args .names .now))) (c .before .before .before .before .before .before .before .before .before .before .before .before .before .before .before .before .before .before .args .level) (c .before .before .before .before .before .before .before .before .before .before .before .before .before .before .before .before .before .before .args .kinds .now) (c .before .before .before .before .before .before .before .before .before .before .before .before .before .before .before .before .before .before .args .words .now) (c .before .before .before .before .before .before .before .before .before .before .before .before .before .before .before .before .before .before .pre .1 .1)), (c .before .before .before .before .before .before .before .before .before .before .before .before .before .before .before .before .before .before .pre .1 .0, elem-typed [] (length (lines (c .before .before .before .before .before .before .before .before .before .before .before .before .before .before .before .before .before .before .args .names .now))) (c .before .before .before .before .before .before .before .before .before .before .before .before .before .before .before .before .before .before .args .level) (c .before .before .before .before .before .before .before .before .before .before .before .before .before .before .before .before .before .before .args .kinds .now) (c .before .before .before .before .before .before .before .before .before .before .before .before .before .before .before .before .before .before .args .words .now) (c .before .before .before .before .before .before .before .before .before .before .before .before .before .before .before .before .before .before .pre .1 .1) _ (c .before .before .before .before .before .before .before .before .before .before .type-group .ensures) _ (c .before .before .before .before .before .before .before .before .packed .given .1)))
+put-type-put-type-requires t c κs =
+    let after-packed = c .before .before .before .before .before .before .before .before in
+    let after-type-group = after-packed .before .before in
+    let entry = after-type-group .before .before .before .before .before .before .before .before in (
+      omega (
+        arith,
+        entry .pre .0,
+        typed-level [] (length (lines (entry .args .names .now))) (entry .args .level) (entry .args .kinds .now)
+            (entry .args .words .now) (entry .pre .1 .1),
+      ),
+      (
+        entry .pre .1 .0,
+        elem-typed [] (length (lines (entry .args .names .now))) (entry .args .level) (entry .args .kinds .now)
+            (entry .args .words .now) (entry .pre .1 .1) _ (after-type-group .type-group .ensures) _ (after-packed .packed .given .1),
+      ),
+    )
 
 put-type-put-close-requires : (t : ℕ) → put-type-lts.Need-put-close-requires (
   type-group-reads.Asked,
@@ -561,7 +600,13 @@ put-type-name-of-requires : (t : ℕ) → put-type-lts.Need-name-of-requires (
   put-sizeless-reads.Asked,
   put-sizeless-reads.Learnt,
 ) (put-type-at t) put-type.Post
-put-type-name-of-requires t c κs = (c .before .before .before .before .before .before .before .before .before .before .before .pre .1 .0, named-there [] (length (lines (c .before .before .before .before .before .before .before .before .before .before .before .args .names .now))) (c .before .before .before .before .before .before .before .before .before .before .before .args .level) (c .before .before .before .before .before .before .before .before .before .before .before .args .kinds .now) (c .before .before .before .before .before .before .before .before .before .before .before .args .words .now) (c .before .before .before .before .before .before .before .before .before .before .before .pre .1 .1) _ (c .before .before .before .type-group .ensures) (c .before .enum-told4 .given .1))
+put-type-name-of-requires t c κs =
+    let after-type-group = c .before .before .before in
+    let entry = after-type-group .before .before .before .before .before .before .before .before in (
+      entry .pre .1 .0,
+      named-there [] (length (lines (entry .args .names .now))) (entry .args .level) (entry .args .kinds .now)
+          (entry .args .words .now) (entry .pre .1 .1) _ (after-type-group .type-group .ensures) (c .before .enum-told4 .given .1),
+    )
 
 put-type-put-named-requires : (t : ℕ) → put-type-lts.Need-put-named-requires (
   type-group-reads.Asked,
@@ -803,7 +848,17 @@ put-type-returns : (t : ℕ) → put-type-lts.Need-returns (
   put-sizeless-reads.Asked,
   put-sizeless-reads.Learnt,
 ) (put-type-at t) put-type.Post
-put-type-returns t c = put-same (type-arm (lines (c .before .before .before .before .before .before .before .before .before .before .before .before .before .before .before .before .before .before .before .before .before .before .before .before .before .args .names .now)) (length (lines (c .before .before .before .before .before .before .before .before .before .before .before .before .before .before .before .before .before .before .before .before .before .before .before .before .before .args .names .now))) (c .before .before .before .before .before .before .before .before .before .before .before .before .before .before .before .before .before .before .before .before .before .before .before .before .before .args .level) (c .before .before .before .before .before .before .before .before .before .before .before .before .before .before .before .before .before .before .before .before .before .before .before .before .before .args .kinds .now) (c .before .before .before .before .before .before .before .before .before .before .before .before .before .before .before .before .before .before .before .before .before .before .before .before .before .args .words .now) (c .before .before .before .before .before .before .before .before .before .before .before .before .before .before .before .before .before .before .before .before .before .before .before .before .before .pre .1 .1) _ (c .before .before .before .before .before .before .before .before .before .before .before .before .before .before .before .before .before .type-group .ensures) _ (c .before .before .before .before .before .before .before .before .before .before .before .before .before .before .before .packed .given .1)) (then-put (c .before .before .before .before .before .before .before .before .before .before .before .before .put-array-head .ensures) (then-put (c .before .before .before .before .before .before .put-type .ensures) (c .before .before .put-close .ensures)))
+put-type-returns t c =
+    let after-put-type = c .before .before .before .before .before .before in
+    let after-put-array-head = after-put-type .before .before .before .before .before .before in
+    let after-packed = after-put-array-head .before .before .before in
+    let after-type-group = after-packed .before .before in
+    let entry = after-type-group .before .before .before .before .before .before .before .before in
+    put-same
+    (type-arm (lines (entry .args .names .now)) (length (lines (entry .args .names .now))) (entry .args .level) (entry .args .kinds .now)
+    (entry .args .words .now) (entry .pre .1 .1) _ (after-type-group .type-group .ensures) _ (after-packed .packed .given .1))
+    (then-put (after-put-array-head .put-array-head .ensures)
+    (then-put (after-put-type .put-type .ensures) (c .before .before .put-close .ensures)))
 
 put-type-same-length-2 : (t : ℕ) → put-type-lts.Need-same-length-2 (
   type-group-reads.Asked,
@@ -848,7 +903,14 @@ put-type-returns-2 : (t : ℕ) → put-type-lts.Need-returns-2 (
   put-sizeless-reads.Learnt,
 ) (put-type-at t) put-type.Post
 unfolding bytes
-put-type-returns-2 t c = put-same (type-arm (lines (c .before .before .before .before .before .before .before .before .before .before .before .before .before .before .before .args .names .now)) (length (lines (c .before .before .before .before .before .before .before .before .before .before .before .before .before .before .before .args .names .now))) (c .before .before .before .before .before .before .before .before .before .before .before .before .before .before .before .args .level) (c .before .before .before .before .before .before .before .before .before .before .before .before .before .before .before .args .kinds .now) (c .before .before .before .before .before .before .before .before .before .before .before .before .before .before .before .args .words .now) (c .before .before .before .before .before .before .before .before .before .before .before .before .before .before .before .pre .1 .1) _ (c .before .before .before .before .before .before .before .type-group .ensures) _ (c .before .before .before .before .before .enum-told .given .1)) (c .before .before .put-bytes .ensures)
+put-type-returns-2 t c =
+    let after-enum-told = c .before .before .before .before .before in
+    let after-type-group = after-enum-told .before .before in
+    let entry = after-type-group .before .before .before .before .before .before .before .before in
+    put-same
+    (type-arm (lines (entry .args .names .now)) (length (lines (entry .args .names .now))) (entry .args .level) (entry .args .kinds .now)
+    (entry .args .words .now) (entry .pre .1 .1) _ (after-type-group .type-group .ensures) _ (after-enum-told .enum-told .given .1))
+    (c .before .before .put-bytes .ensures)
 
 put-type-same-length-3 : (t : ℕ) → put-type-lts.Need-same-length-3 (
   type-group-reads.Asked,
@@ -892,7 +954,14 @@ put-type-returns-3 : (t : ℕ) → put-type-lts.Need-returns-3 (
   put-sizeless-reads.Asked,
   put-sizeless-reads.Learnt,
 ) (put-type-at t) put-type.Post
-put-type-returns-3 t c = put-same (type-arm (lines (c .before .before .before .before .before .before .before .before .before .before .before .before .before .before .args .names .now)) (length (lines (c .before .before .before .before .before .before .before .before .before .before .before .before .before .before .args .names .now))) (c .before .before .before .before .before .before .before .before .before .before .before .before .before .before .args .level) (c .before .before .before .before .before .before .before .before .before .before .before .before .before .before .args .kinds .now) (c .before .before .before .before .before .before .before .before .before .before .before .before .before .before .args .words .now) (c .before .before .before .before .before .before .before .before .before .before .before .before .before .before .pre .1 .1) _ (c .before .before .before .before .before .before .type-group .ensures) _ (c .before .before .before .before .enum-told2 .given .1)) (c .before .before .put-int .ensures)
+put-type-returns-3 t c =
+    let after-enum-told2 = c .before .before .before .before in
+    let after-type-group = after-enum-told2 .before .before in
+    let entry = after-type-group .before .before .before .before .before .before .before .before in
+    put-same
+    (type-arm (lines (entry .args .names .now)) (length (lines (entry .args .names .now))) (entry .args .level) (entry .args .kinds .now)
+    (entry .args .words .now) (entry .pre .1 .1) _ (after-type-group .type-group .ensures) _ (after-enum-told2 .enum-told2 .given .1))
+    (c .before .before .put-int .ensures)
 
 put-type-same-length-4 : (t : ℕ) → put-type-lts.Need-same-length-4 (
   type-group-reads.Asked,
@@ -937,7 +1006,14 @@ put-type-returns-4 : (t : ℕ) → put-type-lts.Need-returns-4 (
   put-sizeless-reads.Learnt,
 ) (put-type-at t) put-type.Post
 unfolding bytes
-put-type-returns-4 t c = put-same (type-arm (lines (c .before .before .before .before .before .before .before .before .before .before .before .before .before .before .before .args .names .now)) (length (lines (c .before .before .before .before .before .before .before .before .before .before .before .before .before .before .before .args .names .now))) (c .before .before .before .before .before .before .before .before .before .before .before .before .before .before .before .args .level) (c .before .before .before .before .before .before .before .before .before .before .before .before .before .before .before .args .kinds .now) (c .before .before .before .before .before .before .before .before .before .before .before .before .before .before .before .args .words .now) (c .before .before .before .before .before .before .before .before .before .before .before .before .before .before .before .pre .1 .1) _ (c .before .before .before .before .before .before .before .type-group .ensures) _ (c .before .before .before .before .before .enum-told3 .given .1)) (c .before .before .put-bytes2 .ensures)
+put-type-returns-4 t c =
+    let after-enum-told3 = c .before .before .before .before .before in
+    let after-type-group = after-enum-told3 .before .before in
+    let entry = after-type-group .before .before .before .before .before .before .before .before in
+    put-same
+    (type-arm (lines (entry .args .names .now)) (length (lines (entry .args .names .now))) (entry .args .level) (entry .args .kinds .now)
+    (entry .args .words .now) (entry .pre .1 .1) _ (after-type-group .type-group .ensures) _ (after-enum-told3 .enum-told3 .given .1))
+    (c .before .before .put-bytes2 .ensures)
 
 put-type-same-length-5 : (t : ℕ) → put-type-lts.Need-same-length-5 (
   type-group-reads.Asked,
@@ -981,7 +1057,15 @@ put-type-returns-5 : (t : ℕ) → put-type-lts.Need-returns-5 (
   put-sizeless-reads.Asked,
   put-sizeless-reads.Learnt,
 ) (put-type-at t) put-type.Post
-put-type-returns-5 t c = put-same (type-arm (lines (c .before .before .before .before .before .before .before .before .before .before .before .before .before .before .before .args .names .now)) (length (lines (c .before .before .before .before .before .before .before .before .before .before .before .before .before .before .before .args .names .now))) (c .before .before .before .before .before .before .before .before .before .before .before .before .before .before .before .args .level) (c .before .before .before .before .before .before .before .before .before .before .before .before .before .before .before .args .kinds .now) (c .before .before .before .before .before .before .before .before .before .before .before .before .before .before .before .args .words .now) (c .before .before .before .before .before .before .before .before .before .before .before .before .before .before .before .pre .1 .1) _ (c .before .before .before .before .before .before .before .type-group .ensures) _ (c .before .before .before .before .before .enum-told4 .given .1)) (put-same (ap (λ s. bytes "%" ++ s) (c .before .before .before .name-of .ensures)) (c .before .before .put-named .ensures))
+put-type-returns-5 t c =
+    let after-name-of = c .before .before .before in
+    let after-enum-told4 = after-name-of .before .before in
+    let after-type-group = after-enum-told4 .before .before in
+    let entry = after-type-group .before .before .before .before .before .before .before .before in
+    put-same
+    (type-arm (lines (entry .args .names .now)) (length (lines (entry .args .names .now))) (entry .args .level) (entry .args .kinds .now)
+    (entry .args .words .now) (entry .pre .1 .1) _ (after-type-group .type-group .ensures) _ (after-enum-told4 .enum-told4 .given .1))
+    (put-same (ap (λ s. bytes "%" ++ s) (after-name-of .name-of .ensures)) (c .before .before .put-named .ensures))
 
 put-type-same-length-6 : (t : ℕ) → put-type-lts.Need-same-length-6 (
   type-group-reads.Asked,
@@ -1026,7 +1110,14 @@ put-type-returns-6 : (t : ℕ) → put-type-lts.Need-returns-6 (
   put-sizeless-reads.Learnt,
 ) (put-type-at t) put-type.Post
 unfolding bytes
-put-type-returns-6 t c = put-same (type-arm (lines (c .before .before .before .before .before .before .before .before .before .before .before .before .before .before .before .args .names .now)) (length (lines (c .before .before .before .before .before .before .before .before .before .before .before .before .before .before .before .args .names .now))) (c .before .before .before .before .before .before .before .before .before .before .before .before .before .before .before .args .level) (c .before .before .before .before .before .before .before .before .before .before .before .before .before .before .before .args .kinds .now) (c .before .before .before .before .before .before .before .before .before .before .before .before .before .before .before .args .words .now) (c .before .before .before .before .before .before .before .before .before .before .before .before .before .before .before .pre .1 .1) _ (c .before .before .before .before .before .before .before .type-group .ensures) _ (c .before .before .before .before .before .enum-told5 .given .1)) (c .before .before .put-bytes3 .ensures)
+put-type-returns-6 t c =
+    let after-enum-told5 = c .before .before .before .before .before in
+    let after-type-group = after-enum-told5 .before .before in
+    let entry = after-type-group .before .before .before .before .before .before .before .before in
+    put-same
+    (type-arm (lines (entry .args .names .now)) (length (lines (entry .args .names .now))) (entry .args .level) (entry .args .kinds .now)
+    (entry .args .words .now) (entry .pre .1 .1) _ (after-type-group .type-group .ensures) _ (after-enum-told5 .enum-told5 .given .1))
+    (c .before .before .put-bytes3 .ensures)
 
 put-type-same-length-7 : (t : ℕ) → put-type-lts.Need-same-length-7 (
   type-group-reads.Asked,
@@ -1070,7 +1161,14 @@ put-type-returns-7 : (t : ℕ) → put-type-lts.Need-returns-7 (
   put-sizeless-reads.Asked,
   put-sizeless-reads.Learnt,
 ) (put-type-at t) put-type.Post
-put-type-returns-7 t c = put-same (type-arm (lines (c .before .before .before .before .before .before .before .before .before .before .before .before .before .before .args .names .now)) (length (lines (c .before .before .before .before .before .before .before .before .before .before .before .before .before .before .args .names .now))) (c .before .before .before .before .before .before .before .before .before .before .before .before .before .before .args .level) (c .before .before .before .before .before .before .before .before .before .before .before .before .before .before .args .kinds .now) (c .before .before .before .before .before .before .before .before .before .before .before .before .before .before .args .words .now) (c .before .before .before .before .before .before .before .before .before .before .before .before .before .before .pre .1 .1) _ (c .before .before .before .before .before .before .type-group .ensures) _ (c .before .before .before .before .enum-told6 .given .1)) (c .before .before .put-sizeless .ensures)
+put-type-returns-7 t c =
+    let after-enum-told6 = c .before .before .before .before in
+    let after-type-group = after-enum-told6 .before .before in
+    let entry = after-type-group .before .before .before .before .before .before .before .before in
+    put-same
+    (type-arm (lines (entry .args .names .now)) (length (lines (entry .args .names .now))) (entry .args .level) (entry .args .kinds .now)
+    (entry .args .words .now) (entry .pre .1 .1) _ (after-type-group .type-group .ensures) _ (after-enum-told6 .enum-told6 .given .1))
+    (c .before .before .put-sizeless .ensures)
 
 put-type-same-length-8 : (t : ℕ) → put-type-lts.Need-same-length-8 (
   type-group-reads.Asked,
@@ -1115,7 +1213,14 @@ put-type-returns-8 : (t : ℕ) → put-type-lts.Need-returns-8 (
   put-sizeless-reads.Learnt,
 ) (put-type-at t) put-type.Post
 unfolding bytes
-put-type-returns-8 t c = put-same (type-arm (lines (c .before .before .before .before .before .before .before .before .before .before .before .before .before .before .before .args .names .now)) (length (lines (c .before .before .before .before .before .before .before .before .before .before .before .before .before .before .before .args .names .now))) (c .before .before .before .before .before .before .before .before .before .before .before .before .before .before .before .args .level) (c .before .before .before .before .before .before .before .before .before .before .before .before .before .before .before .args .kinds .now) (c .before .before .before .before .before .before .before .before .before .before .before .before .before .before .before .args .words .now) (c .before .before .before .before .before .before .before .before .before .before .before .before .before .before .before .pre .1 .1) _ (c .before .before .before .before .before .before .before .type-group .ensures) _ (c .before .before .before .before .before .enum-told7 .given .1)) (c .before .before .put-bytes4 .ensures)
+put-type-returns-8 t c =
+    let after-enum-told7 = c .before .before .before .before .before in
+    let after-type-group = after-enum-told7 .before .before in
+    let entry = after-type-group .before .before .before .before .before .before .before .before in
+    put-same
+    (type-arm (lines (entry .args .names .now)) (length (lines (entry .args .names .now))) (entry .args .level) (entry .args .kinds .now)
+    (entry .args .words .now) (entry .pre .1 .1) _ (after-type-group .type-group .ensures) _ (after-enum-told7 .enum-told7 .given .1))
+    (c .before .before .put-bytes4 .ensures)
 
 pub +put-type-spec : {M : Type 1} → statement M
 +put-type-spec = close μ-put-type λ t. put-type-lts.spec (

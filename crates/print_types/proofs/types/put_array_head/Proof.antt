@@ -26,7 +26,10 @@ same-length c = search needs
 
 returns : tie.Need-returns
 unfolding arrayHead bytes
-returns c = then-put (c .before .before .before .before .before .before .before .before .before .before .before .put-open .ensures) (then-put (c .before .before .before .before .before .before .before .put-number .ensures) (c .before .before .put-bytes .ensures))
+returns c =
+    let after-put-number = c .before .before .before .before .before .before .before in
+    let after-put-open = after-put-number .before .before .before .before in
+    then-put (after-put-open .put-open .ensures) (then-put (after-put-number .put-number .ensures) (c .before .before .put-bytes .ensures))
 
 pub put-array-head-spec : {M : Type 1} → statement M
 put-array-head-spec =

@@ -32,7 +32,10 @@ same-length-2 c = search needs
 
 returns-2 : tie.Need-returns-2
 unfolding sizelessText bytes
-returns-2 c = put-same (rw (ne-eqb _ 18 (c .before .before .before .before .before .before .if1 .left), eq-eqb _ 19 (c .before .before .before .before .before .if2 .taken))) (c .before .before .put-bytes2 .ensures)
+returns-2 c =
+    let then2 = c .before .before .before .before .before in
+    let else1 = then2 .before in
+    put-same (rw (ne-eqb _ 18 (else1 .if1 .left), eq-eqb _ 19 (then2 .if2 .taken))) (c .before .before .put-bytes2 .ensures)
 
 slice-aggregate-put-bytes-3 : tie.Need-slice-aggregate-put-bytes-3
 slice-aggregate-put-bytes-3 c = search needs
@@ -45,7 +48,10 @@ same-length-3 c = search needs
 
 returns-3 : tie.Need-returns-3
 unfolding sizelessText bytes
-returns-3 c = put-same (rw (ne-eqb _ 18 (c .before .before .before .before .before .before .if1 .left), ne-eqb _ 19 (c .before .before .before .before .before .if2 .left))) (c .before .before .put-bytes3 .ensures)
+returns-3 c =
+    let else2 = c .before .before .before .before .before in
+    let else1 = else2 .before in
+    put-same (rw (ne-eqb _ 18 (else1 .if1 .left), ne-eqb _ 19 (else2 .if2 .left))) (c .before .before .put-bytes3 .ensures)
 
 pub put-sizeless-spec : {M : Type 1} → statement M
 put-sizeless-spec =

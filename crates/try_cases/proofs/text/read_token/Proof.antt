@@ -32,7 +32,11 @@ read-number-requires-2 : tie.Need-read-number-requires-2
 read-number-requires-2 c κs = search needs
 
 returns-2 : tie.Need-returns-2
-returns-2 c = token-parts _ (c .before .before .before .before .read-number .result) (c .read-number2 .result) (c .before .before .before .before .read-number .ensures) (c .read-number2 .ensures ∙ ap numberIn (to-end (c .before .before .before .before .before .before .args .word .now) (c .before .before .before .before .read-number .result .digits + 1)))
+returns-2 c =
+    let after-read-number = c .before .before .before .before in
+    let entry = after-read-number .before .before in
+    token-parts _ (after-read-number .read-number .result) (c .read-number2 .result) (after-read-number .read-number .ensures)
+    (c .read-number2 .ensures ∙ ap numberIn (to-end (entry .args .word .now) (after-read-number .read-number .result .digits + 1)))
 
 pub read-token-spec : {M : Type 1} → statement M
 read-token-spec =
