@@ -11,3 +11,11 @@ pub mod Run
 pub mod Open
 pub mod Cases
 pub mod Functions
+pub mod Goes
+pub mod Measured
+pub mod Going
+pub mod Exact
+pub mod ExactGep
+pub mod ExactCall
+pub mod ExactInst
+pub mod GoesOn
