@@ -1,26 +1,24 @@
 -- The source run goes on exactly where `Goes` and `Measured` say: each condition suffices, and each is met where the run has gone on.
 use Prim.Native.Nat.{ℕ, zero, suc, _-_, _%_, _^_, _<_, _≤_}
-use mathlib.Core.Path.{_≡_, refl, ap, subst, sym, _∙_}
+use mathlib.Core.Path.{_≡_, refl, subst}
 use mathlib.Core.Logic.{_⊎_, inl, inr}
 use mathlib.Core.Bool.{Bool, true, false, cond, _||_}
-use mathlib.Core.Option.{Option, none, some}
-use mathlib.Core.List.{List, [], _∷_}
+use mathlib.Core.Option.{some}
 use native.Mathlib.Omega.{arith}
 use lib.Dec.{eqb, ltb, leb}
-use lib.IntN.{ℤ, pos, negsuc}
+use lib.IntN.{pos, negsuc}
 use lib.Signed.{quotZ, mag}
 use lib.Pow.{pow-pos}
 use borrow.Author.Tests.{ltb-true, ltb-false, leb-true, eqb-true, lt-ltb, le-leb, eq-eqb}
 use Rattle.names.specs.Tests.{either, or-right}
 use Rattle.book.specs.Ast.{Ty, Value, TypedVal, BinOp, ConvOp}
-use Rattle.book.specs.Result.{Result, ok, err, bind, okOr, err-no-ok, bind-ok, bind-step}
-use Rattle.machine.specs.State.{globalAt}
+use Rattle.book.specs.Result.{Result, ok, bind, okOr, err-no-ok, bind-ok, bind-step}
 use Rattle.machine.specs.Signed.{signed, signedAt, nonzero}
-use Rattle.manual.specs.Stop.{Stop, stops, stopNumber, need}
-use Rattle.manual.specs.Values.{binValue, constant, inRange, inSignedRange, convWidths}
+use Rattle.manual.specs.Stop.{Stop, stopNumber, need}
+use Rattle.manual.specs.Values.{binValue, constant, inRange, convWidths}
 use Rattle.manual.specs.State.{Cell, Given, Source}
-use Rattle.manual.specs.Operand.{widthOf, integerWidth, scalar, value, typed, typeds}
-use Rattle.manual.specs.Goes.{Scalar, Integer, InRange, InSignedRange, Reads, Typed, Divides, Defined, Converts}
+use Rattle.manual.specs.Operand.{widthOf, integerWidth, scalar, value, typed}
+use Rattle.manual.specs.Goes.{Scalar, Integer, InRange, Reads, Typed, Divides, Defined, Converts}
 use Rattle.manual.specs.Going.{ok-same, Going, onward, need-ok, need-true, okOr-ok, okOr-some}
 
 -- ---- types

@@ -1,7 +1,7 @@
 -- A call goes on exactly where its arguments and its callee can be read, its shape fits, and its reply can be received.
 use Prim.Native.Nat.{ℕ, _^_, _<_}
-use mathlib.Core.Path.{_≡_, refl, ap, subst, sym, _∙_}
-use mathlib.Core.Logic.{_⊎_, inl, inr}
+use mathlib.Core.Path.{_≡_, refl, subst}
+use mathlib.Core.Logic.{inl, inr}
 use mathlib.Core.Bool.{Bool, true, false, cond, _||_, false≢true}
 use mathlib.Core.Option.{Option, none, some}
 use mathlib.Core.List.{List, [], _∷_}
@@ -13,14 +13,14 @@ use Rattle.names.specs.Spelling.{isSyscall, isBcmp, isMemcmp}
 use Rattle.names.specs.Tests.{both, or-right}
 use Rattle.book.specs.Ast.{Ty, Value, TypedVal}
 use Rattle.book.specs.Limits.{Each}
-use Rattle.book.specs.Result.{Result, ok, bind, err-no-ok, bind-ok, bind-step}
+use Rattle.book.specs.Result.{ok, err-no-ok, bind-ok, bind-step}
 use Rattle.machine.specs.State.{Target, Shape, World, memcmp, shapeOf, printedName}
-use Rattle.manual.specs.Stop.{Stop, need}
+use Rattle.manual.specs.Stop.{Stop}
 use Rattle.manual.specs.State.{Given, Source, put}
 use Rattle.manual.specs.Operand.{value, typed, typeds}
-use Rattle.manual.specs.Call.{resultWidth, listedAs, hasWidth, sameTest, shaped, fitsShape, fitting, receive, targetOf, replyTo, afterCall, runCall}
-use Rattle.manual.specs.Goes.{Scalar, Answers, Reads, Typed, Callee, Replies, Shaped, Receives}
-use Rattle.manual.specs.Going.{ok-same, none-some, Going, onward, need-ok}
+use Rattle.manual.specs.Call.{resultWidth, listedAs, hasWidth, sameTest, shaped, fitsShape, fitting, receive, targetOf, replyTo, runCall}
+use Rattle.manual.specs.Goes.{Scalar, Answers, Typed, Callee, Replies, Shaped, Receives}
+use Rattle.manual.specs.Going.{ok-same, Going, onward, need-ok}
 use Rattle.manual.specs.Exact.{untested, reads-value, value-reads, typed-value, value-typed}
 
 -- ---- results

@@ -1,18 +1,18 @@
 -- A getelementptr's offset is there exactly where its indices can be read, lead on and are measured.
 use Prim.Native.Nat.{ℕ, _-_, _^_}
 use mathlib.Core.Path.{_≡_, refl, ap, subst, sym, _∙_}
-use mathlib.Core.Option.{Option, none, some}
+use mathlib.Core.Option.{none, some}
 use mathlib.Core.List.{List, [], _∷_}
-use Rattle.book.specs.Ast.{Ty, Value, TypedVal, StructBody, StructType}
-use Rattle.book.specs.Result.{Result, ok, err, bind, okOr, err-no-ok, bind-ok, bind-step}
+use Rattle.book.specs.Ast.{Ty, Value, TypedVal, StructBody}
+use Rattle.book.specs.Result.{Result, ok, bind, okOr, err-no-ok, bind-ok, bind-step}
 use Rattle.layout.specs.Layout.{resolve, sizeOf, fieldOffset}
 use Rattle.layout.specs.Step.{constInt, fieldAt}
-use Rattle.manual.specs.Stop.{Stop, stopNumber, need}
+use Rattle.manual.specs.Stop.{Stop, stopNumber}
 use Rattle.manual.specs.Values.{inSignedRange}
 use Rattle.manual.specs.State.{Given, Source}
 use Rattle.manual.specs.Operand.{widthOf, value}
 use Rattle.manual.specs.Gep.{indexAt, index, overElements, overFields, into, offsetIn, offset}
-use Rattle.manual.specs.Goes.{Reads, Index, Leads, Way, Indices}
+use Rattle.manual.specs.Goes.{Index, Leads, Way, Indices}
 use Rattle.manual.specs.Measured.{Sized, Offset, MeasuredStep, MeasuredWay, MeasuredIndices}
 use Rattle.manual.specs.Going.{ok-same, none-some, Going, onward, need-ok, okOr-ok, okOr-some}
 use Rattle.manual.specs.Exact.{scalar-width, width-scalar, outside, inside, untested, reads-value, value-reads}

@@ -1,10 +1,10 @@
 -- An instruction goes on exactly where `Goes` and `Measured` say so.
-use Prim.Native.Nat.{ℕ, zero, suc, _+_, _*_, _^_, _<_, _≤_}
-use mathlib.Core.Path.{_≡_, refl, ap, subst, sym, _∙_}
+use Prim.Native.Nat.{ℕ, zero, suc, _*_, _^_, _<_}
+use mathlib.Core.Path.{_≡_, refl, ap, subst, sym}
 use mathlib.Core.Logic.{_⊎_, inl, inr, _↔_}
-use mathlib.Core.Bool.{Bool, true, false, cond, not, _||_, false≢true}
+use mathlib.Core.Bool.{Bool, true, false, cond, not, false≢true}
 use mathlib.Core.Option.{Option, none, some}
-use mathlib.Core.List.{List, [], _∷_}
+use mathlib.Core.List.{List}
 use native.Mathlib.Omega.{arith}
 use lib.Dec.{eqb, ltb}
 use borrow.Author.Tests.{ltb-true, eqb-true, eqb-false, lt-ltb, ne-eqb}
@@ -13,17 +13,16 @@ use Rattle.numbers.specs.Width.{intBytes, widthOk, width-each}
 use Rattle.names.specs.Tests.{either, or-right}
 use Rattle.book.specs.Ast.{Ty, Value, TypedVal, InstKind, Inst, StructType}
 use Rattle.book.specs.Map.{lookup}
-use Rattle.book.specs.Result.{Result, ok, bind, okOr, given, err-no-ok, bind-ok, bind-step, given-ok}
-use Rattle.layout.specs.Layout.{alignOf, sizeOf, sizeAt, intSize}
+use Rattle.book.specs.Result.{Result, ok, okOr, err-no-ok, bind-ok, bind-step, given-ok}
+use Rattle.layout.specs.Layout.{sizeOf, sizeAt, intSize}
 use Rattle.layout.specs.Frame.{Places, countOf, framed}
 use Rattle.machine.specs.Memory.{Memory, peek, peek-lt}
-use Rattle.manual.specs.Stop.{Stop, stopNumber, need}
-use Rattle.manual.specs.Values.{binValue, icmpValue, convWidths}
-use Rattle.manual.specs.State.{Cell, Given, Source, put, isSet}
+use Rattle.manual.specs.Stop.{Stop, stopNumber}
+use Rattle.manual.specs.State.{Cell, Given, Source, isSet}
 use Rattle.manual.specs.Operand.{widthOf, integerWidth, value, typed}
 use Rattle.manual.specs.Gep.{offset}
-use Rattle.manual.specs.Inst.{part, read, evalBin, evalIcmp, evalConv, evalSelect, evalGep, evalLoad, runLoad, runStore, runCmpxchg, runExtract, runFixed, stated, countIn, runVarying, runPlace, runAlloca, runKind, runInst}
-use Rattle.manual.specs.Goes.{Scalar, Integer, Reads, Typed, Framed, Goes}
+use Rattle.manual.specs.Inst.{part, evalBin, evalIcmp, evalConv, evalSelect, evalGep, evalLoad, runLoad, runStore, runCmpxchg, runExtract, runFixed, stated, countIn, runVarying, runPlace, runAlloca, runKind, runInst}
+use Rattle.manual.specs.Goes.{Scalar, Reads, Typed, Framed, Goes}
 use Rattle.manual.specs.Measured.{Sized, Aligned, MeasuredPlace, Measured}
 use Rattle.manual.specs.Going.{ok-same, some-same, none-some, Going, onward, need-ok, okOr-ok, okOr-some}
 use Rattle.manual.specs.Exact.{scalar-width, width-scalar, integer-width, width-integer, untested, reads-value, value-reads, typed-value, value-typed, defined-value, value-defined, converts-widths, widths-convert}

@@ -44,10 +44,10 @@ Edge g σ p b = (bb : BasicBlock) × Named g b bb × Enters g σ p (bb .insts)
 
 -- ---- terminators
 -- "an integer outside both .. ranges .. (a switch case: of its condition's)" stops: of the cases that are compared, up to the first that is the value
-pub data Chooses (w x default : ℕ) : List Case → (label : ℕ) → Type 0 where
-  default : Chooses w x default [] default
-  this : {k : Case} {ks : List Case} → InRange w (k .value) → x ≡ k .value % 2 ^ w → Chooses w x default (k ∷ ks) (k .label)
-  later : {k : Case} {ks : List Case} {b : ℕ} → InRange w (k .value) → ¬ (x ≡ k .value % 2 ^ w) → Chooses w x default ks b → Chooses w x default (k ∷ ks) b
+pub data Chooses (w x d : ℕ) : List Case → (label : ℕ) → Type 0 where
+  default : Chooses w x d [] d
+  this : {k : Case} {ks : List Case} → InRange w (k .value) → x ≡ k .value % 2 ^ w → Chooses w x d (k ∷ ks) (k .label)
+  later : {k : Case} {ks : List Case} {b : ℕ} → InRange w (k .value) → ¬ (x ≡ k .value % 2 ^ w) → Chooses w x d ks b → Chooses w x d (k ∷ ks) b
 
 -- "unreachable" stops: there is no way for it
 pub data GoesTerm (g : Given) (σ : Source) (pred : ℕ) : Terminator → Type 0 where

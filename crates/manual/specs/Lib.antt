@@ -19,3 +19,5 @@ pub mod ExactGep
 pub mod ExactCall
 pub mod ExactInst
 pub mod GoesOn
+pub mod ExactTerm
+pub mod Progress
