@@ -9,3 +9,7 @@ pub mod Run
 pub mod Open
 pub mod Printed
 pub mod Cases
+pub mod Cells
+pub mod Works
+pub mod ExactParts
+pub mod Exact

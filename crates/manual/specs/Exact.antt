@@ -1,19 +1,16 @@
 -- The source run goes on exactly where `Goes` and `Measured` say: each condition suffices, and each is met where the run has gone on.
-use Prim.Native.Nat.{ℕ, zero, suc, _-_, _%_, _^_, _<_, _≤_}
+use Prim.Native.Nat.{ℕ, zero, _-_, _%_, _^_, _<_, _≤_}
 use mathlib.Core.Path.{_≡_, refl, subst}
 use mathlib.Core.Logic.{_⊎_, inl, inr}
-use mathlib.Core.Bool.{Bool, true, false, cond, _||_}
+use mathlib.Core.Bool.{Bool, true, _||_}
 use mathlib.Core.Option.{some}
-use native.Mathlib.Omega.{arith}
 use lib.Dec.{eqb, ltb, leb}
-use lib.IntN.{pos, negsuc}
 use lib.Signed.{quotZ, mag}
-use lib.Pow.{pow-pos}
-use borrow.Author.Tests.{ltb-true, ltb-false, leb-true, eqb-true, lt-ltb, le-leb, eq-eqb}
+use borrow.Author.Tests.{ltb-true, leb-true, eqb-true, lt-ltb, le-leb, eq-eqb}
 use Rattle.names.specs.Tests.{either, or-right}
 use Rattle.book.specs.Ast.{Ty, Value, TypedVal, BinOp, ConvOp}
 use Rattle.book.specs.Result.{Result, ok, bind, okOr, err-no-ok, bind-ok, bind-step}
-use Rattle.machine.specs.Signed.{signed, signedAt, nonzero}
+use Rattle.machine.specs.Signed.{signed, nonzero, signed-nonzero, nonzero-signed}
 use Rattle.manual.specs.Stop.{Stop, stopNumber, need}
 use Rattle.manual.specs.Values.{binValue, constant, inRange, convWidths}
 use Rattle.manual.specs.State.{Cell, Given, Source}
@@ -113,23 +110,6 @@ module _ (g : Given) (σ : Source) where
   value-typed v n e = let (w, a, b) = bind-ok (widthOf (v .ty)) _ n e in (w, n, width-scalar (v .ty) w a, value-reads w (v .val) n b)
 
 -- ---- operations
--- a signed value is 0 exactly where the number is
-signed-nonzero : (w y : ℕ) → 0 < y → nonzero (signed w y) ≡ true
-unfolding signedAt nonzero
-signed-nonzero w y h = go (ltb y (2 ^ (w - 1)))
-  where
-    go : (b : Bool) → nonzero (cond b (pos y) (negsuc (2 ^ w - suc y))) ≡ true
-    go true = lt-ltb 0 y h
-    go false = refl
-
-nonzero-signed : (w y : ℕ) → nonzero (signed w y) ≡ true → 0 < y
-unfolding signedAt nonzero
-nonzero-signed w y = go (ltb y (2 ^ (w - 1))) refl
-  where
-    go : (b : Bool) → ltb y (2 ^ (w - 1)) ≡ b → nonzero (cond b (pos y) (negsuc (2 ^ w - suc y))) ≡ true → 0 < y
-    go true e h = ltb-true 0 y h
-    go false e h = let k = ltb-false y (2 ^ (w - 1)) e in let p = pow-pos (w - 1) in omega arith
-
 -- a test, then an answer
 tested : {A : Type 0} {b : Bool} (s : Stop) (a : A) → b ≡ true → Going (bind (need b s) (λ _. ok a))
 tested s a e = onward _ (need-ok s e) (a, refl)

@@ -14,7 +14,8 @@ use Rattle.manual.specs.Operand.{widthOf, value}
 use Rattle.manual.specs.Gep.{indexAt, index, overElements, overFields, into, offsetIn, offset}
 use Rattle.manual.specs.Goes.{Index, Leads, Way, Indices}
 use Rattle.manual.specs.Measured.{Sized, Offset, MeasuredStep, MeasuredWay, MeasuredIndices}
-use Rattle.manual.specs.Going.{ok-same, none-some, Going, onward, need-ok, okOr-ok, okOr-some}
+use Rattle.machine.specs.Cells.{none-some}
+use Rattle.manual.specs.Going.{ok-same, Going, onward, need-ok, okOr-ok, okOr-some}
 use Rattle.manual.specs.Exact.{scalar-width, width-scalar, outside, inside, untested, reads-value, value-reads}
 
 module _ (g : Given) (σ : Source) where

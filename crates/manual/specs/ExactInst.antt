@@ -24,7 +24,8 @@ use Rattle.manual.specs.Gep.{offset}
 use Rattle.manual.specs.Inst.{part, evalBin, evalIcmp, evalConv, evalSelect, evalGep, evalLoad, runLoad, runStore, runCmpxchg, runExtract, runFixed, stated, countIn, runVarying, runPlace, runAlloca, runKind, runInst}
 use Rattle.manual.specs.Goes.{Scalar, Reads, Typed, Framed, Goes}
 use Rattle.manual.specs.Measured.{Sized, Aligned, MeasuredPlace, Measured}
-use Rattle.manual.specs.Going.{ok-same, some-same, none-some, Going, onward, need-ok, okOr-ok, okOr-some}
+use Rattle.machine.specs.Cells.{some-same, none-some}
+use Rattle.manual.specs.Going.{ok-same, Going, onward, need-ok, okOr-ok, okOr-some}
 use Rattle.manual.specs.Exact.{scalar-width, width-scalar, integer-width, width-integer, untested, reads-value, value-reads, typed-value, value-typed, defined-value, value-defined, converts-widths, widths-convert}
 use Rattle.manual.specs.ExactGep.{indices-go, gone-indices}
 use Rattle.manual.specs.ExactCall.{call-go, gone-call}

@@ -3,7 +3,6 @@ use Prim.Native.Nat.{ℕ}
 use mathlib.Core.Path.{_≡_, refl, ap}
 use mathlib.Core.Bool.{Bool, true, false}
 use mathlib.Core.Option.{Option, none, some}
-use native.Mathlib.Omega.{arith}
 use Rattle.book.specs.Result.{Result, ok, bind, okOr, err-no-ok, bind-step}
 use Rattle.manual.specs.Stop.{Stop, need}
 
@@ -34,9 +33,3 @@ pub okOr-some : {A : Type 0} (n : ℕ) (r : Option A) (a : A) → okOr n r ≡ o
 unfolding okOr
 okOr-some n none a e = err-no-ok n a e
 okOr-some n (some b) a e = ap {B = Option _} some (ok-same e)
-
-pub some-same : {A : Type 0} {a b : A} → some a ≡ some b → a ≡ b
-some-same e = cc
-
-pub none-some : {A X : Type 0} (a : A) → none ≡ some a → X
-none-some a h = absurd (let z : _≡_ {A = ℕ} 0 1 = cc in omega arith)

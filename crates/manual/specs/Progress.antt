@@ -19,7 +19,8 @@ use Rattle.manual.specs.Term.{Stand, bodyStep, body, blockNamed, runTerm
 use Rattle.manual.specs.Run.{runBlock, go, run, paramEnv, entered, firstBlock, begin, sourceRun}
 use Rattle.manual.specs.Measured.{Measured}
 use Rattle.manual.specs.GoesOn.{Other, GoesInsts, GoesBody, GoesBlock, GoesOn, AllMeasured}
-use Rattle.manual.specs.Going.{ok-same, some-same, none-some, Going, onward, okOr-ok, okOr-some}
+use Rattle.machine.specs.Cells.{some-same, none-some}
+use Rattle.manual.specs.Going.{ok-same, Going, onward, okOr-ok, okOr-some}
 use Rattle.manual.specs.ExactInst.{inst-goes}
 use Rattle.manual.specs.ExactTerm.{term-goes, gone-term}
 
