@@ -18,6 +18,18 @@ use Rattle.machine.specs.Cells.{none-some}
 use Rattle.manual.specs.Going.{ok-same, Going, onward, need-ok, okOr-ok, okOr-some}
 use Rattle.manual.specs.Exact.{scalar-width, width-scalar, outside, inside, untested, reads-value, value-reads}
 
+-- an integer, where one is found
+pub const-is : (v : Value) (k : ℕ) → constInt v ≡ some k → v ≡ Value.int k
+unfolding constInt
+const-is (Value.int c) k e = cc
+const-is (Value.local x) k e = none-some k e
+const-is (Value.global x) k e = none-some k e
+const-is (Value.zero z) k e = none-some k e
+const-is Value.other k e = none-some k e
+
+int-same : (k j : ℕ) → Value.int k ≡ Value.int j → k ≡ j
+int-same k j e = cc
+
 module _ (g : Given) (σ : Source) where
   -- ---- an index
   abbrev At : Ty → Value → Result ℕ
@@ -75,18 +87,6 @@ module _ (g : Given) (σ : Source) where
       let (off, o) = m k e in
       let c : constInt (i .val) ≡ some k = rw e refl in
       (off, bind-step _ _ (steps-index i s .1) (bind-step _ _ (okOr-ok _ c) (bind-step _ _ (okOr-ok _ f) (bind-step _ _ o refl))))
-
-  -- an integer, where one is found
-  const-is : (v : Value) (k : ℕ) → constInt v ≡ some k → v ≡ Value.int k
-  unfolding constInt
-  const-is (Value.int c) k e = cc
-  const-is (Value.local x) k e = none-some k e
-  const-is (Value.global x) k e = none-some k e
-  const-is (Value.zero z) k e = none-some k e
-  const-is Value.other k e = none-some k e
-
-  int-same : (k j : ℕ) → Value.int k ≡ Value.int j → k ≡ j
-  int-same k j e = cc
 
   record Field (body : StructBody) (i : TypedVal) (next : Ty) : Type 0 where
     steps : Steps i
@@ -148,6 +148,9 @@ module _ (g : Given) (σ : Source) where
   gone-into Ty.ptr i p e = err-no-ok _ p e
   gone-into (Ty.int w) i p e = err-no-ok _ p e
   gone-into (Ty.sizeless s) i p e = err-no-ok _ p e
+
+  pub into-leads : (ty : Ty) (i : TypedVal) (p : ℕ × Ty) → Into ty i ≡ ok p → Leads (g .structs) ty (i .val) (p .1)
+  into-leads ty i p e = gone-into ty i p e .leads
 
   -- ---- all of them
   way-go : (ty : Ty) (is : List TypedVal) → MeasuredWay (g .structs) ty is → Way g σ ty is → Going (offsetIn (g .world) (g .structs) (σ .env) ty is)

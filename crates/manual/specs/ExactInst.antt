@@ -71,6 +71,18 @@ unfolding isSet
 unset none e = refl
 unset (some c) e = absurd (false≢true e)
 
+-- ---- a stated align
+module _ (g : Given) where
+  pub stated-go : (align : Option ℕ) (ty : Ty) → Aligned (g .structs) align ty → Going (stated g align ty)
+  unfolding stated
+  stated-go (some a) ty h = (a, refl)
+  stated-go none ty h = h
+
+  gone-stated : (align : Option ℕ) (ty : Ty) (a : ℕ) → stated g align ty ≡ ok a → Aligned (g .structs) align ty
+  unfolding stated
+  gone-stated (some b) ty a h = tt
+  gone-stated none ty a h = (a, h)
+
 module _ (g : Given) (σ : Source) where
   abbrev Reading : (w : ℕ) → Value → Result ℕ
   Reading w v = value (g .world) (σ .env) w v
@@ -123,22 +135,12 @@ module _ (g : Given) (σ : Source) where
       let (off, h) = subst (λ k. MeasuredPlace g dest ty k align) c m x d in
       rw (d, c) (onward _ (need-ok Stop.placeEmpty (framed-test (g .frame) f)) (onward _ (need-ok Stop.placeTwice (rw u refl)) (onward _ (okOr-ok _ h) (_, refl))))
 
-  stated-go : (align : Option ℕ) (ty : Ty) → Aligned (g .structs) align ty → Going (stated g align ty)
-  unfolding stated
-  stated-go (some a) ty h = (a, refl)
-  stated-go none ty h = h
-
-  gone-stated : (align : Option ℕ) (ty : Ty) (a : ℕ) → stated g align ty ≡ ok a → Aligned (g .structs) align ty
-  unfolding stated
-  gone-stated (some b) ty a h = tt
-  gone-stated none ty a h = (a, h)
-
   varying-go : {dest : Option ℕ} (ty : Ty) (count : TypedVal) (align : Option ℕ) {x : ℕ} → dest ≡ some x → countOf (some count) ≡ none → Typed g σ count
       → MeasuredPlace g dest ty (countOf (some count)) align → Going (runAlloca g dest ty (some count) align σ)
   unfolding runAlloca runPlace runVarying countIn
   varying-go {dest} ty count align {x} d c t m =
       let (s, a) = subst (λ k. MeasuredPlace g dest ty k align) c m in
-      rw (d, c) (onward _ (s .1) (onward _ (stated-go align ty a .1) (onward _ (typed-value g σ {v = count} t .1) (_, refl))))
+      rw (d, c) (onward _ (s .1) (onward _ (stated-go g align ty a .1) (onward _ (typed-value g σ {v = count} t .1) (_, refl))))
 
   gone-alloca : (dest : Option ℕ) (ty : Ty) (count : Option TypedVal) (align : Option ℕ) (τ : Source) → runAlloca g dest ty count align σ ≡ ok τ
       → MeasuredPlace g dest ty (countOf count) align × Goes g σ dest (InstKind.alloca ty count align)
@@ -152,7 +154,7 @@ module _ (g : Given) (σ : Source) where
           let (s, a, e₁) = bind-ok (sizeOf (g .structs) ty) _ τ e in
           let (b, c, e₂) = bind-ok (stated g align ty) _ τ e₁ in
           let (n, d, e₃) = bind-ok (typed (g .world) (σ .env) (v .ty) (v .val)) _ τ e₂ in
-          (((s, a), gone-stated align ty b c), Goes.varying refl h (value-typed g σ v n d))
+          (((s, a), gone-stated g align ty b c), Goes.varying refl h (value-typed g σ v n d))
 
       go : (k : Option ℕ) → countOf count ≡ k → runPlace g k x ty count align σ ≡ ok τ → MeasuredPlace g (some x) ty k align × Goes g σ (some x) (InstKind.alloca ty count align)
       go (some n) h e =

@@ -45,11 +45,21 @@ module _ (P : List Inst → Type 0) (i : Inst) (is : List Inst) where
       pass Shape.cmpxchg e = k (rw e Other.cmpxchg)
       pass Shape.plain e = k (rw e Other.plain)
 
+-- a block that is found is one of them
+pub each-find : (P : BasicBlock → Type 0) (b : ℕ) (k : BasicBlock) (bs : List BasicBlock) → Each P bs → find (λ (y : BasicBlock). y .label) b bs ≡ some k → P k
+unfolding find
+each-find P b k [] m e = none-some k e
+each-find P b k (c ∷ bs) (m, ms) e = pass (eqb (c .label) b) e (λ h. each-find P b k bs ms h)
+  where
+    pass : (z : Bool) → pick z (some c) (find (λ (y : BasicBlock). y .label) b bs) ≡ some k → (find (λ (y : BasicBlock). y .label) b bs ≡ some k → P k) → P k
+    pass true h rest = subst P (some-same h) m
+    pass false h rest = rest h
+
 module _ (g : Given) where
-  abbrev Sizes : List Inst → Type 0
+  abbrev pub Sizes : List Inst → Type 0
   Sizes is = Each (λ (i : Inst). Measured g (i .dest) (i .kind)) is
 
-  body-sizes : (is : List Inst) → Sizes is → Sizes (body is)
+  pub body-sizes : (is : List Inst) → Sizes is → Sizes (body is)
   unfolding body
   body-sizes [] m = tt
   body-sizes (i ∷ is) m = by-shape Sizes i is (λ ty l e. body-sizes is (m .1)) (λ o. m)
@@ -84,15 +94,6 @@ module _ (g : Given) where
     insts-body (i ∷ is) σ h = by-shape (λ js. GoesInsts g p t js σ → GoesBody g p t (i ∷ is) σ) i is (λ ty l e k. GoesBody.phi e (insts-body is σ k)) (λ o k. GoesBody.other o k) h
 
   -- ---- a block
-  each-find : (P : BasicBlock → Type 0) (b : ℕ) (k : BasicBlock) (bs : List BasicBlock) → Each P bs → find (λ (y : BasicBlock). y .label) b bs ≡ some k → P k
-  unfolding find
-  each-find P b k [] m e = none-some k e
-  each-find P b k (c ∷ bs) (m, ms) e = pass (eqb (c .label) b) e (λ h. each-find P b k bs ms h)
-    where
-      pass : (z : Bool) → pick z (some c) (find (λ (y : BasicBlock). y .label) b bs) ≡ some k → (find (λ (y : BasicBlock). y .label) b bs ≡ some k → P k) → P k
-      pass true h rest = subst P (some-same h) m
-      pass false h rest = rest h
-
   pub block-goes : AllMeasured g → (b : ℕ) (σ : Source) → GoesBlock g b σ → Going (runBlock g b σ)
   unfolding runBlock
   block-goes m b σ (bb, h, k) = onward _ (okOr-ok _ h) (insts-go (bb .label) (bb .term) (body (bb .insts)) σ (body-sizes (bb .insts) (each-find (λ k. Sizes (k .insts)) b bb (g .function .blocks) m h)) (body-insts (bb .label) (bb .term) k))
@@ -146,31 +147,37 @@ unfolding firstBlock
 block-first [] b e = err-no-ok _ b e
 block-first (k ∷ bs) b e = HasBlock.has
 
-module _ (names : List (List ℕ)) (b : Book) (world : World) (args : List ℕ) (m : Memory) (sp : ℕ) (fr : Places) (pass : framePass (b .structs) (allInsts (b .function .blocks)) noFrame ≡ ok fr) where
-  abbrev Runs : ℕ → Result Stand
+module _ (names : List (List ℕ)) (b : Book) (world : World) (args : List ℕ) (m : Memory) (sp : ℕ) where
+  abbrev pub Runs : ℕ → Result Stand
   Runs n = sourceRun names b world args m sp n
+
+  abbrev pub places : Result Places
+  places = framePass (b .structs) (allInsts (b .function .blocks)) noFrame
 
   -- the conditions at every block that the run of the book's function comes to
   abbrev pub SourceGoes : Type 0
-  SourceGoes = HasBlock (b .function .blocks) × ((n k : ℕ) (σ : Source) → sourceRun names b world args m sp n ≡ ok (Stand.at k σ) → GoesBlock (givenOf names b world sp fr) k σ)
+  SourceGoes = HasBlock (b .function .blocks) × ((fr : Places) → places ≡ ok fr → (n k : ℕ) (σ : Source) → Runs n ≡ ok (Stand.at k σ) → GoesBlock (givenOf names b world sp fr) k σ)
 
-  from-first : (s : Stand) → begin (givenOf names b world sp fr) args m ≡ ok s → (n : ℕ) → Runs n ≡ run (givenOf names b world sp fr) n s
+  from-first : (fr : Places) → places ≡ ok fr → (s : Stand) → begin (givenOf names b world sp fr) args m ≡ ok s → (n : ℕ) → Runs n ≡ run (givenOf names b world sp fr) n s
   unfolding sourceRun bind
-  from-first s e n = rw (pass, e) refl
+  from-first fr pass s e n = rw (pass, e) refl
 
-  pub source-goes : AllMeasured (givenOf names b world sp fr) → SourceGoes → (n : ℕ) → Going (Runs n)
+  pub source-goes : (fr : Places) → places ≡ ok fr → AllMeasured (givenOf names b world sp fr) → SourceGoes → (n : ℕ) → Going (Runs n)
   unfolding begin
-  source-goes ms (w, h) n =
+  source-goes fr pass ms (w, h) n =
       let g : Given = givenOf names b world sp fr in
       let (k, f) = first-block (b .function .blocks) w in
       let (s, e) = onward {r = firstBlock (b .function .blocks)} (λ k. ok (Stand.at k (record { env = paramEnv (b .function .params) args nothing; memory = m; calls = []; sp = entered fr sp }))) f (_, refl) in
-      rw (from-first s e n) (run-goes g ms s (λ j c σ i. h j c σ (from-first s e j ∙ i)) n)
+      rw (from-first fr pass s e n) (run-goes g ms s (λ j c σ i. h fr pass j c σ (from-first fr pass s e j ∙ i)) n)
 
   pub gone-source : ((n : ℕ) → Going (Runs n)) → SourceGoes
-  unfolding sourceRun begin bind
+  unfolding sourceRun begin
   gone-source h =
-      let g : Given = givenOf names b world sp fr in
       let (t, e) = h 0 in
-      let (s, i, e₁) = bind-ok (begin g args m) (λ s. run g 0 s) t (rw pass at e) in
-      let (k, f, e₂) = bind-ok (firstBlock (b .function .blocks)) _ s i in
-      (block-first (b .function .blocks) k f, λ n c σ j. gone-run g s (λ q. rw (← from-first s i q) (h q)) n c σ (sym (from-first s i n) ∙ j))
+      let (fr, p, e₁) = bind-ok places _ t e in
+      let (s, i, e₂) = bind-ok (begin (givenOf names b world sp fr) args m) _ t e₁ in
+      let (k, f, e₃) = bind-ok (firstBlock (b .function .blocks)) _ s i in (
+        block-first (b .function .blocks) k f,
+        λ fr′ p′. subst (λ z. (n c : ℕ) (σ : Source) → Runs n ≡ ok (Stand.at c σ) → GoesBlock (givenOf names b world sp z) c σ) (ok-same (sym p ∙ p′))
+            (λ n c σ j. gone-run (givenOf names b world sp fr) s (λ q. rw (← from-first fr p s i q) (h q)) n c σ (sym (from-first fr p s i n) ∙ j)),
+      )
