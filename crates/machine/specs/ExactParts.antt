@@ -13,6 +13,7 @@ use Rattle.book.specs.Ast.{BinOp}
 use Rattle.book.specs.Rule.{when, pick}
 use Rattle.assembly.specs.Line.{Line}
 use Rattle.machine.specs.Signed.{signed, nonzero, signed-nonzero, nonzero-signed}
+use Rattle.machine.specs.Overflow.{no-overflow, overflow-no}
 use Rattle.machine.specs.Cells.{none-some, some-same}
 use Rattle.machine.specs.State.{cellAt}
 use Rattle.machine.specs.Values.{divides, wordOp}
@@ -30,11 +31,11 @@ some-when false x y e = none-some y e
 module _ (w a b : ℕ) where
   divides-test : Divides w a b → divides w (signed w b) (quotZ (signed w a) (signed w b)) ≡ true
   unfolding divides
-  divides-test (h, k) = rw (signed-nonzero w b h) (lt-ltb _ _ k)
+  divides-test (h, k) = rw (signed-nonzero w b h) (lt-ltb _ _ (no-overflow w a b k))
 
   test-divides : divides w (signed w b) (quotZ (signed w a) (signed w b)) ≡ true → Divides w a b
   unfolding divides
-  test-divides e = let (h, k) = both (nonzero (signed w b)) (ltb (mag (quotZ (signed w a) (signed w b))) (2 ^ (w - 1))) e in (nonzero-signed w b h, ltb-true _ _ k)
+  test-divides e = let (h, k) = both (nonzero (signed w b)) (ltb (mag (quotZ (signed w a) (signed w b))) (2 ^ (w - 1))) e in (nonzero-signed w b h, overflow-no w a b (ltb-true _ _ k))
 
   pub defined-op : (op : BinOp) → Defined op w a b → (x : ℕ) × (wordOp op w a b ≡ some x)
   unfolding wordOp

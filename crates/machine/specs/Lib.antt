@@ -10,6 +10,7 @@ pub mod Open
 pub mod Printed
 pub mod Cases
 pub mod Cells
+pub mod Overflow
 pub mod Works
 pub mod ExactParts
 pub mod Exact

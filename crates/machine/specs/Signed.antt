@@ -22,6 +22,13 @@ signed w x = signedAt (2 ^ (w - 1)) (2 ^ w) x
 abbrev pub unsigned : (w : ℕ) → ℤ → ℕ
 unsigned w z = unsignedAt (2 ^ w) z
 
+-- −2^(w − 1), and −1
+abbrev pub least : (w : ℕ) → ℤ
+least w = negsuc (2 ^ (w - 1) - 1)
+
+abbrev pub minusOne : ℤ
+minusOne = negsuc 0
+
 unfoldable pub nonzero : ℤ → Bool
 nonzero (pos n) = ltb 0 n
 nonzero (negsuc n) = true

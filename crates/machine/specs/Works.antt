@@ -1,25 +1,24 @@
 -- Where a line does not fail: "A zero divisor, an overflowing signed division or remainder, a shift by the width or more, `panic` or anything missing fails", turned
 -- round, a condition for each line in positive words. Nothing here asks what a line does; that a step fails nowhere else is proved in `Exact`.
-use Prim.Native.Nat.{ℕ, _-_, _^_, _<_, _≤_}
+use Prim.Native.Nat.{ℕ, _<_, _≤_}
 use mathlib.Core.Path.{_≡_}
 use mathlib.Core.Option.{some}
 use mathlib.Core.List.{List, _∷_}
 use lib.ListN.{length}
-use lib.Signed.{quotZ, mag}
 use Rattle.names.specs.Name.{nameAt}
 use Rattle.book.specs.Ast.{BinOp, ICmpPred}
 use Rattle.assembly.specs.Line.{Line, Work, Mem, Narrow, Hint}
 use Rattle.assembly.specs.Text.{blockText, hinted}
-use Rattle.machine.specs.Signed.{signed}
+use Rattle.machine.specs.Signed.{signed, least, minusOne}
 use Rattle.machine.specs.State.{Shape, World, Frame, cellAt, memcmp, shapeOf, printedName}
 use Rattle.machine.specs.Labels.{labelOf}
 use Rattle.machine.specs.Line.{workWidth, word}
 use Rattle.machine.specs.Run.{State}
 
 -- ---- operations
--- a divisor other than 0, and a quotient that is a signed number of w bits
+-- a divisor other than 0, and no overflow: not the least number by −1
 abbrev pub Divides : (w a b : ℕ) → Type 0
-Divides w a b = (0 < b) × (mag (quotZ (signed w a) (signed w b)) < 2 ^ (w - 1))
+Divides w a b = (0 < b) × ¬ ((signed w a ≡ least w) × (signed w b ≡ minusOne))
 
 abbrev pub Defined : BinOp → (w a b : ℕ) → Type 0
 Defined BinOp.add w a b = Unit {0}

@@ -10,6 +10,7 @@ use borrow.Author.Tests.{ltb-true, leb-true, eqb-true, lt-ltb, le-leb, eq-eqb}
 use Rattle.names.specs.Tests.{either, or-right}
 use Rattle.book.specs.Ast.{Ty, Value, TypedVal, BinOp, ConvOp}
 use Rattle.book.specs.Result.{Result, ok, bind, okOr, err-no-ok, bind-ok, bind-step}
+use Rattle.machine.specs.Overflow.{no-overflow, overflow-no}
 use Rattle.machine.specs.Signed.{signed, nonzero, signed-nonzero, nonzero-signed}
 use Rattle.manual.specs.Stop.{Stop, stopNumber, need}
 use Rattle.manual.specs.Values.{binValue, constant, inRange, convWidths}
@@ -118,7 +119,7 @@ pub untested : {A : Type 0} (b : Bool) (s : Stop) (f : Unit {0} → Result A) (a
 untested b s f a e = let (u, h, k) = bind-ok (need b s) f a e in (need-true b s u h, k)
 
 divides-tests : (w x y : ℕ) → Divides w x y → (nonzero (signed w y) ≡ true) × (ltb (mag (quotZ (signed w x) (signed w y))) (2 ^ (w - 1)) ≡ true)
-divides-tests w x y (h, k) = (signed-nonzero w y h, lt-ltb _ _ k)
+divides-tests w x y (h, k) = (signed-nonzero w y h, lt-ltb _ _ (no-overflow w x y k))
 
 module _ (w x y : ℕ) where
   pub defined-value : (op : BinOp) → Defined op w x y → Going (binValue op w x y)
@@ -141,7 +142,7 @@ module _ (w x y : ℕ) where
   divided n r e =
       let (a, e₁) = untested _ _ _ n e in
       let (b, e₂) = untested (ltb (mag (quotZ (signed w x) (signed w y))) (2 ^ (w - 1))) Stop.undefined (λ _. r) n e₁ in
-      (nonzero-signed w y a, ltb-true _ _ b)
+      (nonzero-signed w y a, overflow-no w x y (ltb-true _ _ b))
 
   pub value-defined : (op : BinOp) (n : ℕ) → binValue op w x y ≡ ok n → Defined op w x y
   unfolding binValue

@@ -7,7 +7,6 @@ use mathlib.Core.Bool.{Bool, true, false}
 use mathlib.Core.Option.{Option, none, some}
 use mathlib.Core.List.{List, [], _∷_}
 use lib.ListN.{length}
-use lib.Signed.{quotZ, mag}
 use Rattle.names.specs.Name.{nameAt}
 use Rattle.names.specs.Spelling.{isSyscall, isBcmp, isMemcmp}
 use Rattle.book.specs.Ast.{Ty, Tys, Value, Zero, TypedVal, BinOp, ConvOp, ICmpPred, InstKind, StructBody, StructType}
@@ -17,7 +16,7 @@ use Rattle.layout.specs.Layout.{resolve}
 use Rattle.layout.specs.Step.{constInt, fieldAt}
 use Rattle.layout.specs.Frame.{Places, countOf}
 use Rattle.machine.specs.Memory.{peek}
-use Rattle.machine.specs.Signed.{signed}
+use Rattle.machine.specs.Signed.{signed, least, minusOne}
 use Rattle.machine.specs.State.{Target, Shape, World, globalAt, memcmp, shapeOf, printedName}
 use Rattle.manual.specs.State.{Cell, Given, Source}
 
@@ -60,9 +59,9 @@ abbrev pub Typed : Given → Source → TypedVal → Type 0
 Typed g σ v = (w : ℕ) × (n : ℕ) × Scalar (v .ty) w × Reads g σ w (v .val) n
 
 -- ---- operations: "anything the manual calls .. undefined or poison" stops
--- "Division by zero is undefined behavior. Overflow also": the quotient is a signed number of w bits
+-- "Division by zero is undefined behavior. Overflow also leads to undefined behavior": a divisor other than 0, and not the least number by −1
 abbrev pub Divides : (w x y : ℕ) → Type 0
-Divides w x y = (0 < y) × (mag (quotZ (signed w x) (signed w y)) < 2 ^ (w - 1))
+Divides w x y = (0 < y) × ¬ ((signed w x ≡ least w) × (signed w y ≡ minusOne))
 
 -- "If op2 is .. equal to or larger than the number of bits in op1, this instruction returns a poison value"
 abbrev pub Shifts : (w y : ℕ) → Type 0
