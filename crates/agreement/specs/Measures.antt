@@ -127,18 +127,18 @@ module _ (s : Setup) where
   aligned none ty a h = (a, h)
 
   place-measured : (x : ℕ) (ty : Ty) (count : Option TypedVal) (align : Option ℕ) → Varies s x count → (l : Option ℕ) → lookup x (ctx s .allocaOffsets) ≡ l → (n : Option ℕ) → countOf count ≡ n
-      → ((m : ℕ) → n ≡ some m → (off : ℕ) × (lookup x (s .frame .offsets) ≡ some off)) → Gives (placeOf (ctx s) l ty count align) (λ L. MeasuredPlace (given s) (some x) ty n align)
+      → ((m : ℕ) → n ≡ some m → (off : ℕ) × (lookup x (s .frame .offsets) ≡ some off)) → Gives (placeOf (ctx s) l ty count align) (λ L. MeasuredPlace (given s) x ty n align)
   unfolding placeOf genDynamicAlloca
-  place-measured x ty count align vary l hl (some n) hn has = always (λ y e. subst (λ z. (off : ℕ) × (lookup z (s .frame .offsets) ≡ some off)) (some-same e) (has n refl))
+  place-measured x ty count align vary l hl (some n) hn has = always (has n refl)
   place-measured x ty count align vary (some off) hl none hn has = none-some off (sym (vary hn .0) ∙ hl)
   place-measured x ty count align vary none hl none hn has = G-bind _ _ λ n h. G-bind _ _ λ a k. always ((n, h), aligned align ty a k)
 
   alloca-measured : (dest : Option ℕ) (ty : Ty) (count : Option TypedVal) (align : Option ℕ) → ((x : ℕ) → dest ≡ some x → Varies s x count) → HasPlace dest (InstKind.alloca ty count align)
-      → Gives (genAlloca (ctx s) dest ty count align) (λ L. MeasuredPlace (given s) dest ty (countOf count) align)
+      → Gives (genAlloca (ctx s) dest ty count align) (λ L. Measured (given s) dest (InstKind.alloca ty count align))
   unfolding genAlloca okOr shape
   alloca-measured none ty count align vary has = G-bind _ _ λ x e. err-no-ok 5 x e
   alloca-measured (some x) ty count align vary has = G-bind _ _ λ y e. let i : x ≡ y = ok-same e in
-      rw (← i) (G-then _ (place-measured x ty count align (vary x refl) _ refl _ refl (λ n h. has x n ty count refl refl h)) λ A p. always p)
+      rw (← i) (G-then _ (place-measured x ty count align (vary x refl) _ refl _ refl (λ n h. has x n ty count refl refl h)) λ A p. always (x, refl, p))
 
   -- ---- an instruction
   kind-measured : (dest : Option ℕ) (k : InstKind) → Good s dest k → HasPlace dest k → Gives (genKind (ctx s) dest k) (λ L. Measured (given s) dest k)

@@ -42,15 +42,14 @@ module _ (g : Given) (σ : Source) where
   varying-only x ty none align (n, h) a = O-known _ h (O-known _ (stated-go g align ty a .1) (O-then _ (O-ok 1) λ c. O-ok _))
   varying-only x ty (some v) align (n, h) a = O-known _ h (O-known _ (stated-go g align ty a .1) (O-then _ (typed-only (g .world) (σ .env) (v .ty) (v .val)) λ c. O-ok _))
 
-  place-only : (x : ℕ) (ty : Ty) (count : Option TypedVal) (align : Option ℕ) (fixed : Option ℕ) → MeasuredPlace g (some x) ty fixed align → Only (runPlace g fixed x ty count align σ)
+  place-only : (x : ℕ) (ty : Ty) (count : Option TypedVal) (align : Option ℕ) (fixed : Option ℕ) → MeasuredPlace g x ty fixed align → Only (runPlace g fixed x ty count align σ)
   unfolding runPlace
   place-only x ty count align (some n) m = fixed-only g x σ
   place-only x ty count align none (s, a) = varying-only x ty count align s a
 
-  alloca-only : (dest : Option ℕ) (ty : Ty) (count : Option TypedVal) (align : Option ℕ) → MeasuredPlace g dest ty (countOf count) align → Only (runAlloca g dest ty count align σ)
+  alloca-only : (dest : Option ℕ) (ty : Ty) (count : Option TypedVal) (align : Option ℕ) → Measured g dest (InstKind.alloca ty count align) → Only (runAlloca g dest ty count align σ)
   unfolding runAlloca
-  alloca-only none ty count align m = O-stop Stop.illFormed
-  alloca-only (some x) ty count align m = place-only x ty count align (countOf count) m
+  alloca-only dest ty count align (x, d, m) = rw d (place-only x ty count align (countOf count) m)
 
   -- ---- getelementptr
   index-only : (i : TypedVal) → Only (index (g .world) (g .structs) (σ .env) i)

@@ -128,41 +128,46 @@ module _ (g : Given) (σ : Source) where
       ((n, h), (w, x, a, width-scalar ty w b, value-reads g σ w v x d, value-reads g σ 64 p a c))
 
   -- ---- places
-  fixed-go : {dest : Option ℕ} (ty : Ty) (count : Option TypedVal) (align : Option ℕ) {x n : ℕ} → dest ≡ some x → countOf count ≡ some n → Framed (g .frame) → σ .env x ≡ none
-      → MeasuredPlace g dest ty (countOf count) align → Going (runAlloca g dest ty count align σ)
-  unfolding runAlloca runPlace runFixed isSet
-  fixed-go {dest} ty count align {x} d c f u m =
-      let (off, h) = subst (λ k. MeasuredPlace g dest ty k align) c m x d in
-      rw (d, c) (onward _ (need-ok Stop.placeEmpty (framed-test (g .frame) f)) (onward _ (need-ok Stop.placeTwice (rw u refl)) (onward _ (okOr-ok _ h) (_, refl))))
+  fixed-go : (x : ℕ) (ty : Ty) (count : Option TypedVal) (align : Option ℕ) {n : ℕ} → countOf count ≡ some n → Framed (g .frame) → σ .env x ≡ none
+      → MeasuredPlace g x ty (countOf count) align → Going (runPlace g (countOf count) x ty count align σ)
+  unfolding runPlace runFixed isSet
+  fixed-go x ty count align c f u m =
+      let (off, h) = subst (λ k. MeasuredPlace g x ty k align) c m in
+      rw c (onward _ (need-ok Stop.placeEmpty (framed-test (g .frame) f)) (onward _ (need-ok Stop.placeTwice (rw u refl)) (onward _ (okOr-ok _ h) (_, refl))))
 
-  varying-go : {dest : Option ℕ} (ty : Ty) (count : TypedVal) (align : Option ℕ) {x : ℕ} → dest ≡ some x → countOf (some count) ≡ none → Typed g σ count
-      → MeasuredPlace g dest ty (countOf (some count)) align → Going (runAlloca g dest ty (some count) align σ)
-  unfolding runAlloca runPlace runVarying countIn
-  varying-go {dest} ty count align {x} d c t m =
-      let (s, a) = subst (λ k. MeasuredPlace g dest ty k align) c m in
-      rw (d, c) (onward _ (s .1) (onward _ (stated-go g align ty a .1) (onward _ (typed-value g σ {v = count} t .1) (_, refl))))
+  varying-go : (x : ℕ) (ty : Ty) (count : TypedVal) (align : Option ℕ) → countOf (some count) ≡ none → Typed g σ count
+      → MeasuredPlace g x ty (countOf (some count)) align → Going (runPlace g (countOf (some count)) x ty (some count) align σ)
+  unfolding runPlace runVarying countIn
+  varying-go x ty count align c t m =
+      let (s, a) = subst (λ k. MeasuredPlace g x ty k align) c m in
+      rw c (onward _ (s .1) (onward _ (stated-go g align ty a .1) (onward _ (typed-value g σ {v = count} t .1) (_, refl))))
+
+  -- a place with its name
+  named : {dest : Option ℕ} (x : ℕ) (ty : Ty) (count : Option TypedVal) (align : Option ℕ) → dest ≡ some x → Going (runPlace g (countOf count) x ty count align σ) → Going (runAlloca g dest ty count align σ)
+  unfolding runAlloca
+  named x ty count align d h = rw d h
 
   gone-alloca : (dest : Option ℕ) (ty : Ty) (count : Option TypedVal) (align : Option ℕ) (τ : Source) → runAlloca g dest ty count align σ ≡ ok τ
-      → MeasuredPlace g dest ty (countOf count) align × Goes g σ dest (InstKind.alloca ty count align)
+      → Measured g dest (InstKind.alloca ty count align) × Goes g σ dest (InstKind.alloca ty count align)
   unfolding runAlloca runPlace runFixed runVarying countIn countOf
   gone-alloca none ty count align τ e = err-no-ok _ τ e
-  gone-alloca (some x) ty count align τ e = go (countOf count) refl e
+  gone-alloca (some x) ty count align τ e = let (m, h) = go (countOf count) refl e in ((x, refl, m), h)
     where
-      vary : (n : Option TypedVal) → countOf n ≡ none → runVarying g x ty n align σ ≡ ok τ → MeasuredPlace g (some x) ty none align × Goes g σ (some x) (InstKind.alloca ty n align)
+      vary : (n : Option TypedVal) → countOf n ≡ none → runVarying g x ty n align σ ≡ ok τ → MeasuredPlace g x ty none align × Goes g σ (some x) (InstKind.alloca ty n align)
       vary none h e = none-some 1 (sym h)
       vary (some v) h e =
           let (s, a, e₁) = bind-ok (sizeOf (g .structs) ty) _ τ e in
           let (b, c, e₂) = bind-ok (stated g align ty) _ τ e₁ in
           let (n, d, e₃) = bind-ok (typed (g .world) (σ .env) (v .ty) (v .val)) _ τ e₂ in
-          (((s, a), gone-stated g align ty b c), Goes.varying refl h (value-typed g σ v n d))
+          (((s, a), gone-stated g align ty b c), Goes.varying h (value-typed g σ v n d))
 
-      go : (k : Option ℕ) → countOf count ≡ k → runPlace g k x ty count align σ ≡ ok τ → MeasuredPlace g (some x) ty k align × Goes g σ (some x) (InstKind.alloca ty count align)
+      go : (k : Option ℕ) → countOf count ≡ k → runPlace g k x ty count align σ ≡ ok τ → MeasuredPlace g x ty k align × Goes g σ (some x) (InstKind.alloca ty count align)
       go (some n) h e =
           let (f, e₁) = untested _ _ _ τ e in
           let (u, e₂) = untested _ _ _ τ e₁ in
           let (off, l, e₃) = bind-ok (okOr (stopNumber Stop.illFormed) (lookup x (g .frame .offsets))) _ τ e₂ in
-          let l′ = okOr-some _ (lookup x (g .frame .offsets)) off l in
-          ((λ y d. (off, subst (λ z. lookup z (g .frame .offsets) ≡ some off) (some-same d) l′)), Goes.fixed refl h (test-framed (g .frame) f) (unset (σ .env x) u))
+          let new = unset (σ .env x) u in
+          ((off, okOr-some _ (lookup x (g .frame .offsets)) off l), Goes.fixed h (test-framed (g .frame) f) (λ y d. subst (λ z. σ .env z ≡ none) (some-same d) new))
       go none h e = vary count h e
 
   -- ---- the others
@@ -206,8 +211,8 @@ module _ (g : Given) (σ : Source) where
   kind-goes m (Goes.store s r q) = store-go m s r q
   kind-goes m (Goes.atomicStore s r q) = store-go m s r q
   kind-goes (n, h) (Goes.cmpxchg s p a b) = onward _ h (onward _ (scalar-width s) (onward _ (reading p) (onward _ (reading a) (onward _ (reading b) (_, refl)))))
-  kind-goes m (Goes.fixed {ty = ty} {count = count} {align = align} d c f u) = fixed-go ty count align d c f u m
-  kind-goes m (Goes.varying {ty = ty} {count = count} {align = align} d c t) = varying-go ty count align d c t m
+  kind-goes (x, d, m) (Goes.fixed {ty = ty} {count = count} {align = align} c f u) = named x ty count align d (fixed-go x ty count align c f (u x d) m)
+  kind-goes (x, d, m) (Goes.varying {ty = ty} {count = count} {align = align} c t) = named x ty (some count) align d (varying-go x ty count align c t m)
   kind-goes m (Goes.getElementPtr {ty = ty} {is = is} r i) = onward _ (bind-step _ _ (reading r) (bind-step _ _ (indices-go g σ ty is m i .1) refl)) (_, refl)
   kind-goes m (Goes.call {args = args} a c w s r) = call-go g σ args a c w s r
   kind-goes m (Goes.freeze s r) = onward _ (scalar-width s) (onward _ (reading r) (_, refl))

@@ -1,5 +1,5 @@
--- Where the source run goes on: document 01, "Stops", turned round, a condition for each instruction in positive words. Nothing here asks the run; that it goes on
--- exactly here, and where what it measures can be measured (`Measured`), is proved in `Exact`.
+-- Where the source run goes on: document 01, "Stops", turned round, a condition for each instruction in positive words. Nothing here asks the run. That it goes on
+-- exactly here, where what it measures can be measured (`Measured`), is proved: `inst-goes` (`ExactInst`), `run-goes` and `gone-run` (`Progress`).
 use Prim.Native.Nat.{ℕ, _-_, _%_, _^_, _<_, _≤_}
 use mathlib.Core.Path.{_≡_}
 use mathlib.Core.Logic.{_⊎_}
@@ -156,9 +156,9 @@ pub data Goes (g : Given) (σ : Source) (dest : Option ℕ) : InstKind → Type 
   atomicStore : {ty : Ty} {v p : Value} {w x a : ℕ} → Scalar ty w → Reads g σ w v x → Reads g σ 64 p a → Goes g σ dest (InstKind.atomicStore ty v p)
   cmpxchg : {ty : Ty} {p c n : Value} {w a x y : ℕ} → Scalar ty w → Reads g σ 64 p a → Reads g σ w c x → Reads g σ w n y → Goes g σ dest (InstKind.cmpxchg ty p c n)
   -- "a fixed alloca run twice, or in the size-0 case above" stops; a place is fixed where its count is absent or an integer
-  fixed : {ty : Ty} {count : Option TypedVal} {align : Option ℕ} {x n : ℕ} → dest ≡ some x → countOf count ≡ some n → Framed (g .frame) → σ .env x ≡ none
+  fixed : {ty : Ty} {count : Option TypedVal} {align : Option ℕ} {n : ℕ} → countOf count ≡ some n → Framed (g .frame) → ((x : ℕ) → dest ≡ some x → σ .env x ≡ none)
       → Goes g σ dest (InstKind.alloca ty count align)
-  varying : {ty : Ty} {count : TypedVal} {align : Option ℕ} {x : ℕ} → dest ≡ some x → countOf (some count) ≡ none → Typed g σ count → Goes g σ dest (InstKind.alloca ty (some count) align)
+  varying : {ty : Ty} {count : TypedVal} {align : Option ℕ} → countOf (some count) ≡ none → Typed g σ count → Goes g σ dest (InstKind.alloca ty (some count) align)
   getElementPtr : {ty : Ty} {p : Value} {is : List TypedVal} {a : ℕ} → Reads g σ 64 p a → Indices g σ ty is → Goes g σ dest (InstKind.getElementPtr ty p is)
   call : {ty : Ty} {callee : Value} {args : List TypedVal} {t : Target} {r : Option ℕ} → Each (Typed g σ) args → Callee g σ callee t → Answers ty r → Shaped (g .world) t (length args) r
       → Receives r dest (g .world .replies (length (σ .calls)) .cell) → Goes g σ dest (InstKind.call ty callee args)

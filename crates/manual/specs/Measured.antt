@@ -41,10 +41,10 @@ abbrev pub MeasuredIndices : List StructType → Ty → List TypedVal → Type 0
 MeasuredIndices structs ty [] = Unit {0}
 MeasuredIndices structs ty (i ∷ is) = Sized structs ty × MeasuredWay structs ty is
 
--- a fixed place has its offset in the frame, a varying one is measured
-abbrev pub MeasuredPlace : Given → (dest : Option ℕ) → Ty → (fixed : Option ℕ) → (align : Option ℕ) → Type 0
-MeasuredPlace g dest ty (some n) align = (x : ℕ) → dest ≡ some x → (off : ℕ) × (lookup x (g .frame .offsets) ≡ some off)
-MeasuredPlace g dest ty none align = Sized (g .structs) ty × Aligned (g .structs) align ty
+-- a place has a name (refusal 5); a fixed one has its offset in the frame, a varying one is measured
+abbrev pub MeasuredPlace : Given → (name : ℕ) → Ty → (fixed : Option ℕ) → (align : Option ℕ) → Type 0
+MeasuredPlace g x ty (some n) align = (off : ℕ) × (lookup x (g .frame .offsets) ≡ some off)
+MeasuredPlace g x ty none align = Sized (g .structs) ty × Aligned (g .structs) align ty
 
 abbrev pub Measured : Given → (dest : Option ℕ) → InstKind → Type 0
 Measured g dest (InstKind.load ty p align) = Sized (g .structs) ty
@@ -52,7 +52,7 @@ Measured g dest (InstKind.store ty v p align) = Sized (g .structs) ty
 Measured g dest (InstKind.atomicLoad ty p) = Sized (g .structs) ty
 Measured g dest (InstKind.atomicStore ty v p) = Sized (g .structs) ty
 Measured g dest (InstKind.cmpxchg ty p c n) = Sized (g .structs) ty
-Measured g dest (InstKind.alloca ty count align) = MeasuredPlace g dest ty (countOf count) align
+Measured g dest (InstKind.alloca ty count align) = (x : ℕ) × (dest ≡ some x) × MeasuredPlace g x ty (countOf count) align
 Measured g dest (InstKind.getElementPtr ty p is) = MeasuredIndices (g .structs) ty is
 Measured g dest (InstKind.bin op ty a b) = Unit {0}
 Measured g dest (InstKind.conv op from v to) = Unit {0}
