@@ -21,3 +21,4 @@ pub mod ExactInst
 pub mod GoesOn
 pub mod ExactTerm
 pub mod Progress
+pub mod Loop

@@ -4,6 +4,7 @@ use mathlib.Core.Path.{_≡_, refl, subst, sym, _∙_}
 use mathlib.Core.Bool.{Bool, true, false}
 use mathlib.Core.Option.{some}
 use mathlib.Core.List.{List, [], _∷_}
+use native.Mathlib.Omega.{arith}
 use lib.Dec.{eqb}
 use Rattle.book.specs.Ast.{Ty, Incoming, Inst, Terminator, BasicBlock, Book}
 use Rattle.book.specs.Limits.{Each}
@@ -129,6 +130,28 @@ module _ (g : Given) where
   pub gone-run : (s : Stand) → ((n : ℕ) → Going (run g n s)) → GoesOn g s
   unfolding go
   gone-run s h n b σ e = let (u, k) = h (suc n) in gone-block b σ u (run-last n s (Stand.at b σ) u e k)
+
+  -- How the conditions are shown of a loop: by what holds at each block whenever the run comes to it.
+  module _ (I : (block : ℕ) → Source → Type 0) (goes : (b : ℕ) (σ : Source) → I b σ → GoesBlock g b σ)
+      (kept : (b : ℕ) (σ : Source) (c : ℕ) (τ : Source) → I b σ → runBlock g b σ ≡ ok (Stand.at c τ) → I c τ) where
+    abbrev pub Holds : Stand → Type 0
+    Holds (Stand.at b σ) = I b σ
+    Holds (Stand.gave v σ) = Unit {0}
+
+    held : (s t : Stand) → Holds s → go g s ≡ ok t → Holds t
+    unfolding go
+    held (Stand.at b σ) (Stand.at c τ) h e = kept b σ c τ h e
+    held (Stand.at b σ) (Stand.gave v τ) h e = tt
+    held (Stand.gave u σ) (Stand.at c τ) h e = absurd (let z : _≡_ {A = ℕ} 0 1 = cc in omega arith)
+    held (Stand.gave u σ) (Stand.gave v τ) h e = tt
+
+    all-held : (n : ℕ) (s t : Stand) → Holds s → run g n s ≡ ok t → Holds t
+    unfolding run
+    all-held zero s t h e = subst Holds (ok-same e) h
+    all-held (suc n) s t h e = let (u, a, e₁) = bind-ok (go g s) _ t e in all-held n u t (held s u h a) e₁
+
+    pub by-invariant : (s : Stand) → Holds s → GoesOn g s
+    by-invariant s h n b σ e = goes b σ (all-held n s (Stand.at b σ) h e)
 
 -- ---- the run of a book's function
 -- "no block" stops
