@@ -37,6 +37,7 @@ pub mod Only
 pub mod OnlyStops
 pub mod TwoRuns
 pub mod Corollaries
+pub mod NeverFails
 pub mod GoesOn
 pub mod Operations
 pub mod Cases
