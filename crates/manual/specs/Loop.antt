@@ -3,20 +3,20 @@ use Prim.Native.Nat.{ℕ, _+_, _%_, _^_}
 use mathlib.Core.Path.{_≡_, refl, ap, sym, subst₂, _∙_}
 use mathlib.Core.Logic.{inl}
 use mathlib.Core.Option.{none, some}
-use mathlib.Core.List.{List, [], _∷_}
+use mathlib.Core.List.{[], _∷_}
 use native.Mathlib.Omega.{arith}
 use lib.Dec.{lit<}
 use Rattle.book.specs.Ast.{Ty, Value, BinOp, InstKind, Inst, Terminator, BasicBlock}
-use Rattle.book.specs.Result.{Result, ok}
+use Rattle.book.specs.Result.{ok}
 use Rattle.layout.specs.Frame.{noFrame}
 use Rattle.machine.specs.State.{World}
-use Rattle.manual.specs.State.{Cell, Given, Source, setEnv, assign, put}
+use Rattle.manual.specs.State.{Cell, Given, Source, put}
 use Rattle.manual.specs.Inst.{runInst}
 use Rattle.manual.specs.Term.{Stand}
 use Rattle.manual.specs.Run.{runBlock, run}
 use Rattle.manual.specs.Open.{openManual}
 use Rattle.manual.specs.Goes.{Scalar, Integer, Reads, Goes}
-use Rattle.manual.specs.GoesOn.{From, Other, Enters, Edge, GoesTerm, GoesInsts, GoesBody, GoesBlock}
+use Rattle.manual.specs.GoesOn.{From, Other, Enters, GoesTerm, GoesInsts, GoesBody, GoesBlock}
 use Rattle.manual.specs.Going.{ok-same, Going}
 use Rattle.manual.specs.Progress.{run-goes, by-invariant}
 
