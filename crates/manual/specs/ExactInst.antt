@@ -1,6 +1,6 @@
 -- An instruction goes on exactly where `Goes` and `Measured` say so.
 use Prim.Native.Nat.{ℕ, zero, suc, _*_, _^_, _<_}
-use mathlib.Core.Path.{_≡_, refl, ap, subst, sym}
+use mathlib.Core.Path.{_≡_, refl, ap, subst, sym, _∙_}
 use mathlib.Core.Logic.{_⊎_, inl, inr, _↔_}
 use mathlib.Core.Bool.{Bool, true, false, cond, not, false≢true}
 use mathlib.Core.Option.{Option, none, some}
@@ -13,7 +13,7 @@ use Rattle.numbers.specs.Width.{intBytes, widthOk, width-each}
 use Rattle.names.specs.Tests.{either, or-right}
 use Rattle.book.specs.Ast.{Ty, Value, TypedVal, InstKind, Inst, StructType}
 use Rattle.book.specs.Map.{lookup}
-use Rattle.book.specs.Result.{Result, ok, okOr, err-no-ok, bind-ok, bind-step, given-ok}
+use Rattle.book.specs.Result.{Result, ok, err, okOr, err-no-ok, bind-ok, bind-step, given-ok}
 use Rattle.layout.specs.Layout.{sizeOf, sizeAt, intSize}
 use Rattle.layout.specs.Frame.{Places, countOf, framed}
 use Rattle.machine.specs.Memory.{Memory, peek, peek-lt}
@@ -293,3 +293,11 @@ module _ (g : Given) (σ : Source) where
   pub inst-goes : (i : Inst) → Going (runInst g i σ) ↔ (Measured g (i .dest) (i .kind) × Goes g σ (i .dest) (i .kind))
   unfolding runInst
   inst-goes i = ((λ (τ, e). gone-kind (i .dest) (i .kind) τ e), (λ (m, h). kind-goes m h))
+
+  -- and where it can be measured, it stops exactly where it does not go on
+  pub inst-stops : (i : Inst) → Measured g (i .dest) (i .kind) → ((e : ℕ) × (runInst g i σ ≡ err e)) ↔ ¬ Goes g σ (i .dest) (i .kind)
+  inst-stops i m = ((λ (e, h) k. let (τ, r) = inst-goes i .1 (m, k) in err-no-ok e τ (sym h ∙ r)), λ k. go k (runInst g i σ) refl)
+    where
+      go : ¬ Goes g σ (i .dest) (i .kind) → (r : Result Source) → runInst g i σ ≡ r → (e : ℕ) × (runInst g i σ ≡ err e)
+      go k (ok τ) h = absurd (k (inst-goes i .0 (τ, h) .1))
+      go k (err e) h = (e, h)
