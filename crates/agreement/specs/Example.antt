@@ -19,15 +19,15 @@ use Rattle.assembly.specs.Cases.{unlines, slice}
 use Rattle.machine.specs.Memory.{Memory}
 use Rattle.machine.specs.State.{World, Frame}
 use Rattle.machine.specs.Run.{returned}
+use Rattle.machine.specs.Exact.{Alive}
 use Rattle.lowering.specs.Gen.{Out}
 use Rattle.lowering.specs.Translate.{generated}
 use Rattle.manual.specs.State.{Cell, Given, Source, nothing, assign}
 use Rattle.manual.specs.Term.{Stand}
 use Rattle.layout.specs.Frame.{Places, noFrame}
 use Rattle.manual.specs.Goes.{Scalar, Integer, Answers, Reads, Goes}
-use Rattle.manual.specs.GoesOn.{Other, GoesTerm, GoesInsts, GoesBody, GoesBlock}
-use Rattle.manual.specs.Progress.{HasBlock, givenOf, SourceGoes}
-use Rattle.agreement.specs.GoesOn.{lines-go-on}
+use Rattle.manual.specs.GoesOn.{Other, GoesTerm, GoesInsts, GoesBody, GoesBlock, HasBlock, givenOf, SourceGoes}
+use Rattle.agreement.specs.GoesOn.{lines-go-on, lines-never-fail}
 use Rattle.manual.specs.Run.{argsFit, run, sourceRun}
 use Rattle.manual.specs.Open.{openManual}
 use Rattle.lowering.specs.Open.{openLowering}
@@ -158,15 +158,19 @@ unfolding openManual openLowering atEntry atEnd add1 add i32
 comes-to world a memory sp zero k σ e = at-same e
 comes-to world a memory sp (suc n) k σ e = not-at (sym (stays (givenOf (add1 .names) (add1 .book) world sp noFrame) n ((a + 1) % 2 ^ 32) (atEnd a memory sp)) ∙ e)
 
-pub add1-goes : (world : World) (a : ℕ) (memory : Memory) (sp : ℕ) → SourceGoes (add1 .names) (add1 .book) world (a ∷ []) memory sp
+pub add1-goes : (world : World) (a : ℕ) (memory : Memory) (sp n : ℕ) → SourceGoes (add1 .names) (add1 .book) world (a ∷ []) memory sp n
 unfolding add1
-add1-goes world a memory sp = (
+add1-goes world a memory sp n = (
   HasBlock.has,
-  λ fr pass n k σ e.
-      let (h, i) = comes-to world a memory sp n k σ e in
+  λ fr pass j k σ l e.
+      let (h, i) = comes-to world a memory sp j k σ e in
       subst₂ (λ b τ. GoesBlock (givenOf (add1 .names) (add1 .book) world sp fr) b τ) h i (block-goes world a memory sp fr),
 )
 
 pub add1-goes-on : (world : World) (a : ℕ) (memory : Memory) (sp : ℕ) → a < 2 ^ 32 → sp < 2 ^ 64 → (n : ℕ)
     → (t : Stand) × (sourceRun (add1 .names) (add1 .book) world (a ∷ []) memory sp n ≡ ok t) × Agrees (add1 .names) (add1 .book) (out .lines) world (a ∷ []) memory sp n t
-add1-goes-on world a memory sp ha hs n = lines-go-on book (unlines names) 0 96 11 add1 out sound translated naming world (a ∷ []) memory sp (fits a ha) hs (add1-goes world a memory sp) n
+add1-goes-on world a memory sp ha hs n = lines-go-on book (unlines names) 0 96 11 add1 out sound translated naming world (a ∷ []) memory sp (fits a ha) hs n (add1-goes world a memory sp n)
+
+pub add1-never-fails : (world : World) (a : ℕ) (memory : Memory) (sp : ℕ) → a < 2 ^ 32 → sp < 2 ^ 64 → (k : ℕ) → Alive (after (add1 .names) (add1 .book) (out .lines) world (a ∷ []) memory sp k)
+add1-never-fails world a memory sp ha hs =
+    lines-never-fail book (unlines names) 0 96 11 add1 out sound translated naming world (a ∷ []) memory sp (fits a ha) hs (add1-goes world a memory sp)

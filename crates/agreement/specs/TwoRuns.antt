@@ -34,9 +34,8 @@ use Rattle.layout.specs.Frame.{Places, framePass, noFrame}
 use Rattle.lowering.specs.Function.{contextOf, genFunction}
 use Rattle.manual.specs.State.{Cell, Source}
 use Rattle.manual.specs.Term.{Stand}
-use Rattle.manual.specs.GoesOn.{AllMeasured}
+use Rattle.manual.specs.GoesOn.{AllMeasured, placesOf, givenOf}
 use Rattle.manual.specs.Going.{Going}
-use Rattle.manual.specs.Progress.{givenOf}
 use Rattle.manual.specs.Run.{argsFit, firstBlock, begin, run, sourceRun}
 use Rattle.agreement.specs.Holds.{ok-same, Holds, H-ok, H-bind, H-eq, H-known, H-map, H-use}
 use Rattle.agreement.specs.Gives.{G-use}
@@ -168,16 +167,16 @@ module _ (b : Sound) (out : Out) (counter m : ℕ) (limits : Limits m (b .book))
       let (fr, pass, made) = bind-ok (framePass (b .book .structs) (allInsts (b .book .function .blocks)) noFrame) _ out makes in
       H-known _ pass (H-map (whole-run (setup fr) m (limits .function .1 .1 .1) naming pass (H-use out made (begins-ok (setup fr) .made counter)) word memory fits n) λ t g. agrees fr n t g)
 
-  pub book-measured : (fr : Places) → framePass (b .book .structs) (allInsts (b .book .function .blocks)) noFrame ≡ ok fr → AllMeasured (givenOf (b .names) (b .book) world sp fr)
+  pub book-measured : (fr : Places) → placesOf (b .book) ≡ ok fr → AllMeasured (givenOf (b .names) (b .book) world sp fr)
   unfolding genFunction contextOf codegenOf _>>=_
   book-measured fr pass =
-      let (fr′, pass′, made) = bind-ok (framePass (b .book .structs) (allInsts (b .book .function .blocks)) noFrame) _ out makes in
+      let (fr′, pass′, made) = bind-ok (placesOf (b .book)) _ out makes in
       subst (λ (z : Places). AllMeasured (givenOf (b .names) (b .book) world sp z)) (ok-same (sym pass′ ∙ pass))
       (measured (setup fr′) m (limits .function .1 .1 .1) naming pass′ (H-use out made (begins-ok (setup fr′) .made counter)))
 
-  pub book-places : Going (framePass (b .book .structs) (allInsts (b .book .function .blocks)) noFrame)
+  pub book-places : Going (placesOf (b .book))
   unfolding genFunction contextOf codegenOf _>>=_
-  book-places = let (fr, pass, made) = bind-ok (framePass (b .book .structs) (allInsts (b .book .function .blocks)) noFrame) _ out makes in (fr, pass)
+  book-places = let (fr, pass, made) = bind-ok (placesOf (b .book)) _ out makes in (fr, pass)
 
   book-only : (n : ℕ) → Only (sourceRun (b .names) (b .book) world args memory sp n)
   unfolding sourceRun genFunction contextOf codegenOf _>>=_

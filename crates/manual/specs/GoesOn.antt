@@ -3,15 +3,18 @@ use Prim.Native.Nat.{ℕ, _%_, _^_, _<_}
 use mathlib.Core.Path.{_≡_}
 use mathlib.Core.Option.{Option, none, some}
 use mathlib.Core.List.{List, [], _∷_}
-use Rattle.book.specs.Ast.{Ty, Value, TypedVal, Incoming, Case, Inst, Terminator, BasicBlock}
+use Rattle.book.specs.Ast.{Ty, Value, TypedVal, Incoming, Case, Inst, Terminator, BasicBlock, Book}
 use Rattle.book.specs.Limits.{Each}
-use Rattle.book.specs.Result.{ok}
+use Rattle.book.specs.Result.{Result, ok}
 use Rattle.book.specs.Rule.{find}
-use Rattle.book.specs.Shape.{Shape, shape}
+use Rattle.book.specs.Shape.{Shape, shape, allInsts}
+use Rattle.layout.specs.Frame.{Places, framePass, noFrame}
+use Rattle.machine.specs.Memory.{Memory}
+use Rattle.machine.specs.State.{World}
 use Rattle.manual.specs.State.{Given, Source}
 use Rattle.manual.specs.Inst.{runInst}
 use Rattle.manual.specs.Term.{Stand}
-use Rattle.manual.specs.Run.{run}
+use Rattle.manual.specs.Run.{run, sourceRun}
 use Rattle.manual.specs.Goes.{Scalar, Integer, Answers, InRange, Reads, Goes}
 use Rattle.manual.specs.Measured.{Measured}
 
@@ -76,10 +79,26 @@ abbrev pub GoesBlock : Given → (block : ℕ) → Source → Type 0
 GoesBlock g b σ = (bb : BasicBlock) × Named g b bb × GoesBody g (bb .label) (bb .term) (bb .insts) σ
 
 -- ---- the run
--- at every block that the run comes to from s, in the state that it has there
-abbrev pub GoesOn : Given → Stand → Type 0
-GoesOn g s = (n b : ℕ) (σ : Source) → run g n s ≡ ok (Stand.at b σ) → GoesBlock g b σ
+-- at every block that the run comes to from s with fewer than n passed, in the state that it has there
+abbrev pub GoesOn : Given → Stand → (n : ℕ) → Type 0
+GoesOn g s n = (k b : ℕ) (σ : Source) → k < n → run g k s ≡ ok (Stand.at b σ) → GoesBlock g b σ
 
 -- every instruction of the function can be measured
 abbrev pub AllMeasured : Given → Type 0
 AllMeasured g = Each (λ (b : BasicBlock). Each (λ (i : Inst). Measured g (i .dest) (i .kind)) (b .insts)) (g .function .blocks)
+
+-- ---- the run of a book's function
+-- "no block" stops
+pub data HasBlock : List BasicBlock → Type 0 where
+  has : {b : BasicBlock} {bs : List BasicBlock} → HasBlock (b ∷ bs)
+
+-- the frame by the Rust's formula
+abbrev pub placesOf : Book → Result Places
+placesOf b = framePass (b .structs) (allInsts (b .function .blocks)) noFrame
+
+abbrev pub givenOf : (names : List (List ℕ)) → Book → World → (sp : ℕ) → Places → Given
+givenOf names b world sp fr = record { names = names; structs = b .structs; function = b .function; frame = fr; world = world; base = sp }
+
+abbrev pub SourceGoes : (names : List (List ℕ)) → Book → World → (args : List ℕ) → Memory → (sp n : ℕ) → Type 0
+SourceGoes names b world args m sp n = HasBlock (b .function .blocks)
+    × ((fr : Places) → placesOf b ≡ ok fr → (k c : ℕ) (σ : Source) → k < n → sourceRun names b world args m sp k ≡ ok (Stand.at c σ) → GoesBlock (givenOf names b world sp fr) c σ)

@@ -80,4 +80,4 @@ module _ (world : World) where
 
   pub loop-goes : (σ : Source) (n : ℕ) → Going (run (counts world) n (Stand.at 1 σ))
   unfolding counts first loop next
-  loop-goes σ n = run-goes (counts world) (tt, ((tt, (tt, tt)), tt)) (Stand.at 1 σ) (by-invariant (counts world) At goes kept (Stand.at 1 σ) At.outside) n
+  loop-goes σ n = run-goes (counts world) (tt, ((tt, (tt, tt)), tt)) (Stand.at 1 σ) n (by-invariant (counts world) At goes kept (Stand.at 1 σ) n At.outside)

@@ -1,5 +1,5 @@
 -- The source run goes on exactly where its conditions hold: a block, n blocks, the run of a book's function.
-use Prim.Native.Nat.{ℕ, zero, suc}
+use Prim.Native.Nat.{ℕ, zero, suc, _<_}
 use mathlib.Core.Path.{_≡_, refl, subst, sym, _∙_}
 use mathlib.Core.Bool.{Bool, true, false}
 use mathlib.Core.Option.{some}
@@ -10,8 +10,8 @@ use Rattle.book.specs.Ast.{Ty, Incoming, Inst, Terminator, BasicBlock, Book}
 use Rattle.book.specs.Limits.{Each}
 use Rattle.book.specs.Result.{Result, ok, bind, err-no-ok, bind-ok, bind-step}
 use Rattle.book.specs.Rule.{find, pick}
-use Rattle.book.specs.Shape.{Shape, shape, allInsts}
-use Rattle.layout.specs.Frame.{Places, framePass, noFrame}
+use Rattle.book.specs.Shape.{Shape, shape}
+use Rattle.layout.specs.Frame.{Places}
 use Rattle.machine.specs.Memory.{Memory}
 use Rattle.machine.specs.State.{World}
 use Rattle.manual.specs.State.{Given, Source, nothing}
@@ -19,7 +19,7 @@ use Rattle.manual.specs.Inst.{runInst, runInsts}
 use Rattle.manual.specs.Term.{Stand, bodyStep, body, blockNamed, runTerm}
 use Rattle.manual.specs.Run.{runBlock, go, run, paramEnv, entered, firstBlock, begin, sourceRun}
 use Rattle.manual.specs.Measured.{Measured}
-use Rattle.manual.specs.GoesOn.{Other, GoesInsts, GoesBody, GoesBlock, GoesOn, AllMeasured}
+use Rattle.manual.specs.GoesOn.{Other, GoesInsts, GoesBody, GoesBlock, GoesOn, AllMeasured, HasBlock, placesOf, givenOf, SourceGoes}
 use Rattle.machine.specs.Cells.{some-same, none-some}
 use Rattle.manual.specs.Going.{ok-same, Going, onward, okOr-ok, okOr-some}
 use Rattle.manual.specs.ExactInst.{inst-goes}
@@ -106,30 +106,31 @@ module _ (g : Given) where
       (bb, okOr-some _ (find (λ (k : BasicBlock). k .label) b (g .function .blocks)) bb h, insts-body (bb .label) (bb .term) (bb .insts) σ (gone-insts (bb .label) (bb .term) (body (bb .insts)) σ t e₁))
 
   -- ---- n blocks
-  one-more : (s : Stand) → AllMeasured g → GoesOn g s → Going (go g s)
+  one-more : (s : Stand) (n : ℕ) → AllMeasured g → GoesOn g s (suc n) → Going (go g s)
   unfolding go run
-  one-more (Stand.at b σ) m h = block-goes m b σ (h 0 b σ refl)
-  one-more (Stand.gave v σ) m h = (_, refl)
+  one-more (Stand.at b σ) n m h = block-goes m b σ (h 0 b σ (omega arith) refl)
+  one-more (Stand.gave v σ) n m h = (_, refl)
 
-  -- Where the conditions hold at every block that the run comes to, it passes n blocks, for every n (a run that has returned stays so).
-  pub run-goes : AllMeasured g → (s : Stand) → GoesOn g s → (n : ℕ) → Going (run g n s)
+  -- Where the conditions hold at every block that the run comes to with fewer than n passed, it passes n (a run that has returned stays so).
+  pub run-goes : AllMeasured g → (s : Stand) (n : ℕ) → GoesOn g s n → Going (run g n s)
   unfolding run
-  run-goes m s h zero = (s, refl)
-  run-goes m s h (suc n) = let (t, e) = one-more s m h in onward _ e (run-goes m t (λ k b σ i. h (suc k) b σ (bind-step _ _ e i)) n)
+  run-goes m s zero h = (s, refl)
+  run-goes m s (suc n) h = let (t, e) = one-more s n m h in onward _ e (run-goes m t n (λ k b σ l i. h (suc k) b σ (omega arith) (bind-step _ _ e i)))
 
-  -- n blocks and one more
-  run-last : (n : ℕ) (s t u : Stand) → run g n s ≡ ok t → run g (suc n) s ≡ ok u → go g t ≡ ok u
+  -- k blocks and one more, of n
+  run-next : (k n : ℕ) (s t : Stand) → k < n → run g k s ≡ ok t → Going (run g n s) → Going (go g t)
   unfolding run
-  run-last zero s t u e h = let (v, a, b) = bind-ok (go g s) _ u h in rw (← ok-same e, ← ok-same b) a
-  run-last (suc n) s t u e h =
+  run-next k zero s t l e h = absurd (omega arith)
+  run-next zero (suc n) s t l e (u, h) = let (v, a, b) = bind-ok (go g s) _ u h in (v, rw (← ok-same e) a)
+  run-next (suc k) (suc n) s t l e (u, h) =
       let (v, a, b) = bind-ok (go g s) _ t e in
-      let (v′, a′, b′) = bind-ok (go g s) (λ z. run g (suc n) z) u h in
-      run-last n v t u b (rw (ok-same (sym a ∙ a′)) b′)
+      let (v′, a′, b′) = bind-ok (go g s) (λ z. run g n z) u h in
+      run-next k n v t (omega arith) b (u, rw (ok-same (sym a ∙ a′)) b′)
 
   -- And only there.
-  pub gone-run : (s : Stand) → ((n : ℕ) → Going (run g n s)) → GoesOn g s
+  pub gone-run : (s : Stand) (n : ℕ) → Going (run g n s) → GoesOn g s n
   unfolding go
-  gone-run s h n b σ e = let (u, k) = h (suc n) in gone-block b σ u (run-last n s (Stand.at b σ) u e k)
+  gone-run s n h k b σ l e = let (u, i) = run-next k n s (Stand.at b σ) l e h in gone-block b σ u i
 
   -- How the conditions are shown of a loop: by what holds at each block whenever the run comes to it.
   module _ (I : (block : ℕ) → Source → Type 0) (goes : (b : ℕ) (σ : Source) → I b σ → GoesBlock g b σ)
@@ -150,17 +151,10 @@ module _ (g : Given) where
     all-held zero s t h e = subst Holds (ok-same e) h
     all-held (suc n) s t h e = let (u, a, e₁) = bind-ok (go g s) _ t e in all-held n u t (held s u h a) e₁
 
-    pub by-invariant : (s : Stand) → Holds s → GoesOn g s
-    by-invariant s h n b σ e = goes b σ (all-held n s (Stand.at b σ) h e)
+    pub by-invariant : (s : Stand) (n : ℕ) → Holds s → GoesOn g s n
+    by-invariant s n h k b σ l e = goes b σ (all-held k s (Stand.at b σ) h e)
 
 -- ---- the run of a book's function
--- "no block" stops
-pub data HasBlock : List BasicBlock → Type 0 where
-  has : {b : BasicBlock} {bs : List BasicBlock} → HasBlock (b ∷ bs)
-
-abbrev pub givenOf : (names : List (List ℕ)) → Book → World → (sp : ℕ) → Places → Given
-givenOf names b world sp fr = record { names = names; structs = b .structs; function = b .function; frame = fr; world = world; base = sp }
-
 first-block : (bs : List BasicBlock) → HasBlock bs → Going (firstBlock bs)
 unfolding firstBlock
 first-block (b ∷ bs) HasBlock.has = (_, refl)
@@ -171,36 +165,30 @@ block-first [] b e = err-no-ok _ b e
 block-first (k ∷ bs) b e = HasBlock.has
 
 module _ (names : List (List ℕ)) (b : Book) (world : World) (args : List ℕ) (m : Memory) (sp : ℕ) where
-  abbrev pub Runs : ℕ → Result Stand
+  abbrev Runs : ℕ → Result Stand
   Runs n = sourceRun names b world args m sp n
 
-  abbrev pub places : Result Places
-  places = framePass (b .structs) (allInsts (b .function .blocks)) noFrame
+  abbrev given : Places → Given
+  given fr = givenOf names b world sp fr
 
-  -- the conditions at every block that the run of the book's function comes to
-  abbrev pub SourceGoes : Type 0
-  SourceGoes = HasBlock (b .function .blocks) × ((fr : Places) → places ≡ ok fr → (n k : ℕ) (σ : Source) → Runs n ≡ ok (Stand.at k σ) → GoesBlock (givenOf names b world sp fr) k σ)
-
-  from-first : (fr : Places) → places ≡ ok fr → (s : Stand) → begin (givenOf names b world sp fr) args m ≡ ok s → (n : ℕ) → Runs n ≡ run (givenOf names b world sp fr) n s
+  from-first : (fr : Places) → placesOf b ≡ ok fr → (s : Stand) → begin (given fr) args m ≡ ok s → (n : ℕ) → Runs n ≡ run (given fr) n s
   unfolding sourceRun bind
   from-first fr pass s e n = rw (pass, e) refl
 
-  pub source-goes : (fr : Places) → places ≡ ok fr → AllMeasured (givenOf names b world sp fr) → SourceGoes → (n : ℕ) → Going (Runs n)
+  pub source-goes : (fr : Places) → placesOf b ≡ ok fr → AllMeasured (givenOf names b world sp fr) → (n : ℕ) → SourceGoes names b world args m sp n → Going (sourceRun names b world args m sp n)
   unfolding begin
-  source-goes fr pass ms (w, h) n =
-      let g : Given = givenOf names b world sp fr in
+  source-goes fr pass ms n (w, h) =
       let (k, f) = first-block (b .function .blocks) w in
       let (s, e) = onward {r = firstBlock (b .function .blocks)} (λ k. ok (Stand.at k (record { env = paramEnv (b .function .params) args nothing; memory = m; calls = []; sp = entered fr sp }))) f (_, refl) in
-      rw (from-first fr pass s e n) (run-goes g ms s (λ j c σ i. h fr pass j c σ (from-first fr pass s e j ∙ i)) n)
+      rw (from-first fr pass s e n) (run-goes (given fr) ms s n (λ j c σ l i. h fr pass j c σ l (from-first fr pass s e j ∙ i)))
 
-  pub gone-source : ((n : ℕ) → Going (Runs n)) → SourceGoes
+  pub gone-source : (n : ℕ) → Going (sourceRun names b world args m sp n) → SourceGoes names b world args m sp n
   unfolding sourceRun begin
-  gone-source h =
-      let (t, e) = h 0 in
-      let (fr, p, e₁) = bind-ok places _ t e in
-      let (s, i, e₂) = bind-ok (begin (givenOf names b world sp fr) args m) _ t e₁ in
+  gone-source n (t, e) =
+      let (fr, p, e₁) = bind-ok (placesOf b) _ t e in
+      let (s, i, e₂) = bind-ok (begin (given fr) args m) _ t e₁ in
       let (k, f, e₃) = bind-ok (firstBlock (b .function .blocks)) _ s i in (
         block-first (b .function .blocks) k f,
-        λ fr′ p′. subst (λ z. (n c : ℕ) (σ : Source) → Runs n ≡ ok (Stand.at c σ) → GoesBlock (givenOf names b world sp z) c σ) (ok-same (sym p ∙ p′))
-            (λ n c σ j. gone-run (givenOf names b world sp fr) s (λ q. rw (← from-first fr p s i q) (h q)) n c σ (sym (from-first fr p s i n) ∙ j)),
+        λ fr′ p′. subst (λ z. (j c : ℕ) (σ : Source) → j < n → Runs j ≡ ok (Stand.at c σ) → GoesBlock (given z) c σ) (ok-same (sym p ∙ p′))
+            (λ j c σ l h. gone-run (given fr) s n (t, e₂) j c σ l (sym (from-first fr p s i j) ∙ h)),
       )
