@@ -1,7 +1,7 @@
 -- "Stops", turned round, of a function that the translator accepts: its run goes on exactly where the conditions of `manual`'s `Goes` and `GoesOn` hold at every block
 -- that it comes to, and there the lines go on with it. Nothing has to be said of measuring. (That a reply fits its call's width, a premise in document 01, is one of the
 -- conditions: `Receives`.)
-use Prim.Native.Nat.{ℕ, _^_, _<_}
+use Prim.Native.Nat.{ℕ, suc, _^_, _<_}
 use mathlib.Core.Path.{_≡_, refl}
 use mathlib.Core.Logic.{_↔_}
 use mathlib.Core.Bool.{true}
@@ -10,8 +10,9 @@ use Rattle.book.specs.Result.{Result, ok}
 use Rattle.book.specs.Check.{Sound, checked}
 use Rattle.machine.specs.Memory.{Memory}
 use Rattle.machine.specs.State.{World}
-use Rattle.machine.specs.Run.{start}
-use Rattle.machine.specs.Exact.{Alive}
+use Rattle.machine.specs.Run.{State, running, start}
+use Rattle.machine.specs.Works.{StepWorks}
+use Rattle.machine.specs.Exact.{Alive, step-works}
 use Rattle.lowering.specs.Gen.{Out}
 use Rattle.lowering.specs.Translate.{generated}
 use Rattle.manual.specs.Term.{Stand}
@@ -21,7 +22,7 @@ use Rattle.manual.specs.GoesOn.{SourceGoes}
 use Rattle.manual.specs.Progress.{source-goes, gone-source}
 use Rattle.agreement.specs.Statement.{after, Agrees}
 use Rattle.agreement.specs.TwoRuns.{book-measured, book-places, sound-limits, made-by, two-runs}
-use Rattle.agreement.specs.NeverFails.{Comes, never-fails}
+use Rattle.agreement.specs.NeverFails.{alive-step, Comes, never-fails}
 use Rattle.agreement.specs.Naming.{Naming}
 
 module _ (book names : List ℕ) (counter workLen room : ℕ) (b : Sound) (out : Out)
@@ -47,7 +48,7 @@ module _ (book names : List ℕ) (counter workLen room : ℕ) (b : Sound) (out :
   pub lines-go-on : (n : ℕ) → Conditions n → (t : Stand) × (source n ≡ ok t) × Agrees (b .names) (b .book) (out .lines) world args memory sp n t
   lines-go-on n h = let (t, e) = goes-on n .0 h in (t, e, two-runs book names counter workLen room b out sound accepted naming world args memory sp fits word n t e)
 
-  -- where the conditions hold for every n the machine never fails: at every line that it comes to there is what the line needs (`machine`, `step-works`)
+  -- where the conditions hold for every n the machine never fails
   pub lines-never-fail : ((n : ℕ) → Conditions n) → (k : ℕ) → Alive (after (b .names) (b .book) (out .lines) world args memory sp k)
   unfolding start
   lines-never-fail h = never-fails (b .names) (b .book .function .name) world (out .lines) (start args memory sp) refl (λ n. let (t, e, a) = lines-go-on n (h n) in comes n t a)
@@ -55,3 +56,8 @@ module _ (book names : List ℕ) (counter workLen room : ℕ) (b : Sound) (out :
       comes : (n : ℕ) (t : Stand) → Agrees (b .names) (b .book) (out .lines) world args memory sp n t → Comes (b .names) (b .book .function .name) world (out .lines) (start args memory sp) n
       comes n (Stand.at k σ) a = Comes.stands (a .number) (a .stands) refl
       comes n (Stand.gave v σ) a = Comes.returns (a .number) (a .returns)
+
+  -- so at every line that it comes to there is what the line needs (`machine`, `Works`)
+  pub nothing-missing : ((n : ℕ) → Conditions n) → (k : ℕ) (x : State) → after (b .names) (b .book) (out .lines) world args memory sp k ≡ running x → StepWorks (b .names) (b .book .function .name) world (out .lines) x
+  nothing-missing h k x e =
+      step-works (b .names) (b .book .function .name) world (out .lines) x .0 (alive-step (b .names) (b .book .function .name) world (out .lines) k _ x e (lines-never-fail h (suc k)))

@@ -49,6 +49,14 @@ module _ (names : List (List ℕ)) (f : ℕ) (world : World) (lines : List Line)
   alive-after (suc k) (suc j) (returned v e n) h i = tt
   alive-after (suc k) (suc j) failed h i = absurd (let z : _≡_ {A = ℕ} 0 1 = cc in omega arith)
 
+  -- one step more
+  pub alive-step : (k : ℕ) (x : Outcome) (y : State) → run k x ≡ running y → Alive (run (suc k) x) → Alive (step names f world lines y)
+  unfolding steps
+  alive-step zero x y h a = rw h at a
+  alive-step (suc k) (running s) y h a = alive-step k (step names f world lines s) y h a
+  alive-step (suc k) (returned v e n) y h a = not-returned h
+  alive-step (suc k) failed y h a = not-failed h
+
   -- ---- a step passes one label at most
   follow-passes : (p n : ℕ) (a : Effect) (y : State) → follow names f world lines p n a ≡ running y → y .passed ≤ suc n
   unfolding follow found

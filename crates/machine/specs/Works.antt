@@ -1,5 +1,5 @@
 -- Where a line does not fail: "A zero divisor, an overflowing signed division or remainder, a shift by the width or more, `panic` or anything missing fails", turned
--- round, a condition for each line in positive words. Nothing here asks what a line does; that a step fails nowhere else is proved in `Exact`.
+-- round, a condition for each line in positive words. Nothing here asks what a line does; that a step fails nowhere else is proved (`Exact`, `step-works`).
 use Prim.Native.Nat.{ℕ, _<_, _≤_}
 use mathlib.Core.Path.{_≡_}
 use mathlib.Core.Option.{some}
