@@ -46,7 +46,8 @@ abbrev pub Edge : Given → Source → (pred succ : ℕ) → Type 0
 Edge g σ p b = (bb : BasicBlock) × Named g b bb × Enters g σ p (bb .insts)
 
 -- ---- terminators
--- "an integer outside both .. ranges .. (a switch case: of its condition's)" stops: of the cases that are compared, up to the first that is the value
+-- "an integer outside both the signed and the unsigned range of its width (a switch case: of its condition's)" stops: of the cases that are compared, up to the first
+-- that is the value
 pub data Chooses (w x d : ℕ) : List Case → (label : ℕ) → Type 0 where
   default : Chooses w x d [] d
   this : {k : Case} {ks : List Case} → InRange w (k .value) → x ≡ k .value % 2 ^ w → Chooses w x d (k ∷ ks) (k .label)
