@@ -25,8 +25,9 @@ use Rattle.agreement.specs.Alloca.{SoundCount}
 use Rattle.agreement.specs.Gep.{SoundIndices}
 use Rattle.agreement.specs.Cmpxchg.{TwoSlots}
 use Rattle.agreement.specs.Inst.{Good}
+use Rattle.agreement.specs.Measures.{HasPlace}
 use Rattle.agreement.specs.Term.{GoodTerm, SoundRet}
-use Rattle.agreement.specs.Frame.{varying-place}
+use Rattle.agreement.specs.Frame.{varying-place, fixed-place}
 use Rattle.agreement.specs.Naming.{paramNames, resultNames, Distinct, NoSelf}
 use Rattle.book.specs.Map.{lookup}
 
@@ -126,3 +127,7 @@ module _ (s : Setup) where
         let b = each-in (BlockLimits m) (s .function .blocks) h q in
         let l = each-in (InstLimits m) (k .insts) (b .1 .0) p in
         good-case (i .dest) (i .kind) (inst-in (s .function .blocks) q p) (l .1)
+
+    -- a fixed place of the function has its offset
+    pub has-place : (k : BasicBlock) → In k (s .function .blocks) → (i : Inst) → In i (k .insts) → HasPlace s (i .dest) (i .kind)
+    has-place k q i p x n ty count e h c = H-use (s .frame) pass (fixed-place (s .codegen .structs) x ty count n insts noFrame (inst-in (s .function .blocks) q p) e h c results)

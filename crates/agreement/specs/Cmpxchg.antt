@@ -14,7 +14,7 @@ use Rattle.book.specs.Ast.{Ty, Value, ICmpPred}
 use Rattle.book.specs.Result.{Result, ok, bind, okOr}
 use Rattle.layout.specs.Layout.{sizeOf}
 use Rattle.assembly.specs.Line.{Line, Work}
-use Rattle.machine.specs.Memory.{Memory, peek, poke}
+use Rattle.machine.specs.Memory.{Memory, peek, poke, peek-lt}
 use Rattle.machine.specs.State.{World, Frame, setSlots, setMemory, cellAt}
 use Rattle.machine.specs.Values.{wordTest, flag}
 use Rattle.machine.specs.Line.{does, swapped}
@@ -33,7 +33,7 @@ use Rattle.agreement.specs.Relation.{Held, Rel, Apart, own, slotOfName, 
 use Rattle.agreement.specs.Operand.{H-width, Sound, okOr-some, ValueOk, value-ok, Ends, then-ends, DestOk, dest-ok, slot-known}
 use Rattle.agreement.specs.Arith.{flag-lt}
 use Rattle.agreement.specs.Instr.{H-no-width, G-width, StepOk}
-use Rattle.agreement.specs.Memory.{peek-lt, eight, atomic-ok}
+use Rattle.agreement.specs.Memory.{eight, atomic-ok}
 use Rattle.agreement.specs.Lists.{some-same}
 
 module _ (s : Setup) where

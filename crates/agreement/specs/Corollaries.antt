@@ -25,13 +25,13 @@ use Rattle.agreement.specs.Where.{readAt, argCell, firstSlot}
 use Rattle.agreement.specs.Naming.{Naming}
 
 -- ---- the machine comes to a block label with n passed at most once
-same-state : {x y : State} → running x ≡ running y → x ≡ y
+pub same-state : {x y : State} → running x ≡ running y → x ≡ y
 same-state h = cc
 
-not-returned : {X : Type 0} {v : ℕ} {e : Frame} {n : ℕ} {x : State} → returned v e n ≡ running x → X
+pub not-returned : {X : Type 0} {v : ℕ} {e : Frame} {n : ℕ} {x : State} → returned v e n ≡ running x → X
 not-returned h = absurd (let z : _≡_ {A = ℕ} 0 1 = cc in omega arith)
 
-not-failed : {X : Type 0} {x : State} → failed ≡ running x → X
+pub not-failed : {X : Type 0} {x : State} → failed ≡ running x → X
 not-failed h = absurd (let z : _≡_ {A = ℕ} 0 1 = cc in omega arith)
 
 module _ (names : List (List ℕ)) (f : ℕ) (world : World) (lines : List Line) where

@@ -1,10 +1,13 @@
 -- The theorem at work: `i32 @add1(i32 %a)` of "Sheets to check" from its raw book, for every argument, memory and stack pointer.
-use Prim.Native.Nat.{ℕ, _+_, _%_, _^_, _<_, _≤_}
+use Prim.Native.Nat.{ℕ, zero, suc, _+_, _%_, _^_, _<_, _≤_}
 use Prim.Native.String.{String}
-use mathlib.Core.Path.{_≡_, refl, sym}
+use mathlib.Core.Path.{_≡_, refl, ap, sym, subst₂, _∙_}
 use mathlib.Core.Bool.{Bool, true, false, false≢true}
+use mathlib.Core.Logic.{inl}
 use mathlib.Core.Option.{some}
 use mathlib.Core.List.{List, [], _∷_, map}
+use native.Mathlib.Omega.{arith}
+use lib.Dec.{lit<}
 use borrow.Author.Tests.{lt-ltb}
 use Rattle.names.specs.Text.{bytes}
 use Rattle.book.specs.Ast.{Ty, Value, BinOp, InstKind, Inst, Terminator}
@@ -16,16 +19,22 @@ use Rattle.assembly.specs.Cases.{unlines, slice}
 use Rattle.machine.specs.Memory.{Memory}
 use Rattle.machine.specs.State.{World, Frame}
 use Rattle.machine.specs.Run.{returned}
+use Rattle.machine.specs.Exact.{Alive}
 use Rattle.lowering.specs.Gen.{Out}
 use Rattle.lowering.specs.Translate.{generated}
-use Rattle.manual.specs.State.{Cell, Source, nothing, assign}
+use Rattle.manual.specs.State.{Cell, Given, Source, nothing, assign}
 use Rattle.manual.specs.Term.{Stand}
-use Rattle.manual.specs.Run.{argsFit, sourceRun}
+use Rattle.layout.specs.Frame.{Places, noFrame}
+use Rattle.manual.specs.Goes.{Scalar, Integer, Answers, Reads, Goes}
+use Rattle.manual.specs.GoesOn.{Other, GoesTerm, GoesInsts, GoesBody, GoesBlock, HasBlock, givenOf, SourceGoes}
+use Rattle.agreement.specs.GoesOn.{lines-go-on, lines-never-fail}
+use Rattle.manual.specs.Run.{argsFit, run, sourceRun}
 use Rattle.manual.specs.Open.{openManual}
 use Rattle.lowering.specs.Open.{openLowering}
+use Rattle.agreement.specs.Holds.{ok-same}
 use Rattle.agreement.specs.Book.{each-in}
 use Rattle.agreement.specs.Decide.{hasLabel, newLabel, labelsOnce, labels-ok, distinct-ok}
-use Rattle.agreement.specs.Statement.{after, Returned}
+use Rattle.agreement.specs.Statement.{after, Returned, Agrees}
 use Rattle.agreement.specs.TwoRuns.{two-runs}
 use Rattle.agreement.specs.Naming.{optional, paramNames, resultNames, NoSelf, Naming}
 
@@ -117,3 +126,51 @@ add1-returns world a memory sp ha hs =
     let r : Returned (add1 .names) (add1 .book) (out .lines) world (a ∷ []) memory sp 1 ((a + 1) % 2 ^ 32) (atEnd a memory sp) =
     two-runs book (unlines names) 0 96 11 add1 out sound translated naming world (a ∷ []) memory sp (fits a ha) hs 1 _ (run-source world a memory sp) in
     (r .number, r .frame, r .labels, r .returns, r .within, r .same-memory, r .stack-restored)
+
+-- ---- the conditions under which its run goes on hold, so it does, and the lines with it
+atEntry : ℕ → Memory → ℕ → Source
+atEntry a memory sp = record { env = assign (some 0) (Cell.one 32 a) nothing; memory = memory; calls = []; sp = sp }
+
+block-goes : (world : World) (a : ℕ) (memory : Memory) (sp : ℕ) (fr : Places) → GoesBlock (givenOf (add1 .names) (add1 .book) world sp fr) 2 (atEntry a memory sp)
+unfolding openManual openLowering atEntry add1 add i32
+block-goes world a memory sp fr = (
+  _,
+  refl,
+  GoesBody.other Other.plain (GoesInsts.step (Goes.bin Integer.int (Reads.local refl) (Reads.int (inl (lit< tt))) tt) λ τ e.
+      GoesInsts.end (GoesTerm.ret (Answers.value Scalar.int) Scalar.int (Reads.local (ap (λ (z : Source). z .env 3) (sym (ok-same e)))))),
+)
+
+-- what has returned stays so
+stays : (g : Given) (n v : ℕ) (σ : Source) → run g n (Stand.gave v σ) ≡ ok (Stand.gave v σ)
+unfolding openManual openLowering
+stays g zero v σ = refl
+stays g (suc n) v σ = stays g n v σ
+
+at-same : {b k : ℕ} {ρ σ : Source} → ok (Stand.at b ρ) ≡ ok (Stand.at k σ) → (b ≡ k) × (ρ ≡ σ)
+at-same e = (cc, cc)
+
+not-at : {X : Type 0} {v k : ℕ} {ρ σ : Source} → ok (Stand.gave v ρ) ≡ ok (Stand.at k σ) → X
+not-at e = absurd (let z : _≡_ {A = ℕ} 0 1 = cc in omega arith)
+
+-- the run comes to one block
+comes-to : (world : World) (a : ℕ) (memory : Memory) (sp n k : ℕ) (σ : Source) → sourceRun (add1 .names) (add1 .book) world (a ∷ []) memory sp n ≡ ok (Stand.at k σ) → (2 ≡ k) × (atEntry a memory sp ≡ σ)
+unfolding openManual openLowering atEntry atEnd add1 add i32
+comes-to world a memory sp zero k σ e = at-same e
+comes-to world a memory sp (suc n) k σ e = not-at (sym (stays (givenOf (add1 .names) (add1 .book) world sp noFrame) n ((a + 1) % 2 ^ 32) (atEnd a memory sp)) ∙ e)
+
+pub add1-goes : (world : World) (a : ℕ) (memory : Memory) (sp n : ℕ) → SourceGoes (add1 .names) (add1 .book) world (a ∷ []) memory sp n
+unfolding add1
+add1-goes world a memory sp n = (
+  HasBlock.has,
+  λ fr pass j k σ l e.
+      let (h, i) = comes-to world a memory sp j k σ e in
+      subst₂ (λ b τ. GoesBlock (givenOf (add1 .names) (add1 .book) world sp fr) b τ) h i (block-goes world a memory sp fr),
+)
+
+pub add1-goes-on : (world : World) (a : ℕ) (memory : Memory) (sp : ℕ) → a < 2 ^ 32 → sp < 2 ^ 64 → (n : ℕ)
+    → (t : Stand) × (sourceRun (add1 .names) (add1 .book) world (a ∷ []) memory sp n ≡ ok t) × Agrees (add1 .names) (add1 .book) (out .lines) world (a ∷ []) memory sp n t
+add1-goes-on world a memory sp ha hs n = lines-go-on book (unlines names) 0 96 11 add1 out sound translated naming world (a ∷ []) memory sp (fits a ha) hs n (add1-goes world a memory sp n)
+
+pub add1-never-fails : (world : World) (a : ℕ) (memory : Memory) (sp : ℕ) → a < 2 ^ 32 → sp < 2 ^ 64 → (k : ℕ) → Alive (after (add1 .names) (add1 .book) (out .lines) world (a ∷ []) memory sp k)
+add1-never-fails world a memory sp ha hs =
+    lines-never-fail book (unlines names) 0 96 11 add1 out sound translated naming world (a ∷ []) memory sp (fits a ha) hs (add1-goes world a memory sp)

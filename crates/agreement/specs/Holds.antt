@@ -4,6 +4,7 @@ use mathlib.Core.Path.{_≡_, refl, subst, sym, _∙_}
 use mathlib.Core.Bool.{Bool, true, false, cond, false≢true}
 use Rattle.book.specs.Result.{Result, ok, err, bind}
 use Rattle.manual.specs.Stop.{Stop, need}
+pub use Rattle.manual.specs.Going.{ok-same}
 
 abbrev pub holds : {A : Type 0} → Result A → (A → Type 0) → Type 0
 holds (ok a) P = P a
@@ -11,9 +12,6 @@ holds (err n) P = Unit {0}
 
 pub record Holds {A : Type 0} (r : Result A) (P : A → Type 0) : Type 0 where
   pub get : holds r P
-
-pub ok-same : {A : Type 0} {a b : A} → ok a ≡ ok b → a ≡ b
-ok-same e = cc
 
 pub H-ok : {A : Type 0} {P : A → Type 0} (a : A) → P a → Holds (ok a) P
 H-ok a h = record { get = h }

@@ -31,11 +31,14 @@ pub mod Labels
 pub mod Block
 pub mod Frame
 pub mod Start
+pub mod Measures
 pub mod Book
 pub mod Only
 pub mod OnlyStops
 pub mod TwoRuns
 pub mod Corollaries
+pub mod NeverFails
+pub mod GoesOn
 pub mod Operations
 pub mod Cases
 pub mod Decide

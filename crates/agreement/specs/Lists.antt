@@ -1,18 +1,13 @@
 -- Positions in lists.
 use Prim.Native.Nat.{ℕ, zero, suc, _+_, _<_, _≤_}
 use mathlib.Core.Path.{_≡_, refl, ap}
-use mathlib.Core.Option.{Option, none, some}
+use mathlib.Core.Option.{Option, some}
 use mathlib.Core.List.{List, [], _∷_, _++_}
 use native.Mathlib.Omega.{arith}
 use native.Mathlib.Nat.{zero-add, suc-add}
 use lib.ListN.{length, drop, set}
 use Rattle.machine.specs.State.{cellAt}
-
-pub none-some : {A X : Type 0} (a : A) → none ≡ some a → X
-none-some a h = absurd (let z : _≡_ {A = ℕ} 0 1 = cc in omega arith)
-
-pub some-same : {A : Type 0} {a b : A} → some a ≡ some b → a ≡ b
-some-same e = cc
+pub use Rattle.machine.specs.Cells.{none-some, some-same, cell-lt}
 
 module _ {A : Type 0} where
   pub drop-tail : (p : ℕ) (l : List A) {x : A} {k : List A} → drop p l ≡ x ∷ k → drop (suc p) l ≡ k
@@ -28,12 +23,6 @@ module _ {A : Type 0} where
 
   pub drop-part : (l : List A) (a : List A) (p : ℕ) {b : List A} → drop p l ≡ a ++ b → (q : ℕ) × (drop q l ≡ b)
   drop-part l a p e = let (q, h, k) = drop-past l a p e in (q, h)
-
-  pub cell-lt : (l : List A) (i : ℕ) (x : A) → cellAt l i ≡ some x → i < length l
-  unfolding cellAt
-  cell-lt [] i x e = none-some x e
-  cell-lt (y ∷ ys) zero x e = omega arith
-  cell-lt (y ∷ ys) (suc i) x e = let h = cell-lt ys i x e in omega arith
 
   pub cell-set-same : (l : List A) (i : ℕ) (v : A) → i < length l → cellAt (set l i v) i ≡ some v
   unfolding cellAt

@@ -1,13 +1,11 @@
 -- Loads, stores, atomics, `gen_cmpxchg` and `gen_extractvalue` do what the source does.
-use Prim.Native.Nat.{ℕ, zero, suc, _*_, _^_, _<_}
+use Prim.Native.Nat.{ℕ, _^_}
 use mathlib.Core.Path.{_≡_, refl, sym, ap, _∙_, subst}
 use mathlib.Core.Bool.{Bool, true, false, not}
 use mathlib.Core.Option.{Option, none, some}
 use mathlib.Core.List.{List, [], _∷_, _++_}
 use native.Mathlib.Omega.{arith}
-use native.Mathlib.Nat.{mul-suc}
 use lib.Dec.{eqb, ltb}
-use lib.Pow.{pow-add}
 use borrow.Author.Tests.{eqb-true, ltb-true, not-false}
 use Rattle.numbers.specs.Width.{widthOk, intBytes, width-each}
 use Rattle.book.specs.Ast.{Ty, Value, StructType}
@@ -15,7 +13,7 @@ use Rattle.book.specs.Rule.{pick}
 use Rattle.book.specs.Result.{Result, ok, err, given as test, err-no-ok}
 use Rattle.layout.specs.Layout.{sizeOf, sizeAt, intSize}
 use Rattle.assembly.specs.Line.{Line, Mem}
-use Rattle.machine.specs.Memory.{Memory, peek, poke}
+use Rattle.machine.specs.Memory.{peek, poke}
 use Rattle.machine.specs.State.{Frame, setMemory}
 use Rattle.machine.specs.Line.{does, memBytes}
 use Rattle.lowering.specs.Gen.{Gen, _>>=_, _>>_}
@@ -32,11 +30,6 @@ use Rattle.agreement.specs.Relation.{Apart, rel-world}
 use Rattle.agreement.specs.Operand.{H-width, Sound, at-most, okOr-some, ValueOk, value-ok, then-ends, dest-ok}
 use Rattle.agreement.specs.Arith.{Computes}
 use Rattle.agreement.specs.Instr.{H-no-width, G-width, StepOk}
-
-pub peek-lt : (k : ℕ) (m : Memory) (a : ℕ) → peek k m a < 2 ^ (8 * k)
-unfolding peek
-peek-lt zero m a = omega arith
-peek-lt (suc k) m a = rw (mul-suc, pow-add) (let h = peek-lt k m (suc a) in omega arith)
 
 -- the line reads as many bytes as were measured
 mem-case : (n k : ℕ) (c : Mem) (m : Mem) (r : Option Mem) → memBytes c ≡ k → (r ≡ some m → memBytes m ≡ n) → (b : Bool) → eqb n k ≡ b → pick b (some c) r ≡ some m → memBytes m ≡ n

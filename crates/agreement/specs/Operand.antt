@@ -1,6 +1,6 @@
 -- `push_value` pushes the value that the source reads, `store_dest` sets the name that the source sets.
 use Prim.Native.Nat.{ℕ, _%_, _^_, _<_, _≤_}
-use mathlib.Core.Path.{_≡_, refl, sym, ap, subst}
+use mathlib.Core.Path.{_≡_, refl, sym, subst}
 use mathlib.Core.Bool.{true}
 use mathlib.Core.Option.{Option, none, some}
 use mathlib.Core.List.{List, [], _∷_, _++_}
@@ -22,6 +22,7 @@ use Rattle.manual.specs.Stop.{Stop}
 use Rattle.manual.specs.Values.{inRange, constant}
 use Rattle.manual.specs.State.{Cell, Source, put}
 use Rattle.manual.specs.Operand.{widthOf, integerWidth, scalar, value}
+pub use Rattle.manual.specs.Going.{okOr-some}
 use Rattle.agreement.specs.Holds.{ok-same, Holds, H-ok, H-err, H-eq, H-need}
 use Rattle.agreement.specs.Gives.{Gives, G-line, G-refuse, G-bind}
 use Rattle.agreement.specs.Setup.{Setup, ctx}
@@ -32,11 +33,6 @@ use Rattle.book.specs.Map.{lookup}
 
 pub fits-mod : (n w : ℕ) → n % 2 ^ w < 2 ^ w
 fits-mod n w = mod-lt n (pow-pos w)
-
-pub okOr-some : {A : Type 0} (n : ℕ) (r : Option A) (a : A) → okOr n r ≡ ok a → r ≡ some a
-unfolding okOr
-okOr-some n none a e = err-no-ok n a e
-okOr-some n (some b) a e = ap {B = Option _} some (ok-same e)
 
 -- whatever is answered where there is none
 pub okOr-any : {A : Type 0} (n m : ℕ) (r : Option A) (a : A) → okOr n r ≡ ok a → okOr m r ≡ ok a

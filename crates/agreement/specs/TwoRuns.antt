@@ -34,6 +34,8 @@ use Rattle.layout.specs.Frame.{Places, framePass, noFrame}
 use Rattle.lowering.specs.Function.{contextOf, genFunction}
 use Rattle.manual.specs.State.{Cell, Source}
 use Rattle.manual.specs.Term.{Stand}
+use Rattle.manual.specs.GoesOn.{AllMeasured, placesOf, givenOf}
+use Rattle.manual.specs.Going.{Going}
 use Rattle.manual.specs.Run.{argsFit, firstBlock, begin, run, sourceRun}
 use Rattle.agreement.specs.Holds.{ok-same, Holds, H-ok, H-bind, H-eq, H-known, H-map, H-use}
 use Rattle.agreement.specs.Gives.{G-use}
@@ -47,8 +49,9 @@ use Rattle.agreement.specs.Labels.{labelsOf}
 use Rattle.agreement.specs.Block.{labels-distinct, Split, split-ok, blocks-run}
 use Rattle.agreement.specs.Start.{atStart, atBlock, atEntry, Begins, begins-ok, first-ok, rel-start}
 use Rattle.agreement.specs.Only.{Reason, Only, O-then, O-known}
-use Rattle.agreement.specs.OnlyStops.{blocks-only, begin-only, run-only}
-use Rattle.agreement.specs.Book.{apart-ok, good-inst, good-term, each-in}
+use Rattle.agreement.specs.Measures.{blocks-measured}
+use Rattle.agreement.specs.OnlyStops.{begin-only, run-only}
+use Rattle.agreement.specs.Book.{apart-ok, good-inst, has-place, good-term, each-in}
 use Rattle.agreement.specs.Naming.{Distinct, Naming}
 
 -- ---- the run of one function, with its frame
@@ -89,11 +92,14 @@ module _ (s : Setup) (m : ℕ) (limits : Each (BlockLimits m) (s .function .bloc
       (blocks-run s (naming .labels) (apart-ok s (naming .distinct)) (λ k q i p. good-inst s (naming .distinct) pass (naming .self) m limits k q i p)
       (λ k q. good-term m (k .term) (each-in (BlockLimits m) (s .function .blocks) limits q .1 .1)) splits distinct n 0 (state 0 (atStart s memory) [] 0) x g)
 
-  -- it stops for document 01's reasons alone
+  -- it can be measured
+  measured : AllMeasured (givenTo s)
+  measured = G-use (begins .code) (begins .made) (blocks-measured s (s .function .blocks) (λ k q i p.
+      (good-inst s (naming .distinct) pass (naming .self) m limits k q i p, has-place s (naming .distinct) pass (naming .self) m k q i p)))
+
+  -- so it stops for document 01's reasons alone
   whole-only : (memory : Memory) (n : ℕ) → Only (bind (begin (givenTo s) (s .args) memory) (λ t. run (givenTo s) n t))
-  whole-only memory n =
-      O-then _ (begin-only s (s .args) memory) λ t.
-      run-only s (G-use (begins .code) (begins .made) (blocks-only s (s .function .blocks) (λ k q i p. good-inst s (naming .distinct) pass (naming .self) m limits k q i p))) n t
+  whole-only memory n = O-then _ (begin-only (givenTo s) (s .args) memory) λ t. run-only (givenTo s) measured n t
 
 -- ---- the book
 counted-some : (m : ℕ) (r : Option Book) (c : Counted) → counted m r ≡ some c → r ≡ some (c .book) × (m ≡ c .count)
@@ -114,7 +120,7 @@ book-limits (n ∷ m ∷ es) c h = go (leb n 1048576 && (leb m 131072 && eqb (le
     go false h = none-some c h
 
 -- a sound book keeps its limits
-sound-limits : (book names : List ℕ) (counter workLen : ℕ) (b : Sound) → checked book names counter workLen ≡ ok b → (m : ℕ) × Limits m (b .book)
+pub sound-limits : (book names : List ℕ) (counter workLen : ℕ) (b : Sound) → checked book names counter workLen ≡ ok b → (m : ℕ) × Limits m (b .book)
 unfolding checked okOr require given
 sound-limits book names counter workLen b h =
     let (c, hc, h₁) = bind-ok (okOr 1 (bookIn book)) _ b h in
@@ -161,6 +167,17 @@ module _ (b : Sound) (out : Out) (counter m : ℕ) (limits : Limits m (b .book))
       let (fr, pass, made) = bind-ok (framePass (b .book .structs) (allInsts (b .book .function .blocks)) noFrame) _ out makes in
       H-known _ pass (H-map (whole-run (setup fr) m (limits .function .1 .1 .1) naming pass (H-use out made (begins-ok (setup fr) .made counter)) word memory fits n) λ t g. agrees fr n t g)
 
+  pub book-measured : (fr : Places) → placesOf (b .book) ≡ ok fr → AllMeasured (givenOf (b .names) (b .book) world sp fr)
+  unfolding genFunction contextOf codegenOf _>>=_
+  book-measured fr pass =
+      let (fr′, pass′, made) = bind-ok (placesOf (b .book)) _ out makes in
+      subst (λ (z : Places). AllMeasured (givenOf (b .names) (b .book) world sp z)) (ok-same (sym pass′ ∙ pass))
+      (measured (setup fr′) m (limits .function .1 .1 .1) naming pass′ (H-use out made (begins-ok (setup fr′) .made counter)))
+
+  pub book-places : Going (placesOf (b .book))
+  unfolding genFunction contextOf codegenOf _>>=_
+  book-places = let (fr, pass, made) = bind-ok (placesOf (b .book)) _ out makes in (fr, pass)
+
   book-only : (n : ℕ) → Only (sourceRun (b .names) (b .book) world args memory sp n)
   unfolding sourceRun genFunction contextOf codegenOf _>>=_
   book-only n =
@@ -168,7 +185,7 @@ module _ (b : Sound) (out : Out) (counter m : ℕ) (limits : Limits m (b .book))
       O-known _ pass (whole-only (setup fr) m (limits .function .1 .1 .1) naming pass (H-use out made (begins-ok (setup fr) .made counter)) memory n)
 
 -- what `generated` has made, of the sound book
-made-by : (book names : List ℕ) (counter workLen room : ℕ) (b : Sound) (out : Out) → checked book names counter workLen ≡ ok b → generated book names counter workLen room ≡ ok out
+pub made-by : (book names : List ℕ) (counter workLen room : ℕ) (b : Sound) (out : Out) → checked book names counter workLen ≡ ok b → generated book names counter workLen room ≡ ok out
     → genFunction (codegenOf (b .names) (b .book)) (b .book .function) counter ≡ ok out
 unfolding generated
 made-by book names counter workLen room b out checks makes =

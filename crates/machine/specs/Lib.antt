@@ -9,3 +9,8 @@ pub mod Run
 pub mod Open
 pub mod Printed
 pub mod Cases
+pub mod Cells
+pub mod Overflow
+pub mod Works
+pub mod ExactParts
+pub mod Exact

@@ -1,7 +1,10 @@
 -- "memory (2^64 bytes, wrapping, little-endian)".
-use Prim.Native.Nat.{ℕ, zero, suc, _+_, _*_, _/_, _%_, _^_}
+use Prim.Native.Nat.{ℕ, zero, suc, _+_, _*_, _/_, _%_, _^_, _<_}
 use mathlib.Core.Bool.{cond}
+use native.Mathlib.Omega.{arith}
+use native.Mathlib.Nat.{mul-suc}
 use lib.Dec.{eqb}
+use lib.Pow.{pow-add}
 
 -- a byte for each address; addresses count modulo 2^64, and of what is stored the low 8 bits
 abbrev pub Memory : Type 0
@@ -21,3 +24,9 @@ poke (suc n) m a v = poke n (λ x. cond (eqb x (a % 2 ^ 64)) (v % 256) (m x)) (s
 unfoldable pub openMemory : Unit {0}
 unfolding peek poke
 openMemory = tt
+
+-- n bytes hold a number of 8n bits
+pub peek-lt : (n : ℕ) (m : Memory) (a : ℕ) → peek n m a < 2 ^ (8 * n)
+unfolding peek
+peek-lt zero m a = omega arith
+peek-lt (suc n) m a = rw (mul-suc, pow-add) (let h = peek-lt n m (suc a) in omega arith)

@@ -1,5 +1,6 @@
 -- Where the source run stops: document 01, "Stops". A run's answer is a state or a number: that of a stop, from 101 on, or 200 where a reply breaks a premise. (A
--- type that cannot be measured answers with its refusal. In a book that the translator accepts none of these is met: `agreement`, `only-stops`.)
+-- type that cannot be measured answers with its refusal. In a book that the translator accepts none of these is met: `agreement`, `only-stops`.) Where no sentence
+-- applies it goes on: `Goes` and `GoesOn` say where, in positive words.
 use Prim.Native.Nat.{ℕ}
 use mathlib.Core.Bool.{Bool, true, false}
 use Rattle.book.specs.Result.{Result, ok, err}
