@@ -9,3 +9,10 @@ pub mod Run
 pub mod Open
 pub mod Printed
 pub mod Cases
+pub mod Sweep
+pub mod Alone
+pub mod Counts
+pub mod Rows
+pub mod Words
+pub mod Wraps
+pub mod Listed
