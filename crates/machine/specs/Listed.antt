@@ -37,7 +37,7 @@ pub calls-listed : OnAll (0 ∷ downFrom 9)
 unfolding openMachine openAlone openSweep after listed
 calls-listed = refl
 
--- "Syscall names have a fixed argument count and a reply or none": of the three cells pushed each takes its count, whatever more there is; one without a shape is missing
+-- "Syscall names have a fixed argument count and a reply or none": of the three cells pushed each takes its count; a name without a shape is missing
 pub syscalls-listed : map (λ (l : Line). after l (downFrom 3)) (Line.syscall 3 ∷ Line.syscall 4 ∷ Line.sysMemcmp ∷ [])
     ≡ listed (Target.syscall (bytes "ask")) (2 ∷ 3 ∷ []) (40 ∷ 1 ∷ []) ∷
     listed (Target.syscall (bytes "put")) (3 ∷ []) (2 ∷ 1 ∷ []) ∷ listed (Target.syscall (bytes "memcmp")) (1 ∷ 2 ∷ 3 ∷ []) (40 ∷ []) ∷ []
@@ -60,24 +60,25 @@ pub slots-hold :
 unfolding openMachine openAlone openSweep slotsAfter
 slots-hold = (refl, refl, refl, refl)
 
--- ---- jumps: by the cell on top, 0
-pub jumps-hold :
-    (map (λ (x : ℕ). alone (Line.jump Hint.selFalse 7) (x ∷ 71 ∷ [])) (0 ∷ []) ≡ Effect.jumps (hinted Hint.selFalse 7) (frame (holding 4096 7)) (71 ∷ []) ∷ [])
-    × (map (λ (x : ℕ). alone (Line.jump Hint.brFalse 7) (x ∷ 71 ∷ [])) (0 ∷ []) ≡ Effect.jumps (hinted Hint.brFalse 7) (frame (holding 4096 7)) (71 ∷ []) ∷ [])
-    × (map (λ (x : ℕ). alone (Line.jump Hint.swCase 7) (x ∷ 71 ∷ [])) (0 ∷ []) ≡ Effect.goes (frame (holding 4096 7)) (71 ∷ []) ∷ [])
-    × (alone (Line.jump Hint.selDone 7) (71 ∷ []) ≡ Effect.jumps (hinted Hint.selDone 7) (frame (holding 4096 7)) (71 ∷ []))
-unfolding openMachine openAlone
-jumps-hold = (refl, refl, refl, refl)
+-- ---- jumps: the three conditional ones, with a cell above 71
+unfoldable pub conditional : ℕ → List Effect
+conditional x = map (λ (h : Hint). alone (Line.jump h 7) (x ∷ 71 ∷ [])) (Hint.selFalse ∷ Hint.brFalse ∷ Hint.swCase ∷ [])
 
--- any other cell, also one whose low half is 0
+unfoldable pub taken : Hint → Effect
+taken h = Effect.jumps (hinted h 7) (frame (holding 4096 7)) (71 ∷ [])
+
+unfoldable pub passedBy : Effect
+passedBy = Effect.goes (frame (holding 4096 7)) (71 ∷ [])
+
+-- any cell but 0, also one whose low byte or low half is 0
 unfoldable pub others : List ℕ
 others = 1 ∷ 2 ∷ 256 ∷ 2 ^ 32 ∷ 2 ^ 63 ∷ (2 ^ 64 - 1) ∷ []
 
-pub others-hold :
-    OnAll others (λ (x : ℕ). alone (Line.jump Hint.selFalse 7) (x ∷ 71 ∷ []) ∷ alone (Line.jump Hint.brFalse 7) (x ∷ 71 ∷ []) ∷ alone (Line.jump Hint.swCase 7) (x ∷ 71 ∷ []) ∷ [])
-    (λ (x : ℕ). Effect.goes (frame (holding 4096 7)) (71 ∷ []) ∷ Effect.goes (frame (holding 4096 7)) (71 ∷ []) ∷ Effect.jumps (hinted Hint.swCase 7) (frame (holding 4096 7)) (71 ∷ []) ∷ [])
-unfolding openMachine openAlone others
-others-hold = refl
+pub jumps-hold :
+    (conditional 0 ≡ taken Hint.selFalse ∷ taken Hint.brFalse ∷ passedBy ∷ []) × (OnAll others conditional (λ (x : ℕ). passedBy ∷ passedBy ∷ taken Hint.swCase ∷ []))
+    × (alone (Line.jump Hint.selDone 7) (71 ∷ []) ≡ taken Hint.selDone)
+unfolding openMachine openAlone conditional taken passedBy others
+jumps-hold = (refl, refl, refl)
 
 -- ---- a run: block labels are counted as they are passed, and no other line is; a label that is not there fails; of two equal labels the first counts
 pub data Came : Type 0 where

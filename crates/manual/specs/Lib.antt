@@ -11,3 +11,12 @@ pub mod Run
 pub mod Open
 pub mod Cases
 pub mod Functions
+pub mod Alone
+pub mod Conversions
+pub mod Arithmetic
+pub mod Ranges
+pub mod Calls
+pub mod Reads
+pub mod Types
+pub mod Returns
+pub mod Edges

@@ -1,0 +1,90 @@
+-- Ranges at every width from 1 to 64, at both ends and one beyond: "an integer outside both the signed and the unsigned range of its width (a switch case: of its
+-- condition's)"; "a constant GEP index outside its type's signed range"; "an i1 load of a byte above 1".
+use Prim.Native.Nat.{ℕ, _-_, _*_, _^_}
+use mathlib.Core.Path.{_≡_, refl}
+use mathlib.Core.Bool.{false}
+use mathlib.Core.Option.{Option, none, some}
+use mathlib.Core.List.{List, [], _∷_, map}
+use lib.ListN.{replicate}
+use Rattle.book.specs.Ast.{Ty, Tys, Value, Zero, InstKind, Terminator}
+use Rattle.book.specs.Result.{Result, ok, bind}
+use Rattle.layout.specs.Frame.{noFrame}
+use Rattle.machine.specs.Sweep.{OnAll, downFrom, openSweep}
+use Rattle.manual.specs.Stop.{Stop, stops}
+use Rattle.manual.specs.State.{Cell, nothing, with}
+use Rattle.manual.specs.Inst.{runInst}
+use Rattle.manual.specs.Open.{openManual}
+use Rattle.manual.specs.Alone.{Went, given, gives, ends, typed, openAlone}
+
+-- ---- integers as operands: 0, the greatest unsigned, the least signed, -1; beyond the one, beyond the other
+unfoldable pub constants : (w : ℕ) → List ℕ → List (Result (Option Cell))
+constants w vs = map (λ (v : ℕ). gives nothing (InstKind.freeze (Ty.int w) (Value.int v))) vs
+
+unfoldable pub cells : (w : ℕ) → List ℕ → List (Result (Option Cell))
+cells w vs = map (λ (v : ℕ). ok (some (Cell.one w v))) vs
+
+pub constants-hold :
+    (OnAll (downFrom 64) (λ (w : ℕ). constants w (0 ∷ (2 ^ w - 1) ∷ (2 ^ 64 - 2 ^ (w - 1)) ∷ (2 ^ 64 - 1) ∷ [])) (λ (w : ℕ). cells w (0 ∷ (2 ^ w - 1) ∷ 2 ^ (w - 1) ∷ (2 ^ w - 1) ∷ [])))
+    × (OnAll (downFrom 63) (λ (w : ℕ). constants w (2 ^ w ∷ (2 ^ 64 - 2 ^ (w - 1) - 1) ∷ [])) (λ (w : ℕ). replicate 2 (stops Stop.integerRange)))
+unfolding openManual openSweep openAlone constants cells
+constants-hold = (refl, refl)
+
+-- ---- a constant index over bytes, from null: 0, the greatest signed, the least, -1; beyond the one, beyond the other
+unfoldable pub indices : (w : ℕ) → List ℕ → List (Result (Option Cell))
+indices w vs = map (λ (v : ℕ). gives nothing (InstKind.getElementPtr (Ty.int 8) (Value.zero Zero.null) (typed (Ty.int w) (Value.int v) ∷ []))) vs
+
+unfoldable pub inside : (w : ℕ) → List ℕ
+inside w = 0 ∷ (2 ^ (w - 1) - 1) ∷ (2 ^ 64 - 2 ^ (w - 1)) ∷ (2 ^ 64 - 1) ∷ []
+
+pub indices-hold :
+    (OnAll (downFrom 64) (λ (w : ℕ). indices w (inside w)) (λ (w : ℕ). cells 64 (inside w)))
+    × (OnAll (downFrom 63) (λ (w : ℕ). indices w (2 ^ (w - 1) ∷ (2 ^ 64 - 2 ^ (w - 1) - 1) ∷ [])) (λ (w : ℕ). replicate 2 (stops Stop.indexRange)))
+unfolding openManual openSweep openAlone indices inside cells
+indices-hold = (refl, refl)
+
+-- the same further in, over an array's elements; a field's index is held to the range of its type too: at i1, 1 is none of {i8, i8}'s fields
+unfoldable pub second : Ty → (w v : ℕ) → Result (Option Cell)
+second t w v = gives nothing (InstKind.getElementPtr t (Value.zero Zero.null) (typed (Ty.int 64) (Value.int 0) ∷ typed (Ty.int w) (Value.int v) ∷ []))
+
+unfoldable pub fields : Ty
+fields = Ty.struct false (Tys.cons (Ty.int 8) (Tys.cons (Ty.int 8) Tys.nil))
+
+pub inner-hold :
+    (OnAll (downFrom 64) (λ (w : ℕ). map (second (Ty.array false 0 (Ty.int 8)) w) (inside w)) (λ (w : ℕ). cells 64 (inside w)))
+    × (OnAll (downFrom 63) (λ (w : ℕ). second (Ty.array false 0 (Ty.int 8)) w (2 ^ (w - 1))) (λ (w : ℕ). stops Stop.indexRange))
+    × (map (λ (v : ℕ). second fields 32 v) (0 ∷ 1 ∷ 2 ∷ (2 ^ 64 - 1) ∷ []) ≡ ok (some (Cell.one 64 0)) ∷ ok (some (Cell.one 64 1)) ∷ stops Stop.illFormed ∷ stops Stop.illFormed ∷ [])
+    × (map (λ (w : ℕ). second fields w 1) (1 ∷ 2 ∷ 64 ∷ []) ≡ stops Stop.indexRange ∷ ok (some (Cell.one 64 1)) ∷ ok (some (Cell.one 64 1)) ∷ [])
+unfolding openManual openSweep openAlone second fields inside cells
+inner-hold = (refl, refl, refl, refl)
+
+-- "Varying indices are signed": the top bit alone is the least number, and all the others the greatest
+pub varying-hold :
+    OnAll (downFrom 64)
+    (λ (w : ℕ). map (λ (x : ℕ). gives (with 0 (Cell.one w x) nothing) (InstKind.getElementPtr (Ty.int 8) (Value.zero Zero.null) (typed (Ty.int w) (Value.local 0) ∷ []))) (2 ^ (w - 1) ∷ (2 ^ (w - 1) - 1) ∷ []))
+    (λ (w : ℕ). cells 64 ((2 ^ 64 - 2 ^ (w - 1)) ∷ (2 ^ (w - 1) - 1) ∷ []))
+unfolding openManual openSweep openAlone cells
+varying-hold = refl
+
+-- ---- a switch on x of w bits, with one case: to 8 where it is x, else to 9
+unfoldable pub switched : (w : ℕ) → (x v : ℕ) → Result Went
+switched w x v = ends Ty.void (with 0 (Cell.one w x) nothing) (Terminator.switch (Ty.int w) (Value.local 0) 9 (record { value = v; label = 8 } ∷ []))
+
+pub switches-hold :
+    (OnAll (downFrom 64) (λ (w : ℕ). switched w 0 0 ∷ switched w (2 ^ w - 1) (2 ^ w - 1) ∷ switched w (2 ^ w - 1) (2 ^ 64 - 1) ∷ switched w (2 ^ (w - 1)) (2 ^ 64 - 2 ^ (w - 1)) ∷ []) (λ (w : ℕ). replicate 4 (ok (Went.to 8))))
+    × (OnAll (downFrom 64) (λ (w : ℕ). switched w 0 (2 ^ w - 1) ∷ switched w (2 ^ (w - 1)) 0 ∷ switched w 0 (2 ^ 64 - 2 ^ (w - 1)) ∷ []) (λ (w : ℕ). replicate 3 (ok (Went.to 9))))
+    × (OnAll (downFrom 63) (λ (w : ℕ). switched w 0 (2 ^ w) ∷ switched w 0 (2 ^ 64 - 2 ^ (w - 1) - 1) ∷ []) (λ (w : ℕ). replicate 2 (stops Stop.integerRange)))
+unfolding openManual openSweep openAlone switched
+switches-hold = (refl, refl, refl)
+
+-- ---- loads where every byte is b, for each of the 256: an i1 of 0 and 1 alone; every other type takes them all
+unfoldable pub loaded : Ty → (b : ℕ) → Result (Option Cell)
+loaded t b =
+    bind (runInst (given Ty.void noFrame []) (record { dest = some 200; kind = InstKind.load t (Value.int 4096) none })
+    (record { env = nothing; memory = λ a. b; calls = []; sp = 0 })) λ σ. ok (σ .env 200)
+
+pub loads-hold :
+    (map (loaded (Ty.int 1)) (0 ∷ 1 ∷ []) ≡ cells 1 (0 ∷ 1 ∷ [])) × (OnAll (map (λ (n : ℕ). 256 - n) (downFrom 254)) (loaded (Ty.int 1)) (λ (b : ℕ). stops Stop.loadRange))
+    × (OnAll (0 ∷ downFrom 255) (λ (b : ℕ). map (λ (t : Ty). loaded t b) (Ty.int 8 ∷ Ty.int 16 ∷ Ty.int 32 ∷ Ty.int 64 ∷ Ty.ptr ∷ []))
+    (λ (b : ℕ). ok (some (Cell.one 8 b)) ∷ ok (some (Cell.one 16 (b * 257))) ∷ ok (some (Cell.one 32 (b * 16843009))) ∷ ok (some (Cell.one 64 (b * 72340172838076673))) ∷ ok (some (Cell.one 64 (b * 72340172838076673))) ∷ []))
+unfolding openManual openSweep openAlone loaded cells
+loads-hold = (refl, refl, refl)
