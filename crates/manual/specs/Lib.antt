@@ -20,3 +20,6 @@ pub mod Reads
 pub mod Types
 pub mod Returns
 pub mod Edges
+pub mod Stack
+pub mod Swaps
+pub mod Begins
