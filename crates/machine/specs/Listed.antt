@@ -1,6 +1,6 @@
 -- Calls, slots, arguments and jumps by rule: "A call pops its arguments and any address called, is listed, takes its reply's memory and pushes its cell"; "`push_0n`
 -- adds slots of 0, a get pushes, a set pops"; "a jump goes to its label, by a popped cell if conditional".
-use Prim.Native.Nat.{ℕ, _-_, _^_}
+use Prim.Native.Nat.{ℕ, _+_, _-_, _^_}
 use mathlib.Core.Path.{_≡_, refl}
 use mathlib.Core.Option.{Option, none, some}
 use mathlib.Core.List.{List, [], _∷_, _++_, map}
@@ -8,8 +8,8 @@ use lib.ListN.{replicate}
 use Rattle.names.specs.Text.{bytes}
 use Rattle.assembly.specs.Line.{Line, Hint}
 use Rattle.assembly.specs.Text.{hinted}
-use Rattle.machine.specs.State.{Target, Call}
-use Rattle.machine.specs.Line.{Effect}
+use Rattle.machine.specs.State.{Target, Call, World, Frame}
+use Rattle.machine.specs.Line.{Effect, does}
 use Rattle.machine.specs.Run.{Outcome, running, returned, failed, steps, start}
 use Rattle.machine.specs.Open.{openMachine}
 use Rattle.machine.specs.Sweep.{OnAll, downFrom, upTo, openSweep}
@@ -59,6 +59,24 @@ pub slots-hold :
     × (OnAll (0 ∷ upTo 5) (λ (n : ℕ). slotsAfter (Line.push0n n) []) (λ (n : ℕ). 21 ∷ 22 ∷ 23 ∷ replicate n 0))
 unfolding openMachine openAlone openSweep slotsAfter
 slots-hold = (refl, refl, refl, refl)
+
+-- ---- whole cells: an argument, a slot, what is pushed, the stack pointer; a global's address counts modulo 2^64
+unfoldable pub cells : List ℕ
+cells = 0 ∷ 255 ∷ 2 ^ 32 ∷ 2 ^ 63 ∷ (2 ^ 64 - 1) ∷ []
+
+unfoldable pub far : World
+far = record { globals = λ x. 2 ^ 64 - 2 + x; shapes = λ t. none; replies = λ n. record { cell = 0; memory = λ a. 0 } }
+
+unfoldable pub holdingCell : (x : ℕ) → Frame
+holdingCell x = record { args = x ∷ []; slots = x ∷ []; memory = λ a. 0; calls = []; sp = x }
+
+pub cells-whole :
+    (OnAll cells (λ (x : ℕ). map (λ (l : Line). left (does names 0 far l (holdingCell x) [])) (Line.push x ∷ Line.getArg 0 ∷ Line.getLocal 0 ∷ Line.threadGet ∷ [])) (λ (x : ℕ). replicate 4 (some (x ∷ []))))
+    × (OnAll cells (λ (x : ℕ). frameAfter (alone Line.threadSet (x ∷ [])) .sp) (λ (x : ℕ). x))
+    × (OnAll cells (λ (x : ℕ). slotsAfter (Line.setLocal 1) (x ∷ [])) (λ (x : ℕ). 21 ∷ x ∷ 23 ∷ []))
+    × (map (λ (x : ℕ). left (does names 0 far (Line.pushName x) (holdingCell 0) [])) (0 ∷ 1 ∷ 2 ∷ 3 ∷ []) ≡ some ((2 ^ 64 - 2) ∷ []) ∷ some ((2 ^ 64 - 1) ∷ []) ∷ some (0 ∷ []) ∷ some (1 ∷ []) ∷ [])
+unfolding openMachine openAlone slotsAfter cells far holdingCell
+cells-whole = (refl, refl, refl, refl)
 
 -- ---- jumps: the three conditional ones, with a cell above 71
 unfoldable pub conditional : ℕ → List Effect

@@ -1,8 +1,10 @@
 -- "memory (2^64 bytes, wrapping, little-endian)": loads and stores of each size at every address around 2^64; compare-and-swap on two neighbouring cells.
 use Prim.Native.Nat.{ℕ, _+_, _-_, _*_, _%_, _^_}
 use mathlib.Core.Path.{refl}
+use mathlib.Core.Bool.{cond}
 use mathlib.Core.Option.{Option, some}
 use mathlib.Core.List.{List, [], _∷_, _++_, map}
+use lib.Dec.{ltb}
 use lib.ListN.{replicate}
 use Rattle.assembly.specs.Line.{Line, Mem}
 use Rattle.machine.specs.Memory.{Memory}
@@ -39,9 +41,9 @@ tries = pairs accesses addresses
 unfoldable pub places : (n a : ℕ) → List ℕ
 places n a = map (λ (k : ℕ). (a + k - 1) % 2 ^ 64) (upTo n)
 
--- at address a stands a byte of its own, and above 255 what does not count
+-- at each address stands a byte of its own, with what does not count above it; from 2^64 on there is nothing
 unfoldable pub background : Memory
-background a = (3 * a + 1) % 256 + 512
+background a = cond (ltb a (2 ^ 64)) ((3 * a + 1) % 256 + 512) 0
 
 -- ---- a load gives the bytes in order, the lowest first
 unfoldable pub byteAt : ℕ → ℕ

@@ -1,6 +1,6 @@
 -- Every form of call by result type, number of arguments, and with or without a name: which go on, with what is listed and received, and which stop. Where
 -- several reasons hold, any of them may be the one told.
-use Prim.Native.Nat.{ℕ}
+use Prim.Native.Nat.{ℕ, _-_, _^_}
 use mathlib.Core.Path.{_≡_, refl}
 use mathlib.Core.Bool.{Bool, true, false}
 use mathlib.Core.Option.{Option, none, some}
@@ -11,12 +11,13 @@ use Rattle.names.specs.Text.{bytes}
 use Rattle.book.specs.Ast.{Ty, Sizeless, Value, TypedVal, InstKind}
 use Rattle.book.specs.Result.{Result, ok, err, bind}
 use Rattle.layout.specs.Frame.{noFrame}
-use Rattle.machine.specs.Sweep.{OnAll, upTo, pairs, openSweep}
+use Rattle.machine.specs.Sweep.{OnAll, downFrom, upTo, pairs, openSweep}
 use Rattle.machine.specs.State.{Target, Call}
-use Rattle.manual.specs.State.{Cell, Source}
+use Rattle.manual.specs.State.{Cell, Source, Given}
+use Rattle.manual.specs.Call.{runCall}
 use Rattle.manual.specs.Inst.{runInst}
 use Rattle.manual.specs.Open.{openManual}
-use Rattle.manual.specs.Alone.{aggregates, furnished, standing, given, typed, zeros, number, forOneOf, openAlone}
+use Rattle.manual.specs.Alone.{names, aggregates, furnished, standing, given, typed, zeros, number, forOneOf, openAlone}
 
 -- ---- the forms: what is called, how it is listed, and how many arguments it takes, where that is fixed, with a reply or without
 pub data Takes : Type 0 where
@@ -170,3 +171,24 @@ many-go = refl
 pub callees-hold : OnAll (Value.int 4096 ∷ Value.other ∷ zeros) (λ (v : Value). number (called true (Ty.int 64) v [])) (λ (v : Value). 103)
 unfolding openManual openAlone called
 callees-hold = refl
+
+-- ---- "replies .. fit their widths": up to the last number of the width and no further, at every width; a void call's cell is read by nobody
+unfoldable pub replied : Ty → (name : Option ℕ) → (cell : ℕ) → Result (Option Cell)
+replied t x c = bind (runCall (answering c) x t (Value.global 1) [] (standing furnished)) λ σ. ok (σ .env 200)
+  where
+    -- every reply is this cell
+    answering : ℕ → Given
+    answering c =
+        record { names = names; structs = []; function = given t noFrame [] .function; frame = noFrame; base = 0; world = record { globals = λ x. 0; shapes = λ s. none; replies = λ n. record { cell = c; memory = λ a. 0 } } }
+
+unfoldable pub endsOf : (w : ℕ) → List ℕ
+endsOf w = 0 ∷ (2 ^ w - 1) ∷ 2 ^ w ∷ []
+
+unfoldable pub fitting : (w : ℕ) → List (Result (Option Cell))
+fitting w = ok (some (Cell.one w 0)) ∷ ok (some (Cell.one w (2 ^ w - 1))) ∷ err 200 ∷ []
+
+pub replies-fit :
+    (OnAll (downFrom 64) (λ (w : ℕ). map (replied (Ty.int w) (some 200)) (endsOf w)) fitting) × (map (replied Ty.ptr (some 200)) (endsOf 64) ≡ fitting 64)
+    × (map (replied Ty.void none) (endsOf 64) ≡ replicate 3 (ok none))
+unfolding openManual openSweep openAlone replied endsOf fitting
+replies-fit = (refl, refl, refl)

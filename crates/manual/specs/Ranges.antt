@@ -1,4 +1,4 @@
--- Ranges at every width from 1 to 64, at both ends and one beyond: "an integer outside both the signed and the unsigned range of its width (a switch case: of its
+-- Operands and ranges at every width from 1 to 64, at both ends and one beyond: "reading .. one at another width"; "an integer outside both the signed and the unsigned range of its width (a switch case: of its
 -- condition's)"; "a constant GEP index outside its type's signed range"; "an i1 load of a byte above 1".
 use Prim.Native.Nat.{ℕ, _-_, _*_, _^_}
 use mathlib.Core.Path.{_≡_, refl}
@@ -14,7 +14,28 @@ use Rattle.manual.specs.Stop.{Stop, stops}
 use Rattle.manual.specs.State.{Cell, nothing, with}
 use Rattle.manual.specs.Inst.{runInst}
 use Rattle.manual.specs.Open.{openManual}
-use Rattle.manual.specs.Alone.{Went, given, gives, ends, typed, openAlone}
+use Rattle.manual.specs.Alone.{Went, given, gives, ends, typed, zeros, openAlone}
+use Rattle.manual.specs.Conversions.{widths, wider}
+
+-- ---- a local at every pair of widths: read at its own alone. The four zeros at every width; a global at 64 alone
+unfoldable pub read : (width at : ℕ) → Result (Option Cell)
+read v w = gives (with 0 (Cell.one v 1) nothing) (InstKind.freeze (Ty.int w) (Value.local 0))
+
+unfoldable pub readAt : (w : ℕ) → Value → Result (Option Cell)
+readAt w v = gives nothing (InstKind.freeze (Ty.int w) v)
+
+pub locals-hold :
+    (OnAll widths (λ (w : ℕ). read w w) (λ (w : ℕ). ok (some (Cell.one w 1)))) × (OnAll wider (λ (p : ℕ × ℕ). read (p .0) (p .1) ∷ read (p .1) (p .0) ∷ []) (λ (p : ℕ × ℕ). replicate 2 (stops Stop.otherWidth)))
+unfolding openManual openSweep openAlone widths wider read
+locals-hold = (refl, refl)
+
+pub zeros-hold : OnAll widths (λ (w : ℕ). map (readAt w) zeros) (λ (w : ℕ). replicate 4 (ok (some (Cell.one w 0))))
+unfolding openManual openSweep openAlone widths readAt
+zeros-hold = refl
+
+pub globals-hold : (OnAll (downFrom 63) (λ (w : ℕ). readAt w (Value.global 1)) (λ (w : ℕ). stops Stop.illFormed)) × (readAt 64 (Value.global 1) ≡ ok (some (Cell.one 64 8193)))
+unfolding openManual openSweep openAlone readAt
+globals-hold = (refl, refl)
 
 -- ---- integers as operands: 0, the greatest unsigned, the least signed, -1; beyond the one, beyond the other
 unfoldable pub constants : (w : ℕ) → List ℕ → List (Result (Option Cell))
