@@ -55,6 +55,17 @@ pub order-holds : map (paramEnv three (7 ∷ 1 ∷ 9 ∷ []) nothing) (199 ∷ 2
 unfolding openManual three
 order-holds = refl
 
+-- a later parameter of the same name wins, whether it can be read or not
+unfoldable pub twice : (first second : Ty) → Option Cell
+unfolding param
+twice t u = paramEnv (param (some 200) t ∷ param (some 200) u ∷ []) (1 ∷ 2 ∷ []) nothing 200
+
+pub later-wins :
+    (OnAll (aggregates ++ valueless) (λ (t : Ty). twice (Ty.int 8) t ∷ twice t (Ty.int 8) ∷ []) (λ (t : Ty). none ∷ some (Cell.one 8 2) ∷ []))
+    × (twice (Ty.int 8) Ty.ptr ≡ some (Cell.one 64 2))
+unfolding openManual openAlone twice
+later-wins = (refl, refl)
+
 -- ---- it begins at the first block, without calls, the stack pointer where it was; without a block it stops
 unfoldable pub function : Function → Book
 function f = record { marks = []; structs = []; function = f }

@@ -3,9 +3,10 @@ use Prim.Native.Nat.{ℕ, _-_, _^_}
 use mathlib.Core.Path.{_≡_, refl}
 use mathlib.Core.Option.{Option, none, some}
 use mathlib.Core.List.{List, [], _∷_, _++_, map}
-use Rattle.book.specs.Ast.{Ty, Value, BinOp, Incoming, InstKind, Inst, Terminator, BasicBlock}
+use Rattle.book.specs.Ast.{Ty, Value, BinOp, ConvOp, ICmpPred, Incoming, InstKind, Inst, Terminator, BasicBlock}
 use Rattle.book.specs.Result.{Result, ok, bind}
 use Rattle.layout.specs.Frame.{noFrame}
+use Rattle.machine.specs.Sweep.{OnAll}
 use Rattle.manual.specs.Stop.{Stop, stops}
 use Rattle.manual.specs.State.{Cell, nothing}
 use Rattle.manual.specs.Term.{Stand, edge}
@@ -81,6 +82,29 @@ entered is = number (runBlock (given Ty.void noFrame (block is ∷ [])) 10 (stan
 pub inside-hold : map entered (two ∷ (two ++ (plus ∷ [])) ∷ (plus ∷ []) ∷ (phi (some 200) [] ∷ []) ∷ (record { dest = none; kind = InstKind.fence } ∷ two) ∷ []) ≡ 0 ∷ 101 ∷ 101 ∷ 0 ∷ 103 ∷ []
 unfolding openManual openAlone entered two from phi plus
 inside-hold = refl
+
+-- the same behind an instruction of each kind, whatever its operand: the edge takes the phi in front of it and no other, the block runs it, and the phi behind it stops
+unfoldable pub kinds : List (Value → InstKind)
+kinds =
+    (λ v. InstKind.bin BinOp.add (Ty.int 64) v v) ∷ (λ v. InstKind.conv ConvOp.trunc (Ty.int 64) v (Ty.int 8)) ∷ (λ v. InstKind.icmp ICmpPred.eq Ty.ptr v v) ∷
+    (λ v. InstKind.select (Value.int 1) Ty.ptr v v) ∷ (λ v. InstKind.load (Ty.int 8) v none) ∷ (λ v. InstKind.store (Ty.int 8) (Value.int 0) v none) ∷
+    (λ v. InstKind.alloca (Ty.int 8) (some (record { ty = Ty.ptr; val = v })) none) ∷ (λ v. InstKind.getElementPtr (Ty.int 8) v []) ∷ (λ v. InstKind.call (Ty.int 64) v []) ∷
+    (λ v. InstKind.freeze Ty.ptr v) ∷ (λ v. InstKind.atomicLoad (Ty.int 64) v) ∷ (λ v. InstKind.atomicStore (Ty.int 64) v v) ∷ (λ v. InstKind.cmpxchg (Ty.int 64) v v v) ∷ []
+
+-- local 64 is set, local 99 is not
+unfoldable pub behind : (Value → InstKind) → (x : ℕ) → List Inst
+behind k x = phi (some 200) (from 7 (Value.int 3) ∷ []) ∷ record { dest = some 203; kind = k (Value.local x) } ∷ phi (some 201) (from 7 (Value.int 4) ∷ []) ∷ []
+
+-- two that have no such operand
+unfoldable pub others : List (Value → InstKind)
+others = (λ v. InstKind.fence) ∷ (λ v. InstKind.extractValue (Value.local 100) 0) ∷ []
+
+pub kinds-end-phis :
+    (OnAll (kinds ++ others) (λ (k : Value → InstKind). taken 7 (behind k 64)) (λ (k : Value → InstKind). ok (some (Cell.one 8 3), none)))
+    × (OnAll (kinds ++ others) (λ (k : Value → InstKind). entered (behind k 64)) (λ (k : Value → InstKind). 103))
+    × (OnAll kinds (λ (k : Value → InstKind). entered (behind k 99)) (λ (k : Value → InstKind). 101))
+unfolding openManual openAlone taken entered from phi kinds others behind
+kinds-end-phis = (refl, refl, refl)
 
 -- "With n blocks passed": a block at a time, and a run that has returned stays
 unfoldable pub three : List BasicBlock

@@ -37,9 +37,14 @@ unfolding summary
 standing (Stand.at b σ) = summary σ
 standing (Stand.gave v σ) = summary σ
 
-unfoldable pub times : (n : ℕ) → List Inst → Result Standing
+-- from a stack pointer on; and from 65536 on
+unfoldable pub timesFrom : (sp n : ℕ) → List Inst → Result Standing
 unfolding names world again standing
-times n is = bind (sourceRun names (again is) world [] (holding 4096 7) 65536 n) λ s. ok (standing s)
+timesFrom sp n is = bind (sourceRun names (again is) world [] (holding 4096 7) sp n) λ s. ok (standing s)
+
+unfoldable pub times : (n : ℕ) → List Inst → Result Standing
+unfolding timesFrom
+times n is = timesFrom 65536 n is
 
 unfoldable pub places : Option Cell → Option Cell → ℕ → Result Standing
 places a b n = ok (record { first = a; second = b; sp = n })
@@ -47,7 +52,7 @@ places a b n = ok (record { first = a; second = b; sp = n })
 unfoldable pub at : ℕ → Option Cell
 at a = some (Cell.one 64 a)
 
--- ---- fixed: an i8 and an i32, from 65536 on. The stack pointer is moved at entry, over both; once they have run, the second time stops
+-- ---- fixed: an i8 and three i32, from 65536 on; a stated align does not count. The stack pointer is moved at entry, over both; once they have run, the second time stops
 unfoldable pub fixed : List Inst
 unfolding alloca
 fixed = alloca 200 (Ty.int 8) none none ∷ alloca 201 (Ty.int 32) (some (typed (Ty.int 8) (Value.int 3))) (some 64) ∷ []
@@ -55,6 +60,11 @@ fixed = alloca 200 (Ty.int 8) none none ∷ alloca 201 (Ty.int 32) (some (typed 
 pub fixed-holds : map (λ (n : ℕ). times n fixed) (0 ∷ 1 ∷ 2 ∷ []) ≡ places none none 65552 ∷ places (at 65536) (at 65540) 65552 ∷ stops Stop.placeTwice ∷ []
 unfolding openManual openAlone times fixed places at
 fixed-holds = refl
+
+-- addresses and the stack pointer count modulo 2^64
+pub fixed-wraps : map (λ (n : ℕ). timesFrom (2 ^ 64 - 4) n fixed) (0 ∷ 1 ∷ []) ≡ places none none 12 ∷ places (at (2 ^ 64 - 4)) (at 0) 12 ∷ []
+unfolding openManual openAlone timesFrom fixed places at
+fixed-wraps = refl
 
 -- ---- "a function whose fixed places have size 0 and no varying one": no type and no count that makes 0 bytes has a place; one byte, or a varying place, is enough
 unfoldable pub zeroSized : List Inst
