@@ -1,6 +1,6 @@
 -- Every form of call by result type, number of arguments, and with or without a name: which go on, with what is listed and received, and which stop. Where
 -- several reasons hold, any of them may be the one told.
-use Prim.Native.Nat.{ℕ, _-_, _^_}
+use Prim.Native.Nat.{ℕ, _+_, _-_, _^_}
 use mathlib.Core.Path.{_≡_, refl}
 use mathlib.Core.Bool.{Bool, true, false}
 use mathlib.Core.Option.{Option, none, some}
@@ -13,7 +13,7 @@ use Rattle.book.specs.Result.{Result, ok, err, bind}
 use Rattle.layout.specs.Frame.{noFrame}
 use Rattle.machine.specs.Sweep.{OnAll, downFrom, upTo, pairs, openSweep}
 use Rattle.machine.specs.State.{Target, Call}
-use Rattle.manual.specs.State.{Cell, Source, Given}
+use Rattle.manual.specs.State.{Cell, Source, Given, nothing, with}
 use Rattle.manual.specs.Call.{runCall}
 use Rattle.manual.specs.Inst.{runInst}
 use Rattle.manual.specs.Open.{openManual}
@@ -192,3 +192,21 @@ pub replies-fit :
     × (map (replied Ty.void none) (endsOf 64) ≡ replicate 3 (ok none))
 unfolding openManual openSweep openAlone replied endsOf fitting
 replies-fit = (refl, refl, refl)
+
+-- ---- an address called may be any; a call at every position takes the reply of that position, 40 more as a cell, 50 more as the byte at address 4096
+unfoldable pub addressed : ℕ → Result (List Call)
+addressed a =
+    bind (runCall (given Ty.void noFrame []) none Ty.void (Value.local 0) [] (standing (with 0 (Cell.one 64 a) nothing))) λ σ. ok (σ .calls)
+
+unfoldable pub positioned : ℕ → Result (Option Cell × ℕ)
+positioned n =
+    bind (runCall (given Ty.void noFrame []) (some 200) (Ty.int 64) (Value.global 1) []
+    (record { env = furnished; memory = λ a. 0; calls = replicate n (record { target = Target.function 1; args = [] }); sp = 0 })) λ σ. ok (σ .env 200, σ .memory 4096)
+
+pub addresses-hold : OnAll (0 ∷ 1 ∷ 4096 ∷ 2 ^ 63 ∷ (2 ^ 64 - 1) ∷ []) addressed (λ (a : ℕ). ok (record { target = Target.address a; args = [] } ∷ []))
+unfolding openManual openAlone addressed
+addresses-hold = refl
+
+pub positions-hold : OnAll (0 ∷ upTo 40) positioned (λ (n : ℕ). ok (some (Cell.one 64 (n + 40)), n + 50))
+unfolding openManual openSweep openAlone positioned
+positions-hold = refl

@@ -26,6 +26,13 @@ pub branches-hold :
 unfolding openManual openAlone branched
 branches-hold = (refl, refl, refl)
 
+-- both targets may be the same block, and the block itself
+pub same-targets :
+    map (λ (b : ℕ). ends Ty.void furnished (Terminator.br (some (Value.int 0)) b (some b)) ∷ ends Ty.void furnished (Terminator.br none b none) ∷ []) (7 ∷ 8 ∷ [])
+    ≡ (ok (Went.to 7) ∷ ok (Went.to 7) ∷ []) ∷ (ok (Went.to 8) ∷ ok (Went.to 8) ∷ []) ∷ []
+unfolding openManual openAlone
+same-targets = refl
+
 -- "unreachable; no block"
 pub nowhere-stops :
     map (ends Ty.void furnished) (

@@ -23,3 +23,4 @@ pub mod Edges
 pub mod Stack
 pub mod Swaps
 pub mod Begins
+pub mod Paths
