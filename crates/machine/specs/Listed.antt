@@ -71,7 +71,8 @@ unfoldable pub holdingCell : (x : ℕ) → Frame
 holdingCell x = record { args = x ∷ []; slots = x ∷ []; memory = λ a. 0; calls = []; sp = x }
 
 pub cells-whole :
-    (OnAll cells (λ (x : ℕ). map (λ (l : Line). left (does names 0 far l (holdingCell x) [])) (Line.push x ∷ Line.getArg 0 ∷ Line.getLocal 0 ∷ Line.threadGet ∷ [])) (λ (x : ℕ). replicate 4 (some (x ∷ []))))
+    (OnAll cells (λ (x : ℕ). map (λ (l : Line). left (does names 0 far l (holdingCell x) [])) (Line.push x ∷ Line.getArg 0 ∷ Line.getLocal 0 ∷ Line.threadGet ∷ []))
+    (λ (x : ℕ). replicate 4 (some (x ∷ []))))
     × (OnAll cells (λ (x : ℕ). frameAfter (alone Line.threadSet (x ∷ [])) .sp) (λ (x : ℕ). x))
     × (OnAll cells (λ (x : ℕ). slotsAfter (Line.setLocal 1) (x ∷ [])) (λ (x : ℕ). 21 ∷ x ∷ 23 ∷ []))
     × (map (λ (x : ℕ). left (does names 0 far (Line.pushName x) (holdingCell 0) [])) (0 ∷ 1 ∷ 2 ∷ 3 ∷ []) ≡ some ((2 ^ 64 - 2) ∷ []) ∷ some ((2 ^ 64 - 1) ∷ []) ∷ some (0 ∷ []) ∷ some (1 ∷ []) ∷ [])

@@ -11,7 +11,7 @@ use Rattle.layout.specs.Frame.{Places, noFrame}
 use Rattle.machine.specs.Cases.{holding, world}
 use Rattle.manual.specs.State.{Cell, Env, Given, Source, nothing, with}
 use Rattle.manual.specs.Inst.{runInst}
-use Rattle.manual.specs.Term.{Stand, runTerm}
+use Rattle.manual.specs.Term.{Stand, edge, runTerm}
 
 -- names 0 and 1 are functions, 2 to 7 are called as syscalls, 8 to 12 are spelled almost so
 unfoldable pub names : List (List ℕ)
@@ -77,6 +77,13 @@ unfoldable pub ends : (result : Ty) → Env → Terminator → Result Went
 unfolding given standing went
 ends t ρ r = bind (runTerm (given t noFrame []) 7 r (standing ρ)) λ s. ok (went s)
 
+-- the edge from block 7 to a block, 10, that begins with a phi of this type and value
+unfoldable pub phiOf : Ty → Value → BasicBlock
+phiOf t v = record { label = 10; insts = record { dest = some 200; kind = InstKind.phi t (record { val = v; label = 7 } ∷ []) } ∷ []; term = Terminator.unreachable }
+
+unfoldable pub crosses : Ty → Value → Result Went
+crosses t v = bind (edge (given Ty.void noFrame (phiOf t v ∷ [])) 7 10 (standing furnished)) λ s. ok (went s)
+
 -- ---- answers
 unfoldable pub among : List ℕ → ℕ → Bool
 among [] n = false
@@ -102,5 +109,5 @@ zeros = Value.zero Zero.null ∷ Value.zero Zero.undef ∷ Value.zero Zero.poiso
 
 -- opens every definition of this file, for a table that computes
 unfoldable pub openAlone : Unit {0}
-unfolding names scalars aggregates valueless structs furnished standing empty given gives went ends number among forOneOf typed zeros holding world
+unfolding names scalars aggregates valueless structs furnished standing empty given gives went ends phiOf crosses number among forOneOf typed zeros holding world
 openAlone = tt

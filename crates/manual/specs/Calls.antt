@@ -178,8 +178,14 @@ replied t x c = bind (runCall (answering c) x t (Value.global 1) [] (standing fu
   where
     -- every reply is this cell
     answering : ℕ → Given
-    answering c =
-        record { names = names; structs = []; function = given t noFrame [] .function; frame = noFrame; base = 0; world = record { globals = λ x. 0; shapes = λ s. none; replies = λ n. record { cell = c; memory = λ a. 0 } } }
+    answering c = record {
+      names = names;
+      structs = [];
+      function = given t noFrame [] .function;
+      frame = noFrame;
+      base = 0;
+      world = record { globals = λ x. 0; shapes = λ s. none; replies = λ n. record { cell = c; memory = λ a. 0 } };
+    }
 
 unfoldable pub endsOf : (w : ℕ) → List ℕ
 endsOf w = 0 ∷ (2 ^ w - 1) ∷ 2 ^ w ∷ []

@@ -36,7 +36,8 @@ same-targets = refl
 -- "unreachable; no block"
 pub nowhere-stops :
     map (ends Ty.void furnished) (
-    Terminator.unreachable ∷ Terminator.br none 55 none ∷ Terminator.br (some (Value.int 0)) 8 (some 55) ∷ Terminator.br (some (Value.int 1)) 55 (some 8) ∷ Terminator.switch (Ty.int 8) (Value.int 0) 55 [] ∷ [])
+    Terminator.unreachable ∷ Terminator.br none 55 none ∷ Terminator.br (some (Value.int 0)) 8 (some 55) ∷ Terminator.br (some (Value.int 1)) 55 (some 8)
+    ∷ Terminator.switch (Ty.int 8) (Value.int 0) 55 [] ∷ [])
     ≡ stops Stop.unreachable ∷ stops Stop.noBlock ∷ stops Stop.noBlock ∷ stops Stop.noBlock ∷ stops Stop.noBlock ∷ []
 unfolding openManual openAlone
 nowhere-stops = refl

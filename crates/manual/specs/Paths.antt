@@ -48,7 +48,8 @@ pub record Sized : Type 0 where
 unfoldable pub sized : List Sized
 sized =
     record { ty = Ty.int 1; bytes = 1 } ∷ record { ty = Ty.int 16; bytes = 2 } ∷ record { ty = Ty.int 32; bytes = 4 } ∷ record { ty = Ty.ptr; bytes = 8 } ∷
-    record { ty = Ty.array false 3 (Ty.int 32); bytes = 12 } ∷ record { ty = Ty.array true 0 Ty.ptr; bytes = 0 } ∷ record { ty = Ty.namedStruct 20; bytes = 160 } ∷ record { ty = Ty.namedStruct 21; bytes = 90 } ∷ []
+    record { ty = Ty.array false 3 (Ty.int 32); bytes = 12 } ∷ record { ty = Ty.array true 0 Ty.ptr; bytes = 0 } ∷
+    record { ty = Ty.namedStruct 20; bytes = 160 } ∷ record { ty = Ty.namedStruct 21; bytes = 90 } ∷ []
 
 unfoldable pub numbers : List ℕ
 numbers = 0 ∷ 1 ∷ 2 ∷ (2 ^ 31 - 1) ∷ 2 ^ 63 ∷ (2 ^ 64 - 2 ^ 31) ∷ (2 ^ 64 - 2) ∷ (2 ^ 64 - 1) ∷ []
@@ -83,7 +84,8 @@ packed-hold = (refl, refl, refl)
 
 -- a field that is not constant; an element may be, also behind a field
 pub constant-fields :
-    (map (λ (t : Ty). leads t 4096 0 (word 0 ∷ typed (Ty.int 64) (Value.local 1) ∷ [])) (Ty.namedStruct 20 ∷ Ty.struct true (listed (inTurn 1)) ∷ Ty.array false 2 (Ty.int 8) ∷ []) ≡ stops Stop.illFormed ∷ stops Stop.illFormed ∷ ok 4096 ∷ [])
+    (map (λ (t : Ty). leads t 4096 0 (word 0 ∷ typed (Ty.int 64) (Value.local 1) ∷ [])) (Ty.namedStruct 20 ∷ Ty.struct true (listed (inTurn 1)) ∷ Ty.array false 2 (Ty.int 8) ∷ [])
+    ≡ stops Stop.illFormed ∷ stops Stop.illFormed ∷ ok 4096 ∷ [])
     × (leads (Ty.struct false (listed (Ty.int 8 ∷ Ty.array false 4 (Ty.int 32) ∷ []))) 4096 3 (word 0 ∷ word 1 ∷ typed (Ty.int 64) (Value.local 1) ∷ []) ≡ ok 4112)
 unfolding openManual openAlone leads word listed inTurn
 constant-fields = (refl, refl)

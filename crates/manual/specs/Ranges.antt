@@ -1,5 +1,5 @@
--- Operands and ranges at every width from 1 to 64, at both ends and one beyond: "reading .. one at another width"; "an integer outside both the signed and the unsigned range of its width (a switch case: of its
--- condition's)"; "a constant GEP index outside its type's signed range"; "an i1 load of a byte above 1".
+-- Operands and ranges at every width from 1 to 64, at both ends and one beyond: "reading an unset local or one at another width"; "an integer outside both the
+-- signed and the unsigned range of its width (a switch case: of its condition's)"; "a constant GEP index outside its type's signed range"; "an i1 load of a byte above 1".
 use Prim.Native.Nat.{ℕ, _-_, _*_, _^_}
 use mathlib.Core.Path.{_≡_, refl}
 use mathlib.Core.Bool.{false}
@@ -9,7 +9,7 @@ use lib.ListN.{replicate}
 use Rattle.book.specs.Ast.{Ty, Tys, Value, Zero, InstKind, Terminator}
 use Rattle.book.specs.Result.{Result, ok, bind}
 use Rattle.layout.specs.Frame.{noFrame}
-use Rattle.machine.specs.Sweep.{OnAll, downFrom, openSweep}
+use Rattle.machine.specs.Sweep.{OnAll, downFrom, little, openSweep}
 use Rattle.manual.specs.Stop.{Stop, stops}
 use Rattle.manual.specs.State.{Cell, nothing, with}
 use Rattle.manual.specs.Inst.{runInst}
@@ -25,7 +25,8 @@ unfoldable pub readAt : (w : ℕ) → Value → Result (Option Cell)
 readAt w v = gives nothing (InstKind.freeze (Ty.int w) v)
 
 pub locals-hold :
-    (OnAll widths (λ (w : ℕ). read w w) (λ (w : ℕ). ok (some (Cell.one w 1)))) × (OnAll wider (λ (p : ℕ × ℕ). read (p .0) (p .1) ∷ read (p .1) (p .0) ∷ []) (λ (p : ℕ × ℕ). replicate 2 (stops Stop.otherWidth)))
+    (OnAll widths (λ (w : ℕ). read w w) (λ (w : ℕ). ok (some (Cell.one w 1))))
+    × (OnAll wider (λ (p : ℕ × ℕ). read (p .0) (p .1) ∷ read (p .1) (p .0) ∷ []) (λ (p : ℕ × ℕ). replicate 2 (stops Stop.otherWidth)))
 unfolding openManual openSweep openAlone widths wider read
 locals-hold = (refl, refl)
 
@@ -79,11 +80,11 @@ unfolding openManual openSweep openAlone second fields inside cells
 inner-hold = (refl, refl, refl, refl)
 
 -- "Varying indices are signed": the top bit alone is the least number, and all the others the greatest
-pub varying-hold :
-    OnAll (downFrom 64)
-    (λ (w : ℕ). map (λ (x : ℕ). gives (with 0 (Cell.one w x) nothing) (InstKind.getElementPtr (Ty.int 8) (Value.zero Zero.null) (typed (Ty.int w) (Value.local 0) ∷ []))) (2 ^ (w - 1) ∷ (2 ^ (w - 1) - 1) ∷ []))
-    (λ (w : ℕ). cells 64 ((2 ^ 64 - 2 ^ (w - 1)) ∷ (2 ^ (w - 1) - 1) ∷ []))
-unfolding openManual openSweep openAlone cells
+unfoldable pub varied : (w x : ℕ) → Result (Option Cell)
+varied w x = gives (with 0 (Cell.one w x) nothing) (InstKind.getElementPtr (Ty.int 8) (Value.zero Zero.null) (typed (Ty.int w) (Value.local 0) ∷ []))
+
+pub varying-hold : OnAll (downFrom 64) (λ (w : ℕ). map (varied w) (2 ^ (w - 1) ∷ (2 ^ (w - 1) - 1) ∷ [])) (λ (w : ℕ). cells 64 ((2 ^ 64 - 2 ^ (w - 1)) ∷ (2 ^ (w - 1) - 1) ∷ []))
+unfolding openManual openSweep openAlone varied cells
 varying-hold = refl
 
 -- ---- a switch on x of w bits, with one case: to 8 where it is x, else to 9
@@ -91,7 +92,8 @@ unfoldable pub switched : (w : ℕ) → (x v : ℕ) → Result Went
 switched w x v = ends Ty.void (with 0 (Cell.one w x) nothing) (Terminator.switch (Ty.int w) (Value.local 0) 9 (record { value = v; label = 8 } ∷ []))
 
 pub switches-hold :
-    (OnAll (downFrom 64) (λ (w : ℕ). switched w 0 0 ∷ switched w (2 ^ w - 1) (2 ^ w - 1) ∷ switched w (2 ^ w - 1) (2 ^ 64 - 1) ∷ switched w (2 ^ (w - 1)) (2 ^ 64 - 2 ^ (w - 1)) ∷ []) (λ (w : ℕ). replicate 4 (ok (Went.to 8))))
+    (OnAll (downFrom 64) (λ (w : ℕ). switched w 0 0 ∷ switched w (2 ^ w - 1) (2 ^ w - 1) ∷ switched w (2 ^ w - 1) (2 ^ 64 - 1) ∷ switched w (2 ^ (w - 1)) (2 ^ 64 - 2 ^ (w - 1)) ∷ [])
+    (λ (w : ℕ). replicate 4 (ok (Went.to 8))))
     × (OnAll (downFrom 64) (λ (w : ℕ). switched w 0 (2 ^ w - 1) ∷ switched w (2 ^ (w - 1)) 0 ∷ switched w 0 (2 ^ 64 - 2 ^ (w - 1)) ∷ []) (λ (w : ℕ). replicate 3 (ok (Went.to 9))))
     × (OnAll (downFrom 63) (λ (w : ℕ). switched w 0 (2 ^ w) ∷ switched w 0 (2 ^ 64 - 2 ^ (w - 1) - 1) ∷ []) (λ (w : ℕ). replicate 2 (stops Stop.integerRange)))
 unfolding openManual openSweep openAlone switched
@@ -106,6 +108,6 @@ loaded t b =
 pub loads-hold :
     (map (loaded (Ty.int 1)) (0 ∷ 1 ∷ []) ≡ cells 1 (0 ∷ 1 ∷ [])) × (OnAll (map (λ (n : ℕ). 256 - n) (downFrom 254)) (loaded (Ty.int 1)) (λ (b : ℕ). stops Stop.loadRange))
     × (OnAll (0 ∷ downFrom 255) (λ (b : ℕ). map (λ (t : Ty). loaded t b) (Ty.int 8 ∷ Ty.int 16 ∷ Ty.int 32 ∷ Ty.int 64 ∷ Ty.ptr ∷ []))
-    (λ (b : ℕ). ok (some (Cell.one 8 b)) ∷ ok (some (Cell.one 16 (b * 257))) ∷ ok (some (Cell.one 32 (b * 16843009))) ∷ ok (some (Cell.one 64 (b * 72340172838076673))) ∷ ok (some (Cell.one 64 (b * 72340172838076673))) ∷ []))
+    (λ (b : ℕ). map (λ (n : ℕ). ok (some (Cell.one (8 * n) (little (replicate n b))))) (1 ∷ 2 ∷ 4 ∷ 8 ∷ 8 ∷ [])))
 unfolding openManual openSweep openAlone loaded cells
 loads-hold = (refl, refl, refl)

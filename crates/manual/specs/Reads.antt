@@ -7,12 +7,11 @@ use mathlib.Core.Option.{none, some}
 use mathlib.Core.List.{List, [], _∷_, _++_, map}
 use lib.Dec.{eqb}
 use Rattle.book.specs.Ast.{Ty, Value, BinOp, ConvOp, ICmpPred, InstKind, Terminator}
-use Rattle.layout.specs.Frame.{noFrame}
+use Rattle.layout.specs.Frame.{Places}
 use Rattle.machine.specs.Sweep.{OnAll, openSweep}
 use Rattle.manual.specs.Inst.{runInst}
-use Rattle.manual.specs.Term.{edge}
 use Rattle.manual.specs.Open.{openManual}
-use Rattle.manual.specs.Alone.{furnished, standing, given, gives, ends, number, typed, zeros, openAlone}
+use Rattle.manual.specs.Alone.{furnished, standing, given, gives, ends, crosses, number, typed, zeros, openAlone}
 
 -- a place: the width it reads at, the stop for an integer out of range, and what a run with the operand there answers, 0 where it goes on
 pub record Place : Type 0 where
@@ -26,13 +25,9 @@ inst w k = record { width = w; beyond = 105; answer = λ v. number (gives furnis
 term : (w : ℕ) → (result : Ty) → (Value → Terminator) → Place
 term w t k = record { width = w; beyond = 105; answer = λ v. number (ends t furnished (k v)) }
 
--- on the edge from 7 to 10
+-- on an edge
 phi : (w : ℕ) → Ty → Place
-phi w t = record {
-  width = w;
-  beyond = 105;
-  answer = λ v. number (edge (given Ty.void noFrame (record { label = 10; insts = record { dest = some 200; kind = InstKind.phi t (record { val = v; label = 7 } ∷ []) } ∷ []; term = Terminator.unreachable } ∷ [])) 7 10 (standing furnished));
-}
+phi w t = record { width = w; beyond = 105; answer = λ v. number (crosses t v) }
 
 -- a getelementptr's index
 index : (w : ℕ) → Ty → Place
@@ -84,9 +79,12 @@ unfolding openManual openSweep openAlone places constantsAt
 constants-hold = refl
 
 -- ---- a callee that is a local, and a place's count, which is fixed where it is an integer: here in a function with such a place
+framed : Places
+framed = record { offsets = (200, 16) ∷ []; off = 24; dynamic = true }
+
 unfoldable pub counted : Ty → Value → ℕ
-counted t v =
-    number (runInst (given Ty.void (record { offsets = (200, 16) ∷ []; off = 24; dynamic = true }) []) (record { dest = some 200; kind = InstKind.alloca (Ty.int 8) (some (typed t v)) none }) (standing furnished))
+unfolding framed
+counted t v = number (runInst (given Ty.void framed []) (record { dest = some 200; kind = InstKind.alloca (Ty.int 8) (some (typed t v)) none }) (standing furnished))
 
 unfoldable pub others : List Place
 unfolding inst counted

@@ -46,7 +46,8 @@ unfoldable pub bytesFrom : Memory → (a n : ℕ) → List ℕ
 bytesFrom m a n = map (λ (k : ℕ). m ((a + k - 1) % 2 ^ 64)) (upTo n)
 
 unfoldable pub after : InstKind → (address : ℕ) → Result After
-after k a = bind (runInst (given Ty.void noFrame []) (record { dest = some 200; kind = k }) before) λ σ. ok (record { value = σ .env 200; bytes = bytesFrom (σ .memory) (a + 2 ^ 64 - 1) 10; sp = σ .sp })
+after k a = bind (runInst (given Ty.void noFrame []) (record { dest = some 200; kind = k }) before) λ σ.
+    ok (record { value = σ .env 200; bytes = bytesFrom (σ .memory) (a + 2 ^ 64 - 1) 10; sp = σ .sp })
 
 -- n bytes of a value between bytes of 1
 unfoldable pub between : (value : Option Cell) → List ℕ → (rest : ℕ) → Result After
@@ -60,15 +61,22 @@ openThis = tt
 unfoldable pub ones : Sized → List ℕ
 ones s = cond (eqb (s .width) 1) (1 ∷ []) (replicate (s .bytes) 255)
 
+-- what a type's bytes are set to, between what stood there
+unfoldable pub written : Option Cell → Sized → Result After
+written v s = between v (ones s) (9 - s .bytes)
+
 pub stores-hold :
-    (OnAll (pairs sizes addresses) (λ (p : Sized × ℕ). after (InstKind.store (p .0 .ty) (Value.int (2 ^ 64 - 1)) (Value.int (p .1)) none) (p .1)) (λ (p : Sized × ℕ). between none (ones (p .0)) (9 - p .0 .bytes)))
-    × (OnAll (pairs sizes addresses) (λ (p : Sized × ℕ). after (InstKind.atomicStore (p .0 .ty) (Value.int (2 ^ 64 - 1)) (Value.int (p .1))) (p .1)) (λ (p : Sized × ℕ). between none (ones (p .0)) (9 - p .0 .bytes)))
-unfolding openThis ones
+    (OnAll (pairs sizes addresses) (λ (p : Sized × ℕ). after (InstKind.store (p .0 .ty) (Value.int (2 ^ 64 - 1)) (Value.int (p .1)) none) (p .1)) (λ (p : Sized × ℕ). written none (p .0)))
+    × (OnAll (pairs sizes addresses) (λ (p : Sized × ℕ). after (InstKind.atomicStore (p .0 .ty) (Value.int (2 ^ 64 - 1)) (Value.int (p .1))) (p .1)) (λ (p : Sized × ℕ). written none (p .0)))
+unfolding openThis ones written
 stores-hold = (refl, refl)
 
 -- ---- "The contents of memory at the location .. is read and compared to cmp; if the values are equal, new is written": the value found, which is 257 and so on, and success
-unfoldable pub found : ℕ → ℕ
-found n = little (replicate n 1)
+unfoldable pub found : Sized → ℕ
+found s = little (replicate (s .bytes) 1)
+
+unfoldable pub result : Sized → (success : ℕ) → Option Cell
+result s b = some (Cell.two (s .width) (found s) b)
 
 -- of 8 bits and more
 unfoldable pub swappable : List Sized
@@ -78,10 +86,10 @@ unfoldable pub swap : Sized × ℕ → (compared : ℕ) → Result After
 swap p c = after (InstKind.cmpxchg (p .0 .ty) (Value.int (p .1)) (Value.int c) (Value.int (2 ^ 64 - 1))) (p .1)
 
 pub swaps-hold :
-    (OnAll (pairs swappable addresses) (λ (p : Sized × ℕ). swap p (found (p .0 .bytes))) (λ (p : Sized × ℕ). between (some (Cell.two (p .0 .width) (found (p .0 .bytes)) 1)) (ones (p .0)) (9 - p .0 .bytes)))
-    × (OnAll (pairs swappable addresses) (λ (p : Sized × ℕ). swap p (found (p .0 .bytes) + 1)) (λ (p : Sized × ℕ). between (some (Cell.two (p .0 .width) (found (p .0 .bytes)) 0)) [] 9))
-    × (OnAll (pairs swappable addresses) (λ (p : Sized × ℕ). swap p (found (p .0 .bytes) + 2 ^ (p .0 .width - 1))) (λ (p : Sized × ℕ). between (some (Cell.two (p .0 .width) (found (p .0 .bytes)) 0)) [] 9))
-unfolding openThis ones found swappable swap
+    (OnAll (pairs swappable addresses) (λ (p : Sized × ℕ). swap p (found (p .0))) (λ (p : Sized × ℕ). written (result (p .0) 1) (p .0)))
+    × (OnAll (pairs swappable addresses) (λ (p : Sized × ℕ). swap p (found (p .0) + 1)) (λ (p : Sized × ℕ). between (result (p .0) 0) [] 9))
+    × (OnAll (pairs swappable addresses) (λ (p : Sized × ℕ). swap p (found (p .0) + 2 ^ (p .0 .width - 1))) (λ (p : Sized × ℕ). between (result (p .0) 0) [] 9))
+unfolding openThis ones written found result swappable swap
 swaps-hold = (refl, refl, refl)
 
 -- ---- "'extractvalue' Instruction": index 0 is the value found, at its width, 1 the success, at one bit; no other index is in bounds, and no other value has parts
@@ -92,7 +100,8 @@ unfoldable pub outOfBounds : List (Result (Option Cell))
 outOfBounds = replicate 3 (stops Stop.illFormed)
 
 pub parts-hold :
-    (map parts (Value.local 100 ∷ Value.local 101 ∷ []) ≡ (ok (some (Cell.one 64 5)) ∷ ok (some (Cell.one 1 1)) ∷ outOfBounds) ∷ (ok (some (Cell.one 8 200)) ∷ ok (some (Cell.one 1 0)) ∷ outOfBounds) ∷ [])
+    (map parts (Value.local 100 ∷ Value.local 101 ∷ [])
+    ≡ (ok (some (Cell.one 64 5)) ∷ ok (some (Cell.one 1 1)) ∷ outOfBounds) ∷ (ok (some (Cell.one 8 200)) ∷ ok (some (Cell.one 1 0)) ∷ outOfBounds) ∷ [])
     × (OnAll (Value.local 1 ∷ Value.local 8 ∷ Value.local 64 ∷ Value.global 1 ∷ Value.int 5 ∷ Value.other ∷ []) parts (λ (v : Value). replicate 5 (stops Stop.illFormed)))
     × (OnAll zeros parts (λ (v : Value). replicate 5 (stops Stop.aggregate)))
     × (parts (Value.local 99) ≡ replicate 5 (stops Stop.unset))

@@ -5,11 +5,9 @@ use mathlib.Core.Path.{_≡_, refl}
 use mathlib.Core.Option.{none, some}
 use mathlib.Core.List.{List, [], _∷_, _++_, map}
 use Rattle.book.specs.Ast.{Ty, Value, Zero, BinOp, ConvOp, ICmpPred, InstKind, Terminator}
-use Rattle.layout.specs.Frame.{noFrame}
 use Rattle.machine.specs.Sweep.{OnAll, pairs, openSweep}
-use Rattle.manual.specs.Term.{edge}
 use Rattle.manual.specs.Open.{openManual}
-use Rattle.manual.specs.Alone.{scalars, aggregates, valueless, furnished, standing, given, gives, ends, number, typed, openAlone}
+use Rattle.manual.specs.Alone.{scalars, aggregates, valueless, furnished, gives, ends, crosses, number, typed, openAlone}
 
 -- what a run with this type answers, 0 where it goes on; every operand is poison, which is 0 at any width
 abbrev pub Use : Type 0
@@ -25,7 +23,7 @@ unfoldable pub z : Value
 z = Value.zero Zero.poison
 
 onEdge : Use
-onEdge t = number (edge (given Ty.void noFrame (record { label = 10; insts = record { dest = some 200; kind = InstKind.phi t (record { val = Value.zero Zero.poison; label = 7 } ∷ []) } ∷ []; term = Terminator.unreachable } ∷ [])) 7 10 (standing furnished))
+onEdge t = number (crosses t (Value.zero Zero.poison))
 
 -- ---- those that take integers and pointers
 unfoldable pub uses : List Use
@@ -43,7 +41,8 @@ integerUses = map (λ (op : BinOp). inst (λ t. InstKind.bin op t z z)) (BinOp.a
 unfoldable pub accesses : List Use
 unfolding inst z
 accesses =
-    inst (λ t. InstKind.load t z none) ∷ inst (λ t. InstKind.store t z z none) ∷ inst (λ t. InstKind.atomicLoad t z) ∷ inst (λ t. InstKind.atomicStore t z z) ∷ inst (λ t. InstKind.cmpxchg t z z z) ∷ []
+    inst (λ t. InstKind.load t z none) ∷ inst (λ t. InstKind.store t z z none) ∷ inst (λ t. InstKind.atomicLoad t z)
+    ∷ inst (λ t. InstKind.atomicStore t z z) ∷ inst (λ t. InstKind.cmpxchg t z z z) ∷ []
 
 openThis : Unit {0}
 unfolding openManual openSweep openAlone uses integerUses accesses
