@@ -15,7 +15,7 @@ use Rattle.manual.specs.Term.{Stand}
 use Rattle.manual.specs.Open.{openManual}
 use Rattle.manual.specs.Alone.{names, aggregates, valueless, empty, openAlone}
 
-param : Option ℕ → Ty → Param
+unfoldable pub param : Option ℕ → Ty → Param
 param x t = record { ty = t; name = x }
 
 -- ---- "arguments fit their widths": up to the last number of the width and no further, at every width; a cell of 64 bits for every other type
@@ -54,6 +54,13 @@ parameters-hold = (refl, refl, refl)
 pub order-holds : map (paramEnv three (7 ∷ 1 ∷ 9 ∷ []) nothing) (199 ∷ 200 ∷ 201 ∷ 202 ∷ []) ≡ none ∷ some (Cell.one 8 7) ∷ some (Cell.one 64 9) ∷ none ∷ []
 unfolding openManual three
 order-holds = refl
+
+-- one that cannot be read leaves the others as they are
+pub beside-hold :
+    OnAll (aggregates ++ valueless) (λ (t : Ty). map (paramEnv (param (some 200) (Ty.int 8) ∷ param (some 201) t ∷ param (some 202) Ty.ptr ∷ []) (1 ∷ 2 ∷ 3 ∷ []) nothing) (200 ∷ 201 ∷ 202 ∷ []))
+    (λ (t : Ty). some (Cell.one 8 1) ∷ none ∷ some (Cell.one 64 3) ∷ [])
+unfolding openManual openAlone param
+beside-hold = refl
 
 -- a later parameter of the same name wins, whether it can be read or not
 unfoldable pub twice : (first second : Ty) → Option Cell
