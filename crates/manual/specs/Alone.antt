@@ -90,7 +90,8 @@ among [] n = false
 among (m ∷ ms) n = eqb m n || among ms n
 
 module _ {A : Type 0} where
-  -- 0 where it goes on, else the number
+  -- 0 where it goes on, else the number (`Stop`): 101 not set, 102 another width, 103 ill-formed, 105 and 106 out of range, 108 an aggregate, 109 the result's type,
+  -- 112 the shape of a syscall; 200 where a reply does not fit
   unfoldable pub number : Result A → ℕ
   number (ok a) = 0
   number (err n) = n

@@ -77,8 +77,10 @@ pub phis-hold :
 unfolding openManual openAlone taken two from phi plus
 phis-hold = (refl, refl, refl)
 
--- a phi reads what stood before the edge, also one of a cmpxchg's or of another width, which stop; so does one that is not set
-pub phis-read : map (λ (x : ℕ). number (taken 7 (phi (some 8) (from 7 (Value.int 3) ∷ []) ∷ phi (some 200) (from 7 (Value.local x) ∷ []) ∷ []))) (8 ∷ 16 ∷ 99 ∷ 100 ∷ []) ≡ 0 ∷ 102 ∷ 101 ∷ 108 ∷ []
+-- behind a phi that sets %8, one reads local 8 as it was; of another width, not set, or a cmpxchg's: it stops
+pub phis-read :
+    map (λ (x : ℕ). taken 7 (phi (some 8) (from 7 (Value.int 3) ∷ []) ∷ phi (some 200) (from 7 (Value.local x) ∷ []) ∷ [])) (8 ∷ 16 ∷ 99 ∷ 100 ∷ [])
+    ≡ ok (some (Cell.one 8 1), none) ∷ stops Stop.otherWidth ∷ stops Stop.unset ∷ stops Stop.aggregate ∷ []
 unfolding openManual openAlone taken from phi
 phis-read = refl
 
