@@ -65,7 +65,7 @@ unfoldable pub cells : List ℕ
 cells = 0 ∷ 255 ∷ 2 ^ 32 ∷ 2 ^ 63 ∷ (2 ^ 64 - 1) ∷ []
 
 unfoldable pub far : World
-far = record { globals = λ x. 2 ^ 64 - 2 + x; shapes = λ t. none; replies = λ n. record { cell = 0; memory = λ a. 0 } }
+far = record { globals = λ x. 2 ^ 64 - 2 + x; shapes = λ t. none; replies = λ n. record { cell = 2 ^ 64 - 1; memory = λ a. 0 } }
 
 unfoldable pub holdingCell : (x : ℕ) → Frame
 holdingCell x = record { args = x ∷ []; slots = x ∷ []; memory = λ a. 0; calls = []; sp = x }
@@ -78,6 +78,19 @@ pub cells-whole :
     × (map (λ (x : ℕ). left (does names 0 far (Line.pushName x) (holdingCell 0) [])) (0 ∷ 1 ∷ 2 ∷ 3 ∷ []) ≡ some ((2 ^ 64 - 2) ∷ []) ∷ some ((2 ^ 64 - 1) ∷ []) ∷ some (0 ∷ []) ∷ some (1 ∷ []) ∷ [])
 unfolding openMachine openAlone slotsAfter cells far holdingCell
 cells-whole = (refl, refl, refl, refl)
+
+-- a call's arguments and address, and the reply's cell, 2^64 - 1
+unfoldable pub calledFar : Line → List ℕ → After
+calledFar l o = let f = does names 0 far l (holdingCell 0) o in record { operands = left f; calls = frameAfter f .calls; byte = 0; sp = 0 }
+
+unfoldable pub listedFar : Target → List ℕ → After
+listedFar t xs = record { operands = some ((2 ^ 64 - 1) ∷ []); calls = record { target = t; args = xs } ∷ []; byte = 0; sp = 0 }
+
+pub calls-whole : OnAll cells
+    (λ (x : ℕ). calledFar (Line.call 2 2) (x ∷ x ∷ []) ∷ calledFar (Line.callFp 1) (x ∷ x ∷ []) ∷ calledFar Line.sysMemcmp (x ∷ x ∷ x ∷ []) ∷ [])
+    (λ (x : ℕ). listedFar (Target.function 2) (x ∷ x ∷ []) ∷ listedFar (Target.address x) (x ∷ []) ∷ listedFar (Target.syscall (bytes "memcmp")) (x ∷ x ∷ x ∷ []) ∷ [])
+unfolding openMachine openAlone cells far holdingCell calledFar listedFar
+calls-whole = refl
 
 -- ---- jumps: the three conditional ones, with a cell above 71
 unfoldable pub conditional : ℕ → List Effect
