@@ -9,12 +9,14 @@ use lib.ListN.{replicate}
 use Rattle.book.specs.Ast.{Ty, Tys, Value, Zero, InstKind, Terminator}
 use Rattle.book.specs.Result.{Result, ok, bind}
 use Rattle.layout.specs.Frame.{noFrame}
+use Rattle.machine.specs.State.{Call}
 use Rattle.machine.specs.Sweep.{OnAll, downFrom, little, openSweep}
 use Rattle.manual.specs.Stop.{Stop, stops}
 use Rattle.manual.specs.State.{Cell, nothing, with}
 use Rattle.manual.specs.Inst.{runInst}
+use Rattle.manual.specs.Term.{Stand, edge}
 use Rattle.manual.specs.Open.{openManual}
-use Rattle.manual.specs.Alone.{Went, given, gives, ends, typed, zeros, openAlone}
+use Rattle.manual.specs.Alone.{Went, standing, given, gives, ends, phiOf, typed, zeros, openAlone}
 use Rattle.manual.specs.Conversions.{widths, wider}
 
 -- ---- a local at every pair of widths: read at its own alone. The four zeros at every width; a global at 64 alone
@@ -50,6 +52,30 @@ pub constants-hold :
     × (OnAll (downFrom 63) (λ (w : ℕ). constants w (2 ^ w ∷ (2 ^ 64 - 2 ^ (w - 1) - 1) ∷ [])) (λ (w : ℕ). replicate 2 (stops Stop.integerRange)))
 unfolding openManual openSweep openAlone constants cells
 constants-hold = (refl, refl)
+
+-- -1 at every width is all its bits, whichever way it goes: taken by a select, over an edge, returned, given to a call
+unfoldable pub overEdge : Ty → Value → Result (Option Cell)
+overEdge t v = bind (edge (given Ty.void noFrame (phiOf t v ∷ [])) 7 10 (standing nothing)) λ s. ok (valueIn s)
+  where
+    valueIn : Stand → Option Cell
+    valueIn (Stand.at b σ) = σ .env 200
+    valueIn (Stand.gave v σ) = none
+
+unfoldable pub handedOver : Ty → Value → Result (List (List ℕ))
+handedOver t v =
+    bind (runInst (given Ty.void noFrame []) (record { dest = none; kind = InstKind.call Ty.void (Value.global 1) (typed t v ∷ typed t v ∷ []) }) (standing nothing)) λ σ.
+    ok (map (λ (c : Call). c .args) (σ .calls))
+
+unfoldable pub minusOne : Value
+minusOne = Value.int (2 ^ 64 - 1)
+
+pub ones-pass :
+    (OnAll widths (λ (w : ℕ). gives nothing (InstKind.select (Value.int 1) (Ty.int w) minusOne (Value.int 0))) (λ (w : ℕ). ok (some (Cell.one w (2 ^ w - 1)))))
+    × (OnAll widths (λ (w : ℕ). overEdge (Ty.int w) minusOne) (λ (w : ℕ). ok (some (Cell.one w (2 ^ w - 1)))))
+    × (OnAll widths (λ (w : ℕ). ends (Ty.int w) nothing (Terminator.ret (some (typed (Ty.int w) minusOne)))) (λ (w : ℕ). ok (Went.back (2 ^ w - 1))))
+    × (OnAll widths (λ (w : ℕ). handedOver (Ty.int w) minusOne) (λ (w : ℕ). ok (((2 ^ w - 1) ∷ (2 ^ w - 1) ∷ []) ∷ [])))
+unfolding openManual openSweep openAlone widths overEdge handedOver minusOne
+ones-pass = (refl, refl, refl, refl)
 
 -- ---- a constant index over bytes, from null: 0, the greatest signed, the least, -1; beyond the one, beyond the other
 unfoldable pub indices : (w : ℕ) → List ℕ → List (Result (Option Cell))
