@@ -3,6 +3,7 @@ use Prim.Native.Nat.{ℕ, _-_, _^_}
 use mathlib.Core.Path.{_≡_, refl}
 use mathlib.Core.Option.{Option, none, some}
 use mathlib.Core.List.{List, [], _∷_, _++_, map}
+use lib.ListN.{replicate}
 use Rattle.book.specs.Ast.{Ty, Value, BinOp, ConvOp, ICmpPred, Incoming, InstKind, Inst, Terminator, BasicBlock}
 use Rattle.book.specs.Result.{Result, ok, bind}
 use Rattle.layout.specs.Frame.{noFrame}
@@ -26,11 +27,15 @@ pub branches-hold :
 unfolding openManual openAlone branched
 branches-hold = (refl, refl, refl)
 
--- both targets may be the same block, and the block itself
-pub same-targets :
-    map (λ (b : ℕ). ends Ty.void furnished (Terminator.br (some (Value.int 0)) b (some b)) ∷ ends Ty.void furnished (Terminator.br none b none) ∷ []) (7 ∷ 8 ∷ [])
-    ≡ (ok (Went.to 7) ∷ ok (Went.to 7) ∷ []) ∷ (ok (Went.to 8) ∷ ok (Went.to 8) ∷ []) ∷ []
-unfolding openManual openAlone
+-- both targets may be the same block, and the block itself; so may a switch's default and its cases
+unfoldable pub sameTarget : (block : ℕ) → List (Result Went)
+sameTarget b =
+    map (ends Ty.void furnished) (
+    Terminator.br none b none ∷ Terminator.br (some (Value.int 0)) b (some b) ∷ Terminator.switch (Ty.int 8) (Value.int 0) b [] ∷
+    Terminator.switch (Ty.int 8) (Value.int 1) b (record { value = 0; label = b } ∷ record { value = 1; label = b } ∷ record { value = 1; label = 9 } ∷ []) ∷ [])
+
+pub same-targets : OnAll (7 ∷ 8 ∷ []) sameTarget (λ (b : ℕ). replicate 4 (ok (Went.to b)))
+unfolding openManual openAlone sameTarget
 same-targets = refl
 
 -- "unreachable; no block"
