@@ -1,4 +1,4 @@
--- Binary operations, comparisons and `select` at every width from 1 to 64: the rows of `machine`, `Rows`, and none of them more than that. What is undefined or poison stops.
+-- Binary operations, comparisons and `select` at every width from 1 to 64, by the rows of `machine`, `Rows`: what is undefined or poison stops, and what stands beside it goes on.
 use Prim.Native.Nat.{ℕ, _+_, _-_, _^_}
 use mathlib.Core.Path.{_≡_, refl}
 use mathlib.Core.Bool.{Bool, cond}

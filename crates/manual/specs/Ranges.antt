@@ -125,6 +125,15 @@ pub switches-hold :
 unfolding openManual openSweep openAlone switched
 switches-hold = (refl, refl, refl)
 
+-- a case behind the one that is taken is not looked at, whatever it is
+unfoldable pub switchedFirst : (w : ℕ) → Result Went
+switchedFirst w =
+    ends Ty.void (with 0 (Cell.one w 1) nothing) (Terminator.switch (Ty.int w) (Value.local 0) 9 (record { value = 1; label = 8 } ∷ record { value = 2 ^ w; label = 9 } ∷ record { value = 1; label = 7 } ∷ []))
+
+pub first-taken : OnAll (downFrom 63) switchedFirst (λ (w : ℕ). ok (Went.to 8))
+unfolding openManual openSweep openAlone switchedFirst
+first-taken = refl
+
 -- ---- loads where every byte is b, for each of the 256: an i1 of 0 and 1 alone; every other type takes them all
 unfoldable pub loaded : Ty → (b : ℕ) → Result (Option Cell)
 loaded t b =
