@@ -14,3 +14,10 @@ pub mod Overflow
 pub mod Works
 pub mod ExactParts
 pub mod Exact
+pub mod Sweep
+pub mod Alone
+pub mod Counts
+pub mod Rows
+pub mod Words
+pub mod Wraps
+pub mod Listed

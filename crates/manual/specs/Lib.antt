@@ -25,3 +25,16 @@ pub mod ExactTerm
 pub mod Progress
 pub mod Loop
 pub mod LeftOut
+pub mod Alone
+pub mod Conversions
+pub mod Arithmetic
+pub mod Ranges
+pub mod Calls
+pub mod Reads
+pub mod Types
+pub mod Returns
+pub mod Edges
+pub mod Stack
+pub mod Swaps
+pub mod Begins
+pub mod Paths
