@@ -5,6 +5,7 @@ use crate::expect::{expected, Expected};
 use crate::random;
 use crate::stats;
 use crate::two_runs;
+use crate::written;
 
 const RANDOM_BOOKS: u64 = 20_000;
 
@@ -36,6 +37,9 @@ pub fn test() -> Result<(), String> {
     say("structs that double", doubling());
     say("counting labels", labels());
     say("read what was written", round_trips());
+    for (name, result) in written::tests() {
+        say(&format!("written: {name}"), result);
+    }
     for (name, result) in two_runs::tests() {
         say(&format!("two runs: {name}"), result);
     }

@@ -31,6 +31,7 @@ mod table;
 mod two_runs;
 mod vectors;
 mod visit;
+mod written;
 
 use book::{Lent, Slices};
 use expect::{expected, Expected};
@@ -52,6 +53,7 @@ const USAGE: &str = "usage:
   compare runs SEED COUNT            whether a function's run by the manual and the run of its lines on the machine agree, by
                                      two interpreters and by computation of the definitions, on random functions
   compare table SEED COUNT FILE      random books with the Rust's answers as a checked table of crates/lowering
+  compare written FOLDER             books written by hand with the Rust's answers as checked tables of crates/lowering
   compare soundness SEED COUNT       whether the proved check of a book answers as ours does; built in where the
                                      static library of the crate `exports` stands
   compare printing SEED LINES NAMES  whether the proved printer prints random lines of every kind as docs/LINES.md says, and
@@ -99,6 +101,7 @@ fn run(args: &[&str]) -> Result<(), String> {
         ["definitions", seed, count] => definitions::compare(number(seed)?, number(count)?, false),
         ["definitions", seed, count, "--damaged"] => definitions::compare(number(seed)?, number(count)?, true),
         ["runs", seed, count] => two_runs::compare(number(seed)?, number(count)?),
+        ["written", folder] => written::write(folder),
         ["table", seed, count, file] => table::write(number(seed)?, number(count)?, file),
         #[cfg(proved)]
         ["soundness", seed, count] => soundness::compare(number(seed)?, number(count)?),
