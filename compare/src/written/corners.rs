@@ -63,6 +63,11 @@ const PLACES_AND_STEPS: &[Corner] = &[
     ("array of length 0", 0, "q=getelementptr [0 i32 %p i8 7 i8 2 ."),
     ("packed array", 0, "q=getelementptr <3 i16 %p i8 1 i8 2 ."),
     ("packed struct, field 1", 0, "q=getelementptr <{ i8 i32 } %p i8 1 i8 1 ."),
+    ("size of a struct with a packed one", 0, "q=getelementptr { <{ i64 } i16 } %p i8 1 ."),
+    ("size of a struct with void", 0, "q=getelementptr { void ptr i1 } %p i8 1 i8 2 ."),
+    ("size of a struct padded at its end", 0, "q=getelementptr { i16 [3 i8 } %p i8 1 i8 1 ."),
+    ("size of a packed struct with padding inside", 0, "q=getelementptr <{ i8 { i8 i32 } } %p i8 1 i8 1 ."),
+    ("offset of a named struct", 0, "struct:s { i8 ptr } | q=getelementptr { i8 %%s } %p i8 1 i8 1 i8 1 ."),
     ("no field", 14, "q=getelementptr { } %p i8 0 i8 0 ."),
     ("into a pointer", 14, "q=getelementptr ptr %p i8 0 i8 0 ."),
     ("into void", 14, "q=getelementptr void %p i8 0 i8 0 ."),
@@ -141,6 +146,8 @@ const WHOLE: &[Corner] = &[
     ("a parameter without name between", 0, "func:f i8 param:p i8 param ptr param:q i8 . block:e x=add i8 %p %q ret i8 %x ."),
     ("two parameters of one name", 0, "func:f i8 param:p i8 param:p i8 . block:e ret i8 %p ."),
     ("a parameter of label type", 0, "func:f label param:p label . block:e ret i8 %p ."),
+    ("a call through a local with .with.overflow. takes one slot", 0,
+        "func:f void param:a.with.overflow.b ptr . block:e q=call i8 %a.with.overflow.b . x=fence ret - ."),
     ("a struct of the function's name", 0, "struct:f { i8 } func:f %%f . block:f q=alloca %%f - - ret - ."),
 ];
 

@@ -438,6 +438,15 @@ corners =
       says = Answer.text (unlines (
           "# label @f(1 params)" ∷ "f:" ∷ "f__e:" ∷ "get_arg 0;" ∷ "ret;" ∷ "" ∷ [])) 0;
     } ∷
+    -- a call through a local with .with.overflow. takes one slot: func:f void param:a.with.overflow.b ptr . block:e q=call i8 %a.with.overflow.b . x=fence ret - .
+    record {
+      entries =
+          (5, 2) ∷ (10, 0) ∷ (6, 1) ∷ (12, 0) ∷ (0, 0) ∷ (7, 1) ∷ (76, 4) ∷ (11, 8) ∷ (30, 0) ∷ (0, 0) ∷ (82, 5) ∷ (90, 0) ∷ (21, 0) ∷ (0, 0) ∷ [];
+      names =
+          "a.with.overflow.b" ∷ "e" ∷ "f" ∷ "q" ∷ "x" ∷ [];
+      says = Answer.text (unlines (
+          "# void @f(1 params)" ∷ "f:" ∷ "push_0n 2;" ∷ "f__e:" ∷ "get_arg 0;" ∷ "call_fp 0;" ∷ "set_local 0;" ∷ "push 0;" ∷ "ret;" ∷ "" ∷ [])) 0;
+    } ∷
     -- a struct of the function's name: struct:f { i8 } func:f %%f . block:f q=alloca %%f - - ret - .
     record {
       entries =

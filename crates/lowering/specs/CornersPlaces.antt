@@ -326,6 +326,56 @@ corners =
       says = Answer.text (unlines (
           "# void @f(1 params)" ∷ "f:" ∷ "push_0n 1;" ∷ "f__e:" ∷ "get_arg 0;" ∷ "push 6;" ∷ "add_u64;" ∷ "set_local 0;" ∷ "push 0;" ∷ "ret;" ∷ "" ∷ [])) 0;
     } ∷
+    -- size of a struct with a packed one: func:f void param:p ptr . block:e q=getelementptr { <{ i64 } i16 } %p i8 1 . ret - .
+    record {
+      entries =
+          (5, 1) ∷ (10, 0) ∷ (6, 3) ∷ (12, 0) ∷ (0, 0) ∷ (7, 0) ∷ (74, 4) ∷ (16, 0) ∷ (17, 0) ∷ (11, 64) ∷ (0, 0) ∷ (11, 16) ∷ (0, 0) ∷ (30, 2) ∷ (11, 8)
+          ∷ (32, 1) ∷ (0, 0) ∷ (90, 0) ∷ (21, 0) ∷ (0, 0) ∷ [];
+      names =
+          "e" ∷ "f" ∷ "p" ∷ "q" ∷ [];
+      says = Answer.text (unlines (
+          "# void @f(1 params)" ∷ "f:" ∷ "push_0n 1;" ∷ "f__e:" ∷ "get_arg 0;" ∷ "push 10;" ∷ "add_u64;" ∷ "set_local 0;" ∷ "push 0;" ∷ "ret;" ∷ "" ∷ [])) 0;
+    } ∷
+    -- size of a struct with void: func:f void param:p ptr . block:e q=getelementptr { void ptr i1 } %p i8 1 i8 2 . ret - .
+    record {
+      entries =
+          (5, 1) ∷ (10, 0) ∷ (6, 3) ∷ (12, 0) ∷ (0, 0) ∷ (7, 0) ∷ (74, 4) ∷ (16, 0) ∷ (10, 0) ∷ (12, 0) ∷ (11, 1) ∷ (0, 0) ∷ (30, 2) ∷ (11, 8) ∷ (32, 1)
+          ∷ (11, 8) ∷ (32, 2) ∷ (0, 0) ∷ (90, 0) ∷ (21, 0) ∷ (0, 0) ∷ [];
+      names =
+          "e" ∷ "f" ∷ "p" ∷ "q" ∷ [];
+      says = Answer.text (unlines (
+          "# void @f(1 params)" ∷ "f:" ∷ "push_0n 1;" ∷ "f__e:" ∷ "get_arg 0;" ∷ "push 24;" ∷ "add_u64;" ∷ "set_local 0;" ∷ "push 0;" ∷ "ret;" ∷ "" ∷ [])) 0;
+    } ∷
+    -- size of a struct padded at its end: func:f void param:p ptr . block:e q=getelementptr { i16 [3 i8 } %p i8 1 i8 1 . ret - .
+    record {
+      entries =
+          (5, 1) ∷ (10, 0) ∷ (6, 3) ∷ (12, 0) ∷ (0, 0) ∷ (7, 0) ∷ (74, 4) ∷ (16, 0) ∷ (11, 16) ∷ (13, 3) ∷ (11, 8) ∷ (0, 0) ∷ (30, 2) ∷ (11, 8) ∷ (32, 1)
+          ∷ (11, 8) ∷ (32, 1) ∷ (0, 0) ∷ (90, 0) ∷ (21, 0) ∷ (0, 0) ∷ [];
+      names =
+          "e" ∷ "f" ∷ "p" ∷ "q" ∷ [];
+      says = Answer.text (unlines (
+          "# void @f(1 params)" ∷ "f:" ∷ "push_0n 1;" ∷ "f__e:" ∷ "get_arg 0;" ∷ "push 8;" ∷ "add_u64;" ∷ "set_local 0;" ∷ "push 0;" ∷ "ret;" ∷ "" ∷ [])) 0;
+    } ∷
+    -- size of a packed struct with padding inside: func:f void param:p ptr . block:e q=getelementptr <{ i8 { i8 i32 } } %p i8 1 i8 1 . ret - .
+    record {
+      entries =
+          (5, 1) ∷ (10, 0) ∷ (6, 3) ∷ (12, 0) ∷ (0, 0) ∷ (7, 0) ∷ (74, 4) ∷ (17, 0) ∷ (11, 8) ∷ (16, 0) ∷ (11, 8) ∷ (11, 32) ∷ (0, 0) ∷ (0, 0) ∷ (30, 2)
+          ∷ (11, 8) ∷ (32, 1) ∷ (11, 8) ∷ (32, 1) ∷ (0, 0) ∷ (90, 0) ∷ (21, 0) ∷ (0, 0) ∷ [];
+      names =
+          "e" ∷ "f" ∷ "p" ∷ "q" ∷ [];
+      says = Answer.text (unlines (
+          "# void @f(1 params)" ∷ "f:" ∷ "push_0n 1;" ∷ "f__e:" ∷ "get_arg 0;" ∷ "push 10;" ∷ "add_u64;" ∷ "set_local 0;" ∷ "push 0;" ∷ "ret;" ∷ "" ∷ [])) 0;
+    } ∷
+    -- offset of a named struct: struct:s { i8 ptr } func:f void param:p ptr . block:e q=getelementptr { i8 %%s } %p i8 1 i8 1 i8 1 . ret - .
+    record {
+      entries =
+          (3, 4) ∷ (16, 0) ∷ (11, 8) ∷ (12, 0) ∷ (0, 0) ∷ (5, 1) ∷ (10, 0) ∷ (6, 3) ∷ (12, 0) ∷ (0, 0) ∷ (7, 0) ∷ (74, 4) ∷ (16, 0) ∷ (11, 8) ∷ (15, 4)
+          ∷ (0, 0) ∷ (30, 2) ∷ (11, 8) ∷ (32, 1) ∷ (11, 8) ∷ (32, 1) ∷ (11, 8) ∷ (32, 1) ∷ (0, 0) ∷ (90, 0) ∷ (21, 0) ∷ (0, 0) ∷ [];
+      names =
+          "e" ∷ "f" ∷ "p" ∷ "q" ∷ "s" ∷ [];
+      says = Answer.text (unlines (
+          "# void @f(1 params)" ∷ "f:" ∷ "push_0n 1;" ∷ "f__e:" ∷ "get_arg 0;" ∷ "push 40;" ∷ "add_u64;" ∷ "set_local 0;" ∷ "push 0;" ∷ "ret;" ∷ "" ∷ [])) 0;
+    } ∷
     -- no field: func:f void param:p ptr . block:e q=getelementptr { } %p i8 0 i8 0 . ret - .
     record {
       entries =

@@ -39,3 +39,4 @@ pub mod ChainsBlocks
 pub mod CornersPlaces
 pub mod CornersCalls
 pub mod CornersBlocks
+pub mod AtLimits
