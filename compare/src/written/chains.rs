@@ -95,6 +95,15 @@ const MEMORY: &[Chain] = &[
         (5, "load i8 %p -"),
         (0, "q=load i8 %p -"),
     ]),
+    // A field's alignment is asked for before its size, also in a packed struct.
+    ("load of a struct in a struct", &[
+        (6, "load { { [16777217 i8 label } } %u -"),
+        (6, "load <{ { [16777217 i8 label } } %u -"),
+        (7, "load { <{ [16777217 i8 label } } %u -"),
+        (6, "load { <{ [16777216 i8 label } } %u -"),
+        (7, "load { <{ [16777216 i8 i8 } } %u -"),
+        (11, "load { <{ [16777215 i8 i8 } } %u -"),
+    ]),
     ("load of nothing", &[(11, "load void %u -"), (11, "load { } %u -"), (11, "load [0 i64 %u -")]),
     ("store", &[
         (6, "store { label [16777217 i8 } %u %u -"),

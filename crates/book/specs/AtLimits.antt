@@ -33,6 +33,10 @@ inBlock es = blocks ((7, 0) ∷ es)
 unfoldable pub insts : Entries → ℕ
 insts es = inBlock (es ++ (93, 0) ∷ [])
 
+-- void @f() without blocks
+abbrev pub end : Entries
+end = (5, 1) ∷ (10, 0) ∷ (0, 0) ∷ (0, 0) ∷ []
+
 -- these entries so many times
 unfoldable pub times : ℕ → Entries → Entries
 times zero es = []
@@ -43,13 +47,18 @@ unfolding openBook lent whole blocks inBlock insts times
 openHere = tt
 
 -- ---- limits of words
--- "A stated align is a power of two up to 4,096"
-unfoldable pub aligned : ℕ → ℕ
-aligned a = insts ((73, 4) ∷ (11, 8) ∷ (21, 0) ∷ (22, a) ∷ [])
+-- "A stated align is a power of two up to 4,096": of an alloca, a load, a store
+unfoldable pub aligned : ℕ → List ℕ
+aligned a =
+    insts ((73, 4) ∷ (11, 8) ∷ (21, 0) ∷ (22, a) ∷ []) ∷ insts ((71, 4) ∷ (11, 8) ∷ (30, 2) ∷ (22, a) ∷ [])
+    ∷ insts ((72, 0) ∷ (11, 8) ∷ (32, 0) ∷ (30, 2) ∷ (22, a) ∷ []) ∷ []
+
+abbrev three : ℕ → List ℕ
+three n = n ∷ n ∷ n ∷ []
 
 pub aligns-hold :
     map aligned (0 ∷ 1 ∷ 2 ∷ 3 ∷ 4 ∷ 6 ∷ 2048 ∷ 2049 ∷ 4095 ∷ 4096 ∷ 4097 ∷ 6144 ∷ 8192 ∷ [])
-    ≡ 1 ∷ 0 ∷ 0 ∷ 1 ∷ 0 ∷ 1 ∷ 0 ∷ 1 ∷ 1 ∷ 0 ∷ 1 ∷ 1 ∷ 1 ∷ []
+    ≡ map three (1 ∷ 0 ∷ 0 ∷ 1 ∷ 0 ∷ 1 ∷ 0 ∷ 1 ∷ 1 ∷ 0 ∷ 1 ∷ 1 ∷ 1 ∷ [])
 unfolding openHere aligned
 aligns-hold = refl
 
@@ -134,7 +143,7 @@ pub names-hold : map named (3 ∷ 4 ∷ []) ≡ nine 0 ∷ nine 1 ∷ []
 unfolding openHere named
 names-hold = refl
 
-pub results-hold : map resulting (0 ∷ 4 ∷ 5 ∷ []) ≡ (0 ∷ 0 ∷ 0 ∷ []) ∷ (0 ∷ 0 ∷ 0 ∷ []) ∷ (1 ∷ 1 ∷ 1 ∷ []) ∷ []
+pub results-hold : map resulting (0 ∷ 4 ∷ 5 ∷ []) ≡ three 0 ∷ three 0 ∷ three 1 ∷ []
 unfolding openHere resulting
 results-hold = refl
 
@@ -151,13 +160,19 @@ unmentioned w =
     ∷ whole ((5, 1) ∷ (10, 0) ∷ (0, 0) ∷ (0, w) ∷ []) ∷ []
 
 abbrev many : ℕ → List ℕ
-many n = nine n ++ (nine n ++ (n ∷ n ∷ n ∷ []))
+many n = nine n ++ (nine n ++ three n)
 
 pub unmentioned-hold : map unmentioned (0 ∷ 1 ∷ []) ≡ many 0 ∷ many 1 ∷ []
 unfolding openHere unmentioned
 unmentioned-hold = refl
 
--- ---- kinds beside those that there are: as an instruction without fields, as a type, as a value
+-- kind 37 is a 3 only where it is a value
+pub other-hold : map (λ w. insts ((77, 4) ∷ (11, 8) ∷ (37, w) ∷ [])) (0 ∷ 1 ∷ []) ≡ 3 ∷ 1 ∷ []
+unfolding openHere
+other-hold = refl
+
+-- ---- kinds beside those that there are
+-- as an instruction without fields, as a type, as a value
 pub kinds-hold :
     map (λ k. insts ((k, 0) ∷ [])) (8 ∷ 9 ∷ 24 ∷ 39 ∷ 59 ∷ 82 ∷ 83 ∷ 89 ∷ 94 ∷ [])
     ++ map (λ k. insts ((77, 4) ∷ (k, 0) ∷ (32, 0) ∷ [])) (9 ∷ 10 ∷ 12 ∷ 18 ∷ 20 ∷ 21 ∷ [])
@@ -166,11 +181,19 @@ pub kinds-hold :
 unfolding openHere
 kinds-hold = refl
 
--- ---- once each, in this order, nothing after
--- void @f() without blocks
-abbrev pub end : Entries
-end = (5, 1) ∷ (10, 0) ∷ (0, 0) ∷ (0, 0) ∷ []
+-- a field of another kind: a case's number, a block, a stated align, a parameter, a block's own entry, a body
+pub others-hold :
+    map (λ k. inBlock ((92, 0) ∷ (11, 8) ∷ (33, 0) ∷ (23, 0) ∷ (k, 0) ∷ (23, 0) ∷ (0, 0) ∷ [])) (32 ∷ 22 ∷ 33 ∷ [])
+    ++ map (λ k. inBlock ((91, 0) ∷ (21, 0) ∷ (k, 0) ∷ (21, 0) ∷ [])) (23 ∷ 22 ∷ 30 ∷ 21 ∷ [])
+    ++ map (λ k. insts ((71, 4) ∷ (11, 8) ∷ (30, 2) ∷ (k, 1) ∷ [])) (22 ∷ 23 ∷ 32 ∷ [])
+    ++ map (λ k. whole ((5, 1) ∷ (10, 0) ∷ (k, 0) ∷ (12, 0) ∷ (0, 0) ∷ (0, 0) ∷ [])) (6 ∷ 5 ∷ 7 ∷ [])
+    ++ map (λ k. blocks ((k, 0) ∷ (93, 0) ∷ [])) (7 ∷ 6 ∷ 23 ∷ [])
+    ++ map (λ k. whole ((3, 3) ∷ (k, 0) ∷ (0, 0) ∷ end)) (16 ∷ 17 ∷ 13 ∷ 12 ∷ [])
+    ≡ 0 ∷ 1 ∷ 1 ∷ 0 ∷ 1 ∷ 1 ∷ 1 ∷ 0 ∷ 1 ∷ 1 ∷ 0 ∷ 1 ∷ 1 ∷ 0 ∷ 1 ∷ 1 ∷ 0 ∷ 0 ∷ 1 ∷ 1 ∷ []
+unfolding openHere
+others-hold = refl
 
+-- ---- once each, in this order, nothing after
 pub order-holds :
     map whole
     (((1, 2) ∷ (2, 3) ∷ end) ∷ ((1, 2) ∷ (1, 2) ∷ end) ∷ ((1, 2) ∷ (2, 2) ∷ end) ∷ ((1, 1) ∷ end) ∷ ((2, 1) ∷ end)

@@ -4,11 +4,12 @@ use mathlib.Core.Path.{_≡_, refl}
 use mathlib.Core.Bool.{Bool, true, false}
 use mathlib.Core.Option.{Option, none, some}
 use mathlib.Core.List.{List, [], _∷_, map}
-use Rattle.book.specs.Ast.{Ty, Tys, Value, Zero, Sizeless, StructBody, StructType}
+use Rattle.book.specs.Ast.{Ty, Tys, Value, Zero, Sizeless, TypedVal, StructBody}
+use Rattle.book.specs.Shape.{Shape}
 use Rattle.book.specs.Result.{Result, ok, err, bind}
 use Rattle.layout.specs.Layout.{limit, frameLimit, alignOf, sizeOf, fieldOffset}
 use Rattle.layout.specs.Step.{Step, gepStep, openStep}
-use Rattle.layout.specs.Frame.{Places, noFrame, place, framed, openFrame}
+use Rattle.layout.specs.Frame.{Places, noFrame, place, frameStep, framed, openFrame}
 use Rattle.layout.specs.Cases.{deep, some-structs, openCases}
 
 -- ---- the tests themselves
@@ -41,7 +42,7 @@ packed ts = Ty.struct true (fieldsOf ts)
 unfoldable pub sized : Ty → Result ℕ × Result ℕ
 sized t = (sizeOf some-structs t, alignOf some-structs t)
 
--- an array's 7 at the product, behind its element; a struct's behind its last field, padding counted
+-- an array's 7 at the product, behind its element
 pub bytes-hold :
     map sized
     (bytes 16777216 ∷ bytes 16777217 ∷ Ty.array true 16777217 (Ty.int 1)
@@ -56,6 +57,7 @@ pub bytes-hold :
 unfolding openCases some-structs sized
 bytes-hold = refl
 
+-- a struct's 7 behind its last field, padding counted; each field's alignment before its size, also where it is packed
 pub structs-hold :
     map sized
     (plain (bytes 16777215 ∷ Ty.int 8 ∷ []) ∷ plain (bytes 16777216 ∷ Ty.int 8 ∷ [])
@@ -63,6 +65,7 @@ pub structs-hold :
     ∷ packed (Ty.int 16 ∷ bytes 16777214 ∷ []) ∷ packed (Ty.int 16 ∷ bytes 16777215 ∷ [])
     ∷ plain (bytes 16777216 ∷ bytes 16777216 ∷ label ∷ []) ∷ plain (bytes 16777217 ∷ label ∷ []) ∷ plain (label ∷ bytes 16777217 ∷ [])
     ∷ packed (bytes 16777217 ∷ label ∷ []) ∷ packed (label ∷ []) ∷ plain [] ∷ packed []
+    ∷ plain (plain (bytes 16777217 ∷ label ∷ []) ∷ []) ∷ packed (plain (bytes 16777217 ∷ label ∷ []) ∷ []) ∷ plain (packed (bytes 16777217 ∷ label ∷ []) ∷ [])
     ∷ plain (Ty.void ∷ Ty.ptr ∷ Ty.int 1 ∷ []) ∷ packed (Ty.void ∷ Ty.ptr ∷ Ty.int 1 ∷ []) ∷ plain (packed (Ty.int 64 ∷ []) ∷ Ty.int 16 ∷ [])
     ∷ [])
     ≡ (ok 16777216, ok 1) ∷ (err 7, ok 1)
@@ -70,6 +73,7 @@ pub structs-hold :
     ∷ (ok 16777216, ok 1) ∷ (err 7, ok 1)
     ∷ (err 6, err 6) ∷ (err 7, err 6) ∷ (err 6, err 6)
     ∷ (err 7, ok 1) ∷ (err 6, ok 1) ∷ (ok 0, ok 1) ∷ (ok 0, ok 1)
+    ∷ (err 6, err 6) ∷ (err 6, ok 1) ∷ (err 7, ok 1)
     ∷ (ok 16, ok 8) ∷ (ok 9, ok 1) ∷ (ok 10, ok 2) ∷ []
 unfolding openCases some-structs sized fieldsOf
 structs-hold = refl
@@ -133,14 +137,33 @@ pub steps-hold :
 unfolding openCases openStep some-structs fieldsOf
 steps-hold = refl
 
--- ---- fixed places, one behind the other: where each starts, where the last ends, whether there is a frame
-unfoldable pub placedAll : List (Ty × Option ℕ) → Places → Result Places
-placedAll [] f = ok f
-placedAll (t ∷ ts) f = bind (place some-structs 0 (t .0) (t .1) f) (placedAll ts)
-
+-- ---- where the fixed places end, and whether there is a frame
 unfoldable pub ends : Result Places → Result (ℕ × Bool)
 ends (ok f) = ok (f .off, framed f)
 ends (err e) = err e
+
+-- ---- an alloca of the frame pass: its name, then, where its count is fixed, alignment and size
+unfoldable pub entered : Option ℕ × (Ty × Option TypedVal) → Result (ℕ × Bool)
+entered x = ends (frameStep some-structs (x .0) (Shape.alloca (x .1 .0) (x .1 .1)) noFrame)
+
+abbrev counting : Value → Option TypedVal
+counting v = some (record { ty = label; val = v })
+
+pub entered-hold :
+    map entered
+    ((none, (label, none)) ∷ (none, (label, counting (Value.local 0))) ∷ (some 0, (label, none)) ∷ (some 0, (label, counting (Value.local 0)))
+    ∷ (some 0, (Ty.int 32, none)) ∷ (some 0, (Ty.int 32, counting (Value.int 3))) ∷ (some 0, (Ty.int 32, counting (Value.int 0)))
+    ∷ (some 0, (Ty.int 32, counting (Value.zero Zero.null))) ∷ (some 0, (Ty.int 32, counting (Value.global 0))) ∷ (some 0, (Ty.void, counting (Value.int 5))) ∷ [])
+    ≡ err 5 ∷ err 5 ∷ err 6 ∷ ok (0, true)
+    ∷ ok (4, true) ∷ ok (12, true) ∷ ok (0, false)
+    ∷ ok (0, true) ∷ ok (0, true) ∷ ok (0, false) ∷ []
+unfolding openCases openFrame openStep some-structs entered ends
+entered-hold = refl
+
+-- ---- fixed places, one behind the other
+unfoldable pub placedAll : List (Ty × Option ℕ) → Places → Result Places
+placedAll [] f = ok f
+placedAll (t ∷ ts) f = bind (place some-structs 0 (t .0) (t .1) f) (placedAll ts)
 
 pub places-hold :
     map (λ (ts : List (Ty × Option ℕ)). ends (placedAll ts noFrame))

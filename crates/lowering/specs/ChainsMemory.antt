@@ -60,6 +60,60 @@ chains =
       says = Answer.text (unlines (
           "# void @f(1 params)" ∷ "f:" ∷ "push_0n 1;" ∷ "f__e:" ∷ "get_arg 0;" ∷ "load_u8;" ∷ "set_local 0;" ∷ "push 0;" ∷ "ret;" ∷ "" ∷ [])) 0;
     } ∷
+    -- load of a struct in a struct: func:f void param:p ptr . block:e load { { [16777217 i8 label } } %u - ret - .
+    record {
+      entries =
+          (5, 1) ∷ (10, 0) ∷ (6, 3) ∷ (12, 0) ∷ (0, 0) ∷ (7, 0) ∷ (71, 0) ∷ (16, 0) ∷ (16, 0) ∷ (13, 16777217) ∷ (11, 8) ∷ (19, 0) ∷ (0, 0) ∷ (0, 0)
+          ∷ (30, 3) ∷ (21, 0) ∷ (90, 0) ∷ (21, 0) ∷ (0, 0) ∷ [];
+      names =
+          "e" ∷ "f" ∷ "p" ∷ "u" ∷ [];
+      says = Answer.refusal 6;
+    } ∷
+    -- load of a struct in a struct: func:f void param:p ptr . block:e load <{ { [16777217 i8 label } } %u - ret - .
+    record {
+      entries =
+          (5, 1) ∷ (10, 0) ∷ (6, 3) ∷ (12, 0) ∷ (0, 0) ∷ (7, 0) ∷ (71, 0) ∷ (17, 0) ∷ (16, 0) ∷ (13, 16777217) ∷ (11, 8) ∷ (19, 0) ∷ (0, 0) ∷ (0, 0)
+          ∷ (30, 3) ∷ (21, 0) ∷ (90, 0) ∷ (21, 0) ∷ (0, 0) ∷ [];
+      names =
+          "e" ∷ "f" ∷ "p" ∷ "u" ∷ [];
+      says = Answer.refusal 6;
+    } ∷
+    -- load of a struct in a struct: func:f void param:p ptr . block:e load { <{ [16777217 i8 label } } %u - ret - .
+    record {
+      entries =
+          (5, 1) ∷ (10, 0) ∷ (6, 3) ∷ (12, 0) ∷ (0, 0) ∷ (7, 0) ∷ (71, 0) ∷ (16, 0) ∷ (17, 0) ∷ (13, 16777217) ∷ (11, 8) ∷ (19, 0) ∷ (0, 0) ∷ (0, 0)
+          ∷ (30, 3) ∷ (21, 0) ∷ (90, 0) ∷ (21, 0) ∷ (0, 0) ∷ [];
+      names =
+          "e" ∷ "f" ∷ "p" ∷ "u" ∷ [];
+      says = Answer.refusal 7;
+    } ∷
+    -- load of a struct in a struct: func:f void param:p ptr . block:e load { <{ [16777216 i8 label } } %u - ret - .
+    record {
+      entries =
+          (5, 1) ∷ (10, 0) ∷ (6, 3) ∷ (12, 0) ∷ (0, 0) ∷ (7, 0) ∷ (71, 0) ∷ (16, 0) ∷ (17, 0) ∷ (13, 16777216) ∷ (11, 8) ∷ (19, 0) ∷ (0, 0) ∷ (0, 0)
+          ∷ (30, 3) ∷ (21, 0) ∷ (90, 0) ∷ (21, 0) ∷ (0, 0) ∷ [];
+      names =
+          "e" ∷ "f" ∷ "p" ∷ "u" ∷ [];
+      says = Answer.refusal 6;
+    } ∷
+    -- load of a struct in a struct: func:f void param:p ptr . block:e load { <{ [16777216 i8 i8 } } %u - ret - .
+    record {
+      entries =
+          (5, 1) ∷ (10, 0) ∷ (6, 3) ∷ (12, 0) ∷ (0, 0) ∷ (7, 0) ∷ (71, 0) ∷ (16, 0) ∷ (17, 0) ∷ (13, 16777216) ∷ (11, 8) ∷ (11, 8) ∷ (0, 0) ∷ (0, 0)
+          ∷ (30, 3) ∷ (21, 0) ∷ (90, 0) ∷ (21, 0) ∷ (0, 0) ∷ [];
+      names =
+          "e" ∷ "f" ∷ "p" ∷ "u" ∷ [];
+      says = Answer.refusal 7;
+    } ∷
+    -- load of a struct in a struct: func:f void param:p ptr . block:e load { <{ [16777215 i8 i8 } } %u - ret - .
+    record {
+      entries =
+          (5, 1) ∷ (10, 0) ∷ (6, 3) ∷ (12, 0) ∷ (0, 0) ∷ (7, 0) ∷ (71, 0) ∷ (16, 0) ∷ (17, 0) ∷ (13, 16777215) ∷ (11, 8) ∷ (11, 8) ∷ (0, 0) ∷ (0, 0)
+          ∷ (30, 3) ∷ (21, 0) ∷ (90, 0) ∷ (21, 0) ∷ (0, 0) ∷ [];
+      names =
+          "e" ∷ "f" ∷ "p" ∷ "u" ∷ [];
+      says = Answer.refusal 11;
+    } ∷
     -- load of nothing: func:f void param:p ptr . block:e load void %u - ret - .
     record {
       entries =
