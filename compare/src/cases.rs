@@ -48,6 +48,8 @@ pub fn test() -> Result<(), String> {
     stats::books(1, RANDOM_BOOKS)?;
     println!("damaged copies:");
     stats::damaged(1, RANDOM_BOOKS)?;
+    println!("faulty statements:");
+    stats::faulty(1, RANDOM_BOOKS)?;
     if failures == 0 { Ok(()) } else { Err("tests failed".to_string()) }
 }
 

@@ -34,6 +34,7 @@ mod visit;
 mod written;
 
 use book::{Lent, Slices};
+use definitions::Sort;
 use expect::{expected, Expected};
 use std::io::{Read, Write};
 use std::process::ExitCode;
@@ -48,7 +49,10 @@ const USAGE: &str = "usage:
                                      random and damaged books of at most MOST entries with their answers
   compare program SEED COUNT COMMAND..
                                      whether a program prints what `compare oracle` does
-  compare definitions SEED COUNT [--damaged]
+  compare faulty SEED COUNT          what random statements meet whose parts are right or wrong
+  compare faulty book SEED INDEX > BOOK
+                                     one of these as a file
+  compare definitions SEED COUNT [--damaged | --faulty]
                                      whether the definition in crates/lowering answers as the Rust does, by computation
   compare runs SEED COUNT            whether a function's run by the manual and the run of its lines on the machine agree, by
                                      two interpreters and by computation of the definitions, on random functions
@@ -98,8 +102,14 @@ fn run(args: &[&str]) -> Result<(), String> {
         ["program", seed, count, command @ ..] if !command.is_empty() => {
             program::compare(number(seed)?, number(count)?, command)
         }
-        ["definitions", seed, count] => definitions::compare(number(seed)?, number(count)?, false),
-        ["definitions", seed, count, "--damaged"] => definitions::compare(number(seed)?, number(count)?, true),
+        ["definitions", seed, count] => definitions::compare(number(seed)?, number(count)?, Sort::Random),
+        ["definitions", seed, count, "--damaged"] => definitions::compare(number(seed)?, number(count)?, Sort::Damaged),
+        ["definitions", seed, count, "--faulty"] => definitions::compare(number(seed)?, number(count)?, Sort::Faulty),
+        ["faulty", seed, count] => stats::faulty(number(seed)?, number(count)?),
+        ["faulty", "book", seed, index] => {
+            let slices = written::faulty::lent(number(seed)?, number(index)?).slices;
+            std::io::stdout().write_all(&slices.to_file()).map_err(|error| error.to_string())
+        }
         ["runs", seed, count] => two_runs::compare(number(seed)?, number(count)?),
         ["written", folder] => written::write(folder),
         ["table", seed, count, file] => table::write(number(seed)?, number(count)?, file),

@@ -7,6 +7,7 @@ use crate::table::{self, Row};
 
 mod chains;
 mod corners;
+pub mod faulty;
 mod notation;
 
 /// A book, and the refusal that it gets: 0 for none.
