@@ -42,6 +42,13 @@ packed ts = Ty.struct true (fieldsOf ts)
 unfoldable pub sized : Ty → Result ℕ × Result ℕ
 sized t = (sizeOf some-structs t, alignOf some-structs t)
 
+-- every width of a book, and some that no book has
+pub widths-hold :
+    map sized (map Ty.int (1 ∷ 8 ∷ 16 ∷ 32 ∷ 64 ∷ 0 ∷ 7 ∷ 128 ∷ []))
+    ≡ (ok 1, ok 1) ∷ (ok 1, ok 1) ∷ (ok 2, ok 2) ∷ (ok 4, ok 4) ∷ (ok 8, ok 8) ∷ (err 6, err 6) ∷ (err 6, err 6) ∷ (err 6, err 6) ∷ []
+unfolding openCases some-structs sized
+widths-hold = refl
+
 -- an array's 7 at the product, behind its element
 pub bytes-hold :
     map sized
@@ -110,6 +117,11 @@ pub packed-offsets-hold :
     ≡ ok 0 ∷ ok 1 ∷ ok 9 ∷ err 6 ∷ []
 unfolding openCases some-structs fieldsOf
 packed-offsets-hold = refl
+
+-- beyond the last field; no book steps there
+pub no-field-holds : map (fieldOffset [] (body false (Ty.int 8 ∷ []))) (0 ∷ 1 ∷ []) ≡ ok 0 ∷ err 14 ∷ []
+unfolding openCases fieldsOf
+no-field-holds = refl
 
 -- offsets are no measured sizes: they may pass 2^24
 pub far-offset-holds : map (fieldOffset [] (body false (bytes 16777216 ∷ bytes 16777216 ∷ Ty.ptr ∷ []))) (1 ∷ 2 ∷ []) ≡ ok 16777216 ∷ ok 33554432 ∷ []
