@@ -5,6 +5,7 @@ use crate::expect::{expected, Expected};
 use crate::random;
 use crate::stats;
 use crate::two_runs;
+use crate::written;
 
 const RANDOM_BOOKS: u64 = 20_000;
 
@@ -36,6 +37,9 @@ pub fn test() -> Result<(), String> {
     say("structs that double", doubling());
     say("counting labels", labels());
     say("read what was written", round_trips());
+    for (name, result) in written::tests() {
+        say(&format!("written: {name}"), result);
+    }
     for (name, result) in two_runs::tests() {
         say(&format!("two runs: {name}"), result);
     }
@@ -44,6 +48,8 @@ pub fn test() -> Result<(), String> {
     stats::books(1, RANDOM_BOOKS)?;
     println!("damaged copies:");
     stats::damaged(1, RANDOM_BOOKS)?;
+    println!("faulty statements:");
+    stats::faulty(1, RANDOM_BOOKS)?;
     if failures == 0 { Ok(()) } else { Err("tests failed".to_string()) }
 }
 
@@ -337,15 +343,18 @@ fn limits() -> Vec<(&'static str, Option<u8>, Slices)> {
     let slots_and_place = |count: usize| {
         with_insts(&[vec![(82, R + 1); count], vec![(73, Q + 1), (11, 8), (21, 0), (21, 0)]].concat())
     };
-    let args = |callee: u64, count: usize| {
-        let head = [(5, 1), (10, 0), (0, 0), (7, 0), (76, 0), (10, 0), (31, callee)];
-        let entries = [&head[..], &[(11, 32), (32, 0)].repeat(count), &[(0, 0), (93, 0), (0, 0)]].concat();
-        Slices::new(&entries, &["e", "f", "memcmp"])
+    let args_of = |callee: (u64, u64), arg: (u64, u64), count: usize| {
+        let head = [(5, 2), (10, 0), (6, 5), (12, 0), (0, 0), (7, 1), (76, 0), (10, 0), callee];
+        let entries = [&head[..], &[(11, 32), arg].repeat(count), &[(0, 0), (93, 0), (0, 0)]].concat();
+        Slices::new(&entries, &["__uvm_a", "e", "f", "memcmp", "p", "u"])
     };
-    let indices = |count: usize| {
+    let args = |callee: u64, count: usize| args_of((31, callee), (32, 0), count);
+    let unknown = (30, 5);
+    let indices_into = |levels: usize, count: usize| {
         let indices = [(11, 32), (32, 0)].repeat(count);
-        with_insts(&[&[(74, Q + 1)], &nested(40)[..], &[(30, PARAM)], &indices, &[(0, 0)]].concat())
+        with_insts(&[&[(74, Q + 1)], &nested(levels)[..], &[(30, PARAM)], &indices, &[(0, 0)]].concat())
     };
+    let indices = |count: usize| indices_into(40, count);
     vec![
         ("131,072 names", None, many_names(131_072)),
         ("131,073 names", Some(1), many_names(131_073)),
@@ -369,11 +378,23 @@ fn limits() -> Vec<(&'static str, Option<u8>, Slices)> {
         ("65,536 slots", Some(8), slots(65_536)),
         ("65,534 slots with a frame", None, slots_and_place(65_533)),
         ("65,535 slots with a frame", Some(8), slots_and_place(65_534)),
-        ("255 arguments", None, args(1, 255)),
-        ("256 arguments", Some(15), args(1, 256)),
-        ("256 arguments for memcmp", None, args(2, 256)),
+        ("255 arguments", None, args(2, 255)),
+        ("256 arguments", Some(15), args(2, 256)),
+        ("255 arguments for a local", None, args_of((30, 4), (32, 0), 255)),
+        ("256 arguments for a local", Some(15), args_of((30, 4), (32, 0), 256)),
+        ("256 arguments for memcmp", None, args(3, 256)),
+        ("256 arguments for a syscall", None, args(0, 256)),
+        ("255 unknown arguments", Some(10), args_of((31, 2), unknown, 255)),
+        ("256 unknown arguments", Some(15), args_of((31, 2), unknown, 256)),
+        ("256 unknown arguments for memcmp", Some(10), args_of((31, 3), unknown, 256)),
+        ("256 unknown arguments for a syscall", Some(10), args_of((31, 0), unknown, 256)),
+        ("255 unknown arguments for null", Some(10), args_of((33, 0), unknown, 255)),
+        ("256 unknown arguments for null", Some(15), args_of((33, 0), unknown, 256)),
         ("32 indices", None, indices(32)),
         ("33 indices", Some(1), indices(33)),
+        ("32 indices into 31 arrays", None, indices_into(31, 32)),
+        ("32 indices into 30 arrays", Some(14), indices_into(30, 32)),
+        ("33 indices into 30 arrays", Some(1), indices_into(30, 33)),
     ]
 }
 

@@ -4,6 +4,7 @@ use crate::book::Lent;
 use crate::expect::{expected, Expected};
 use crate::runs;
 use crate::scratch::{numbers, Scratch};
+use crate::written::faulty;
 
 const SCRATCH: Scratch = Scratch {
     name: "definitions",
@@ -48,17 +49,28 @@ fn case(name: String, lent: Lent, most: usize) -> Result<Option<Case>, String> {
     Ok(Some(Case { name, lent, says }))
 }
 
-/// Random books, or damaged copies of them.
-pub fn compare(seed: u64, count: u64, damaged: bool) -> Result<(), String> {
+/// Which books are compared.
+#[derive(Clone, Copy)]
+pub enum Sort {
+    Random,
+    /// Damaged copies of random ones.
+    Damaged,
+    /// Statements whose parts are right or wrong.
+    Faulty,
+}
+
+pub fn compare(seed: u64, count: u64, sort: Sort) -> Result<(), String> {
     let mut cases = vec![];
     for index in 0..count {
-        let lent = runs::book(seed, index, false);
-        let made = if damaged {
-            case(format!("seed {seed}, damaged copy of book {index}"), runs::copy(&lent, seed, index, 0), MOST_WORDS)
-        } else {
-            case(format!("seed {seed}, book {index}"), lent, MOST_WORDS)
+        let (name, lent) = match sort {
+            Sort::Random => (format!("seed {seed}, book {index}"), runs::book(seed, index, false)),
+            Sort::Damaged => {
+                let lent = runs::book(seed, index, false);
+                (format!("seed {seed}, damaged copy of book {index}"), runs::copy(&lent, seed, index, 0))
+            }
+            Sort::Faulty => (format!("seed {seed}, faulty book {index}"), faulty::lent(seed, index)),
         };
-        cases.extend(made?);
+        cases.extend(case(name, lent, MOST_WORDS)?);
     }
     println!("{} equations, {} books left out as open or longer than {MOST_WORDS} words", cases.len(), count - cases.len() as u64);
 

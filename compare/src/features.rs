@@ -49,6 +49,21 @@ pub const FEATURES: &[(&str, fn(&Book) -> bool)] = &[
         };
         !names(true).is_disjoint(&names(false))
     }),
+    ("count of a type without width", |book| allocas(book).any(|(_, count)| count.is_some_and(|count| !is_scalar(&count.ty)))),
+    ("varying place of size 0", |book| varying_size(book, 0)),
+    ("varying place of size 1", |book| varying_size(book, 1)),
+    ("getelementptr without index of a type without size", |book| {
+        let mut measure = Measure::new(book);
+        book.instructions().any(|inst| match &inst.kind {
+            InstKind::GetElementPtr { base_ty, indices, .. } => indices.is_empty() && measure.size(base_ty).is_err(),
+            _ => false,
+        })
+    }),
+    ("varying index, stride 0", |book| first_stride(book, 0)),
+    ("varying index, stride 1", |book| first_stride(book, 1)),
+    ("varying index of pointer type", |book| {
+        geps(book).flatten().any(|index| !matches!(index.val, Value::Int(_)) && index.ty == Type::Ptr)
+    }),
     ("getelementptr without index", |book| geps(book).any(<[TypedVal]>::is_empty)),
     ("negative constant index", |book| {
         geps(book).flatten().any(|index| matches!(index.val, Value::Int(number) if number < 0))
@@ -62,6 +77,16 @@ pub const FEATURES: &[(&str, fn(&Book) -> bool)] = &[
     ("call of a name with .with.overflow.", |book| {
         calls(book).any(|(inst, name, _)| inst.dest.is_some() && name.contains(".with.overflow."))
     }),
+    ("call of a name that nearly has .with.overflow.", |book| {
+        calls(book).any(|(_, name, _)| name.contains("with.overflow") && !name.contains(".with.overflow."))
+    }),
+    ("call of a name that nearly is a syscall or memcmp", |book| {
+        calls(book).any(|(_, name, _)| {
+            let near = name.starts_with("__uvm") || name.contains("bcmp") || name.contains("memcmp");
+            near && !name.starts_with("__uvm_") && name != "bcmp" && name != "memcmp"
+        })
+    }),
+    ("call of a name that nearly starts llvm.", |book| calls(book).any(|(_, name, _)| name.starts_with("llvm"))),
     ("call of the function itself, not marked", |book| {
         let own = book.function.name.as_str();
         calls(book).any(|(_, name, _)| name == own) && book.marks.iter().all(|(_, name)| name != own)
@@ -71,6 +96,21 @@ pub const FEATURES: &[(&str, fn(&Book) -> bool)] = &[
         calls(book).any(|(inst, name, _)| {
             let void = matches!(inst.kind, InstKind::Call { ret_ty: Type::Void, .. });
             void && inst.dest.is_some() && name.starts_with("__uvm_")
+        })
+    }),
+    ("syscall with a result of a type without width", |book| {
+        calls(book).any(|(inst, name, _)| {
+            let odd = matches!(&inst.kind, InstKind::Call { ret_ty, .. } if *ret_ty != Type::Void && !is_scalar(ret_ty));
+            odd && name.starts_with("__uvm_")
+        })
+    }),
+    ("syscall or memcmp that is marked defined", |book| {
+        let marked = |name: &str| book.marks.iter().any(|(mark, other)| *mark == Mark::Defined && other == name);
+        calls(book).any(|(_, name, _)| (name.starts_with("__uvm_") || name == "bcmp" || name == "memcmp") && marked(name))
+    }),
+    ("bcmp or memcmp, void", |book| {
+        calls(book).any(|(inst, name, _)| {
+            matches!(inst.kind, InstKind::Call { ret_ty: Type::Void, .. }) && (name == "bcmp" || name == "memcmp")
         })
     }),
     ("bcmp or memcmp", |book| calls(book).any(|(_, name, _)| name == "bcmp" || name == "memcmp")),
@@ -108,12 +148,45 @@ pub const FEATURES: &[(&str, fn(&Book) -> bool)] = &[
         let aggregate = |ty: &Type| !matches!(ty, Type::Int(_) | Type::Ptr);
         book.instructions().any(|inst| matches!(&inst.kind, InstKind::Load { ty, .. } if aggregate(ty)))
     }),
+    ("atomic of an array or struct", |book| {
+        book.instructions().any(|inst| match &inst.kind {
+            InstKind::AtomicLoad { ty, .. } | InstKind::AtomicStore { ty, .. } | InstKind::Cmpxchg { ty, .. } => !is_scalar(ty),
+            _ => false,
+        })
+    }),
+    ("bitcast to a type without width", |book| {
+        book.instructions().any(|inst| {
+            matches!(&inst.kind, InstKind::Conv { op: ConvOp::BitCast, to_ty, .. } if !is_scalar(to_ty))
+        })
+    }),
     ("jump with a false target nobody reads", |book| {
         terms(book).any(|term| matches!(term, Terminator::Br { cond: None, if_false: Some(_), .. }))
     }),
     ("switch without cases", |book| terms(book).any(|term| matches!(term, Terminator::Switch { cases, .. } if cases.is_empty()))),
     ("about 65,535 slots", |book| results(book).count() > 65_000),
 ];
+
+fn is_scalar(ty: &Type) -> bool {
+    matches!(ty, Type::Int(_) | Type::Ptr)
+}
+
+/// Whether a varying place has elements of this size.
+fn varying_size(book: &Book, size: u64) -> bool {
+    let mut measure = Measure::new(book);
+    allocas(book).any(|(ty, count)| fixed_count(count).is_none() && measure.size(ty) == Ok(size))
+}
+
+/// Whether the first index of a getelementptr varies over elements of this size.
+fn first_stride(book: &Book, size: u64) -> bool {
+    let mut measure = Measure::new(book);
+    book.instructions().any(|inst| match &inst.kind {
+        InstKind::GetElementPtr { base_ty, indices, .. } => {
+            let varies = indices.first().is_some_and(|index| !matches!(index.val, Value::Int(_)));
+            varies && measure.size(base_ty) == Ok(size)
+        }
+        _ => false,
+    })
+}
 
 fn twice<'a>(mut names: impl Iterator<Item = &'a str>) -> bool {
     let mut seen = Set::default();

@@ -31,8 +31,10 @@ mod table;
 mod two_runs;
 mod vectors;
 mod visit;
+mod written;
 
 use book::{Lent, Slices};
+use definitions::Sort;
 use expect::{expected, Expected};
 use std::io::{Read, Write};
 use std::process::ExitCode;
@@ -47,11 +49,15 @@ const USAGE: &str = "usage:
                                      random and damaged books of at most MOST entries with their answers
   compare program SEED COUNT COMMAND..
                                      whether a program prints what `compare oracle` does
-  compare definitions SEED COUNT [--damaged]
+  compare faulty SEED COUNT          what random statements meet whose parts are right or wrong
+  compare faulty book SEED INDEX > BOOK
+                                     one of these as a file
+  compare definitions SEED COUNT [--damaged | --faulty]
                                      whether the definition in crates/lowering answers as the Rust does, by computation
   compare runs SEED COUNT            whether a function's run by the manual and the run of its lines on the machine agree, by
                                      two interpreters and by computation of the definitions, on random functions
   compare table SEED COUNT FILE      random books with the Rust's answers as a checked table of crates/lowering
+  compare written FOLDER             books written by hand with the Rust's answers as checked tables of crates/lowering
   compare checking SEED COUNT        whether the proved check of a book answers as ours does; built in where the
                                      static library of the crate `exports` stands
   compare printing SEED LINES NAMES  whether the proved printer prints random lines of every kind as docs/LINES.md says, and
@@ -96,9 +102,16 @@ fn run(args: &[&str]) -> Result<(), String> {
         ["program", seed, count, command @ ..] if !command.is_empty() => {
             program::compare(number(seed)?, number(count)?, command)
         }
-        ["definitions", seed, count] => definitions::compare(number(seed)?, number(count)?, false),
-        ["definitions", seed, count, "--damaged"] => definitions::compare(number(seed)?, number(count)?, true),
+        ["definitions", seed, count] => definitions::compare(number(seed)?, number(count)?, Sort::Random),
+        ["definitions", seed, count, "--damaged"] => definitions::compare(number(seed)?, number(count)?, Sort::Damaged),
+        ["definitions", seed, count, "--faulty"] => definitions::compare(number(seed)?, number(count)?, Sort::Faulty),
+        ["faulty", seed, count] => stats::faulty(number(seed)?, number(count)?),
+        ["faulty", "book", seed, index] => {
+            let slices = written::faulty::lent(number(seed)?, number(index)?).slices;
+            std::io::stdout().write_all(&slices.to_file()).map_err(|error| error.to_string())
+        }
         ["runs", seed, count] => two_runs::compare(number(seed)?, number(count)?),
+        ["written", folder] => written::write(folder),
         ["table", seed, count, file] => table::write(number(seed)?, number(count)?, file),
         #[cfg(proved)]
         ["checking", seed, count] => checking::compare(number(seed)?, number(count)?),

@@ -7,6 +7,7 @@ use crate::oracle;
 use crate::random;
 use crate::refusal;
 use crate::runs;
+use crate::written::faulty;
 use std::time::Instant;
 
 const COPIES: u64 = 4;
@@ -93,6 +94,17 @@ fn rate(seed: u64, count: u64, large: bool) {
     }
     let rate = count as f64 / start.elapsed().as_secs_f64();
     println!("{rate:.0} books a second{}", if large { ", large ones among them" } else { "" });
+}
+
+/// Statements whose parts are right or wrong.
+pub fn faulty(seed: u64, count: u64) -> Result<(), String> {
+    let mut tally = Tally::default();
+    for index in 0..count {
+        let expected = expected(&faulty::lent(seed, index)).map_err(|error| format!("seed {seed}, faulty book {index}: {error}"))?;
+        tally.add(&expected);
+    }
+    tally.print();
+    Ok(())
 }
 
 /// Damaged copies of random books.

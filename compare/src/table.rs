@@ -22,7 +22,7 @@ pub fn write(seed: u64, count: u64, file: &str) -> Result<(), String> {
     REFUSALS.iter().for_each(|number| wanted[*number as usize] = count / REFUSED);
     wanted[0] = count - wanted.iter().sum::<u64>();
 
-    let mut table = head(seed, count);
+    let mut rows = vec![];
     for index in 0.. {
         if wanted.iter().all(|left| *left == 0) {
             break;
@@ -32,46 +32,75 @@ pub fn write(seed: u64, count: u64, file: &str) -> Result<(), String> {
         if !ENTRIES.contains(&lent.slices.book[0]) || lent.slices.names.iter().any(|byte| b"\"\\".contains(byte)) {
             continue;
         }
-        let (number, says) = match expected(&lent).map_err(|error| format!("seed {seed}, book {index}: {error}"))? {
-            Expected::Accepted(accepted) => {
-                let lines = strings(accepted.lines.iter().map(String::as_str));
-                (0, format!("Answer.text (unlines (\n{}) {}", rows(10, &lines, ")"), accepted.next))
-            }
-            Expected::Refused(number) => (number, format!("Answer.refusal {number}")),
-            Expected::Open(_) => continue,
+        let answer = expected(&lent).map_err(|error| format!("seed {seed}, book {index}: {error}"))?;
+        let number = match answer {
+            Expected::Refused(number) => number,
+            _ => 0,
         };
+        let Some(says) = says(&answer) else { continue };
         if wanted[number as usize] > 0 {
             wanted[number as usize] -= 1;
-            sheet(&mut table, index, &lent.slices, &says);
+            rows.push(Row { title: index.to_string(), slices: lent.slices, says });
         }
     }
-    table += "    []\n\npub vectors-hold : map answers vectors ≡ map saysOf vectors\nunfolding openSheet vectors\nvectors-hold = refl\n";
-    std::fs::write(file, table).map_err(|error| format!("{file}: {error}"))
+    std::fs::write(file, named(&head(seed, count), "vectors", &rows)).map_err(|error| format!("{file}: {error}"))
 }
 
 fn head(seed: u64, count: u64) -> String {
     format!(
         "-- Random books, from raw entries to text bytes, with the answers of the published Rust: one table, one theorem. Written by
 -- `compare table {seed} {count} FILE`; the number over a book is its index under seed {seed}.
-use mathlib.Core.Path.{{_≡_, refl}}
-use mathlib.Core.List.{{List, [], _∷_, map}}
-use Rattle.assembly.specs.Cases.{{unlines}}
-use Rattle.lowering.specs.Sheet.{{Sheet, Answer, answers, saysOf, openSheet}}
-
-unfoldable pub vectors : List Sheet
-vectors =
 "
     )
 }
 
-fn sheet(table: &mut String, index: u64, slices: &Slices, says: &str) {
+/// A book with its answer, under a title.
+pub struct Row {
+    pub title: String,
+    pub slices: Slices,
+    pub says: String,
+}
+
+/// An answer as a table has it; none where it is open.
+pub fn says(answer: &Expected) -> Option<String> {
+    match answer {
+        Expected::Accepted(accepted) => {
+            let lines = strings(accepted.lines.iter().map(String::as_str));
+            Some(format!("Answer.text (unlines (\n{}) {}", rows(10, &lines, ")"), accepted.next))
+        }
+        Expected::Refused(number) => Some(format!("Answer.refusal {number}")),
+        Expected::Open(_) => None,
+    }
+}
+
+/// A file with one table of this name and one theorem; `head` stands over it.
+pub fn named(head: &str, name: &str, rows: &[Row]) -> String {
+    let mut table = format!(
+        "{head}use mathlib.Core.Path.{{_≡_, refl}}
+use mathlib.Core.List.{{List, [], _∷_, map}}
+use Rattle.assembly.specs.Cases.{{unlines}}
+use Rattle.lowering.specs.Sheet.{{Sheet, Answer, answers, saysOf, openSheet}}
+
+unfoldable pub {name} : List Sheet
+{name} =
+"
+    );
+    rows.iter().for_each(|row| sheet(&mut table, &row.title, &row.slices, &row.says));
+    let _ = write!(
+        table,
+        "    []\n\npub {name}-hold : map answers {name} ≡ map saysOf {name}\nunfolding openSheet {name}\n{name}-hold = refl\n"
+    );
+    table
+}
+
+fn sheet(table: &mut String, title: &str, slices: &Slices, says: &str) {
     let count = slices.book[0] as usize;
     let entries: Vec<String> = (0..count).map(|place| format!("({}, {})", slices.book[2 + place], slices.book[2 + count + place])).collect();
     let names = String::from_utf8_lossy(&slices.names);
     let names = strings(names.lines());
     let _ = write!(
         table,
-        "    -- {index}\n    record {{\n      entries =\n{};\n      names =\n{};\n      says = {says};\n    }} ∷\n",
+        "    -- {title}\n    record {{\n      entries =\n{};\n      names =\n{};\n      says = {says};\n    }} ∷\n",
         rows(10, &entries, ""),
         rows(10, &names, ""),
     );

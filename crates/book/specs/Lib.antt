@@ -20,3 +20,5 @@ pub mod Check
 pub mod Open
 pub mod Cases
 pub mod Map
+pub mod AtLimits
+pub mod TwoFaults

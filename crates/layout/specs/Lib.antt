@@ -8,3 +8,4 @@ pub mod Allowance
 pub mod Parts
 pub mod Limit
 pub mod AnyAllowance
+pub mod AtLimits

@@ -32,3 +32,11 @@ pub mod Slices
 pub mod Vectors1
 pub mod Vectors2
 pub mod Vectors3
+pub mod ChainsValues
+pub mod ChainsMemory
+pub mod ChainsCalls
+pub mod ChainsBlocks
+pub mod CornersPlaces
+pub mod CornersCalls
+pub mod CornersBlocks
+pub mod AtLimits
