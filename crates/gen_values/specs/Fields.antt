@@ -88,6 +88,17 @@ pub record ValueAt (m : ℕ) (ks ws : List ℕ) (a : ℕ) (v : Value) : Type 0 w
   pub in-kinds : a < length ks
   pub in-words : a < length ws
 
+-- a value stands there, and the words of every name
+pub record ValueThere (ks ws : List ℕ) (a : ℕ) (work : List ℕ) : Type 0 where
+  pub names : ℕ
+  pub value : Value
+  pub here : ValueAt names ks ws a value
+  pub room : 8 * names ≤ length work
+
+pub value-reaches : {ks ws : List ℕ} {a : ℕ} {work : List ℕ} → ValueThere ks ws a work → Reaches (getD ks a 0) (getD ws a 0) work
+value-reaches {ks} {ws} {a} {work} t =
+    record { there = λ e. let l : ValueLimits (t .names) (Value.local (getD ws a 0)) = subst (ValueLimits (t .names)) (sym (t .here .is) ∙ e) (t .here .limits) in omega (arith, l, t .room) }
+
 module _ {m : ℕ} {fs : List Field} where
   module _ {p : Meanings (Field.plain Item.value ∷ fs)} (ks ws : List ℕ) (a : ℕ) (f : Fields m (Field.plain Item.value ∷ fs) p (drop a (entries ks ws))) where
     head : drop a (entries ks ws) ≡ valueEntry (p .0) ∷ (encFields fs (p .1) ++ f .rest)

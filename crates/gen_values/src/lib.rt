@@ -7,9 +7,14 @@ use gen_lines::put;
 use gen_lines::refuse;
 ghost use mathlib.Core.Path.{_≡_};
 ghost use Prim.Native.Nat.{ℕ, _+_, _*_, _<_, _≤_};
-ghost use lib.ListN.{length};
+ghost use mathlib.Core.List.{List, _∷_};
+ghost use lib.ListN.{length, drop};
+ghost use Rattle.book.specs.Entry.{entries};
+ghost use Rattle.book.specs.Fields.{Item, Field, Meanings};
+ghost use Rattle.gen_lines.specs.Follow.{Asked};
+ghost use Rattle.gen_values.specs.Fields.{Fields, ValueAt, ValueThere};
 ghost use Rattle.lowering.specs.Context.{FnCtx};
-ghost use Rattle.lowering.specs.Operand.{pushValue, pushInt, storeDest, storeOrPop, emitTruncTo, sextBit, emitSext, workOf, workBits};
+ghost use Rattle.lowering.specs.Operand.{pushValue, pushInt, storeDest, storeOrPop, emitTruncTo, intWidth, sextBit, emitSext, workOf, workBits};
 ghost use Rattle.lowering.specs.Gen.{when};
 ghost use mathlib.Core.Bool.{_&&_};
 ghost use lib.Dec.{ltb};
@@ -265,4 +270,42 @@ pub fn extend(
         return emit_sext(width, 64, lines, operands, s);
     }
     s
+}
+
+// `push_value` of the value at a place.
+pub fn push_at(
+    kinds: &[u64],
+    words: &[u64],
+    at: usize,
+    width: u32,
+    work: &[u64],
+    lines: &mut [u16],
+    operands: &mut [u64],
+    s: Reached,
+) -> Reached
+    requires { ⌜ ValueThere (now kinds) (now words) at (now work) ⌝ }
+    ensures { λ r. ⌜ ((m : ℕ) (c : FnCtx) (v : Value) → ValueAt m (now (kinds .entry)) (now (words .entry)) at v → Locals c m (now (work .entry))
+        → Puts (pushValue c v width) s r (now (lines .entry)) (now (operands .entry)) (now (lines .exit)) (now (operands .exit))) ⌝ }
+{
+    push_value(kinds[at], words[at], width, work, lines, operands, s)
+}
+
+// A width that was asked for, 0 where there is none, and what is reached behind the question.
+pub struct Wide {
+    pub width: u32,
+    pub s: Reached,
+}
+
+// `int_width` of the type at a place, or its refusal.
+pub fn width_at(kinds: &[u64], words: &[u64], at: usize, s: Reached) -> Wide
+    requires { ⌜ (at < length (now kinds)) × (at < length (now words)) ⌝ }
+    ensures { λ r. ⌜ ((m : ℕ) (fs : List Field) (p : Meanings (Field.plain Item.type ∷ fs))
+        → Fields m (Field.plain Item.type ∷ fs) p (drop at (entries (now (kinds .entry)) (now (words .entry))))
+        → Asked (intWidth (p .0)) s (r .s) (r .width)) ⌝ }
+{
+    let width = int_width(kinds[at], words[at]);
+    Wide {
+        width,
+        s: need(s, width != 0, 9),
+    }
 }
