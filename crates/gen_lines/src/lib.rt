@@ -85,3 +85,10 @@ pub fn fresh(s: Reached, labels: u64) -> Reached
         }
     }
 }
+
+// The next label's number.
+pub fn label(s: Reached) -> u64
+    ensures { λ r. ⌜ r ≡ s .counter ⌝ }
+{
+    s.counter
+}

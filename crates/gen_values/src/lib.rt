@@ -11,6 +11,7 @@ ghost use mathlib.Core.List.{List, _∷_};
 ghost use lib.ListN.{length, drop};
 ghost use Rattle.book.specs.Entry.{entries};
 ghost use Rattle.book.specs.Fields.{Item, Field, Meanings};
+ghost use Rattle.layout_memo.specs.Front.{tyLen};
 ghost use Rattle.gen_lines.specs.Follow.{Asked};
 ghost use Rattle.gen_values.specs.Fields.{Fields, ValueAt, ValueThere};
 ghost use Rattle.lowering.specs.Context.{FnCtx};
@@ -308,4 +309,12 @@ pub fn width_at(kinds: &[u64], words: &[u64], at: usize, s: Reached) -> Wide
         width,
         s: need(s, width != 0, 9),
     }
+}
+
+// The number of entries of the type at a place.
+pub fn skip_at(kinds: &[u64], words: &[u64], at: usize, names: u64) -> usize
+    requires { ⌜ (at < length (now kinds)) × (at < length (now words)) ⌝ }
+    ensures { λ r. ⌜ r ≡ tyLen names (drop at (entries (now (kinds .entry)) (now (words .entry)))) ⌝ }
+{
+    layout_memo::skip(&kinds[at..], &words[at..], names)
 }
