@@ -54,12 +54,12 @@ module _ {s t : Reached} {ks os ks′ os′ : List ℕ} where
 
 module _ (c : FnCtx) (test : Value) (ty : Ty) (tval fval : Value) {w : ℕ} {s s₀ s₁ s₂ t₁ t₂ t₃ t₄ t₅ t₆ t₇ : Reached}
     {k₀ o₀ k₁ o₁ k₂ o₂ k₃ o₃ k₄ o₄ k₅ o₅ k₆ o₆ k₇ o₇ : List ℕ} where
-  pub select-lines : Asked (intWidth ty) s s₀ w → s₁ ≡ madeFresh s₀ 1 → s₀ .counter < 2 ^ 64 → s₂ ≡ madeFresh s₁ 1 → s₁ .counter < 2 ^ 64
-      → Puts (pushValue c test 1) s₂ t₁ k₀ o₀ k₁ o₁ → Lined 17 (s₀ .counter) t₁ t₂ k₁ o₁ k₂ o₂
-      → Puts (pushValue c tval w) t₂ t₃ k₂ o₂ k₃ o₃ → Lined 18 (s₁ .counter) t₃ t₄ k₃ o₃ k₄ o₄ → Lined 13 (s₀ .counter) t₄ t₅ k₄ o₄ k₅ o₅
-      → Puts (pushValue c fval w) t₅ t₆ k₅ o₅ k₆ o₆ → Lined 14 (s₁ .counter) t₆ t₇ k₆ o₆ k₇ o₇ → Puts (genSelect c test ty tval fval) s t₇ k₀ o₀ k₇ o₇
+  pub select-lines : {x y : ℕ} → Asked (intWidth ty) s s₀ w → x ≡ s₀ .counter → y ≡ s₁ .counter → s₁ ≡ madeFresh s₀ 1 → x < 2 ^ 64 → s₂ ≡ madeFresh s₁ 1 → y < 2 ^ 64
+      → Puts (pushValue c test 1) s₂ t₁ k₀ o₀ k₁ o₁ → Lined 17 x t₁ t₂ k₁ o₁ k₂ o₂
+      → Puts (pushValue c tval w) t₂ t₃ k₂ o₂ k₃ o₃ → Lined 18 y t₃ t₄ k₃ o₃ k₄ o₄ → Lined 13 x t₄ t₅ k₄ o₄ k₅ o₅
+      → Puts (pushValue c fval w) t₅ t₆ k₅ o₅ k₆ o₆ → Lined 14 y t₆ t₇ k₆ o₆ k₇ o₇ → Puts (genSelect c test ty tval fval) s t₇ k₀ o₀ k₇ o₇
   unfolding genSelect hintNumber
-  select-lines asked e₁ l₁ e₂ l₂ p j q i l r d =
-      asked-puts _ asked (fresh-puts e₁ l₁ λ n x. fresh-puts e₂ l₂ λ n′ y.
-      then-puts p (then-puts (jump-puts Hint.selFalse n refl x j) (then-puts q (then-puts (jump-puts Hint.selDone n′ refl y i)
-      (then-puts (label-puts Hint.selFalse n refl x l) (then-puts r (label-puts Hint.selDone n′ refl y d)))))))
+  select-lines asked ex ey e₁ l₁ e₂ l₂ p j q i l r d =
+      asked-puts _ asked (fresh-puts e₁ (omega (arith, ex)) λ n u. fresh-puts e₂ (omega (arith, ey)) λ n′ v.
+      then-puts p (then-puts (jump-puts Hint.selFalse n refl (ex ∙ u) j) (then-puts q (then-puts (jump-puts Hint.selDone n′ refl (ey ∙ v) i)
+      (then-puts (label-puts Hint.selFalse n refl (ex ∙ u) l) (then-puts r (label-puts Hint.selDone n′ refl (ey ∙ v) d)))))))
