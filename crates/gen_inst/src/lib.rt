@@ -1,0 +1,2 @@
+// `gen_inst`
+pub mod values;
