@@ -11,7 +11,8 @@ use lib.ListN.{length, getD, drop, set, length-set, length-append, length-drop}
 use lib.Seq.{getD-set-same, getD-set-other}
 use borrow.Author.Tests.{eqb-true, eqb-false}
 use Rattle.book.specs.Entry.{Entry, entry, entries}
-use Rattle.book.specs.Ast.{BasicBlock}
+use Rattle.book.specs.Ast.{BasicBlock, Function, Book}
+use Rattle.book.specs.Decode.{decode}
 use Rattle.book.specs.Map.{Map, lookup}
 use Rattle.book.specs.Rule.{pick}
 use Rattle.book.specs.Encode.{ending, closed, encInst, encTerm, encBasicBlock}
@@ -23,8 +24,8 @@ use Rattle.gen_values.specs.Maps.{numbered, BlockAt, BlockWord}
 use Rattle.gen_values.specs.Fields.{entry-at}
 use Rattle.gen_blocks.specs.Inside.{Inside, inside-body}
 use Rattle.gen_blocks.specs.Words.{WordsKept, words-set, ready-kept}
-use Rattle.gen_blocks.specs.Function.{functionIn, FunctionAt}
-use Rattle.gen_blocks.specs.Params.{blocksOf, ParamsAsked, ParamsPlaced}
+use Rattle.gen_blocks.specs.Function.{functionIn, function-is, FunctionAt}
+use Rattle.gen_blocks.specs.Params.{blocksOf, ParamsPlaced}
 
 -- what `place_blocks` asks and leaves
 pub record BlocksAsked (m : ℕ) (es : List Entry) (work : List ℕ) (a : ℕ) : Type 0 where
@@ -238,9 +239,6 @@ pub record FunctionPlaced (m : ℕ) (es : List Entry) (work work′ : List ℕ) 
   pub same : (i : ℕ) → ((x : ℕ) → x < m → i ≡ 8 * x → ⊥) → ((x : ℕ) → x < m → i ≡ 8 * x + 2 → ⊥) → getD work′ i 0 ≡ getD work i 0
 
 module _ {m : ℕ} {es : List Entry} {work : List ℕ} {a : ℕ} (k : FunctionAsked m es work a) where
-  pub asked-params : ParamsAsked m es work a
-  asked-params = record { fn = k .fn; room = k .room; blank = k .params }
-
   module _ {work′ : List ℕ} {r : ℕ} (p : ParamsPlaced m es work work′ r) where
     pub asked-blocks : BlocksAsked m es work′ r
     asked-blocks =
@@ -264,6 +262,20 @@ module _ {m : ℕ} {es : List Entry} {work : List ℕ} {a : ℕ} (k : FunctionAs
           long = b .kept .long ∙ p .kept .long;
           same = λ i f g. b .kept .same i g ∙ p .kept .same i (λ x l e. f x l (omega arith));
         }
+
+-- the same of the book that the entries are
+module _ {m : ℕ} {es : List Entry} {work work′ : List ℕ} {r : ℕ} (p : FunctionPlaced m es work work′ r) (b : Book) (e : decode m es ≡ some b) where
+  is : functionIn m es ≡ b .function
+  is = function-is m es b e
+
+  pub book-params : (x : ℕ) → x < m → getD work′ (8 * x) 0 ≡ numbered (lookup x (paramMap 0 (b .function .params) []))
+  book-params x l = p .params x l ∙ ap (λ (f : Function). numbered (lookup x (paramMap 0 (f .params) []))) is
+
+  pub book-blocks : (x : ℕ) → x < m → BlockWord m es (lookup x (blockMap (b .function .blocks) [])) (getD work′ (8 * x + 2) 0)
+  book-blocks x l = subst (λ (f : Function). BlockWord m es (lookup x (blockMap (f .blocks) [])) (getD work′ (8 * x + 2) 0)) is (p .blocks x l)
+
+  pub book-first : drop r es ≡ closed encBasicBlock (b .function .blocks)
+  book-first = p .first ∙ ap (λ (f : Function). closed encBasicBlock (f .blocks)) is
 
 -- measuring is not touched
 module _ {m : ℕ} {es : List Entry} {work work′ : List ℕ} {r : ℕ} where

@@ -19,12 +19,12 @@ use Rattle.book.specs.AgreeInst.{inst-found, term-found}
 abbrev pub Inside : Entry → Type 0
 Inside e = 1 ≤ e .kind → e .kind ≤ 9 → ⊥
 
-pub inside-append : (xs ys : List Entry) → Each Inside xs → Each Inside ys → Each Inside (xs ++ ys)
+inside-append : (xs ys : List Entry) → Each Inside xs → Each Inside ys → Each Inside (xs ++ ys)
 inside-append [] ys p q = q
 inside-append (x ∷ xs) ys p q = (p .0, inside-append xs ys (p .1) q)
 
 module _ {A : Type 0} (write : A → List Entry) (all : (a : A) → Each Inside (write a)) where
-  pub inside-ending : (end : List Entry) → Each Inside end → (as′ : List A) → Each Inside (ending write end as′)
+  inside-ending : (end : List Entry) → Each Inside end → (as′ : List A) → Each Inside (ending write end as′)
   unfolding ending
   inside-ending end e [] = e
   inside-ending end e (a ∷ as′) = inside-append (write a) _ (all a) (inside-ending end e as′)

@@ -21,41 +21,41 @@ mul-if1 : tie.Need-mul-if1 Inv-loop μ-loop
 mul-if1 c =
     let at-loop = c in
     let entry = at-loop .before in
-    let h = laws.scan-there (entry .args .names) (entry .args .kinds .now) (entry .args .words .now) _ (at-loop .loop .inv) in
+    let h = laws.scan-there _ (entry .args .kinds .now) (entry .args .words .now) _ (at-loop .loop .inv) in
     search needs
 
 shared-slice-read-if1 : tie.Need-shared-slice-read-if1 Inv-loop μ-loop
 shared-slice-read-if1 c =
     let at-loop = c .before in
     let entry = at-loop .before in
-    let h = laws.scan-there (entry .args .names) (entry .args .kinds .now) (entry .args .words .now) _ (at-loop .loop .inv) in
+    let h = laws.scan-there _ (entry .args .kinds .now) (entry .args .words .now) _ (at-loop .loop .inv) in
     search needs
 
 add-at : tie.Need-add-at Inv-loop μ-loop
 add-at c =
     let at-loop = c .before .before in
     let entry = at-loop .before in
-    let h = laws.scan-there (entry .args .names) (entry .args .kinds .now) (entry .args .words .now) _ (at-loop .loop .inv) in
+    let h = laws.scan-there _ (entry .args .kinds .now) (entry .args .words .now) _ (at-loop .loop .inv) in
     search needs
 
 loop-less : tie.Need-loop-less Inv-loop μ-loop
 loop-less c =
     let at-loop = c .before .before in
     let entry = at-loop .before in
-    let h = laws.scan-there (entry .args .names) (entry .args .kinds .now) (entry .args .words .now) _ (at-loop .loop .inv) in
+    let h = laws.scan-there _ (entry .args .kinds .now) (entry .args .words .now) _ (at-loop .loop .inv) in
     omega arith
 
 loop-again : tie.Need-loop-again Inv-loop μ-loop
 loop-again c =
     let at-loop = c .before .before in
     let entry = at-loop .before in
-    laws.scan-next (entry .args .names) (entry .args .kinds .now) (entry .args .words .now) _ (at-loop .loop .inv) (c .if1 .taken)
+    laws.scan-next _ (entry .args .kinds .now) (entry .args .words .now) _ (at-loop .loop .inv) (c .if1 .taken)
 
 returns : tie.Need-returns Inv-loop μ-loop
 returns c =
     let at-loop = c .before .before in
     let entry = at-loop .before in
-    laws.scan-done (entry .args .names) (entry .args .kinds .now) (entry .args .words .now) _ (at-loop .loop .inv) (c .if1 .left)
+    laws.scan-done _ (entry .args .kinds .now) (entry .args .words .now) _ (at-loop .loop .inv) (c .if1 .left)
 
 pub find-function-spec : {M : Type 1} → statement M
 find-function-spec =

@@ -32,7 +32,7 @@ mul-if1 c =
     let after-shorter = at-loop .before in
     let entry = after-shorter .before .before .before .before in
     let l : at-loop .loop .next < length (entries (entry .args .kinds .now) (entry .args .words .now)) = rw (after-shorter .shorter .ensures) at (in-loop .loop-test .taken) in
-    let k = laws.in-kinds (entry .args .names) (entry .args .kinds .now) (entry .args .words .now) _ _ (at-loop .loop .inv .0) l in
+    let k = laws.in-kinds _ (entry .args .kinds .now) (entry .args .words .now) _ _ (at-loop .loop .inv .0) l in
     search needs
 
 shared-slice-read-if1 : tie.Need-shared-slice-read-if1 Inv-loop μ-loop
@@ -42,7 +42,7 @@ shared-slice-read-if1 c =
     let after-shorter = at-loop .before in
     let entry = after-shorter .before .before .before .before in
     let l : at-loop .loop .next < length (entries (entry .args .kinds .now) (entry .args .words .now)) = rw (after-shorter .shorter .ensures) at (in-loop .loop-test .taken) in
-    let k = laws.in-kinds (entry .args .names) (entry .args .kinds .now) (entry .args .words .now) _ _ (at-loop .loop .inv .0) l in
+    let k = laws.in-kinds _ (entry .args .kinds .now) (entry .args .words .now) _ _ (at-loop .loop .inv .0) l in
     search needs
 
 add-work : tie.Need-add-work Inv-loop μ-loop
@@ -52,7 +52,7 @@ add-work c =
     let after-shorter = at-loop .before in
     let entry = after-shorter .before .before .before .before in
     let l : at-loop .loop .next < length (entries (entry .args .kinds .now) (entry .args .words .now)) = rw (after-shorter .shorter .ensures) at (in-loop .loop-test .taken) in
-    let k = laws.in-kinds (entry .args .names) (entry .args .kinds .now) (entry .args .words .now) _ _ (at-loop .loop .inv .0) l in
+    let k = laws.in-kinds _ (entry .args .kinds .now) (entry .args .words .now) _ _ (at-loop .loop .inv .0) l in
     search needs
 
 mul-work : tie.Need-mul-work Inv-loop μ-loop
@@ -62,7 +62,7 @@ mul-work c =
     let after-shorter = at-loop .before in
     let entry = after-shorter .before .before .before .before in
     let l : at-loop .loop .next < length (entries (entry .args .kinds .now) (entry .args .words .now)) = rw (after-shorter .shorter .ensures) at (in-loop .loop-test .taken) in
-    let w = laws.in-words (entry .args .names) (entry .args .kinds .now) (entry .args .words .now) _ _ (at-loop .loop .inv .0) l in
+    let w = laws.in-words _ (entry .args .kinds .now) (entry .args .words .now) _ _ (at-loop .loop .inv .0) l in
     search needs
 
 shared-slice-read-work : tie.Need-shared-slice-read-work Inv-loop μ-loop
@@ -72,7 +72,7 @@ shared-slice-read-work c =
     let after-shorter = at-loop .before in
     let entry = after-shorter .before .before .before .before in
     let l : at-loop .loop .next < length (entries (entry .args .kinds .now) (entry .args .words .now)) = rw (after-shorter .shorter .ensures) at (in-loop .loop-test .taken) in
-    let w = laws.in-words (entry .args .names) (entry .args .kinds .now) (entry .args .words .now) _ _ (at-loop .loop .inv .0) l in
+    let w = laws.in-words _ (entry .args .kinds .now) (entry .args .words .now) _ _ (at-loop .loop .inv .0) l in
     search needs
 
 mul-work-2 : tie.Need-mul-work-2 Inv-loop μ-loop
@@ -83,7 +83,7 @@ mul-work-2 c =
     let after-shorter = at-loop .before in
     let entry = after-shorter .before .before .before .before in
     let l : at-loop .loop .next < length (entries (entry .args .kinds .now) (entry .args .words .now)) = rw (after-shorter .shorter .ensures) at (in-loop .loop-test .taken) in
-    let b = laws.label-below (entry .args .names) (entry .args .kinds .now) (entry .args .words .now) _ _ (at-loop .loop .inv .0) l (then1 .if1 .taken) in
+    let b = laws.label-below _ (entry .args .kinds .now) (entry .args .words .now) _ _ (at-loop .loop .inv .0) l (then1 .if1 .taken) in
     let r = at-loop .loop .inv .0 .room in
     search needs
 
@@ -95,7 +95,7 @@ add-work-2 c =
     let after-shorter = at-loop .before in
     let entry = after-shorter .before .before .before .before in
     let l : at-loop .loop .next < length (entries (entry .args .kinds .now) (entry .args .words .now)) = rw (after-shorter .shorter .ensures) at (in-loop .loop-test .taken) in
-    let b = laws.label-below (entry .args .names) (entry .args .kinds .now) (entry .args .words .now) _ _ (at-loop .loop .inv .0) l (then1 .if1 .taken) in
+    let b = laws.label-below _ (entry .args .kinds .now) (entry .args .words .now) _ _ (at-loop .loop .inv .0) l (then1 .if1 .taken) in
     let r = at-loop .loop .inv .0 .room in
     search needs
 
@@ -107,7 +107,7 @@ mul-work-3 c =
     let after-shorter = at-loop .before in
     let entry = after-shorter .before .before .before .before in
     let l : at-loop .loop .next < length (entries (entry .args .kinds .now) (entry .args .words .now)) = rw (after-shorter .shorter .ensures) at (in-loop .loop-test .taken) in
-    let b = laws.label-below (entry .args .names) (entry .args .kinds .now) (entry .args .words .now) _ _ (at-loop .loop .inv .0) l (then1 .if1 .taken) in
+    let b = laws.label-below _ (entry .args .kinds .now) (entry .args .words .now) _ _ (at-loop .loop .inv .0) l (then1 .if1 .taken) in
     let r = at-loop .loop .inv .0 .room in
     search needs
 
@@ -119,7 +119,7 @@ slice-write-work c =
     let after-shorter = at-loop .before in
     let entry = after-shorter .before .before .before .before in
     let l : at-loop .loop .next < length (entries (entry .args .kinds .now) (entry .args .words .now)) = rw (after-shorter .shorter .ensures) at (in-loop .loop-test .taken) in
-    let b = laws.label-below (entry .args .names) (entry .args .kinds .now) (entry .args .words .now) _ _ (at-loop .loop .inv .0) l (then1 .if1 .taken) in
+    let b = laws.label-below _ (entry .args .kinds .now) (entry .args .words .now) _ _ (at-loop .loop .inv .0) l (then1 .if1 .taken) in
     let r = at-loop .loop .inv .0 .room in
     search needs
 
@@ -130,15 +130,11 @@ add-next c =
     let after-shorter = at-loop .before in
     let entry = after-shorter .before .before .before .before in
     let l : at-loop .loop .next < length (entries (entry .args .kinds .now) (entry .args .words .now)) = rw (after-shorter .shorter .ensures) at (in-loop .loop-test .taken) in
-    let k = laws.in-kinds (entry .args .names) (entry .args .kinds .now) (entry .args .words .now) _ _ (at-loop .loop .inv .0) l in
+    let k = laws.in-kinds _ (entry .args .kinds .now) (entry .args .words .now) _ _ (at-loop .loop .inv .0) l in
     search needs
 
 loop-less : tie.Need-loop-less Inv-loop μ-loop
 loop-less c =
-    let in-loop = c .before .before in
-    let at-loop = in-loop .before in
-    let after-shorter = at-loop .before in
-    let entry = after-shorter .before .before .before .before in
     omega arith
 
 loop-again : tie.Need-loop-again Inv-loop μ-loop
@@ -164,7 +160,7 @@ returns c =
     let at-loop = c .before in
     let after-shorter = at-loop .before in
     let entry = after-shorter .before .before .before .before in
-    laws.blocks-done (entry .args .names) (entry .args .kinds .now) (entry .args .words .now) _ _ (at-loop .loop .inv .0) _
+    laws.blocks-done _ (entry .args .kinds .now) (entry .args .words .now) _ _ (at-loop .loop .inv .0) _
     (rw (after-shorter .shorter .ensures) at (c .loop-test .left)) (at-loop .loop .inv .1)
 
 pub place-blocks-spec : {M : Type 1} → statement M

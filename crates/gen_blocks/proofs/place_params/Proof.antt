@@ -20,25 +20,25 @@ abbrev μ-loop : tie.MeasureT-loop
 add-ty : tie.Need-add-ty Inv-loop μ-loop
 add-ty c =
     let entry = c .before .before .before in
-    let k = laws.return-kinds (entry .args .names) (entry .args .kinds .now) (entry .args .words .now) (entry .args .work .now) (entry .args .at) (entry .pre) in
+    let k = laws.return-kinds _ (entry .args .kinds .now) (entry .args .words .now) _ _ (entry .pre) in
     search needs
 
 mul-skip : tie.Need-mul-skip Inv-loop μ-loop
 mul-skip c =
     let entry = c .before .before .before in
-    let k = laws.return-kinds (entry .args .names) (entry .args .kinds .now) (entry .args .words .now) (entry .args .work .now) (entry .args .at) (entry .pre) in
+    let k = laws.return-kinds _ (entry .args .kinds .now) (entry .args .words .now) _ _ (entry .pre) in
     search needs
 
 sub-skip : tie.Need-sub-skip Inv-loop μ-loop
 sub-skip c =
     let entry = c .before .before .before in
-    let k = laws.return-kinds (entry .args .names) (entry .args .kinds .now) (entry .args .words .now) (entry .args .work .now) (entry .args .at) (entry .pre) in
+    let k = laws.return-kinds _ (entry .args .kinds .now) (entry .args .words .now) _ _ (entry .pre) in
     search needs
 
 part-skip-start : tie.Need-part-skip-start Inv-loop μ-loop
 part-skip-start c =
     let entry = c .before .before .before in
-    let k = laws.return-kinds (entry .args .names) (entry .args .kinds .now) (entry .args .words .now) (entry .args .work .now) (entry .args .at) (entry .pre) in
+    let k = laws.return-kinds _ (entry .args .kinds .now) (entry .args .words .now) _ _ (entry .pre) in
     search needs
 
 part-skip-end : tie.Need-part-skip-end Inv-loop μ-loop
@@ -47,19 +47,19 @@ part-skip-end c = search needs
 mul-skip-2 : tie.Need-mul-skip-2 Inv-loop μ-loop
 mul-skip-2 c =
     let entry = c .before .before .before .before in
-    let w = laws.return-words (entry .args .names) (entry .args .kinds .now) (entry .args .words .now) (entry .args .work .now) (entry .args .at) (entry .pre) in
+    let w = laws.return-words _ (entry .args .kinds .now) (entry .args .words .now) _ _ (entry .pre) in
     search needs
 
 sub-skip-2 : tie.Need-sub-skip-2 Inv-loop μ-loop
 sub-skip-2 c =
     let entry = c .before .before .before .before in
-    let w = laws.return-words (entry .args .names) (entry .args .kinds .now) (entry .args .words .now) (entry .args .work .now) (entry .args .at) (entry .pre) in
+    let w = laws.return-words _ (entry .args .kinds .now) (entry .args .words .now) _ _ (entry .pre) in
     search needs
 
 part-skip-start-2 : tie.Need-part-skip-start-2 Inv-loop μ-loop
 part-skip-start-2 c =
     let entry = c .before .before .before .before in
-    let w = laws.return-words (entry .args .names) (entry .args .kinds .now) (entry .args .words .now) (entry .args .work .now) (entry .args .at) (entry .pre) in
+    let w = laws.return-words _ (entry .args .kinds .now) (entry .args .words .now) _ _ (entry .pre) in
     search needs
 
 part-skip-end-2 : tie.Need-part-skip-end-2 Inv-loop μ-loop
@@ -71,25 +71,25 @@ skip-requires c κs = search needs
 add-next : tie.Need-add-next Inv-loop μ-loop
 add-next c =
     let entry = c .before .before .before .before .before .before in
-    omega (arith, laws.return-fits (entry .args .names) (entry .args .kinds .now) (entry .args .words .now) (entry .args .work .now) (entry .args .at) (entry .pre) _ (c .skip .ensures))
+    omega (arith, laws.return-fits _ (entry .args .kinds .now) (entry .args .words .now) _ _ (entry .pre) _ (c .skip .ensures))
 
 loop-holds : tie.Need-loop-holds Inv-loop μ-loop
 loop-holds c =
     let entry = c .before .before .before .before .before .before in
-    (laws.params-start (entry .args .names) (entry .args .kinds .now) (entry .args .words .now) (entry .args .work .now) (entry .args .at) (entry .pre) _ (c .skip .ensures), words-none)
+    (laws.params-start _ (entry .args .kinds .now) (entry .args .words .now) _ _ (entry .pre) _ (c .skip .ensures), words-none)
 
 mul-if1 : tie.Need-mul-if1 Inv-loop μ-loop
 mul-if1 c =
     let at-loop = c in
     let entry = at-loop .before .before .before .before .before .before .before in
-    let k = laws.params-kinds (entry .args .names) (entry .args .kinds .now) (entry .args .words .now) _ _ _ (at-loop .loop .inv .0) in
+    let k = laws.params-kinds _ (entry .args .kinds .now) (entry .args .words .now) _ _ _ (at-loop .loop .inv .0) in
     search needs
 
 shared-slice-read-if1 : tie.Need-shared-slice-read-if1 Inv-loop μ-loop
 shared-slice-read-if1 c =
     let at-loop = c .before in
     let entry = at-loop .before .before .before .before .before .before .before in
-    let k = laws.params-kinds (entry .args .names) (entry .args .kinds .now) (entry .args .words .now) _ _ _ (at-loop .loop .inv .0) in
+    let k = laws.params-kinds _ (entry .args .kinds .now) (entry .args .words .now) _ _ _ (at-loop .loop .inv .0) in
     search needs
 
 place-param-requires : tie.Need-place-param-requires Inv-loop μ-loop
@@ -102,14 +102,14 @@ add-index : tie.Need-add-index Inv-loop μ-loop
 add-index c =
     let at-loop = c .before .before .before .before .before .before in
     let entry = at-loop .before .before .before .before .before .before .before in
-    omega (arith, laws.params-few (entry .args .names) (entry .args .kinds .now) (entry .args .words .now) _ _ _ (at-loop .loop .inv .0), at-loop .loop .inv .0 .small)
+    omega (arith, laws.params-few _ (entry .args .kinds .now) (entry .args .words .now) _ _ _ (at-loop .loop .inv .0), at-loop .loop .inv .0 .small)
 
 loop-less : tie.Need-loop-less Inv-loop μ-loop
 loop-less c =
     let after-place-param = c .before .before in
     let at-loop = after-place-param .before .before .before .before in
     let entry = at-loop .before .before .before .before .before .before .before in
-    let k = laws.params-kinds (entry .args .names) (entry .args .kinds .now) (entry .args .words .now) _ _ _ (after-place-param .place-param .ensures .next) in
+    let k = laws.params-kinds _ (entry .args .kinds .now) (entry .args .words .now) _ _ _ (after-place-param .place-param .ensures .next) in
     let g = after-place-param .place-param .ensures .more in
     omega arith
 
@@ -123,7 +123,7 @@ add-result : tie.Need-add-result Inv-loop μ-loop
 add-result c =
     let at-loop = c .before .before in
     let entry = at-loop .before .before .before .before .before .before .before in
-    omega (arith, laws.params-few (entry .args .names) (entry .args .kinds .now) (entry .args .words .now) _ _ _ (at-loop .loop .inv .0))
+    omega (arith, laws.params-few _ (entry .args .kinds .now) (entry .args .words .now) _ _ _ (at-loop .loop .inv .0))
 
 same-length : tie.Need-same-length Inv-loop μ-loop
 same-length c = search needs
@@ -132,7 +132,7 @@ returns : tie.Need-returns Inv-loop μ-loop
 returns c =
     let at-loop = c .before .before in
     let entry = at-loop .before .before .before .before .before .before .before in
-    laws.params-done (entry .args .names) (entry .args .kinds .now) (entry .args .words .now) _ _ _ (at-loop .loop .inv .0) (c .if1 .left) (at-loop .loop .inv .1)
+    laws.params-done _ (entry .args .kinds .now) (entry .args .words .now) _ _ _ (at-loop .loop .inv .0) (c .if1 .left) (at-loop .loop .inv .1)
 
 pub place-params-spec : {M : Type 1} → statement M
 place-params-spec =

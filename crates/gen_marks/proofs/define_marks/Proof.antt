@@ -25,7 +25,7 @@ mul-if1 : tie.Need-mul-if1 Inv-loop μ-loop
 mul-if1 c =
     let at-loop = c in
     let entry = at-loop .before .before .before .before in
-    let h = laws.seen-here (entry .args .count) (entry .args .kinds .now) (entry .args .words .now) _ _ _ (at-loop .loop .inv) in
+    let h = laws.seen-here _ (entry .args .kinds .now) (entry .args .words .now) _ _ _ (at-loop .loop .inv) in
     let k = h .in-kinds in
     search needs
 
@@ -33,7 +33,7 @@ shared-slice-read-if1 : tie.Need-shared-slice-read-if1 Inv-loop μ-loop
 shared-slice-read-if1 c =
     let at-loop = c .before in
     let entry = at-loop .before .before .before .before in
-    let h = laws.seen-here (entry .args .count) (entry .args .kinds .now) (entry .args .words .now) _ _ _ (at-loop .loop .inv) in
+    let h = laws.seen-here _ (entry .args .kinds .now) (entry .args .words .now) _ _ _ (at-loop .loop .inv) in
     let k = h .in-kinds in
     search needs
 
@@ -41,7 +41,7 @@ mul-if2 : tie.Need-mul-if2 Inv-loop μ-loop
 mul-if2 c =
     let at-loop = c .before .before in
     let entry = at-loop .before .before .before .before in
-    let h = laws.seen-here (entry .args .count) (entry .args .kinds .now) (entry .args .words .now) _ _ _ (at-loop .loop .inv) in
+    let h = laws.seen-here _ (entry .args .kinds .now) (entry .args .words .now) _ _ _ (at-loop .loop .inv) in
     let k = h .in-kinds in
     search needs
 
@@ -49,7 +49,7 @@ shared-slice-read-if2 : tie.Need-shared-slice-read-if2 Inv-loop μ-loop
 shared-slice-read-if2 c =
     let at-loop = c .before .before .before in
     let entry = at-loop .before .before .before .before in
-    let h = laws.seen-here (entry .args .count) (entry .args .kinds .now) (entry .args .words .now) _ _ _ (at-loop .loop .inv) in
+    let h = laws.seen-here _ (entry .args .kinds .now) (entry .args .words .now) _ _ _ (at-loop .loop .inv) in
     let k = h .in-kinds in
     search needs
 
@@ -57,7 +57,7 @@ mul-place : tie.Need-mul-place Inv-loop μ-loop
 mul-place c =
     let at-loop = c .before .before .before .before in
     let entry = at-loop .before .before .before .before in
-    let h = laws.seen-here (entry .args .count) (entry .args .kinds .now) (entry .args .words .now) _ _ _ (at-loop .loop .inv) in
+    let h = laws.seen-here _ (entry .args .kinds .now) (entry .args .words .now) _ _ _ (at-loop .loop .inv) in
     let w = h .in-words in
     search needs
 
@@ -65,7 +65,7 @@ shared-slice-read-place : tie.Need-shared-slice-read-place Inv-loop μ-loop
 shared-slice-read-place c =
     let at-loop = c .before .before .before .before .before in
     let entry = at-loop .before .before .before .before in
-    let h = laws.seen-here (entry .args .count) (entry .args .kinds .now) (entry .args .words .now) _ _ _ (at-loop .loop .inv) in
+    let h = laws.seen-here _ (entry .args .kinds .now) (entry .args .words .now) _ _ _ (at-loop .loop .inv) in
     let w = h .in-words in
     search needs
 
@@ -74,7 +74,7 @@ mul-place-2 c =
     let then1 = c .before .before .before in
     let at-loop = then1 .before .before in
     let entry = at-loop .before .before .before .before in
-    let h = laws.seen-here (entry .args .count) (entry .args .kinds .now) (entry .args .words .now) _ _ _ (at-loop .loop .inv) in
+    let h = laws.seen-here _ (entry .args .kinds .now) (entry .args .words .now) _ _ _ (at-loop .loop .inv) in
     let b = h .below (then1 .if1 .taken) in
     let r = at-loop .loop .inv .room in
     search needs
@@ -84,7 +84,7 @@ add-place c =
     let then1 = c .before .before .before in
     let at-loop = then1 .before .before in
     let entry = at-loop .before .before .before .before in
-    let h = laws.seen-here (entry .args .count) (entry .args .kinds .now) (entry .args .words .now) _ _ _ (at-loop .loop .inv) in
+    let h = laws.seen-here _ (entry .args .kinds .now) (entry .args .words .now) _ _ _ (at-loop .loop .inv) in
     let b = h .below (then1 .if1 .taken) in
     let r = at-loop .loop .inv .room in
     search needs
@@ -94,7 +94,7 @@ mul-defined c =
     let then1 = c .before .before .before in
     let at-loop = then1 .before .before in
     let entry = at-loop .before .before .before .before in
-    let h = laws.seen-here (entry .args .count) (entry .args .kinds .now) (entry .args .words .now) _ _ _ (at-loop .loop .inv) in
+    let h = laws.seen-here _ (entry .args .kinds .now) (entry .args .words .now) _ _ _ (at-loop .loop .inv) in
     let b = h .below (then1 .if1 .taken) in
     let r = at-loop .loop .inv .room in
     search needs
@@ -104,7 +104,7 @@ slice-read-defined c =
     let then1 = c .before .before .before .before in
     let at-loop = then1 .before .before in
     let entry = at-loop .before .before .before .before in
-    let h = laws.seen-here (entry .args .count) (entry .args .kinds .now) (entry .args .words .now) _ _ _ (at-loop .loop .inv) in
+    let h = laws.seen-here _ (entry .args .kinds .now) (entry .args .words .now) _ _ _ (at-loop .loop .inv) in
     let b = h .below (then1 .if1 .taken) in
     let r = at-loop .loop .inv .room in
     search needs
@@ -117,7 +117,7 @@ mul-work c =
     let then1 = c .before .before .before .before .before in
     let at-loop = then1 .before .before in
     let entry = at-loop .before .before .before .before in
-    let h = laws.seen-here (entry .args .count) (entry .args .kinds .now) (entry .args .words .now) _ _ _ (at-loop .loop .inv) in
+    let h = laws.seen-here _ (entry .args .kinds .now) (entry .args .words .now) _ _ _ (at-loop .loop .inv) in
     let b = h .below (then1 .if1 .taken) in
     let r = at-loop .loop .inv .room in
     search needs
@@ -127,7 +127,7 @@ slice-write-work c =
     let then1 = c .before .before .before .before .before in
     let at-loop = then1 .before .before in
     let entry = at-loop .before .before .before .before in
-    let h = laws.seen-here (entry .args .count) (entry .args .kinds .now) (entry .args .words .now) _ _ _ (at-loop .loop .inv) in
+    let h = laws.seen-here _ (entry .args .kinds .now) (entry .args .words .now) _ _ _ (at-loop .loop .inv) in
     let b = h .below (then1 .if1 .taken) in
     let r = at-loop .loop .inv .room in
     search needs
@@ -136,7 +136,7 @@ add-at : tie.Need-add-at Inv-loop μ-loop
 add-at c =
     let at-loop = c .before .before .before .before in
     let entry = at-loop .before .before .before .before in
-    let h = laws.seen-here (entry .args .count) (entry .args .kinds .now) (entry .args .words .now) _ _ _ (at-loop .loop .inv) in
+    let h = laws.seen-here _ (entry .args .kinds .now) (entry .args .words .now) _ _ _ (at-loop .loop .inv) in
     let k = h .in-kinds in
     search needs
 
@@ -144,7 +144,7 @@ loop-less : tie.Need-loop-less Inv-loop μ-loop
 loop-less c =
     let at-loop = c .before .before .before .before in
     let entry = at-loop .before .before .before .before in
-    let h = laws.seen-here (entry .args .count) (entry .args .kinds .now) (entry .args .words .now) _ _ _ (at-loop .loop .inv) in
+    let h = laws.seen-here _ (entry .args .kinds .now) (entry .args .words .now) _ _ _ (at-loop .loop .inv) in
     let k = h .in-kinds in
     omega arith
 
@@ -153,7 +153,7 @@ loop-again c =
     let then1 = c .before .before in
     let at-loop = then1 .before .before in
     let entry = at-loop .before .before .before .before in
-    let h = laws.seen-here (entry .args .count) (entry .args .kinds .now) (entry .args .words .now) _ _ _ (at-loop .loop .inv) in
+    let h = laws.seen-here _ (entry .args .kinds .now) (entry .args .words .now) _ _ _ (at-loop .loop .inv) in
     ⊎-elim
     (λ w. rw (w .4, w .3 .ensures) (h .defined (w .0 .taken)))
     (λ w. rw (w .1) (h .reserved (then1 .if1 .taken) (w .0 .left)))
@@ -166,7 +166,7 @@ returns : tie.Need-returns Inv-loop μ-loop
 returns c =
     let at-loop = c .before .before in
     let entry = at-loop .before .before .before .before in
-    laws.define-done (entry .args .count) (entry .args .kinds .now) (entry .args .words .now) _ _ _ (at-loop .loop .inv) (c .if1 .left)
+    laws.define-done _ (entry .args .kinds .now) (entry .args .words .now) _ _ _ (at-loop .loop .inv) (c .if1 .left)
 
 pub define-marks-spec : {M : Type 1} → statement M
 define-marks-spec =

@@ -11,13 +11,11 @@ add-result c = search needs
 returns : tie.Need-returns
 unfolding definedMark
 returns c =
-    let entry = c .before in
     rw (eq-eqb _ 0 (c .if1 .taken))
 
 returns-2 : tie.Need-returns-2
 unfolding definedMark
 returns-2 c =
-    let entry = c .before in
     rw (ne-eqb _ 0 (c .if1 .left))
 
 pub defined-spec : {M : Type 1} → statement M

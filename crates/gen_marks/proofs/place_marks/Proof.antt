@@ -84,7 +84,6 @@ same-length : tie.Need-same-length
 same-length c =
     let after-define-marks = c .before .before .before .before .before in
     let after-spell-marks = after-define-marks .before .before .before .before in
-    let entry = after-spell-marks .before .before .before .before .before .before in
     simp length-set (after-define-marks .define-marks .ensures .kept .long ∙ after-spell-marks .spell-marks .ensures .kept .long)
 
 returns : tie.Need-returns

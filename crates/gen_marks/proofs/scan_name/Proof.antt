@@ -26,7 +26,6 @@ returns : tie.Need-returns Inv-loop μ-loop
 returns c =
     let in-loop = c .before .before in
     let at-loop = in-loop .before in
-    let entry = at-loop .before .before in
     scan-end (at-loop .loop .inv) (name-ended _ _ (in-loop .loop-test .taken) (c .if1 .taken))
 
 slice-aggregate-name-starts : tie.Need-slice-aggregate-name-starts Inv-loop μ-loop

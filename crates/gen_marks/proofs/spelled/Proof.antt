@@ -19,7 +19,6 @@ returns : tie.Need-returns
 unfolding isSyscall isBcmp isMemcmp bytes
 returns c =
     let after-name-starts = c .before in
-    let entry = after-name-starts .before .before .before in
     class-syscall _ (sym (after-name-starts .name-starts .ensures) ∙ c .if1 .taken)
 
 sub-long : tie.Need-sub-long

@@ -11,13 +11,11 @@ add-result c = search needs
 returns : tie.Need-returns
 unfolding withOverflow
 returns c =
-    let entry = c .before in
     rw (c .if1 .taken)
 
 returns-2 : tie.Need-returns-2
 unfolding withOverflow
 returns-2 c =
-    let entry = c .before in
     rw (c .if1 .left) (omega arith)
 
 pub with-overflow-spec : {M : Type 1} → statement M
