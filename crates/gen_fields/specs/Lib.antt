@@ -1,0 +1,2 @@
+-- Places among an instruction's fields.
+pub mod Places
