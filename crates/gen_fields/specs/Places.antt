@@ -2,12 +2,13 @@
 use Prim.Native.Nat.{ℕ, _+_, _*_, _<_, _≤_}
 use mathlib.Core.Path.{_≡_, refl, sym, ap, subst, _∙_}
 use mathlib.Core.Bool.{Bool, not}
-use mathlib.Core.List.{List, [], _∷_}
+use mathlib.Core.List.{List, _∷_, _++_}
 use native.Mathlib.Omega.{arith}
 use lib.ListN.{length, drop, getD}
 use lib.Dec.{eqb}
 use Rattle.book.specs.Ast.{Value}
-use Rattle.book.specs.Entry.{Entry, entries}
+use Rattle.book.specs.Entry.{Entry, entry, entries}
+use Rattle.book.specs.Encode.{encFields}
 use Rattle.book.specs.Fields.{Item, Field, Meanings}
 use Rattle.book.specs.Limits.{ValueLimits}
 use Rattle.lowering.specs.Gen.{_>>=_}
@@ -18,7 +19,7 @@ use Rattle.gen_lines.specs.declared.Reached.{Reached}
 use Rattle.gen_lines.specs.Puts.{Puts, orElse, madeRefused}
 use Rattle.gen_lines.specs.Follow.{asked-puts}
 use Rattle.gen_values.specs.Values.{valueOf, widthBy, Reaches}
-use Rattle.gen_values.specs.Fields.{Fields, ValueAt, value-at, behind-value, behind-type, type-in, asked-width}
+use Rattle.gen_values.specs.Fields.{Fields, ValueAt, entry-at, value-at, behind-type, type-in, asked-width}
 
 -- a value is there, and a local's work words
 pub record OperandAt (ks ws : List ℕ) (a : ℕ) (work : List ℕ) : Type 0 where
@@ -64,3 +65,16 @@ module _ {m : ℕ} {fs : List Field} {p : Meanings (Field.plain Item.type ∷ Fi
       → Puts (pushValue c (p .1 .0) w) t u qs os qs′ os′ → Puts (pushTyped c (p .0) (p .1 .0)) s u qs os qs′ os′
   unfolding pushTyped
   typed-puts c s i j k q = asked-puts (λ x. pushValue c (p .1 .0) x) (asked-width ks ws ty f s i j k) q
+
+-- ---- a number
+module _ {m : ℕ} {fs : List Field} {p : Meanings (Field.plain Item.index ∷ fs)} (ks ws : List ℕ) (a : ℕ)
+    (f : Fields m (Field.plain Item.index ∷ fs) p (drop a (entries ks ws))) where
+  number : drop a (entries ks ws) ≡ entry 22 (p .0) ∷ (encFields fs (p .1) ++ f .rest)
+  unfolding encFields
+  number = f .here
+
+  pub index-is : getD ws a 0 ≡ p .0
+  index-is = entry-at ks ws a _ _ number .1
+
+  pub index-in : a < length ws
+  index-in = entry-at ks ws a _ _ number .3
