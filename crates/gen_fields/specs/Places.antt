@@ -48,6 +48,11 @@ operand-at {m} {ks} {ws} {a} {v} q room =
 pub from-front : {a n : ℕ} → a ≡ n → a ≡ 0 + n
 from-front e = omega arith
 
+-- behind the type in front
+pub past-type : {m : ℕ} {fs : List Field} {p : Meanings (Field.plain Item.type ∷ fs)} (ks ws : List ℕ) → Fields m (Field.plain Item.type ∷ fs) p (entries ks ws)
+    → {a : ℕ} → a ≡ tyLen m (entries ks ws) → Fields m fs (p .1) (drop a (entries ks ws))
+past-type {m} {fs} {p} ks ws f e = subst (λ (n : ℕ). Fields m fs (p .1) (drop n (entries ks ws))) (sym (from-front e)) (behind-type ks ws 0 f refl)
+
 -- ---- a type and the value behind it
 module _ {m : ℕ} {fs : List Field} {p : Meanings (Field.plain Item.type ∷ Field.plain Item.value ∷ fs)} (ks ws : List ℕ) (ty : ℕ)
     (f : Fields m (Field.plain Item.type ∷ Field.plain Item.value ∷ fs) p (drop ty (entries ks ws))) {a : ℕ} (e : a ≡ ty + tyLen m (drop ty (entries ks ws))) where
