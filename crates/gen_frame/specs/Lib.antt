@@ -1,0 +1,4 @@
+-- Slots and fixed places: what the work words hold of them while the frame pass goes on.
+pub mod Frames
+pub mod Fixed
+pub mod Placed
