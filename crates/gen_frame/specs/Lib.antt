@@ -2,3 +2,4 @@
 pub mod Frames
 pub mod Fixed
 pub mod Placed
+pub mod Allocas

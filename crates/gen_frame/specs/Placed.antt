@@ -63,6 +63,11 @@ module _ (m name : ℕ) where
   abbrev pub PlaceDone : (count : ℕ) (es bs : List Entry) (work work′ : List ℕ) (f r : Frame) → Type 0
   PlaceDone count es bs work work′ f r = PlaceStep m bs work work′ f r (place (structsIn m bs) name (tyOf m es) (some count))
 
+-- the same step by another name
+pub same-step : {m : ℕ} {bs : List Entry} {work work′ : List ℕ} {f r : Frame} (one all : Places → Result Places) → ((p : Places) → all p ≡ one p) → PlaceStep m bs work work′ f r one → PlaceStep m bs work work′ f r all
+same-step {m} {bs} {work} {work′} {f} {r} one all e s =
+    record { ready = s .ready; kept = s .kept; slots = s .slots; says = λ p h. subst (λ (q : Result Places). FrameSays m q work′ r) (sym (e p)) (s .says p h) }
+
 -- nothing was measured
 pub step-none : {m : ℕ} {bs : List Entry} {work : List ℕ} {f r : Frame} (step : Places → Result Places) → Ready m bs work → r .slots ≡ f .slots
     → ((p : Places) → PlacesHold m p work f → FrameSays m (step p) work r) → PlaceStep m bs work work f r step

@@ -17,6 +17,7 @@ ghost use Rattle.book.specs.Entry.{entries};
 ghost use Rattle.layout.specs.Frame.{countOf};
 ghost use Rattle.gen_frame.specs.Frames.{barredBy, dynamicBy};
 ghost use Rattle.gen_frame.specs.Fixed.{Product, SmallPlace, fixedBy, fixedWords};
+ghost use Rattle.gen_frame.specs.Allocas.{CountAt, countBy, AllocaAsk, AllocaDone};
 ghost use Rattle.gen_frame.specs.Placed.{SizedAsk, PlaceAsk, SizedDone, PlaceDone};
 
 // The slots taken so far, where the fixed places end, and whether a varying one is among the places; or that a place was
@@ -117,5 +118,66 @@ fn place(
         Measured::Bytes(align, _) => place_sized(
             kinds, words, book_kinds, book_words, work, names, name, align, count, f,
         ),
+    }
+}
+
+// The count of an alloca: a number, or a value that varies.
+enum Count {
+    Fixed(u64),
+    Varying,
+}
+
+// The count at the front: one where it is absent, a constant as it stands.
+fn count_of(kinds: &[u64], words: &[u64], names: u64) -> Count
+    requires { ⌜ ((o : Option TypedVal) × CountAt names o (entries (now kinds) (now words))) ⌝ }
+    ensures { λ r. ⌜ ((o : Option TypedVal) → CountAt names o (entries (now (kinds .entry)) (now (words .entry))) → countBy r ≡ countOf o) ⌝ }
+{
+    if kinds[0] == 21 {
+        return Count::Fixed(1);
+    }
+    let at = skip(kinds, words, names);
+    if kinds[at] == 32 {
+        return Count::Fixed(words[at]);
+    }
+    Count::Varying
+}
+
+// An alloca, its fields at the front and its result word: 5 without a name. A varying count measures nothing.
+fn alloca(
+    kinds: &[u64],
+    words: &[u64],
+    book_kinds: &[u64],
+    book_words: &[u64],
+    work: &mut [u64],
+    names: u64,
+    dest: u64,
+    f: Frame,
+) -> Frame
+    requires { ⌜ AllocaAsk names dest f (entries (now kinds) (now words)) (entries (now «book_kinds») (now «book_words»)) (now work) ⌝ }
+    ensures { λ r. ⌜ AllocaDone names dest (entries (now (kinds .entry)) (now (words .entry))) (entries (now («book_kinds» .entry)) (now («book_words» .entry)))
+        (now (work .entry)) (now (work .exit)) f r ⌝ }
+{
+    if dest == 0 {
+        return barred(f, 5);
+    }
+    let at = skip(kinds, words, names);
+    match count_of(&kinds[at..], &words[at..], names) {
+        Count::Fixed(n) => place(
+            kinds,
+            words,
+            book_kinds,
+            book_words,
+            work,
+            names,
+            dest - 1,
+            n,
+            f,
+        ),
+        Count::Varying => Frame {
+            slots: f.slots,
+            off: f.off,
+            dynamic: true,
+            refused: f.refused,
+        },
     }
 }
