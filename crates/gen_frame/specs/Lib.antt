@@ -3,3 +3,4 @@ pub mod Frames
 pub mod Fixed
 pub mod Placed
 pub mod Allocas
+pub mod Taken
