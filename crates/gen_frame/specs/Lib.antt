@@ -4,3 +4,4 @@ pub mod Fixed
 pub mod Placed
 pub mod Allocas
 pub mod Taken
+pub mod Steps

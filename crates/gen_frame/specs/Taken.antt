@@ -126,7 +126,7 @@ inst-front {m} {i} ks ws a =
     }
 
 -- kinds are told apart
-same-tag : (t u : InstTag) → instKind t ≡ instKind u → t ≡ u
+pub same-tag : (t u : InstTag) → instKind t ≡ instKind u → t ≡ u
 same-tag t u e = let g : some t ≡ some u = sym (inst-found t) ∙ ap instTag e ∙ inst-found u in cc
 
 -- a call, an alloca, a cmpxchg; any other has one slot

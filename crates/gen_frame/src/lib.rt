@@ -19,6 +19,7 @@ ghost use Rattle.gen_frame.specs.Frames.{barredBy, dynamicBy};
 ghost use Rattle.gen_frame.specs.Fixed.{Product, SmallPlace, fixedBy, fixedWords};
 ghost use Rattle.gen_frame.specs.Allocas.{CountAt, countBy, AllocaAsk, AllocaDone};
 ghost use Rattle.gen_frame.specs.Taken.{CallAsk, CallSlots, SlotsAsk, SlotsFor, TakeAsk, Taken};
+ghost use Rattle.gen_frame.specs.Steps.{StepAsk, Stepped};
 ghost use Rattle.gen_frame.specs.Placed.{SizedAsk, PlaceAsk, SizedDone, PlaceDone};
 
 // The slots taken so far, where the fixed places end, and whether a varying one is among the places; or that a place was
@@ -227,4 +228,37 @@ fn take_slots(kinds: &[u64], words: &[u64], work: &mut [u64], names: u64, f: Fra
         dynamic: f.dynamic,
         refused: f.refused,
     }
+}
+
+// One instruction: its slots, and its place where it is an alloca. Behind a refusal nothing changes.
+fn frame_inst(
+    kinds: &[u64],
+    words: &[u64],
+    book_kinds: &[u64],
+    book_words: &[u64],
+    work: &mut [u64],
+    names: u64,
+    f: Frame,
+) -> Frame
+    requires { ⌜ StepAsk names f (entries (now kinds) (now words)) (entries (now «book_kinds») (now «book_words»)) (now work) ⌝ }
+    ensures { λ r. ⌜ Stepped names (entries (now (kinds .entry)) (now (words .entry))) (entries (now («book_kinds» .entry)) (now («book_words» .entry)))
+        (now (work .entry)) (now (work .exit)) f r ⌝ }
+{
+    if f.refused {
+        return f;
+    }
+    let taken = take_slots(kinds, words, work, names, f);
+    if kinds[0] != 73 {
+        return taken;
+    }
+    alloca(
+        &kinds[1..],
+        &words[1..],
+        book_kinds,
+        book_words,
+        work,
+        names,
+        words[0],
+        taken,
+    )
 }
