@@ -1,20 +1,20 @@
 -- An alloca: its name, its count, its place. "A place is fixed when its count is absent or an integer", which is read as u64.
-use Prim.Native.Nat.{ℕ, _+_, _-_, _*_, _<_, _≤_, _^_}
+use Prim.Native.Nat.{ℕ, _-_, _<_, _≤_, _^_}
 use mathlib.Core.Path.{_≡_, refl, sym, ap, subst, _∙_}
-use mathlib.Core.Bool.{Bool, true, false}
+use mathlib.Core.Bool.{true, false}
 use mathlib.Core.List.{List, [], _∷_, _++_, append-assoc}
 use mathlib.Core.Option.{Option, none, some}
 use native.Mathlib.Omega.{arith}
 use native.Mathlib.Nat.{zero-add}
 use borrow.Author.Tests.{eq-eqb, ne-eqb}
 use lib.ListN.{length, getD, drop, length-append}
-use Rattle.book.specs.Entry.{Entry, entry, entries}
-use Rattle.book.specs.Ast.{Sizeless, Ty, Value, Zero, TypedVal, StructType}
-use Rattle.book.specs.Kinds.{InstTag, TyTag, tyKind}
+use Rattle.book.specs.Entry.{Entry, entries}
+use Rattle.book.specs.Ast.{Sizeless, Ty, Value, Zero, TypedVal}
+use Rattle.book.specs.Kinds.{InstTag}
 use Rattle.book.specs.Fields.{Item, Field, Meanings, instFields}
 use Rattle.book.specs.Encode.{encTy, encFields, encTyped, orAbsent, valueEntry}
 use Rattle.book.specs.Limits.{Maybe, TypedLimits}
-use Rattle.book.specs.Result.{Result, ok, err, bind, okOr}
+use Rattle.book.specs.Result.{Result, bind, okOr}
 use Rattle.book.specs.Shape.{Shape}
 use Rattle.book_types.specs.Laws.{entries-part, within-kinds, within-words}
 use Rattle.layout.specs.Step.{constInt}
@@ -24,8 +24,8 @@ use Rattle.layout_memo.specs.Work.{Ready, structsIn}
 use Rattle.layout_memo.specs.Calls.{lent}
 use Rattle.gen_values.specs.Values.{destOf}
 use Rattle.gen_values.specs.Fields.{Fields, entry-at, type-starts, type-is, behind-type, type-in}
-use Rattle.gen_frame.specs.Frames.{barredBy, dynamicBy, PlacesHold, FrameSays}
-use Rattle.gen_frame.specs.Placed.{PlaceAsk, PlaceStep, PlaceDone, same-step, step-none}
+use Rattle.gen_frame.specs.Frames.{barredBy, dynamicBy, FrameSays}
+use Rattle.gen_frame.specs.Placed.{PlaceStep, PlaceDone, same-step, step-none}
 use Rattle.gen_frame.specs.declared.Frame.{Frame}
 use Rattle.gen_frame.specs.declared.Count.{Count}
 use Rattle.gen_frame.specs.declared.Count.the-variants as count

@@ -1,30 +1,16 @@
 -- A fixed place: "Fixed stack places follow type alignment"; 7 where it ends above 2^31.
-use Prim.Native.Nat.{ℕ, zero, suc, _+_, _-_, _*_, _<_, _≤_, _^_}
-use mathlib.Core.Path.{_≡_, refl, sym, ap, subst, _∙_}
+use Prim.Native.Nat.{ℕ, zero, suc, _+_, _*_, _<_, _≤_, _^_}
+use mathlib.Core.Path.{_≡_, refl, sym, ap, _∙_}
 use mathlib.Core.Bool.{Bool, true, false}
 use mathlib.Core.List.{List}
-use mathlib.Core.Option.{some}
 use native.Mathlib.Omega.{arith}
-use native.Mathlib.Numerals.{add-one}
 use native.Mathlib.Nat.{zero-mul, mul-le-mul-left, mul-le-mul-right, le-trans}
 use borrow.Author.Tests.{le-leb, lt-leb, leb-true, leb-false}
-use lib.ListN.{length, getD, set, length-set}
-use lib.Seq.{getD-set-other}
+use lib.ListN.{length, set}
 use lib.Dec.{leb}
 use Rattle.numbers.specs.Align.{alignUp, align-most}
-use Rattle.book.specs.Entry.{Entry}
-use Rattle.book.specs.Ast.{Ty, StructType}
-use Rattle.book.specs.Result.{Result, ok, err, bind, given}
-use Rattle.layout.specs.Layout.{alignOf, sizeOf, frameLimit}
-use Rattle.layout.specs.Frame.{Places, place, withPlace}
-use Rattle.layout_memo.specs.Measured.{Measures}
-use Rattle.layout_memo.specs.Front.{Starts, tyOf}
-use Rattle.layout_memo.specs.Work.{Ready, Outcome, Ask, structsIn, sizes, aligns, size-small, align-small}
-use Rattle.layout_memo.specs.Helpers.{gives-at, refused-at}
-use Rattle.layout_memo.specs.declared.Measured.{Measured}
-use Rattle.layout_memo.specs.declared.Measured.the-variants.{Bytes, Refused}
 use Rattle.gen_lines.specs.Puts.{orElse}
-use Rattle.gen_frame.specs.Frames.{barredBy, PlacesHold, FrameSays, PlacesKept, measured-kept, places-then, word-set, ready-set}
+use Rattle.gen_frame.specs.Frames.{barredBy}
 use Rattle.gen_frame.specs.declared.Frame.{Frame}
 
 -- ---- the bytes of a place

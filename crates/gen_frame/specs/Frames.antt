@@ -1,11 +1,11 @@
 -- What the frame pass has reached, in its answer and in the work words: word 1 of a name holds its slot, word 3 where its fixed place starts, each with 1 added.
-use Prim.Native.Nat.{ℕ, suc, _+_, _*_, _<_, _≤_, _^_}
-use mathlib.Core.Path.{_≡_, refl, sym, ap, subst, _∙_}
+use Prim.Native.Nat.{ℕ, _+_, _*_, _<_, _≤_, _^_}
+use mathlib.Core.Path.{_≡_, refl, sym, ap, _∙_}
 use mathlib.Core.Bool.{Bool, true, false}
-use mathlib.Core.List.{List, [], _∷_}
+use mathlib.Core.List.{List, _∷_}
 use native.Mathlib.Omega.{arith}
 use native.Mathlib.Numerals.{add-one}
-use borrow.Author.Tests.{eqb-true, eqb-false, eq-eqb, ne-eqb}
+use borrow.Author.Tests.{eqb-true, eqb-false}
 use lib.ListN.{length, getD, set, length-set}
 use lib.Seq.{getD-set-same, getD-set-other}
 use lib.Dec.{eqb, leb}
@@ -15,7 +15,7 @@ use Rattle.book.specs.Entry.{Entry}
 use Rattle.book.specs.Result.{Result, ok, err}
 use Rattle.book.specs.Map.{Map, lookup}
 use Rattle.layout.specs.Frame.{Places}
-use Rattle.layout_memo.specs.Work.{Ready, Kept, After}
+use Rattle.layout_memo.specs.Work.{Ready, Kept}
 use Rattle.lowering.specs.Context.{Slots}
 use Rattle.gen_values.specs.Maps.{numbered}
 use Rattle.gen_frame.specs.declared.Frame.{Frame}

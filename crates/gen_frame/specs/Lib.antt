@@ -5,3 +5,6 @@ pub mod Placed
 pub mod Allocas
 pub mod Taken
 pub mod Steps
+pub mod Parts
+pub mod Pass
+pub mod Contexts

@@ -1,25 +1,22 @@
 -- The place of an alloca with a fixed count: its type's alignment is measured, then its size.
-use Prim.Native.Nat.{ℕ, zero, suc, _+_, _-_, _*_, _<_, _≤_, _^_}
+use Prim.Native.Nat.{ℕ, _+_, _*_, _<_, _≤_, _^_}
 use mathlib.Core.Path.{_≡_, refl, sym, ap, subst, _∙_}
 use mathlib.Core.Bool.{Bool, true, false}
 use mathlib.Core.List.{List}
 use mathlib.Core.Option.{some}
 use native.Mathlib.Omega.{arith}
-use native.Mathlib.Numerals.{add-one}
-use native.Mathlib.Nat.{zero-mul, mul-le-mul-left, mul-le-mul-right, le-trans}
-use borrow.Author.Tests.{le-leb, lt-leb, leb-true, leb-false}
-use lib.ListN.{length, getD, set, length-set}
+use borrow.Author.Tests.{leb-true}
+use lib.ListN.{length, set, length-set}
 use lib.Seq.{getD-set-other}
 use lib.Dec.{leb}
-use Rattle.numbers.specs.Align.{alignUp, align-most}
+use Rattle.numbers.specs.Align.{alignUp}
 use Rattle.book.specs.Entry.{Entry}
 use Rattle.book.specs.Ast.{Ty, StructType}
 use Rattle.book.specs.Result.{Result, ok, err, bind, given}
 use Rattle.layout.specs.Layout.{alignOf, sizeOf, frameLimit}
 use Rattle.layout.specs.Frame.{Places, place, withPlace}
-use Rattle.layout_memo.specs.Measured.{Measures}
 use Rattle.layout_memo.specs.Front.{Starts, tyOf}
-use Rattle.layout_memo.specs.Work.{Ready, After, Outcome, Ask, structsIn, sizes, aligns, size-small, align-small}
+use Rattle.layout_memo.specs.Work.{Ready, After, Outcome, structsIn, sizes, aligns, size-small, align-small}
 use Rattle.layout_memo.specs.Helpers.{gives-at, refused-at}
 use Rattle.layout_memo.specs.declared.Measured.{Measured}
 use Rattle.layout_memo.specs.declared.Measured.the-variants.{Bytes, Refused}

@@ -1,7 +1,6 @@
 -- The slots of an instruction: "cmpxchg takes two, and so does a call of a global containing `.with.overflow.`. In each map later duplicates win."
 use Prim.Native.Nat.{ℕ, _+_, _-_, _*_, _<_, _≤_, _^_}
 use mathlib.Core.Path.{_≡_, refl, sym, ap, subst, _∙_}
-use mathlib.Core.Bool.{Bool, true, false, cond}
 use mathlib.Core.List.{List, [], _∷_, _++_}
 use mathlib.Core.Option.{Option, none, some}
 use native.Mathlib.Omega.{arith}
@@ -9,16 +8,12 @@ use native.Mathlib.Nat.{zero-add}
 use borrow.Author.Tests.{le-leb, lt-leb}
 use lib.ListN.{length, getD, drop, set, length-set, length-drop}
 use lib.Seq.{getD-set-other}
-use lib.Dec.{leb}
-use Rattle.names.specs.Name.{nameAt}
-use Rattle.names.specs.Spelling.{hasOverflow}
 use Rattle.book.specs.Entry.{Entry, entries}
-use Rattle.book.specs.Ast.{Ty, Value, Zero, TypedVal, InstKind, Inst}
+use Rattle.book.specs.Ast.{Value, Zero, InstKind, Inst}
 use Rattle.book.specs.Kinds.{InstTag, instKind, instTag}
 use Rattle.book.specs.Fields.{Item, Field, Meanings, instFields, instTagOf, instArgs}
 use Rattle.book.specs.Encode.{encFields, encInst, destWord, valueEntry}
 use Rattle.book.specs.Limits.{Maybe, NameLimits, InstLimits, ValueLimits}
-use Rattle.book.specs.Result.{Result, ok, err}
 use Rattle.book.specs.Shape.{Shape, shape}
 use Rattle.book.specs.AgreeInst.{inst-found}
 use Rattle.book_types.specs.Laws.{entries-part}
@@ -28,7 +23,7 @@ use Rattle.layout_memo.specs.Work.{Ready}
 use Rattle.layout_memo.specs.Calls.{lent}
 use Rattle.lowering.specs.Context.{Slots, callSlots, slotsFor, slotStep}
 use Rattle.gen_values.specs.Fields.{Fields, entry-at, type-starts, behind-type}
-use Rattle.gen_frame.specs.Frames.{SlotsHold, Overflows, PlacesHold, FrameSays, FrameKept, kept-none, word-set, ready-set}
+use Rattle.gen_frame.specs.Frames.{SlotsHold, Overflows, PlacesHold, FrameKept, kept-none, word-set, ready-set}
 use Rattle.gen_frame.specs.declared.Frame.{Frame}
 
 -- ---- a call

@@ -10,16 +10,18 @@ use layout_size::size_of;
 use numbers::align::align_up;
 ghost use mathlib.Core.Path.{_≡_};
 ghost use mathlib.Core.Option.{Option};
-ghost use Prim.Native.Nat.{ℕ, _+_, _*_, _≤_, _<_, _^_};
+ghost use Prim.Native.Nat.{_+_, _*_, _≤_, _<_};
 ghost use lib.ListN.{length};
-ghost use Rattle.book.specs.Ast.{TypedVal, Inst};
+ghost use Rattle.book.specs.Ast.{TypedVal};
 ghost use Rattle.book.specs.Entry.{entries};
 ghost use Rattle.layout.specs.Frame.{countOf};
-ghost use Rattle.gen_frame.specs.Frames.{barredBy, dynamicBy};
+ghost use Rattle.gen_frame.specs.Frames.{barredBy};
 ghost use Rattle.gen_frame.specs.Fixed.{Product, SmallPlace, fixedBy, fixedWords};
 ghost use Rattle.gen_frame.specs.Allocas.{CountAt, countBy, AllocaAsk, AllocaDone};
 ghost use Rattle.gen_frame.specs.Taken.{CallAsk, CallSlots, SlotsAsk, SlotsFor, TakeAsk, Taken};
 ghost use Rattle.gen_frame.specs.Steps.{StepAsk, Stepped};
+ghost use Rattle.gen_frame.specs.Parts.{foundCount, PartLen, PartAsk, PartDone};
+ghost use Rattle.gen_frame.specs.Pass.{FrameAsk, FrameDone};
 ghost use Rattle.gen_frame.specs.Placed.{SizedAsk, PlaceAsk, SizedDone, PlaceDone};
 
 // The slots taken so far, where the fixed places end, and whether a varying one is among the places; or that a place was
@@ -118,7 +120,16 @@ fn place(
     match align_of(kinds, words, book_kinds, book_words, work, names, 64) {
         Measured::Refused(e) => barred(f, e),
         Measured::Bytes(align, _) => place_sized(
-            kinds, words, book_kinds, book_words, work, names, name, align, count, f,
+            kinds,
+            words,
+            book_kinds,
+            book_words,
+            work,
+            names,
+            name,
+            align,
+            count,
+            f,
         ),
     }
 }
@@ -261,4 +272,88 @@ fn frame_inst(
         words[0],
         taken,
     )
+}
+
+// The number of entries of what was found.
+fn found_len(found: Found) -> usize
+    ensures { λ r. ⌜ r ≡ foundCount found ⌝ }
+{
+    match found {
+        Found::Entries(n, _) => n,
+        Found::Bad => 0,
+    }
+}
+
+// The entries of the part of a block at the front: its own entry, an instruction or the terminator.
+fn part_len(kinds: &[u64], words: &[u64], names: u64) -> usize
+    requires { ⌜ 1 ≤ length (entries (now kinds) (now words)) ⌝ }
+    ensures { λ r. ⌜ PartLen names (entries (now (kinds .entry)) (now (words .entry))) r ⌝ }
+{
+    let kind = kinds[0];
+    if kind == 7 {
+        return 1;
+    }
+    if kind < 90 {
+        return found_len(inst_len(kinds, words, names));
+    }
+    found_len(term_len(kinds, words, names))
+}
+
+// The part of a block at the front: an instruction takes slots and places, nothing else does.
+fn frame_part(
+    kinds: &[u64],
+    words: &[u64],
+    book_kinds: &[u64],
+    book_words: &[u64],
+    work: &mut [u64],
+    names: u64,
+    f: Frame,
+) -> Frame
+    requires { ⌜ PartAsk names f (entries (now kinds) (now words)) (entries (now «book_kinds») (now «book_words»)) (now work) ⌝ }
+    ensures { λ r. ⌜ PartDone names (entries (now (kinds .entry)) (now (words .entry))) (entries (now («book_kinds» .entry)) (now («book_words» .entry)))
+        (now (work .entry)) (now (work .exit)) f r ⌝ }
+{
+    let kind = kinds[0];
+    if kind == 7 {
+        return f;
+    }
+    if kind < 90 {
+        return frame_inst(kinds, words, book_kinds, book_words, work, names, f);
+    }
+    f
+}
+
+// All blocks, the first at the front, up to the entry that closes them.
+pub fn frame_pass(
+    kinds: &[u64],
+    words: &[u64],
+    book_kinds: &[u64],
+    book_words: &[u64],
+    work: &mut [u64],
+    names: u64,
+) -> Frame
+    requires { ⌜ FrameAsk names (entries (now kinds) (now words)) (entries (now «book_kinds») (now «book_words»)) (now work) ⌝ }
+    ensures { λ r. ⌜ FrameDone names (entries (now (kinds .entry)) (now (words .entry))) (entries (now («book_kinds» .entry)) (now («book_words» .entry)))
+        (now (work .entry)) (now (work .exit)) r ⌝ }
+{
+    let mut at: usize = 0;
+    let mut f = Frame {
+        slots: 0,
+        off: 0,
+        dynamic: false,
+        refused: false,
+    };
+    while kinds[at] != 0 {
+        f = frame_part(
+            &kinds[at..],
+            &words[at..],
+            book_kinds,
+            book_words,
+            work,
+            names,
+            f,
+        );
+        at = at + part_len(&kinds[at..], &words[at..], names);
+    }
+    f
 }

@@ -4,12 +4,6 @@ use Rattle.gen_frame.specs.Allocas as laws
 use borrow.Author.Needs.{needs}
 use Rattle.gen_frame.proofs.alloca.Statement.{statement}
 use Rattle.gen_frame.proofs.alloca.Tie as tie
-use Rattle.gen_frame.proofs.alloca.Reads as reads
-use Rattle.gen_frame.proofs.alloca.Lts as lts
-use Rattle.gen_frame.proofs.barred.Reads as barred-reads
-use Rattle.gen_frame.proofs.count_of.Reads as count-of-reads
-use Rattle.gen_frame.proofs.place.Reads as place-reads
-use Rattle.layout_memo.proofs.skip.Reads as skip-reads
 
 barred-requires : tie.Need-barred-requires
 barred-requires c κs = search needs

@@ -4,9 +4,6 @@ use Rattle.gen_frame.specs.Taken as laws
 use borrow.Author.Needs.{needs}
 use Rattle.gen_frame.proofs.call_slots.Statement.{statement}
 use Rattle.gen_frame.proofs.call_slots.Tie as tie
-use Rattle.gen_frame.proofs.call_slots.Reads as reads
-use Rattle.gen_frame.proofs.call_slots.Lts as lts
-use Rattle.layout_memo.proofs.skip.Reads as skip-reads
 
 skip-requires : tie.Need-skip-requires
 skip-requires c κs = search needs

@@ -4,9 +4,6 @@ use Rattle.gen_frame.specs.Allocas as laws
 use borrow.Author.Needs.{needs}
 use Rattle.gen_frame.proofs.count_of.Statement.{statement}
 use Rattle.gen_frame.proofs.count_of.Tie as tie
-use Rattle.gen_frame.proofs.count_of.Reads as reads
-use Rattle.gen_frame.proofs.count_of.Lts as lts
-use Rattle.layout_memo.proofs.skip.Reads as skip-reads
 
 shared-slice-read-if1 : tie.Need-shared-slice-read-if1
 shared-slice-read-if1 c =

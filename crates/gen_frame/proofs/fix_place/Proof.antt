@@ -4,11 +4,6 @@ use Rattle.gen_frame.specs.Fixed as laws
 use borrow.Author.Needs.{needs}
 use Rattle.gen_frame.proofs.fix_place.Statement.{statement}
 use Rattle.gen_frame.proofs.fix_place.Tie as tie
-use Rattle.gen_frame.proofs.fix_place.Reads as reads
-use Rattle.gen_frame.proofs.fix_place.Lts as lts
-use Rattle.gen_frame.proofs.barred.Reads as barred-reads
-use Rattle.gen_frame.proofs.bytes.Reads as bytes-reads
-use Rattle.numbers.proofs.align.align_up.Reads as align-up-reads
 
 align-up-requires : tie.Need-align-up-requires
 align-up-requires c κs = search needs

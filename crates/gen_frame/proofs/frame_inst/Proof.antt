@@ -4,10 +4,6 @@ use Rattle.gen_frame.specs.Taken as facts
 use borrow.Author.Needs.{needs}
 use Rattle.gen_frame.proofs.frame_inst.Statement.{statement}
 use Rattle.gen_frame.proofs.frame_inst.Tie as tie
-use Rattle.gen_frame.proofs.frame_inst.Reads as reads
-use Rattle.gen_frame.proofs.frame_inst.Lts as lts
-use Rattle.gen_frame.proofs.alloca.Reads as alloca-reads
-use Rattle.gen_frame.proofs.take_slots.Reads as take-slots-reads
 
 returns : tie.Need-returns
 returns c =

@@ -3,11 +3,6 @@ use Rattle.gen_frame.specs.Placed as laws
 use borrow.Author.Needs.{needs}
 use Rattle.gen_frame.proofs.place.Statement.{statement}
 use Rattle.gen_frame.proofs.place.Tie as tie
-use Rattle.gen_frame.proofs.place.Reads as reads
-use Rattle.gen_frame.proofs.place.Lts as lts
-use Rattle.gen_frame.proofs.barred.Reads as barred-reads
-use Rattle.gen_frame.proofs.place_sized.Reads as place-sized-reads
-use Rattle.layout_align.proofs.align_of.Reads as align-of-reads
 
 align-of-requires : tie.Need-align-of-requires
 align-of-requires c κs = search needs

@@ -3,11 +3,6 @@ use Rattle.gen_frame.specs.Placed as laws
 use borrow.Author.Needs.{needs}
 use Rattle.gen_frame.proofs.place_sized.Statement.{statement}
 use Rattle.gen_frame.proofs.place_sized.Tie as tie
-use Rattle.gen_frame.proofs.place_sized.Reads as reads
-use Rattle.gen_frame.proofs.place_sized.Lts as lts
-use Rattle.gen_frame.proofs.barred.Reads as barred-reads
-use Rattle.gen_frame.proofs.fix_place.Reads as fix-place-reads
-use Rattle.layout_size.proofs.size_of.Reads as size-of-reads
 
 size-of-requires : tie.Need-size-of-requires
 size-of-requires c κs = search needs

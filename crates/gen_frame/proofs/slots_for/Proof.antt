@@ -1,12 +1,8 @@
 -- `gen_frame::slots_for` meets its contract.
-use native.Mathlib.Omega.{arith}
 use Rattle.gen_frame.specs.Taken as laws
 use borrow.Author.Needs.{needs}
 use Rattle.gen_frame.proofs.slots_for.Statement.{statement}
 use Rattle.gen_frame.proofs.slots_for.Tie as tie
-use Rattle.gen_frame.proofs.slots_for.Reads as reads
-use Rattle.gen_frame.proofs.slots_for.Lts as lts
-use Rattle.gen_frame.proofs.call_slots.Reads as call-slots-reads
 
 shared-slice-read-match : tie.Need-shared-slice-read-match
 shared-slice-read-match c =

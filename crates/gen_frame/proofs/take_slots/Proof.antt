@@ -4,9 +4,6 @@ use Rattle.gen_frame.specs.Taken as laws
 use borrow.Author.Needs.{needs}
 use Rattle.gen_frame.proofs.take_slots.Statement.{statement}
 use Rattle.gen_frame.proofs.take_slots.Tie as tie
-use Rattle.gen_frame.proofs.take_slots.Reads as reads
-use Rattle.gen_frame.proofs.take_slots.Lts as lts
-use Rattle.gen_frame.proofs.slots_for.Reads as slots-for-reads
 
 shared-slice-read-dest : tie.Need-shared-slice-read-dest
 shared-slice-read-dest c =
