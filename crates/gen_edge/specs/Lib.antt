@@ -3,3 +3,4 @@ pub mod Phis
 pub mod Copies
 pub mod Walks
 pub mod Backwards
+pub mod Edges

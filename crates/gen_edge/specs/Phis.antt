@@ -217,6 +217,10 @@ module _ {m : ℕ} (ks ws : List ℕ) (a : ℕ) where
   leading-end [] f z = refl
   leading-end (p ∷ ps) f z = let q = entry-at ks ws a _ _ (f .here) in absurd (z (q .0))
 
+  pub leading-kind : (p : Phi) (ps : List Phi) → Leading m (p ∷ ps) (drop a (entries ks ws)) → getD ks a 0 ≡ 75
+  unfolding ending encPhi
+  leading-kind p ps f = entry-at ks ws a _ _ (f .here) .0
+
   pub leading-next : (ps : List Phi) → Leading m ps (drop a (entries ks ws)) → getD ks a 0 ≡ 75 → PhiAt m ks ws a ps
   unfolding ending encPhi encFields
   leading-next [] f z = let q = entry-at ks ws a _ _ (f .here) in absurd (f .other (sym (q .0) ∙ z))
