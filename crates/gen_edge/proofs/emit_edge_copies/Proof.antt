@@ -1,3 +1,7 @@
+-- `gen_edge::emit_edge_copies` meets its contract: the entries lent on are those of the block that the name leads to.
+use mathlib.Core.Path.{refl}
+use native.Mathlib.Omega.{arith}
+use Rattle.gen_edge.specs.Edges.{unknown-puts, target, copied-puts}
 use borrow.Author.Needs.{needs}
 use Rattle.gen_edge.proofs.emit_edge_copies.Statement.{statement}
 use Rattle.gen_edge.proofs.emit_edge_copies.Tie as tie
@@ -29,7 +33,10 @@ refuse-requires c κs = search needs
 
 -- src/lib.rt:266:9
 returns : tie.Need-returns
-returns c = ?
+returns c = λ k maps.
+    let entry = c .before .before .before .before .before .before .before .before in
+    let a = entry .args in
+    unknown-puts k (a .pred) (a .succ) (a .names) (a .book-kinds .now) (a .book-words .now) (a .work .now) maps (entry .pre .target) refl (c .before .if1 .taken) (a .s) (a .lines .now) (a .operands .now) (c .refuse .ensures)
 
 -- src/lib.rt:268:15
 sub-at : tie.Need-sub-at
@@ -37,15 +44,30 @@ sub-at c = search needs
 
 -- src/lib.rt:269:17
 mul-kinds : tie.Need-mul-kinds
-mul-kinds c = ?
+mul-kinds c =
+    let found = c in
+    let entry = found .before .before .before .before .before .before .before in
+    let a = entry .args in
+    let there = target (entry .pre .ctx) (a .pred) (a .succ) (a .names) (a .book-kinds .now) (a .book-words .now) (a .work .now) (entry .pre .maps) (entry .pre .target) refl (found .if1 .left) in
+    omega (arith, there .in-kinds, entry .good)
 
 -- src/lib.rt:269:17
 sub-kinds : tie.Need-sub-kinds
-sub-kinds c = ?
+sub-kinds c =
+    let found = c in
+    let entry = found .before .before .before .before .before .before .before in
+    let a = entry .args in
+    let there = target (entry .pre .ctx) (a .pred) (a .succ) (a .names) (a .book-kinds .now) (a .book-words .now) (a .work .now) (entry .pre .maps) (entry .pre .target) refl (found .if1 .left) in
+    omega (arith, there .in-kinds, entry .good)
 
 -- src/lib.rt:269:17
 part-kinds-start : tie.Need-part-kinds-start
-part-kinds-start c = ?
+part-kinds-start c =
+    let found = c in
+    let entry = found .before .before .before .before .before .before .before in
+    let a = entry .args in
+    let there = target (entry .pre .ctx) (a .pred) (a .succ) (a .names) (a .book-kinds .now) (a .book-words .now) (a .work .now) (entry .pre .maps) (entry .pre .target) refl (found .if1 .left) in
+    omega (arith, there .in-kinds, entry .good)
 
 -- src/lib.rt:269:17
 part-kinds-end : tie.Need-part-kinds-end
@@ -53,15 +75,30 @@ part-kinds-end c = search needs
 
 -- src/lib.rt:270:17
 mul-words : tie.Need-mul-words
-mul-words c = ?
+mul-words c =
+    let found = c .before in
+    let entry = found .before .before .before .before .before .before .before in
+    let a = entry .args in
+    let there = target (entry .pre .ctx) (a .pred) (a .succ) (a .names) (a .book-kinds .now) (a .book-words .now) (a .work .now) (entry .pre .maps) (entry .pre .target) refl (found .if1 .left) in
+    omega (arith, there .in-words, entry .good)
 
 -- src/lib.rt:270:17
 sub-words : tie.Need-sub-words
-sub-words c = ?
+sub-words c =
+    let found = c .before in
+    let entry = found .before .before .before .before .before .before .before in
+    let a = entry .args in
+    let there = target (entry .pre .ctx) (a .pred) (a .succ) (a .names) (a .book-kinds .now) (a .book-words .now) (a .work .now) (entry .pre .maps) (entry .pre .target) refl (found .if1 .left) in
+    omega (arith, there .in-words, entry .good)
 
 -- src/lib.rt:270:17
 part-words-start : tie.Need-part-words-start
-part-words-start c = ?
+part-words-start c =
+    let found = c .before in
+    let entry = found .before .before .before .before .before .before .before in
+    let a = entry .args in
+    let there = target (entry .pre .ctx) (a .pred) (a .succ) (a .names) (a .book-kinds .now) (a .book-words .now) (a .work .now) (entry .pre .maps) (entry .pre .target) refl (found .if1 .left) in
+    omega (arith, there .in-words, entry .good)
 
 -- src/lib.rt:270:17
 part-words-end : tie.Need-part-words-end
@@ -69,11 +106,23 @@ part-words-end c = search needs
 
 -- src/lib.rt:271:9
 push-copies-requires : tie.Need-push-copies-requires
-push-copies-requires c κs = ?
+push-copies-requires c κs =
+    let found = c .before .before .before .before in
+    let entry = found .before .before .before .before .before .before .before in
+    let a = entry .args in
+    let there = target (entry .pre .ctx) (a .pred) (a .succ) (a .names) (a .book-kinds .now) (a .book-words .now) (a .work .now) (entry .pre .maps) (entry .pre .target) refl (found .if1 .left) in
+    record { ctx = entry .pre .ctx; locals = entry .pre .maps .locals; phis = _; front = there .front; room = entry .pre .maps .room }
 
 -- src/lib.rt:273:5
 set-slots-requires : tie.Need-set-slots-requires
-set-slots-requires c κs = ?
+set-slots-requires c κs =
+    let after-push = c .before .before .before .before .before .before .before in
+    let found = after-push .before .before .before .before .before in
+    let entry = found .before .before .before .before .before .before .before in
+    let a = entry .args in
+    let there = target (entry .pre .ctx) (a .pred) (a .succ) (a .names) (a .book-kinds .now) (a .book-words .now) (a .work .now) (entry .pre .maps) (entry .pre .target) refl (found .if1 .left) in
+    let passed = after-push .push-copies .ensures (entry .pre .ctx) _ (entry .pre .maps .locals) (there .front) in
+    record { phis = _; front = there .front; counted = passed .counted; room = entry .pre .maps .room }
 
 -- src/lib.rt:249:1
 same-length : tie.Need-same-length
@@ -85,7 +134,16 @@ same-length-2 c = search needs
 
 -- src/lib.rt:249:1
 returns-2 : tie.Need-returns-2
-returns-2 c = ?
+returns-2 c = λ k maps.
+    let after-set = c .before .before .before .before in
+    let after-push = after-set .before .before .before .before .before .before .before .before in
+    let found = after-push .before .before .before .before .before in
+    let entry = found .before .before .before .before .before .before .before in
+    let a = entry .args in
+    let there = target k (a .pred) (a .succ) (a .names) (a .book-kinds .now) (a .book-words .now) (a .work .now) maps (entry .pre .target) refl (found .if1 .left) in
+    let passed = after-push .push-copies .ensures k _ (maps .locals) (there .front) in
+    copied-puts k (a .pred) (a .succ) (a .names) (a .book-kinds .now) (a .book-words .now) (a .work .now) maps (entry .pre .target) (there .block) (there .found) passed
+    (λ cps slots. after-set .set-slots .ensures k _ cps (there .front) (passed .counted) slots)
 
 pub emit-edge-copies-spec : {M : Type 1} → statement M
 emit-edge-copies-spec =
