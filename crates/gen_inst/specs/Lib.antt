@@ -1,3 +1,4 @@
--- An instruction at its place, by the group of its kind, and the laws that put its lines together.
+-- An instruction at its place, by its kind, and the laws that put its lines together.
 pub mod View
+pub mod Body
 pub mod Values

@@ -23,6 +23,7 @@ use Rattle.gen_values.specs.Fields.{Fields}
 use Rattle.gen_values.specs.Values.{destOf, DestReaches, dest-is}
 use Rattle.gen_arith.specs.Arith.{There, twoValues, converted, convNumber}
 use Rattle.gen_select.specs.Select.{selected}
+use Rattle.gen_inst.specs.Body.{bodyGen}
 use Rattle.gen_inst.specs.View.{told-bin, told-conv, told-icmp, told-select}
 
 -- the fields of an instruction of this kind stand there
@@ -53,50 +54,26 @@ module _ {m : ℕ} {es : List Entry} {work : List ℕ} where
   select-there h a = let (t, ty, l, r, e) = told-select (h .inst) (h .is) a in there-as h (InstKind.select t ty l r) e
 
 -- ---- the lines
--- the result is stored behind the value
-pub result : (c : FnCtx) {t u : Reached} {ks os ks′ os′ : List ℕ} (dest : ℕ) (d : Option ℕ) → dest ≡ destWord d → Puts (storeDest c (destOf dest)) t u ks os ks′ os′
-    → Puts (storeDest c d) t u ks os ks′ os′
-result c {t} {u} {ks} {os} {ks′} {os′} dest d named p = subst (λ (o : Option ℕ). Puts (storeDest c o) t u ks os ks′ os′) (ap destOf named ∙ dest-is d) p
-
--- the value of an instruction of these groups
-unfoldable pub valueGen : FnCtx → InstKind → Gen
-valueGen c (InstKind.bin op ty l r) = genBin c op ty l r
-valueGen c (InstKind.conv op from v to) = genConv c op from v to
-valueGen c (InstKind.icmp p ty l r) = genIcmp c p ty l r
-valueGen c (InstKind.select t ty l r) = genSelect c t ty l r
-valueGen c (InstKind.load t p a) = skip
-valueGen c (InstKind.store t v p a) = skip
-valueGen c (InstKind.alloca t n a) = skip
-valueGen c (InstKind.getElementPtr t p is) = skip
-valueGen c (InstKind.phi t vs) = skip
-valueGen c (InstKind.call t f vs) = skip
-valueGen c (InstKind.freeze t v) = skip
-valueGen c (InstKind.atomicLoad t p) = skip
-valueGen c (InstKind.atomicStore t v p) = skip
-valueGen c (InstKind.cmpxchg t p x v) = skip
-valueGen c (InstKind.extractValue v i) = skip
-valueGen c InstKind.fence = skip
-
-module _ (c : FnCtx) {m : ℕ} {es : List Entry} {s t : Reached} {ks os ks′ os′ : List ℕ} (k : InstKind) (f : Fields m (instFields (instTagOf k)) (instArgs k) es) where
-  as-kind : (j : InstKind) → k ≡ j → Puts (valueGen c j) s t ks os ks′ os′ → Puts (valueGen c k) s t ks os ks′ os′
-  as-kind j e p = subst (λ (i : InstKind). Puts (valueGen c i) s t ks os ks′ os′) (sym e) p
+module _ (c : FnCtx) (d : Option ℕ) {m : ℕ} {es : List Entry} {s t : Reached} {ks os ks′ os′ : List ℕ} (k : InstKind) (f : Fields m (instFields (instTagOf k)) (instArgs k) es) where
+  as-kind : (j : InstKind) → k ≡ j → Puts (bodyGen c d j) s t ks os ks′ os′ → Puts (bodyGen c d k) s t ks os ks′ os′
+  as-kind j e p = subst (λ (i : InstKind). Puts (bodyGen c d i) s t ks os ks′ os′) (sym e) p
 
   pub bin-arm : {kind : ℕ} → kind ≡ instKind (instTagOf k) → 40 ≤ kind → kind < 53
       → ((o : BinOp) → kind - 40 ≡ binNumber o → (p : Meanings twoValues) → Fields m twoValues p es → Puts (genBin c o (p .0) (p .1 .0) (p .1 .1 .0)) s t ks os ks′ os′)
-      → Puts (valueGen c k) s t ks os ks′ os′
-  unfolding valueGen
+      → Puts (bodyGen c d k) s t ks os ks′ os′
+  unfolding bodyGen
   bin-arm i a b h = let (op, ty, l, r, e, q) = told-bin k i a b in let j = InstKind.bin op ty l r in as-kind j e (h op q (instArgs j) (moved j e f))
 
   pub conv-arm : {kind : ℕ} → kind ≡ instKind (instTagOf k) → 53 ≤ kind → kind < 59
       → ((o : ConvOp) → kind - 53 ≡ convNumber o → (p : Meanings converted) → Fields m converted p es → Puts (genConv c o (p .0) (p .1 .0) (p .1 .1 .0)) s t ks os ks′ os′)
-      → Puts (valueGen c k) s t ks os ks′ os′
-  unfolding valueGen
+      → Puts (bodyGen c d k) s t ks os ks′ os′
+  unfolding bodyGen
   conv-arm i a b h = let (o, from, v, to, e, q) = told-conv k i a b in let j = InstKind.conv o from v to in as-kind j e (h o q (instArgs j) (moved j e f))
 
   pub icmp-arm : {kind : ℕ} → kind ≡ instKind (instTagOf k) → 60 ≤ kind → kind < 70
       → ((o : ICmpPred) → kind - 47 ≡ icmpNumber o → (p : Meanings twoValues) → Fields m twoValues p es → Puts (genIcmp c o (p .0) (p .1 .0) (p .1 .1 .0)) s t ks os ks′ os′)
-      → Puts (valueGen c k) s t ks os ks′ os′
-  unfolding valueGen
+      → Puts (bodyGen c d k) s t ks os ks′ os′
+  unfolding bodyGen
   icmp-arm i a b h =
       let (o, ty, l, r, e, q) = told-icmp k i a b in
       let j = InstKind.icmp o ty l r in
@@ -104,27 +81,6 @@ module _ (c : FnCtx) {m : ℕ} {es : List Entry} {s t : Reached} {ks os ks′ os
 
   pub select-arm : {kind : ℕ} → kind ≡ instKind (instTagOf k) → kind ≡ 70
       → ((p : Meanings selected) → Fields m selected p es → Puts (genSelect c (p .0) (p .1 .0) (p .1 .1 .0) (p .1 .1 .1 .0)) s t ks os ks′ os′)
-      → Puts (valueGen c k) s t ks os ks′ os′
-  unfolding valueGen
+      → Puts (bodyGen c d k) s t ks os ks′ os′
+  unfolding bodyGen
   select-arm i a h = let (test, ty, l, r, e) = told-select k i a in let j = InstKind.select test ty l r in as-kind j e (h (instArgs j) (moved j e f))
-
--- the value, then the slot
-pub valued-puts : (c : FnCtx) {kind : ℕ} (d : Option ℕ) (k : InstKind) {s t u : Reached} {k₀ o₀ k₁ o₁ k₂ o₂ : List ℕ} → kind ≡ instKind (instTagOf k) → kind ≤ 70
-    → Puts (valueGen c k) s t k₀ o₀ k₁ o₁ → Puts (storeDest c d) t u k₁ o₁ k₂ o₂ → Puts (genKind c d k) s u k₀ o₀ k₂ o₂
-unfolding genKind valueGen
-valued-puts c d (InstKind.bin op ty l r) e b p q = then-puts p q
-valued-puts c d (InstKind.conv op from x to) e b p q = then-puts p q
-valued-puts c d (InstKind.icmp o ty l r) e b p q = then-puts p q
-valued-puts c d (InstKind.select t ty l r) e b p q = then-puts p q
-valued-puts c d (InstKind.load t x a) e b p q = absurd (omega arith)
-valued-puts c d (InstKind.store t x y a) e b p q = absurd (omega arith)
-valued-puts c d (InstKind.alloca t n a) e b p q = absurd (omega arith)
-valued-puts c d (InstKind.getElementPtr t x is) e b p q = absurd (omega arith)
-valued-puts c d (InstKind.phi t vs) e b p q = absurd (omega arith)
-valued-puts c d (InstKind.call t f vs) e b p q = absurd (omega arith)
-valued-puts c d (InstKind.freeze t x) e b p q = absurd (omega arith)
-valued-puts c d (InstKind.atomicLoad t x) e b p q = absurd (omega arith)
-valued-puts c d (InstKind.atomicStore t x y) e b p q = absurd (omega arith)
-valued-puts c d (InstKind.cmpxchg t x y z) e b p q = absurd (omega arith)
-valued-puts c d (InstKind.extractValue x i) e b p q = absurd (omega arith)
-valued-puts c d InstKind.fence e b p q = absurd (omega arith)

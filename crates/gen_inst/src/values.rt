@@ -1,29 +1,25 @@
-// Instructions that put a value into their result's slot and measure nothing: operations, comparisons, conversions, selects.
+// The lines of operations, comparisons, conversions and selects, which measure nothing.
 use gen_arith::gen_bin;
 use gen_arith::gen_conv;
 use gen_arith::gen_icmp;
 use gen_lines::Reached;
 use gen_select::gen_select;
-use gen_values::store_dest;
 ghost use mathlib.Core.Path.{_≡_};
 ghost use mathlib.Core.Option.{Option};
 ghost use Prim.Native.Nat.{ℕ, _≤_};
 ghost use Rattle.book.specs.Ast.{InstKind};
 ghost use Rattle.book.specs.Entry.{entries};
-ghost use Rattle.book.specs.Encode.{destWord};
 ghost use Rattle.book.specs.Fields.{instFields, instTagOf, instArgs};
-ghost use Rattle.book.specs.Limits.{Maybe, NameLimits};
 ghost use Rattle.book.specs.Kinds.{instKind};
 ghost use Rattle.lowering.specs.Context.{FnCtx};
-ghost use Rattle.lowering.specs.Inst.{genKind};
 ghost use Rattle.gen_lines.specs.Puts.{Puts};
 ghost use Rattle.gen_values.specs.Maps.{Locals};
 ghost use Rattle.gen_values.specs.Fields.{Fields};
-ghost use Rattle.gen_inst.specs.Values.{Held, valueGen};
-ghost use Rattle.gen_values.specs.Values.{DestReaches};
+ghost use Rattle.gen_inst.specs.Values.{Held};
+ghost use Rattle.gen_inst.specs.Body.{bodyGen};
 
-// The value.
-fn value_lines(
+// The value, for the kinds 40 to 70.
+pub fn value_lines(
     kind: u64,
     kinds: &[u64],
     words: &[u64],
@@ -34,9 +30,9 @@ fn value_lines(
     s: Reached,
 ) -> Reached
     requires { ⌜ Held kind names (entries (now kinds) (now words)) (now work) ⌝ }
-    ensures { λ r. ⌜ ((c : FnCtx) (k : InstKind) → kind ≡ instKind (instTagOf k) → 40 ≤ kind → kind ≤ 70 → Locals c names (now (work .entry))
+    ensures { λ r. ⌜ ((c : FnCtx) (d : Option ℕ) (k : InstKind) → kind ≡ instKind (instTagOf k) → 40 ≤ kind → kind ≤ 70 → Locals c names (now (work .entry))
         → Fields names (instFields (instTagOf k)) (instArgs k) (entries (now (kinds .entry)) (now (words .entry)))
-        → Puts (valueGen c k) s r (now (lines .entry)) (now (operands .entry)) (now (lines .exit)) (now (operands .exit))) ⌝ }
+        → Puts (bodyGen c d k) s r (now (lines .entry)) (now (operands .entry)) (now (lines .exit)) (now (operands .exit))) ⌝ }
 {
     match kind {
         40..=52 => gen_bin(
@@ -72,26 +68,4 @@ fn value_lines(
         70 => gen_select(kinds, words, names, work, lines, operands, s),
         _ => s,
     }
-}
-
-// An instruction of the kinds 40 to 70: the value, then the result's slot.
-pub fn value_inst(
-    kind: u64,
-    dest: u64,
-    kinds: &[u64],
-    words: &[u64],
-    names: u64,
-    work: &[u64],
-    lines: &mut [u16],
-    operands: &mut [u64],
-    s: Reached,
-) -> Reached
-    requires { ⌜ Held kind names (entries (now kinds) (now words)) (now work) ⌝ }
-    requires { ⌜ DestReaches dest (now work) ⌝ }
-    ensures { λ r. ⌜ ((c : FnCtx) (d : Option ℕ) (k : InstKind) → kind ≡ instKind (instTagOf k) → 40 ≤ kind → kind ≤ 70 → dest ≡ destWord d → Maybe (NameLimits names) d
-        → Locals c names (now (work .entry)) → Fields names (instFields (instTagOf k)) (instArgs k) (entries (now (kinds .entry)) (now (words .entry)))
-        → Puts (genKind c d k) s r (now (lines .entry)) (now (operands .entry)) (now (lines .exit)) (now (operands .exit))) ⌝ }
-{
-    let value = value_lines(kind, kinds, words, names, work, lines, operands, s);
-    store_dest(dest, work, lines, operands, value)
 }

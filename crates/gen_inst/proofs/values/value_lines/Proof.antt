@@ -73,8 +73,8 @@ returns : tie.Need-returns
 returns c =
     let after-gen-select = c .before .before .before .before in
     let at-match-keys1 = after-gen-select .before .before .before in
-    λ k i e high few maps f.
-    select-arm k i f e (at-match-keys1 .match .keys1) (λ p g. after-gen-select .gen-select .ensures k maps p g)
+    λ k d i e high few maps f.
+    select-arm k d i f e (at-match-keys1 .match .keys1) (λ p g. after-gen-select .gen-select .ensures k maps p g)
 
 -- src/values.rt:26:1
 same-length-3 : tie.Need-same-length-3
@@ -90,8 +90,8 @@ returns-2 c =
     let after-gen-bin = c .before .before .before .before in
     let then2 = after-gen-bin .before .before .before in
     let else1 = then2 .before in
-    λ k i e high few maps f.
-    bin-arm k i f e (omega (arith, else1 .if1 .left)) (omega (arith, then2 .if2 .taken)) (λ o q p g. after-gen-bin .gen-bin .ensures k o q maps p g)
+    λ k d i e high few maps f.
+    bin-arm k d i f e (omega (arith, else1 .if1 .left)) (omega (arith, then2 .if2 .taken)) (λ o q p g. after-gen-bin .gen-bin .ensures k o q maps p g)
 
 -- src/values.rt:26:1
 same-length-5 : tie.Need-same-length-5
@@ -107,8 +107,8 @@ returns-3 c =
     let after-gen-conv = c .before .before .before .before in
     let then3 = after-gen-conv .before .before .before in
     let else2 = then3 .before in
-    λ k i e high few maps f.
-    conv-arm k i f e (omega (arith, else2 .if2 .left)) (omega (arith, then3 .if3 .taken)) (λ o q p g. after-gen-conv .gen-conv .ensures k o q maps p g)
+    λ k d i e high few maps f.
+    conv-arm k d i f e (omega (arith, else2 .if2 .left)) (omega (arith, then3 .if3 .taken)) (λ o q p g. after-gen-conv .gen-conv .ensures k o q maps p g)
 
 -- src/values.rt:26:1
 same-length-7 : tie.Need-same-length-7
@@ -124,25 +124,25 @@ returns-4 c =
     let after-gen-icmp = c .before .before .before .before in
     let then5 = after-gen-icmp .before .before .before in
     let else4 = then5 .before in
-    λ k i e high few maps f.
-    icmp-arm k i f e (omega (arith, else4 .if4 .left)) (omega (arith, then5 .if5 .taken)) (λ o q p g. after-gen-icmp .gen-icmp .ensures k o q maps p g)
+    λ k d i e high few maps f.
+    icmp-arm k d i f e (omega (arith, else4 .if4 .left)) (omega (arith, then5 .if5 .taken)) (λ o q p g. after-gen-icmp .gen-icmp .ensures k o q maps p g)
 
 -- src/values.rt:26:1
 returns-5 : tie.Need-returns-5
 returns-5 c =
-    λ k i e high few maps f. absurd (omega (arith, high, c .if1 .taken))
+    λ k d i e high few maps f. absurd (omega (arith, high, c .if1 .taken))
 
 -- src/values.rt:26:1
 returns-6 : tie.Need-returns-6
 returns-6 c =
     let else3 = c .before in
-    λ k i e high few maps f. absurd (not-59 i (sym e ∙ omega (arith, else3 .if3 .left, c .if4 .taken)))
+    λ k d i e high few maps f. absurd (not-59 i (sym e ∙ omega (arith, else3 .if3 .left, c .if4 .taken)))
 
 -- src/values.rt:26:1
 returns-7 : tie.Need-returns-7
 returns-7 c =
     let at-match-rest = c .before .before .before .before .before in
-    λ k i e high few maps f. absurd (at-match-rest .match .rest .1 (omega (arith, few, c .if5 .left)))
+    λ k d i e high few maps f. absurd (at-match-rest .match .rest .1 (omega (arith, few, c .if5 .left)))
 
 pub value-lines-spec : {M : Type 1} → statement M
 value-lines-spec =
