@@ -2,3 +2,4 @@
 pub mod View
 pub mod Body
 pub mod Values
+pub mod Measured

@@ -34,7 +34,7 @@ pub record Held (kind : ℕ) (m : ℕ) (es : List Entry) (work : List ℕ) : Typ
   pub room : 8 * m + 64 ≤ length work
 
 -- the fields of an instruction that is known
-moved : {m : ℕ} {es : List Entry} {k : InstKind} (j : InstKind) → k ≡ j → Fields m (instFields (instTagOf k)) (instArgs k) es → Fields m (instFields (instTagOf j)) (instArgs j) es
+pub moved : {m : ℕ} {es : List Entry} {k : InstKind} (j : InstKind) → k ≡ j → Fields m (instFields (instTagOf k)) (instArgs k) es → Fields m (instFields (instTagOf j)) (instArgs j) es
 moved {m} {es} j e f = subst (λ (i : InstKind). Fields m (instFields (instTagOf i)) (instArgs i) es) e f
 
 module _ {m : ℕ} {es : List Entry} {work : List ℕ} where

@@ -1,2 +1,3 @@
 // `gen_inst`
+pub mod measured;
 pub mod values;
