@@ -25,22 +25,12 @@ use Rattle.lowering.specs.Memory.{requireAtomicWidth, genAtomicLoad, genAtomicS
 use Rattle.gen_lines.specs.declared.Reached.{Reached}
 use Rattle.gen_lines.specs.Puts.{Puts, Lined, orElse, madeRefused, line-puts, then-puts, same-puts}
 use Rattle.gen_lines.specs.Follow.{Asked, asked-ok, asked-err, asked-puts}
-use Rattle.gen_values.specs.Values.{valueOf, destOf, DestReaches}
+use Rattle.gen_values.specs.Values.{valueOf, destOf}
 use Rattle.gen_values.specs.Maps.{Locals}
 use Rattle.gen_values.specs.Push.{some-of, none-of, bare-puts, set-local-puts}
 use Rattle.gen_values.specs.Fields.{Fields}
 use Rattle.gen_fields.specs.Kinds.{NoLocal, is-local, no-local}
 use Rattle.gen_fields.specs.Tests.{need-puts}
-
--- what a generator is given that stores its own result: its fields, the result word and the work words
-pub record Given (m : ℕ) (fs : List Field) (es : List Entry) (dest : ℕ) (work : List ℕ) : Type 0 where
-  pub holds : Meanings fs
-  pub fields : Fields m fs holds es
-  pub result : dest ≤ m
-  pub room : 8 * m ≤ length work
-
-pub dest-reaches : {m : ℕ} {fs : List Field} {es : List Entry} {dest : ℕ} {work : List ℕ} → Given m fs es dest work → DestReaches dest work
-dest-reaches {m} {fs} {es} {dest} g = record { there = λ z. omega (arith, g .result, g .room) }
 
 -- two places further
 pub third : {m : ℕ} {fs : List Field} {p : Meanings fs} (es : List Entry) (a : ℕ) → Fields m fs p (drop (a + 1 + 1) es) → Fields m fs p (drop (a + 2) es)

@@ -27,9 +27,10 @@ ghost use Rattle.gen_values.specs.Values.{valueOf, Reaches, destOf, DestReaches
 ghost use Rattle.gen_values.specs.Maps.{Locals, Maps, Did};
 ghost use Rattle.gen_values.specs.Fields.{Fields, ValueAt};
 ghost use Rattle.gen_fields.specs.Places.{OperandAt};
+ghost use Rattle.gen_fields.specs.Given.{Given};
 ghost use Rattle.gen_size.specs.Sizes.{Measurable};
 ghost use Rattle.gen_size.specs.Lent.{Lent};
-ghost use Rattle.gen_atomic.specs.Atomic.{setBoth, Given};
+ghost use Rattle.gen_atomic.specs.Atomic.{setBoth};
 
 // `require_atomic_width` of the type at the front: no line.
 pub fn require_atomic_width(

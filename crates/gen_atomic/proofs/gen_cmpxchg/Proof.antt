@@ -6,6 +6,7 @@ use lib.ListN.{drop}
 use Rattle.book.specs.Entry.{entries}
 use Rattle.gen_values.specs.Fields.{value-at, behind-value}
 use Rattle.gen_fields.specs.Places as places
+use Rattle.gen_fields.specs.Given as given
 use Rattle.gen_atomic.specs.Atomic as laws
 use borrow.Author.Needs.{needs}
 use Rattle.gen_atomic.proofs.gen_cmpxchg.Statement.{statement}
@@ -14,7 +15,7 @@ use Rattle.gen_atomic.proofs.gen_cmpxchg.Tie as tie
 slot-of-requires : tie.Need-slot-of-requires
 slot-of-requires c κs =
     let entry = c .before .before .before .before .before in
-    laws.dest-reaches (entry .pre)
+    given.dest-reaches (entry .pre)
 
 skip-requires : tie.Need-skip-requires
 skip-requires c κs = search needs

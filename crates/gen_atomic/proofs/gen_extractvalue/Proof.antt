@@ -2,6 +2,7 @@
 use mathlib.Core.Path.{sym}
 use Rattle.gen_values.specs.Fields.{value-at, behind-value}
 use Rattle.gen_fields.specs.Places as places
+use Rattle.gen_fields.specs.Given as given
 use Rattle.gen_atomic.specs.Atomic as laws
 use borrow.Author.Needs.{needs}
 use Rattle.gen_atomic.proofs.gen_extractvalue.Statement.{statement}
@@ -41,7 +42,7 @@ put-requires c κs = search needs
 store-dest-requires : tie.Need-store-dest-requires
 store-dest-requires c κs =
     let entry = c .before .before .before .before .before .before .before .before .before .before .before .before .before .before .before .before .before .before .before .before in
-    laws.dest-reaches (entry .pre)
+    given.dest-reaches (entry .pre)
 
 same-length : tie.Need-same-length
 same-length c = search needs
