@@ -1,0 +1,36 @@
+use borrow.Author.Needs.{needs}
+use Rattle.gen_gep.proofs.next_step.Statement.{statement}
+use Rattle.gen_gep.proofs.next_step.Tie as tie
+use Rattle.gen_gep.proofs.next_step.Reads as reads
+use Rattle.gen_gep.proofs.next_step.Lts as lts
+use Rattle.gen_gep.proofs.first_step.Reads as first-step-reads
+use Rattle.layout_step.proofs.gep_step.Reads as gep-step-reads
+
+-- src/lib.rt:110:9
+first-step-requires : tie.Need-first-step-requires
+first-step-requires c κs = search needs
+
+-- src/lib.rt:110:9
+same-length : tie.Need-same-length
+same-length c = search needs
+
+-- src/lib.rt:110:9
+returns : tie.Need-returns
+returns c = ?
+
+-- src/lib.rt:112:5
+gep-step-requires : tie.Need-gep-step-requires
+gep-step-requires c κs = search needs
+
+-- src/lib.rt:96:1
+same-length-2 : tie.Need-same-length-2
+same-length-2 c = search needs
+
+-- src/lib.rt:96:1
+returns-2 : tie.Need-returns-2
+returns-2 c = ?
+
+pub next-step-spec : {M : Type 1} → statement M
+next-step-spec =
+    tie.close
+    (tie.spec first-step-requires same-length returns gep-step-requires same-length-2 returns-2)

@@ -1,0 +1,5 @@
+-- The fields of a getelementptr, the varying terms in the work words, the walk over the indices, and the lines.
+pub mod Indices
+pub mod Terms
+pub mod Walks
+pub mod Lines
