@@ -6,6 +6,7 @@ use mathlib.Core.List.{List, [], _∷_, _++_}
 use native.Mathlib.Omega.{arith}
 use borrow.Author.Tests.{lt-ltb, le-ltb, eq-eqb, ne-eqb}
 use lib.ListN.{length, drop, take, getD}
+use lib.Seq.{take-all}
 use lib.Dec.{ltb, eqb}
 use Rattle.book.specs.Ast.{Ty, Value, TypedVal, BinOp}
 use Rattle.book.specs.Entry.{entries}
@@ -66,6 +67,11 @@ module _ (c : FnCtx) (m : ℕ) (bk bw work : List ℕ) {s t u : Reached} {ks os 
       let n : i + 1 ≡ suc i = omega arith in
       let e : take (i + 1) ts ≡ take i ts ++ (x .term ∷ []) = ap (λ j. take j ts) n ∙ x .more in
       subst (λ (l : List VarTerm). Puts (each (genVarTerm c) l) s u ks os ks″ os″) (sym e) (more-puts (genVarTerm c) (take i ts) (x .term) p (q (x .term) (subst (λ (j : ℕ). TermAt m bk bw work j (x .term)) (let z : 0 + i ≡ i = omega arith in z) (x .here))))
+
+-- all of them
+pub terms-all : (c : FnCtx) (i : ℕ) (ts : List VarTerm) {s t : Reached} {ks os ks′ os′ : List ℕ} → length ts ≤ i → Puts (each (genVarTerm c) (take i ts)) s t ks os ks′ os′
+    → Puts (each (genVarTerm c) ts) s t ks os ks′ os′
+terms-all c i ts {s} {t} {ks} {os} {ks′} {os′} l p = subst (λ (l : List VarTerm). Puts (each (genVarTerm c) l) s t ks os ks′ os′) (take-all i ts l) p
 
 -- ---- "one `push`, none if the sum is 0"
 module _ (sum : ℕ) where

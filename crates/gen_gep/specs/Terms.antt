@@ -156,3 +156,14 @@ pub record TermsAsk (m : ℕ) (bk bw work : List ℕ) (n : ℕ) : Type 0 where
   pub few : n ≤ 32
   pub terms : Terms m bk bw work 0 kept
   pub room : 8 * m + 64 ≤ length work
+
+module _ {m : ℕ} {bk bw work : List ℕ} {n : ℕ} (t : TermsAsk m bk bw work n) (i : ℕ) (l : i < n) where
+  pub term-asked : TermAsk m bk bw work (getD work (8 * m + 2 * i) 0) (getD work (8 * m + 2 * i + 1) 0)
+  term-asked =
+      let x : Ith m bk bw work 0 i (t .kept) = term-at m bk bw work 0 i (t .kept) (omega (arith, t .count)) (t .terms) in
+      let e : 0 + i ≡ i = omega arith in
+      record { term = x .term; is = subst (λ (j : ℕ). TermAt m bk bw work j (x .term)) e (x .here); room = t .room }
+
+  -- its two words are there
+  pub term-there : 8 * m + 2 * i + 1 < length work
+  term-there = omega (arith, t .room, t .few)

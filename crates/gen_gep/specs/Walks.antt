@@ -25,10 +25,10 @@ use Rattle.gen_lines.specs.declared.Reached.{Reached}
 use Rattle.gen_lines.specs.Puts.{Barred, madeRefused}
 use Rattle.gen_lines.specs.Follow.{Asked, Answered, asked-ok, asked-err}
 use Rattle.gen_values.specs.Values.{widthBy}
-use Rattle.gen_values.specs.Fields.{Fields, WidthSays, ValueAt, type-in, type-starts, type-is, width-is}
+use Rattle.gen_values.specs.Fields.{Fields, WidthSays, ValueAt, ValueThere, type-in, type-starts, type-is, width-is}
 use Rattle.gen_gep.specs.declared.Way.{Way}
 use Rattle.gen_gep.specs.Indices.{indexList, indexThen, gepFields, indexIn, More, list-more, list-done, list-in, value-behind, list-behind}
-use Rattle.gen_gep.specs.Terms.{Stays, stays-none, stays-then, stays-after, TermIs, Terms, stored, terms-stored, stays-stored, terms-after}
+use Rattle.gen_gep.specs.Terms.{TermsAsk, Stays, stays-none, stays-then, stays-after, TermIs, Terms, stored, terms-stored, stays-stored, terms-after}
 
 -- ---- the definition's walk, the first index and the later ones alike
 module _ (structs : List StructType) where
@@ -213,6 +213,16 @@ module _ {m : ℕ} {bk bw work work′ : List ℕ} where
         few = h .few;
       }
 
+-- the first step and a later one
+module _ {m : ℕ} {es : List Entry} {work work′ : List ℕ} (structs : List StructType) (t : Ty) (o : Option ℕ) {first : Bool} {r : Step} where
+  pub first-outcome : first ≡ true → StepOutcome m es work work′ (arrayBy structs t o) r → StepOutcome m es work work′ (stepFrom structs first t o) r
+  unfolding stepFrom
+  first-outcome e q = rw e q
+
+  pub later-outcome : first ≡ false → StepOutcome m es work work′ (stepBy structs t o) r → StepOutcome m es work work′ (stepFrom structs first t o) r
+  unfolding stepFrom
+  later-outcome e q = rw e q
+
 -- the answer by the code's type and index
 module _ {m : ℕ} {bk bw work : List ℕ} (structs : List StructType) {k : GepWalk} {w : Way} (at : WalkAt m bk bw work k w) (i : Index) (idx : TypedVal) (ei : indexOf i ≡ constInt (idx .val)) where
   pub same-step : (st : Step) → Steps m (entries bk bw) (stepFrom structs (w .first) (tyOf m (drop (w .ty) (entries bk bw))) (indexOf i)) st
@@ -297,6 +307,9 @@ module _ {m : ℕ} {bk bw work work′ : List ℕ} {whole : Result GepWalk} {s :
           few = omega (arith, l .few, ap length (more .same));
         }
 
+    pub loop-there : (index < length bk) × (index < length bw)
+    loop-there = type-in bk bw index (more .fields)
+
     pub loop-value : {v n : ℕ} → v ≡ index + n → n ≡ tyLen m (drop index (entries bk bw)) → v < length bk
     loop-value e en = value-behind bk bw index (more .fields) en e .in-kinds
 
@@ -317,3 +330,21 @@ module _ {m : ℕ} {bk bw work work′ : List ℕ} {whole : Result GepWalk} {s :
           few = omega (arith, l .few, q .few, ap length (more .same));
           goes = λ {u} {y} a. l .goes (rw (more .same) (asked-then (walkFrom (structsIn m (entries bk bw)) false (more .later)) (q .asked) (rw (q .later) at a)));
         }
+
+-- ---- behind the walk
+module _ {m : ℕ} {bk bw work : List ℕ} {at : ℕ} (t : GepAsk m bk bw work at) {n pointer : ℕ} (en : n ≡ tyLen m (drop at (entries bk bw))) (e : pointer ≡ at + n) where
+  pub pointer-at : {p : Meanings gepFields} → Fields m gepFields p (drop at (entries bk bw)) → ValueAt m bk bw pointer (p .1 .0)
+  pointer-at f = value-behind bk bw at f en e
+
+  pub indices-at : {p : Meanings gepFields} → Fields m gepFields p (drop at (entries bk bw)) → Fields m indexList (p .1 .1) (drop (pointer + 1) (entries bk bw))
+  indices-at f = list-behind bk bw at f en e
+
+  pub walk-asked : WalkAsk m bk bw work at (pointer + 1)
+  walk-asked = record { lent = t; list = indices-at (t .fields) }
+
+  module _ {work′ : List ℕ} {whole : Result GepWalk} {s : Reached} {w : Way} (l : Walked m bk bw work work′ whole s w) where
+    pub pointer-there : ValueThere bk bw pointer work′
+    pointer-there = record { names = m; value = _; here = pointer-at (t .fields); room = omega (arith, t .room, l .stays .long) }
+
+    pub terms-asked : TermsAsk m bk bw work′ (w .terms)
+    terms-asked = record { kept = l .walk .varTerms; count = l .here .count; few = l .few; terms = l .here .terms; room = omega (arith, t .room, l .stays .long) }

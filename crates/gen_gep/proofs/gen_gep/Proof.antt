@@ -1,3 +1,9 @@
+-- `gen_gep::gen_gep` meets its contract: the walk is asked for, and the lines are those of its parts, one after the other.
+use mathlib.Core.Path.{refl}
+use native.Mathlib.Omega.{arith}
+use Rattle.gen_values.specs.Fields.{type-in}
+use Rattle.gen_gep.specs.Walks.{pointer-at, indices-at, walk-asked, pointer-there, terms-asked}
+use Rattle.gen_gep.specs.Lines.{walked-locals, gep-lines}
 use borrow.Author.Needs.{needs}
 use Rattle.gen_gep.proofs.gen_gep.Statement.{statement}
 use Rattle.gen_gep.proofs.gen_gep.Tie as tie
@@ -11,27 +17,51 @@ use Rattle.gen_values.proofs.skip_at.Reads as skip-at-reads
 
 -- src/lib.rt:366:24
 skip-at-requires : tie.Need-skip-at-requires
-skip-at-requires c κs = ?
+skip-at-requires c κs =
+    let entry = c .before .before .before .before .before in
+    type-in (entry .args .book-kinds .now) (entry .args .book-words .now) (entry .args .at) (entry .pre .fields)
 
 -- src/lib.rt:366:19
 add-pointer : tie.Need-add-pointer
-add-pointer c = ?
+add-pointer c =
+    let entry = c .before .before .before .before .before .before in
+    let v = pointer-at (entry .pre) (c .skip-at .ensures) refl (entry .pre .fields) in
+    omega (arith, v .in-kinds, entry .good)
 
 -- src/lib.rt:367:59
 add-walk : tie.Need-add-walk
-add-walk c = ?
+add-walk c =
+    let after-skip-at = c .before in
+    let entry = after-skip-at .before .before .before .before .before .before in
+    let v = pointer-at (entry .pre) (after-skip-at .skip-at .ensures) refl (entry .pre .fields) in
+    omega (arith, v .in-kinds, entry .good)
 
 -- src/lib.rt:367:9
 walk-requires : tie.Need-walk-requires
-walk-requires c κs = ?
+walk-requires c κs =
+    let after-skip-at = c .before in
+    let entry = after-skip-at .before .before .before .before .before .before in
+    walk-asked (entry .pre) (after-skip-at .skip-at .ensures) refl
 
 -- src/lib.rt:368:9
 push-at-requires : tie.Need-push-at-requires
-push-at-requires c κs = ?
+push-at-requires c κs =
+    let after-walk = c .before .before .before .before .before in
+    let after-skip-at = after-walk .before .before in
+    let entry = after-skip-at .before .before .before .before .before .before in
+    let e = after-skip-at .skip-at .ensures in
+    let l = after-walk .walk .ensures (entry .pre .holds) (entry .pre .fields) (indices-at (entry .pre) e refl (entry .pre .fields)) in
+    pointer-there (entry .pre) e refl l
 
 -- src/lib.rt:378:9
 gen-var-terms-requires : tie.Need-gen-var-terms-requires
-gen-var-terms-requires c κs = ?
+gen-var-terms-requires c κs =
+    let after-walk = c .before .before .before .before .before .before .before .before .before .before .before .before .before in
+    let after-skip-at = after-walk .before .before in
+    let entry = after-skip-at .before .before .before .before .before .before in
+    let e = after-skip-at .skip-at .ensures in
+    let l = after-walk .walk .ensures (entry .pre .holds) (entry .pre .fields) (indices-at (entry .pre) e refl (entry .pre .fields)) in
+    terms-asked (entry .pre) e refl l
 
 -- src/lib.rt:388:5
 add-sum-requires : tie.Need-add-sum-requires
@@ -51,7 +81,19 @@ same-length-3 c = search needs
 
 -- src/lib.rt:350:1
 returns : tie.Need-returns
-returns c = ?
+returns c =
+    let after-add-sum = c .before .before .before .before in
+    let after-gen-var-terms = after-add-sum .before .before .before .before .before .before .before in
+    let after-push-at = after-gen-var-terms .before .before .before .before .before .before .before .before in
+    let after-walk = after-push-at .before .before .before .before .before .before in
+    let after-skip-at = after-walk .before .before in
+    let entry = after-skip-at .before .before .before .before .before .before in
+    let e = after-skip-at .skip-at .ensures in
+    λ k maps p f.
+    let l = after-walk .walk .ensures p f (indices-at (entry .pre) e refl f) in
+    let locals = walked-locals p maps l in
+    gep-lines p maps l (after-push-at .push-at .ensures (entry .args .names) k (p .1 .0) (pointer-at (entry .pre) e refl f) locals)
+    (λ ts terms count. after-gen-var-terms .gen-var-terms .ensures k ts locals terms count) (after-add-sum .add-sum .ensures)
 
 pub gen-gep-spec : {M : Type 1} → statement M
 gen-gep-spec =

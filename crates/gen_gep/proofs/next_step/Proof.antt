@@ -1,3 +1,5 @@
+-- `gen_gep::next_step` meets its contract.
+use Rattle.gen_gep.specs.Walks.{first-outcome, later-outcome}
 use borrow.Author.Needs.{needs}
 use Rattle.gen_gep.proofs.next_step.Statement.{statement}
 use Rattle.gen_gep.proofs.next_step.Tie as tie
@@ -16,7 +18,10 @@ same-length c = search needs
 
 -- src/lib.rt:110:9
 returns : tie.Need-returns
-returns c = ?
+returns c =
+    let after-first-step = c .before .before in
+    let then1 = after-first-step .before .before in
+    first-outcome _ _ _ (then1 .if1 .taken) (after-first-step .first-step .ensures)
 
 -- src/lib.rt:112:5
 gep-step-requires : tie.Need-gep-step-requires
@@ -28,7 +33,10 @@ same-length-2 c = search needs
 
 -- src/lib.rt:96:1
 returns-2 : tie.Need-returns-2
-returns-2 c = ?
+returns-2 c =
+    let after-gep-step = c .before .before in
+    let else1 = after-gep-step .before .before in
+    later-outcome _ _ _ (else1 .if1 .left) (after-gep-step .gep-step .ensures)
 
 pub next-step-spec : {M : Type 1} → statement M
 next-step-spec =

@@ -1,3 +1,10 @@
+-- `gen_gep::took` meets its contract, one law for each kind of step.
+use mathlib.Core.Path.{subst}
+use Rattle.book.specs.Entry.{entries}
+use Rattle.layout_step.specs.Steps.{Steps}
+use Rattle.layout_step.specs.declared.Step.{Step}
+use Rattle.gen_gep.specs.Indices.{indexIn}
+use Rattle.gen_gep.specs.Walks.{refused-went, constant-went, varying-went}
 use borrow.Author.Needs.{needs}
 use Rattle.gen_gep.proofs.took.Statement.{statement}
 use Rattle.gen_gep.proofs.took.Tie as tie
@@ -33,11 +40,23 @@ vary-requires c κs = search needs
 
 -- src/lib.rt:149:1
 returns : tie.Need-returns
-returns c = ?
+returns c =
+    let after-step = c .before .before in
+    let entry = after-step .before .before .before .before .before .before in
+    let a = entry .args in
+    let es = entries (a .book-kinds .now) (a .book-words .now) in
+    λ p k answer f ready front says at.
+    refused-went (indexIn p) ready at front _ (subst (λ (t : Step). Steps (a .names) es answer t) (after-step .step .given .1) says) (c .refuse .ensures)
 
 -- src/lib.rt:149:1
 returns-2 : tie.Need-returns-2
-returns-2 c = ?
+returns-2 c =
+    let after-step2 = c .before .before in
+    let entry = after-step2 .before .before .before .before .before .before in
+    let a = entry .args in
+    let es = entries (a .book-kinds .now) (a .book-words .now) in
+    λ p k answer f ready front says at.
+    constant-went (indexIn p) ready at _ _ (subst (λ (t : Step). Steps (a .names) es answer t) (after-step2 .step2 .given .1) says) (c .wrapping-add .ensures)
 
 -- src/lib.rt:149:1
 same-length : tie.Need-same-length
@@ -45,7 +64,15 @@ same-length c = search needs
 
 -- src/lib.rt:149:1
 returns-3 : tie.Need-returns-3
-returns-3 c = ?
+returns-3 c =
+    let after-vary = c .before .before in
+    let after-step3 = after-vary .before .before .before in
+    let entry = after-step3 .before .before .before .before .before .before in
+    let a = entry .args in
+    let es = entries (a .book-kinds .now) (a .book-words .now) in
+    λ p k answer f ready front says at.
+    let q = subst (λ (t : Step). Steps (a .names) es answer t) (after-step3 .step3 .given .1) says in
+    varying-went k (indexIn p) _ _ q (after-vary .vary .ensures p k f ready (q .front) at)
 
 pub took-spec : {M : Type 1} → statement M
 took-spec =
