@@ -1,15 +1,15 @@
 -- The fields of a getelementptr, and its list of indices taken one at a time. "A GEP has at most 32 indices"
-use Prim.Native.Nat.{ℕ, suc, _+_, _<_, _≤_}
+use Prim.Native.Nat.{ℕ, _+_, _<_}
 use mathlib.Core.Path.{_≡_, refl, sym, ap, subst, _∙_}
 use mathlib.Core.Bool.{true, false}
 use mathlib.Core.List.{List, [], _∷_, _++_, append-assoc}
 use mathlib.Core.Option.{Option, none, some}
 use native.Mathlib.Omega.{arith}
 use lib.ListN.{length, drop, getD}
-use Rattle.book.specs.Ast.{Ty, Value, TypedVal, Sizeless}
+use Rattle.book.specs.Ast.{Ty, TypedVal, Sizeless}
 use Rattle.book.specs.Entry.{Entry, entries}
-use Rattle.book.specs.Fields.{Item, Field, Meanings}
-use Rattle.book.specs.Kinds.{ValTag, valTag}
+use Rattle.book.specs.Fields.{Item, Field, Meanings, instFields}
+use Rattle.book.specs.Kinds.{InstTag, ValTag, valTag}
 use Rattle.book.specs.Encode.{ending, encTy, encFields}
 use Rattle.book.specs.AgreeTy.{val-found, val-is}
 use Rattle.layout.specs.Step.{constInt}
@@ -26,7 +26,7 @@ indexThen = Field.plain Item.type ∷ Field.plain Item.value ∷ indexList
 
 -- base type, pointer, indices
 abbrev pub gepFields : List Field
-gepFields = indexThen
+gepFields = instFields InstTag.getElementPtr
 
 abbrev pub indexIn : Meanings indexThen → TypedVal
 indexIn p = record { ty = p .0; val = p .1 .0 }

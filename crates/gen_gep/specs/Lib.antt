@@ -2,4 +2,5 @@
 pub mod Indices
 pub mod Terms
 pub mod Walks
+pub mod Loop
 pub mod Lines

@@ -1,34 +1,32 @@
 -- The lines of a getelementptr.
-use Prim.Native.Nat.{ℕ, suc, _+_, _*_, _<_, _≤_}
+use Prim.Native.Nat.{ℕ, suc, _+_, _<_, _≤_}
 use mathlib.Core.Path.{_≡_, refl, sym, ap, subst, _∙_}
-use mathlib.Core.Bool.{Bool, true, false, not}
+use mathlib.Core.Bool.{not}
 use mathlib.Core.List.{List, [], _∷_, _++_}
 use native.Mathlib.Omega.{arith}
 use borrow.Author.Tests.{lt-ltb, le-ltb, eq-eqb, ne-eqb}
-use lib.ListN.{length, drop, take, getD}
+use lib.ListN.{length, take}
 use lib.Seq.{take-all}
 use lib.Dec.{ltb, eqb}
-use Rattle.book.specs.Ast.{Ty, Value, TypedVal, BinOp}
+use Rattle.book.specs.Ast.{Value, BinOp}
 use Rattle.book.specs.Entry.{entries}
 use Rattle.book.specs.Fields.{Meanings}
 use Rattle.assembly.specs.Line.{Line, Work}
 use Rattle.assembly.specs.Number.{kindOf, operandOf, operation, binNumber}
-use Rattle.lowering.specs.Gen.{Gen, skip, _>>=_, _>>_, when, each}
+use Rattle.lowering.specs.Gen.{Gen, _>>_, when, each}
 use Rattle.lowering.specs.Context.{FnCtx}
 use Rattle.lowering.specs.Operand.{pushInt, pushValue, emitSext, add64, mul64}
-use Rattle.lowering.specs.Gep.{VarTerm, Walk as GepWalk, walk, genVarTerm, genGep}
+use Rattle.lowering.specs.Gep.{VarTerm, walk, genVarTerm, genGep}
 use Rattle.layout_memo.specs.Work.{structsIn}
 use Rattle.gen_lines.specs.declared.Reached.{Reached}
-use Rattle.gen_lines.specs.Puts.{Puts, Lined, skip-puts, then-puts, same-puts}
-use Rattle.gen_lines.specs.Follow.{Asked, asked-puts, none-puts, more-puts}
-use Rattle.gen_values.specs.Values.{widthBy}
-use Rattle.gen_values.specs.Fields.{Fields, ValueAt, ValueThere}
+use Rattle.gen_lines.specs.Puts.{Puts, Lined, skip-puts, then-puts}
+use Rattle.gen_lines.specs.Follow.{Asked, asked-puts, more-puts}
 use Rattle.gen_values.specs.Maps.{Locals, Maps, Did}
 use Rattle.gen_values.specs.Push.{bare-puts}
 use Rattle.gen_gep.specs.declared.Way.{Way}
-use Rattle.gen_gep.specs.Indices.{indexThen, gepFields, value-behind}
-use Rattle.gen_gep.specs.Terms.{TermIs, TermAt, Terms, Ith, term-at, maps-stays}
-use Rattle.gen_gep.specs.Walks.{WalkAt, Walked}
+use Rattle.gen_gep.specs.Indices.{gepFields}
+use Rattle.gen_gep.specs.Terms.{TermAt, Terms, Ith, term-at, maps-stays}
+use Rattle.gen_gep.specs.Loop.{Walked}
 
 -- ---- single lines
 module _ {s t : Reached} {ks os ks′ os′ : List ℕ} where

@@ -1,18 +1,18 @@
 -- The varying terms in the work words behind the names': for each the place of its index among the book's entries, and its stride.
 use Prim.Native.Nat.{ℕ, zero, suc, _+_, _*_, _<_, _≤_}
-use mathlib.Core.Path.{_≡_, refl, sym, ap, subst, _∙_}
+use mathlib.Core.Path.{_≡_, refl, ap, subst, _∙_}
 use mathlib.Core.List.{List, [], _∷_, _++_}
 use native.Mathlib.Omega.{arith}
-use lib.ListN.{length, drop, take, getD, set, length-set, length-append}
+use lib.ListN.{length, drop, take, getD, set, length-set}
 use lib.Seq.{getD-set-same, getD-set-other}
 use Rattle.book.specs.Entry.{Entry, entries}
 use Rattle.book.specs.Fields.{Meanings}
 use Rattle.lowering.specs.Context.{FnCtx}
 use Rattle.lowering.specs.Gep.{VarTerm}
-use Rattle.layout_memo.specs.Work.{Ready, Kept, After, structsIn}
+use Rattle.layout_memo.specs.Work.{Ready, After}
 use Rattle.gen_values.specs.Values.{widthBy}
 use Rattle.gen_values.specs.Fields.{Fields}
-use Rattle.gen_values.specs.Maps.{Locals, Maps}
+use Rattle.gen_values.specs.Maps.{Maps}
 use Rattle.gen_gep.specs.Indices.{indexThen}
 
 -- ---- what stays

@@ -38,7 +38,8 @@ ghost use Rattle.gen_values.specs.Fields.{Fields, ValueAt};
 ghost use Rattle.gen_values.specs.Maps.{Locals, Maps, Did};
 ghost use Rattle.gen_gep.specs.Indices.{gepFields, indexList, indexThen, indexIn};
 ghost use Rattle.gen_gep.specs.Terms.{Terms, TermIs, TermsAsk, TermAsk};
-ghost use Rattle.gen_gep.specs.Walks.{stepFrom, WalkAt, Went, Walked, TookAsk, TakeAsk, WalkAsk, GepAsk};
+ghost use Rattle.gen_gep.specs.Walks.{stepFrom, WalkAt, Went, TookAsk, TakeAsk};
+ghost use Rattle.gen_gep.specs.Loop.{GepAsk, WalkAsk, Walked};
 ghost use Rattle.gen_gep.specs.Lines.{sumGen};
 
 // The walk so far: whether the next index is the first, the place of the type that it steps into, the sum of the constant

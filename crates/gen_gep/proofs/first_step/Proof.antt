@@ -3,8 +3,6 @@ use Rattle.layout_step.specs.Steps as laws
 use borrow.Author.Needs.{needs}
 use Rattle.gen_gep.proofs.first_step.Statement.{statement}
 use Rattle.gen_gep.proofs.first_step.Tie as tie
-use Rattle.layout_size.proofs.size_of.Reads as size-of-reads
-use Rattle.numbers.proofs.wrap.wrapping_mul.Reads as wrapping-mul-reads
 
 mul-size-of : tie.Need-mul-size-of
 mul-size-of c =

@@ -2,33 +2,23 @@
 use mathlib.Core.Path.{refl}
 use native.Mathlib.Omega.{arith}
 use Rattle.gen_values.specs.Fields.{type-in}
-use Rattle.gen_gep.specs.Walks.{pointer-at, indices-at, walk-asked, pointer-there, terms-asked}
+use Rattle.gen_gep.specs.Loop.{pointer-at, indices-at, walk-asked, pointer-there, terms-asked}
 use Rattle.gen_gep.specs.Lines.{walked-locals, gep-lines}
 use borrow.Author.Needs.{needs}
 use Rattle.gen_gep.proofs.gen_gep.Statement.{statement}
 use Rattle.gen_gep.proofs.gen_gep.Tie as tie
-use Rattle.gen_gep.proofs.gen_gep.Reads as reads
-use Rattle.gen_gep.proofs.gen_gep.Lts as lts
-use Rattle.gen_gep.proofs.add_sum.Reads as add-sum-reads
-use Rattle.gen_gep.proofs.gen_var_terms.Reads as gen-var-terms-reads
-use Rattle.gen_gep.proofs.walk.Reads as walk-reads
-use Rattle.gen_values.proofs.push_at.Reads as push-at-reads
-use Rattle.gen_values.proofs.skip_at.Reads as skip-at-reads
 
--- src/lib.rt:366:24
 skip-at-requires : tie.Need-skip-at-requires
 skip-at-requires c κs =
     let entry = c .before .before .before .before .before in
     type-in (entry .args .book-kinds .now) (entry .args .book-words .now) (entry .args .at) (entry .pre .fields)
 
--- src/lib.rt:366:19
 add-pointer : tie.Need-add-pointer
 add-pointer c =
     let entry = c .before .before .before .before .before .before in
     let v = pointer-at (entry .pre) (c .skip-at .ensures) refl (entry .pre .fields) in
     omega (arith, v .in-kinds, entry .good)
 
--- src/lib.rt:367:59
 add-walk : tie.Need-add-walk
 add-walk c =
     let after-skip-at = c .before in
@@ -36,14 +26,12 @@ add-walk c =
     let v = pointer-at (entry .pre) (after-skip-at .skip-at .ensures) refl (entry .pre .fields) in
     omega (arith, v .in-kinds, entry .good)
 
--- src/lib.rt:367:9
 walk-requires : tie.Need-walk-requires
 walk-requires c κs =
     let after-skip-at = c .before in
     let entry = after-skip-at .before .before .before .before .before .before in
     walk-asked (entry .pre) (after-skip-at .skip-at .ensures) refl
 
--- src/lib.rt:368:9
 push-at-requires : tie.Need-push-at-requires
 push-at-requires c κs =
     let after-walk = c .before .before .before .before .before in
@@ -53,7 +41,6 @@ push-at-requires c κs =
     let l = after-walk .walk .ensures (entry .pre .holds) (entry .pre .fields) (indices-at (entry .pre) e refl (entry .pre .fields)) in
     pointer-there (entry .pre) e refl l
 
--- src/lib.rt:378:9
 gen-var-terms-requires : tie.Need-gen-var-terms-requires
 gen-var-terms-requires c κs =
     let after-walk = c .before .before .before .before .before .before .before .before .before .before .before .before .before in
@@ -63,23 +50,18 @@ gen-var-terms-requires c κs =
     let l = after-walk .walk .ensures (entry .pre .holds) (entry .pre .fields) (indices-at (entry .pre) e refl (entry .pre .fields)) in
     terms-asked (entry .pre) e refl l
 
--- src/lib.rt:388:5
 add-sum-requires : tie.Need-add-sum-requires
 add-sum-requires c κs = search needs
 
--- src/lib.rt:350:1
 same-length : tie.Need-same-length
 same-length c = search needs
 
--- src/lib.rt:350:1
 same-length-2 : tie.Need-same-length-2
 same-length-2 c = search needs
 
--- src/lib.rt:350:1
 same-length-3 : tie.Need-same-length-3
 same-length-3 c = search needs
 
--- src/lib.rt:350:1
 returns : tie.Need-returns
 returns c =
     let after-add-sum = c .before .before .before .before in

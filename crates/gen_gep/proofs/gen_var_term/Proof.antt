@@ -7,16 +7,7 @@ use Rattle.gen_gep.specs.Lines.{term-lines}
 use borrow.Author.Needs.{needs}
 use Rattle.gen_gep.proofs.gen_var_term.Statement.{statement}
 use Rattle.gen_gep.proofs.gen_var_term.Tie as tie
-use Rattle.gen_gep.proofs.gen_var_term.Reads as reads
-use Rattle.gen_gep.proofs.gen_var_term.Lts as lts
-use Rattle.gen_gep.proofs.widen.Reads as widen-reads
-use Rattle.gen_lines.proofs.put.Reads as put-reads
-use Rattle.gen_values.proofs.int_width.Reads as int-width-reads
-use Rattle.gen_values.proofs.push_at.Reads as push-at-reads
-use Rattle.gen_values.proofs.push_int.Reads as push-int-reads
-use Rattle.gen_values.proofs.skip_at.Reads as skip-at-reads
 
--- src/lib.rt:283:27
 mul-int-width : tie.Need-mul-int-width
 mul-int-width c =
     let entry = c .before .before .before .before .before in
@@ -25,7 +16,6 @@ mul-int-width c =
     let q = type-in (a .book-kinds .now) (a .book-words .now) (a .index) (h .fields) in
     omega (arith, q .0, entry .good)
 
--- src/lib.rt:283:27
 shared-slice-read-int-width : tie.Need-shared-slice-read-int-width
 shared-slice-read-int-width c =
     let entry = c .before .before .before .before .before .before in
@@ -34,7 +24,6 @@ shared-slice-read-int-width c =
     let q = type-in (a .book-kinds .now) (a .book-words .now) (a .index) (h .fields) in
     q .0
 
--- src/lib.rt:283:46
 mul-int-width-2 : tie.Need-mul-int-width-2
 mul-int-width-2 c =
     let entry = c .before .before .before .before .before .before in
@@ -43,7 +32,6 @@ mul-int-width-2 c =
     let q = type-in (a .book-kinds .now) (a .book-words .now) (a .index) (h .fields) in
     omega (arith, q .1, entry .good)
 
--- src/lib.rt:283:46
 shared-slice-read-int-width-2 : tie.Need-shared-slice-read-int-width-2
 shared-slice-read-int-width-2 c =
     let entry = c .before .before .before .before .before .before .before in
@@ -52,11 +40,9 @@ shared-slice-read-int-width-2 c =
     let q = type-in (a .book-kinds .now) (a .book-words .now) (a .index) (h .fields) in
     q .1
 
--- src/lib.rt:283:9
 int-width-requires : tie.Need-int-width-requires
 int-width-requires c κs = search needs
 
--- src/lib.rt:284:25
 skip-at-requires : tie.Need-skip-at-requires
 skip-at-requires c κs =
     let entry = c .before .before .before .before .before .before .before .before in
@@ -65,7 +51,6 @@ skip-at-requires c κs =
     let q = type-in (a .book-kinds .now) (a .book-words .now) (a .index) (h .fields) in
     q
 
--- src/lib.rt:284:17
 add-value : tie.Need-add-value
 add-value c =
     let entry = c .before .before .before .before .before .before .before .before .before in
@@ -74,7 +59,6 @@ add-value c =
     let v = value-behind (a .book-kinds .now) (a .book-words .now) (a .index) (h .fields) (c .skip-at .ensures) refl in
     omega (arith, v .in-kinds, entry .good)
 
--- src/lib.rt:285:9
 push-at-requires : tie.Need-push-at-requires
 push-at-requires c κs =
     let after-skip-at = c .before .before in
@@ -84,23 +68,18 @@ push-at-requires c κs =
     let v = value-behind (a .book-kinds .now) (a .book-words .now) (a .index) (h .fields) (after-skip-at .skip-at .ensures) refl in
     record { names = a .names; value = _; here = v; room = omega (arith, entry .pre .room) }
 
--- src/lib.rt:295:9
 widen-requires : tie.Need-widen-requires
 widen-requires c κs = search needs
 
--- src/lib.rt:296:9
 push-int-requires : tie.Need-push-int-requires
 push-int-requires c κs = search needs
 
--- src/lib.rt:297:9
 put-requires : tie.Need-put-requires
 put-requires c κs = search needs
 
--- src/lib.rt:298:5
 put-requires-2 : tie.Need-put-requires-2
 put-requires-2 c κs = search needs
 
--- src/lib.rt:268:1
 same-length : tie.Need-same-length
 same-length c =
     let after-put2 = c .before .before .before .before in
@@ -111,7 +90,6 @@ same-length c =
     after-put2 .put2 .kept .0 ∙ after-put .put .kept .0 ∙ after-push-int .push-int .kept .1 .1 .0 ∙ after-widen .widen .kept .1 .0
     ∙ after-push-at .push-at .kept .1 .1 .1 .1 .1 .0
 
--- src/lib.rt:268:1
 same-length-2 : tie.Need-same-length-2
 same-length-2 c =
     let after-put2 = c .before .before .before .before in
@@ -122,7 +100,6 @@ same-length-2 c =
     after-put2 .put2 .kept .1 .0 ∙ after-put .put .kept .1 .0 ∙ after-push-int .push-int .kept .1 .1 .1 .0 ∙ after-widen .widen .kept .1 .1 .0
     ∙ after-push-at .push-at .kept .1 .1 .1 .1 .1 .1 .0
 
--- src/lib.rt:268:1
 returns : tie.Need-returns
 returns c =
     let after-put2 = c .before .before .before .before in

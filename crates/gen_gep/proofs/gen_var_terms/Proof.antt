@@ -14,28 +14,23 @@ use Rattle.gen_gep.specs.Terms.{Terms, term-asked, term-there}
 use Rattle.gen_gep.specs.Lines.{terms-on, terms-all}
 use Rattle.gen_gep.proofs.gen_var_terms.Statement.{statement}
 use Rattle.gen_gep.proofs.gen_var_terms.Tie as tie
-use Rattle.gen_gep.proofs.gen_var_terms.Reads as reads
-use Rattle.gen_gep.proofs.gen_var_terms.Lts as lts
-use Rattle.gen_gep.proofs.gen_var_term.Reads as gen-var-term-reads
 
 abbrev Inv-loop : tie.InvT-loop
 Inv-loop book-kinds book-words names terms work lines₀ operands₀ reached₀ i₀ lines operands reached i =
     (i ≤ terms) × (length lines ≡ length lines₀) × (length operands ≡ length operands₀)
     × ((c : FnCtx) (ts : List VarTerm) → Locals c names work → Terms names book-kinds book-words work 0 ts → length ts ≡ terms
-        → Puts (each (genVarTerm c) (take i ts)) reached₀ reached lines₀ operands₀ lines operands)
+    → Puts (each (genVarTerm c) (take i ts)) reached₀ reached lines₀ operands₀ lines operands)
 
 abbrev μ-loop : tie.MeasureT-loop
 μ-loop book-kinds book-words names terms work lines₀ operands₀ reached₀ i₀ lines operands reached i =
     terms - i
 
--- src/lib.rt:319:5
 loop-holds : tie.Need-loop-holds Inv-loop μ-loop
 loop-holds c =
     let entry = c .before .before .before .before .before in
     let a = entry .args in
     (omega arith, refl, refl, λ k ts locals terms e. none-puts (genVarTerm k) (a .s) (a .lines .now) (a .operands .now))
 
--- src/lib.rt:320:20
 mul-from : tie.Need-mul-from Inv-loop μ-loop
 mul-from c =
     let at-loop = c .before in
@@ -43,7 +38,6 @@ mul-from c =
     let there = term-there (entry .pre) (at-loop .loop .i) (c .loop-test .taken) in
     omega (arith, there, entry .good)
 
--- src/lib.rt:320:43
 mul-from-2 : tie.Need-mul-from-2 Inv-loop μ-loop
 mul-from-2 c =
     let at-loop = c .before in
@@ -51,7 +45,6 @@ mul-from-2 c =
     let there = term-there (entry .pre) (at-loop .loop .i) (c .loop-test .taken) in
     omega (arith, there, entry .good)
 
--- src/lib.rt:320:20
 add-from : tie.Need-add-from Inv-loop μ-loop
 add-from c =
     let at-loop = c .before in
@@ -59,7 +52,6 @@ add-from c =
     let there = term-there (entry .pre) (at-loop .loop .i) (c .loop-test .taken) in
     omega (arith, there, entry .good)
 
--- src/lib.rt:321:21
 mul-index : tie.Need-mul-index Inv-loop μ-loop
 mul-index c =
     let at-loop = c .before in
@@ -67,7 +59,6 @@ mul-index c =
     let there = term-there (entry .pre) (at-loop .loop .i) (c .loop-test .taken) in
     omega (arith, there, entry .good)
 
--- src/lib.rt:321:21
 shared-slice-read-index : tie.Need-shared-slice-read-index Inv-loop μ-loop
 shared-slice-read-index c =
     let in-loop = c .before in
@@ -76,7 +67,6 @@ shared-slice-read-index c =
     let there = term-there (entry .pre) (at-loop .loop .i) (in-loop .loop-test .taken) in
     omega (arith, there)
 
--- src/lib.rt:327:18
 add-gen-var-term : tie.Need-add-gen-var-term Inv-loop μ-loop
 add-gen-var-term c =
     let in-loop = c .before in
@@ -85,7 +75,6 @@ add-gen-var-term c =
     let there = term-there (entry .pre) (at-loop .loop .i) (in-loop .loop-test .taken) in
     omega (arith, there, entry .good)
 
--- src/lib.rt:327:13
 mul-gen-var-term : tie.Need-mul-gen-var-term Inv-loop μ-loop
 mul-gen-var-term c =
     let in-loop = c .before in
@@ -94,7 +83,6 @@ mul-gen-var-term c =
     let there = term-there (entry .pre) (at-loop .loop .i) (in-loop .loop-test .taken) in
     omega (arith, there, entry .good)
 
--- src/lib.rt:327:13
 shared-slice-read-gen-var-term : tie.Need-shared-slice-read-gen-var-term Inv-loop μ-loop
 shared-slice-read-gen-var-term c =
     let in-loop = c .before .before in
@@ -102,7 +90,6 @@ shared-slice-read-gen-var-term c =
     let entry = at-loop .before .before .before .before .before .before in
     term-there (entry .pre) (at-loop .loop .i) (in-loop .loop-test .taken)
 
--- src/lib.rt:322:9
 gen-var-term-requires : tie.Need-gen-var-term-requires Inv-loop μ-loop
 gen-var-term-requires c κs =
     let in-loop = c .before .before .before .before in
@@ -110,19 +97,16 @@ gen-var-term-requires c κs =
     let entry = at-loop .before .before .before .before .before .before in
     term-asked (entry .pre) (at-loop .loop .i) (in-loop .loop-test .taken)
 
--- src/lib.rt:333:9
 add-i : tie.Need-add-i Inv-loop μ-loop
 add-i c =
     let in-loop = c .before .before .before .before .before .before .before .before .before in
     omega (arith, in-loop .loop-test .taken)
 
--- src/lib.rt:319:5
 loop-less : tie.Need-loop-less Inv-loop μ-loop
 loop-less c =
     let in-loop = c .before .before .before .before .before .before .before .before .before in
     omega (arith, in-loop .loop-test .taken)
 
--- src/lib.rt:319:5
 loop-again : tie.Need-loop-again Inv-loop μ-loop
 loop-again c =
     let after-gen-var-term = c .before .before .before .before in
@@ -132,28 +116,24 @@ loop-again c =
     let a = entry .args in
     let inv = at-loop .loop .inv in
     let called = after-gen-var-term .gen-var-term in
-    let less = in-loop .loop-test .taken in
-    (
+    let less = in-loop .loop-test .taken in (
       omega arith,
       called .kept .1 .1 .1 .1 .1 .1 .0 ∙ inv .1,
       called .kept .1 .1 .1 .1 .1 .1 .1 .0 ∙ inv .2,
       λ k ts locals terms e.
-      terms-on k (a .names) (a .book-kinds .now) (a .book-words .now) (a .work .now) (at-loop .loop .i) ts (omega arith) terms (inv .3 k ts locals terms e) (λ x here. called .ensures k x locals here),
+          terms-on k (a .names) (a .book-kinds .now) (a .book-words .now) (a .work .now) (at-loop .loop .i) ts (omega arith) terms (inv .3 k ts locals terms e) (λ x here. called .ensures k x locals here),
     )
 
--- src/lib.rt:302:1
 same-length : tie.Need-same-length Inv-loop μ-loop
 same-length c =
     let at-loop = c .before in
     at-loop .loop .inv .1
 
--- src/lib.rt:302:1
 same-length-2 : tie.Need-same-length-2 Inv-loop μ-loop
 same-length-2 c =
     let at-loop = c .before in
     at-loop .loop .inv .2
 
--- src/lib.rt:302:1
 returns : tie.Need-returns Inv-loop μ-loop
 returns c =
     let at-loop = c .before in

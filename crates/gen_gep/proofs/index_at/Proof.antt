@@ -6,26 +6,19 @@ use Rattle.gen_gep.specs.Indices.{constant-is, varying-is}
 use borrow.Author.Needs.{needs}
 use Rattle.gen_gep.proofs.index_at.Statement.{statement}
 use Rattle.gen_gep.proofs.index_at.Tie as tie
-use Rattle.gen_gep.proofs.index_at.Reads as reads
-use Rattle.gen_gep.proofs.index_at.Lts as lts
 
--- src/lib.rt:59:8
 mul-if1 : tie.Need-mul-if1
 mul-if1 c = search needs
 
--- src/lib.rt:59:8
 shared-slice-read-if1 : tie.Need-shared-slice-read-if1
 shared-slice-read-if1 c = search needs
 
--- src/lib.rt:60:32
 mul-t8 : tie.Need-mul-t8
 mul-t8 c = search needs
 
--- src/lib.rt:60:32
 shared-slice-read-t10 : tie.Need-shared-slice-read-t10
 shared-slice-read-t10 c = search needs
 
--- src/lib.rt:60:9
 returns : tie.Need-returns
 returns c =
     let then1 = c .before in
@@ -33,7 +26,6 @@ returns c =
     let at = entry .args .at in
     λ m v q. sym (constant-is (getD (entry .args .kinds .now) at 0) (getD (entry .args .words .now) at 0) (then1 .if1 .taken)) ∙ ap constInt (q .is)
 
--- src/lib.rt:55:1
 returns-2 : tie.Need-returns-2
 returns-2 c =
     let entry = c .before .before in

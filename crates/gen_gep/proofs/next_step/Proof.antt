@@ -3,35 +3,25 @@ use Rattle.gen_gep.specs.Walks.{first-outcome, later-outcome}
 use borrow.Author.Needs.{needs}
 use Rattle.gen_gep.proofs.next_step.Statement.{statement}
 use Rattle.gen_gep.proofs.next_step.Tie as tie
-use Rattle.gen_gep.proofs.next_step.Reads as reads
-use Rattle.gen_gep.proofs.next_step.Lts as lts
-use Rattle.gen_gep.proofs.first_step.Reads as first-step-reads
-use Rattle.layout_step.proofs.gep_step.Reads as gep-step-reads
 
--- src/lib.rt:110:9
 first-step-requires : tie.Need-first-step-requires
 first-step-requires c κs = search needs
 
--- src/lib.rt:110:9
 same-length : tie.Need-same-length
 same-length c = search needs
 
--- src/lib.rt:110:9
 returns : tie.Need-returns
 returns c =
     let after-first-step = c .before .before in
     let then1 = after-first-step .before .before in
     first-outcome _ _ _ (then1 .if1 .taken) (after-first-step .first-step .ensures)
 
--- src/lib.rt:112:5
 gep-step-requires : tie.Need-gep-step-requires
 gep-step-requires c κs = search needs
 
--- src/lib.rt:96:1
 same-length-2 : tie.Need-same-length-2
 same-length-2 c = search needs
 
--- src/lib.rt:96:1
 returns-2 : tie.Need-returns-2
 returns-2 c =
     let after-gep-step = c .before .before in

@@ -8,37 +8,25 @@ use Rattle.gen_gep.specs.Walks.{refused-went, constant-went, varying-wen
 use borrow.Author.Needs.{needs}
 use Rattle.gen_gep.proofs.took.Statement.{statement}
 use Rattle.gen_gep.proofs.took.Tie as tie
-use Rattle.gen_gep.proofs.took.Reads as reads
-use Rattle.gen_gep.proofs.took.Lts as lts
-use Rattle.gen_gep.proofs.vary.Reads as vary-reads
-use Rattle.gen_lines.proofs.refuse.Reads as refuse-reads
-use Rattle.numbers.proofs.wrap.wrapping_add.Reads as wrapping-add-reads
 
--- src/lib.rt:170:23
 enum-known-step : tie.Need-enum-known-step
 enum-known-step c = search needs
 
--- src/lib.rt:175:16
 refuse-requires : tie.Need-refuse-requires
 refuse-requires c κs = search needs
 
--- src/lib.rt:177:24
 enum-known-step-2 : tie.Need-enum-known-step-2
 enum-known-step-2 c = search needs
 
--- src/lib.rt:180:18
 wrapping-add-requires : tie.Need-wrapping-add-requires
 wrapping-add-requires c κs = search needs
 
--- src/lib.rt:184:23
 enum-known-step-3 : tie.Need-enum-known-step-3
 enum-known-step-3 c = search needs
 
--- src/lib.rt:184:40
 vary-requires : tie.Need-vary-requires
 vary-requires c κs = search needs
 
--- src/lib.rt:149:1
 returns : tie.Need-returns
 returns c =
     let after-step = c .before .before in
@@ -48,7 +36,6 @@ returns c =
     λ p k answer f ready front says at.
     refused-went (indexIn p) ready at front _ (subst (λ (t : Step). Steps (a .names) es answer t) (after-step .step .given .1) says) (c .refuse .ensures)
 
--- src/lib.rt:149:1
 returns-2 : tie.Need-returns-2
 returns-2 c =
     let after-step2 = c .before .before in
@@ -58,11 +45,9 @@ returns-2 c =
     λ p k answer f ready front says at.
     constant-went (indexIn p) ready at _ _ (subst (λ (t : Step). Steps (a .names) es answer t) (after-step2 .step2 .given .1) says) (c .wrapping-add .ensures)
 
--- src/lib.rt:149:1
 same-length : tie.Need-same-length
 same-length c = search needs
 
--- src/lib.rt:149:1
 returns-3 : tie.Need-returns-3
 returns-3 c =
     let after-vary = c .before .before in

@@ -7,58 +7,43 @@ use Rattle.gen_gep.specs.Walks.{vary-went}
 use borrow.Author.Needs.{needs}
 use Rattle.gen_gep.proofs.vary.Statement.{statement}
 use Rattle.gen_gep.proofs.vary.Tie as tie
-use Rattle.gen_gep.proofs.vary.Reads as reads
-use Rattle.gen_gep.proofs.vary.Lts as lts
-use Rattle.gen_values.proofs.width_at.Reads as width-at-reads
 
--- src/lib.rt:134:9
 width-at-requires : tie.Need-width-at-requires
 width-at-requires c κs = search needs
 
--- src/lib.rt:135:14
 mul-to : tie.Need-mul-to
 mul-to c = search needs
 
--- src/lib.rt:135:37
 mul-to-2 : tie.Need-mul-to-2
 mul-to-2 c = search needs
 
--- src/lib.rt:135:14
 add-to : tie.Need-add-to
 add-to c = search needs
 
--- src/lib.rt:136:5
 mul-work : tie.Need-mul-work
 mul-work c = search needs
 
--- src/lib.rt:136:5
 slice-write-work : tie.Need-slice-write-work
 slice-write-work c = search needs
 
--- src/lib.rt:137:10
 add-work : tie.Need-add-work
 add-work c = search needs
 
--- src/lib.rt:137:5
 mul-work-2 : tie.Need-mul-work-2
 mul-work-2 c = search needs
 
--- src/lib.rt:137:5
 slice-write-work-2 : tie.Need-slice-write-work-2
 slice-write-work-2 c =
     let entry = c .before .before .before .before .before in
     let w = entry .args .work .now in
     omega (arith, entry .pre .room, entry .pre .few, length-set w (8 * entry .args .names + 2 * entry .args .w .terms) (entry .args .index))
 
--- src/lib.rt:143:16
 add-t13 : tie.Need-add-t13
 add-t13 c = search needs
 
--- src/lib.rt:116:1
 same-length : tie.Need-same-length
 same-length c = search needs
 
--- src/lib.rt:116:1
 returns : tie.Need-returns
 returns c =
     let after-width-at = c .before .before .before in

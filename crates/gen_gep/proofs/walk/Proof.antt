@@ -9,13 +9,9 @@ use Rattle.layout_memo.specs.Work.{structsIn}
 use Rattle.lowering.specs.Gep.{walk}
 use Rattle.gen_values.specs.Fields.{Fields}
 use Rattle.gen_gep.specs.Indices.{gepFields, indexList}
-use Rattle.gen_gep.specs.Walks.{WalkLoop, loop-start, loop-in, loop-there, loop-value, loop-take, loop-more, loop-done}
+use Rattle.gen_gep.specs.Loop.{WalkLoop, loop-start, loop-in, loop-there, loop-value, loop-take, loop-more, loop-done}
 use Rattle.gen_gep.proofs.walk.Statement.{statement}
 use Rattle.gen_gep.proofs.walk.Tie as tie
-use Rattle.gen_gep.proofs.walk.Reads as reads
-use Rattle.gen_gep.proofs.walk.Lts as lts
-use Rattle.gen_gep.proofs.walk_index.Reads as walk-index-reads
-use Rattle.gen_values.proofs.skip_at.Reads as skip-at-reads
 
 abbrev Inv-loop : tie.InvT-loop
 Inv-loop book-kinds book-words work₀ names at indices w₀ index₀ work w index =
@@ -26,21 +22,18 @@ abbrev μ-loop : tie.MeasureT-loop
 μ-loop book-kinds book-words work₀ names at indices w₀ index₀ work w index =
     length book-kinds - index
 
--- src/lib.rt:249:5
 loop-holds : tie.Need-loop-holds Inv-loop μ-loop
 loop-holds c =
     let entry = c .before .before .before in
     let a = entry .args in
     λ p f list. loop-start (a .names) (a .book-kinds .now) (a .book-words .now) (a .work .now) p (a .at) (a .indices) f list (entry .pre .lent .ready) (a .s)
 
--- src/lib.rt:249:11
 mul-if1 : tie.Need-mul-if1 Inv-loop μ-loop
 mul-if1 c =
     let entry = c .before .before .before .before in
     let l = c .loop .inv (entry .pre .lent .holds) (entry .pre .lent .fields) (entry .pre .list) in
     omega (arith, loop-in l, entry .good)
 
--- src/lib.rt:249:11
 shared-slice-read-if1 : tie.Need-shared-slice-read-if1 Inv-loop μ-loop
 shared-slice-read-if1 c =
     let at-loop = c .before in
@@ -48,7 +41,6 @@ shared-slice-read-if1 c =
     let l = at-loop .loop .inv (entry .pre .lent .holds) (entry .pre .lent .fields) (entry .pre .list) in
     loop-in l
 
--- src/lib.rt:250:29
 skip-at-requires : tie.Need-skip-at-requires Inv-loop μ-loop
 skip-at-requires c κs =
     let at-loop = c .before .before in
@@ -56,7 +48,6 @@ skip-at-requires c κs =
     let l = at-loop .loop .inv (entry .pre .lent .holds) (entry .pre .lent .fields) (entry .pre .list) in
     loop-there l (c .if1 .taken)
 
--- src/lib.rt:250:21
 add-value : tie.Need-add-value Inv-loop μ-loop
 add-value c =
     let then1 = c .before in
@@ -65,7 +56,6 @@ add-value c =
     let l = at-loop .loop .inv (entry .pre .lent .holds) (entry .pre .lent .fields) (entry .pre .list) in
     omega (arith, loop-value l (then1 .if1 .taken) refl (c .skip-at .ensures), entry .good)
 
--- src/lib.rt:251:9
 walk-index-requires : tie.Need-walk-index-requires Inv-loop μ-loop
 walk-index-requires c κs =
     let after-skip-at = c .before in
@@ -75,7 +65,6 @@ walk-index-requires c κs =
     let l = at-loop .loop .inv (entry .pre .lent .holds) (entry .pre .lent .fields) (entry .pre .list) in
     loop-take l (then1 .if1 .taken) (entry .pre .lent .room) refl (after-skip-at .skip-at .ensures)
 
--- src/lib.rt:252:17
 add-index : tie.Need-add-index Inv-loop μ-loop
 add-index c =
     let after-skip-at = c .before .before .before .before in
@@ -85,7 +74,6 @@ add-index c =
     let l = at-loop .loop .inv (entry .pre .lent .holds) (entry .pre .lent .fields) (entry .pre .list) in
     omega (arith, loop-value l (then1 .if1 .taken) refl (after-skip-at .skip-at .ensures), entry .good)
 
--- src/lib.rt:249:5
 loop-less : tie.Need-loop-less Inv-loop μ-loop
 loop-less c =
     let at-loop = c .before .before .before .before .before .before .before in
@@ -93,7 +81,6 @@ loop-less c =
     let l = at-loop .loop .inv (entry .pre .lent .holds) (entry .pre .lent .fields) (entry .pre .list) in
     omega (arith, loop-in l)
 
--- src/lib.rt:249:5
 loop-again : tie.Need-loop-again Inv-loop μ-loop
 loop-again c =
     let after-walk-index = c .before .before in
@@ -102,7 +89,6 @@ loop-again c =
     let at-loop = then1 .before .before in
     λ p f list. loop-more (at-loop .loop .inv p f list) (then1 .if1 .taken) refl (after-skip-at .skip-at .ensures) (after-walk-index .walk-index .ensures)
 
--- src/lib.rt:226:1
 same-length : tie.Need-same-length Inv-loop μ-loop
 same-length c =
     let at-loop = c .before .before in
@@ -110,7 +96,6 @@ same-length c =
     let l = at-loop .loop .inv (entry .pre .lent .holds) (entry .pre .lent .fields) (entry .pre .list) in
     l .stays .long
 
--- src/lib.rt:226:1
 returns : tie.Need-returns Inv-loop μ-loop
 returns c =
     let at-loop = c .before .before in

@@ -6,35 +6,25 @@ use Rattle.gen_gep.specs.Walks.{take-value, take-took, same-step, walk-a
 use borrow.Author.Needs.{needs}
 use Rattle.gen_gep.proofs.walk_index.Statement.{statement}
 use Rattle.gen_gep.proofs.walk_index.Tie as tie
-use Rattle.gen_gep.proofs.walk_index.Reads as reads
-use Rattle.gen_gep.proofs.walk_index.Lts as lts
-use Rattle.gen_gep.proofs.index_at.Reads as index-at-reads
-use Rattle.gen_gep.proofs.next_step.Reads as next-step-reads
-use Rattle.gen_gep.proofs.took.Reads as took-reads
 
--- src/lib.rt:220:9
 index-at-requires : tie.Need-index-at-requires
 index-at-requires c κs =
     let entry = c .before .before .before .before in
     let v = take-value (entry .pre) (entry .pre .fields) in
     (v .in-kinds, v .in-words)
 
--- src/lib.rt:213:9
 next-step-requires : tie.Need-next-step-requires
 next-step-requires c κs = search needs
 
--- src/lib.rt:222:5
 took-requires : tie.Need-took-requires
 took-requires c κs =
     let after-next-step = c .before .before .before in
     let entry = after-next-step .before .before .before .before .before .before in
     take-took (entry .pre) (after-next-step .next-step .ensures .after)
 
--- src/lib.rt:198:1
 same-length : tie.Need-same-length
 same-length c = search needs
 
--- src/lib.rt:198:1
 returns : tie.Need-returns
 returns c =
     let after-took = c .before .before in
@@ -47,7 +37,7 @@ returns c =
     let ei = after-index-at .index-at .ensures (a .names) (p .1 .0) (take-value (entry .pre) f) in
     went-after (o .after)
     (after-took .took .ensures p k _ f (o .after .ready) (entry .pre .front) (same-step (structsIn (a .names) (entries (a .book-kinds .now) (a .book-words .now))) at (after-index-at .index-at .result) (indexIn p) ei (after-next-step .next-step .result) (o .says))
-      (walk-after (o .after) at))
+    (walk-after (o .after) at))
 
 pub walk-index-spec : {M : Type 1} → statement M
 walk-index-spec =

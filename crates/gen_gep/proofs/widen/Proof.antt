@@ -3,23 +3,16 @@ use Rattle.gen_gep.specs.Lines.{widened, wide-enough}
 use borrow.Author.Needs.{needs}
 use Rattle.gen_gep.proofs.widen.Statement.{statement}
 use Rattle.gen_gep.proofs.widen.Tie as tie
-use Rattle.gen_gep.proofs.widen.Reads as reads
-use Rattle.gen_gep.proofs.widen.Lts as lts
-use Rattle.gen_values.proofs.emit_sext.Reads as emit-sext-reads
 
--- src/lib.rt:262:9
 emit-sext-requires : tie.Need-emit-sext-requires
 emit-sext-requires c κs = search needs
 
--- src/lib.rt:262:9
 same-length : tie.Need-same-length
 same-length c = search needs
 
--- src/lib.rt:262:9
 same-length-2 : tie.Need-same-length-2
 same-length-2 c = search needs
 
--- src/lib.rt:262:9
 returns : tie.Need-returns
 returns c =
     let after-emit-sext = c .before .before .before .before in
@@ -27,7 +20,6 @@ returns c =
     let entry = then1 .before .before .before in
     widened (entry .args .width) (then1 .if1 .taken) (after-emit-sext .emit-sext .ensures)
 
--- src/lib.rt:258:1
 returns-2 : tie.Need-returns-2
 returns-2 c =
     let entry = c .before .before .before in
