@@ -54,7 +54,7 @@ other-kind : (n : ℕ) {kind : ℕ} → kind ≡ n → (71 < n) → (n ≡ 74 �
 other-kind n e l a b d = ⊎-elim (λ x. omega arith) (⊎-elim (λ x. a (sym e ∙ x)) (⊎-elim (λ x. b (sym e ∙ x)) (λ x. d (sym e ∙ x))))
 
 -- the kinds of operations, conversions and comparisons
-bin-low : (o : BinOp) → instKind (InstTag.bin o) < 60
+pub bin-low : (o : BinOp) → instKind (InstTag.bin o) < 60
 bin-low BinOp.add = omega arith
 bin-low BinOp.sub = omega arith
 bin-low BinOp.mul = omega arith
@@ -69,7 +69,7 @@ bin-low BinOp.shl = omega arith
 bin-low BinOp.lshr = omega arith
 bin-low BinOp.ashr = omega arith
 
-conv-low : (o : ConvOp) → instKind (InstTag.conv o) < 60
+pub conv-low : (o : ConvOp) → instKind (InstTag.conv o) < 60
 conv-low ConvOp.trunc = omega arith
 conv-low ConvOp.zext = omega arith
 conv-low ConvOp.sext = omega arith
@@ -77,7 +77,7 @@ conv-low ConvOp.ptrToInt = omega arith
 conv-low ConvOp.intToPtr = omega arith
 conv-low ConvOp.bitCast = omega arith
 
-icmp-low : (o : ICmpPred) → instKind (InstTag.icmp o) < 70
+pub icmp-low : (o : ICmpPred) → instKind (InstTag.icmp o) < 70
 icmp-low ICmpPred.eq = omega arith
 icmp-low ICmpPred.ne = omega arith
 icmp-low ICmpPred.ugt = omega arith

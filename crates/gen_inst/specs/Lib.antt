@@ -3,3 +3,4 @@ pub mod View
 pub mod Body
 pub mod Values
 pub mod Measured
+pub mod Own
