@@ -62,7 +62,7 @@ pub record PushAsk (ks ws work : List ℕ) (ty found : ℕ) : Type 0 where
   pub value : (found ≡ 0 → ⊥) → (found < length ks) × (found < length ws) × Reaches (getD ks found 0) (getD ws found 0) work
 
 -- ---- pairs
-value-reaches : (m : ℕ) {ks ws work : List ℕ} {a : ℕ} {v : Value} → ValueAt m ks ws a v → 8 * m + 64 ≤ length work → Reaches (getD ks a 0) (getD ws a 0) work
+pub value-reaches : (m : ℕ) {ks ws work : List ℕ} {a : ℕ} {v : Value} → ValueAt m ks ws a v → 8 * m + 64 ≤ length work → Reaches (getD ks a 0) (getD ws a 0) work
 value-reaches m {ks} {ws} {work} {a} {v} q room =
     record { there = λ e. let l : getD ws a 0 < m = subst (λ (x : Value). ValueLimits m x) (sym (q .is) ∙ e) (q .limits) in omega arith }
 
