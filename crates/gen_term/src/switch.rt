@@ -13,7 +13,7 @@ use layout_memo::skip;
 use std::num::wrapping_add_u64;
 ghost use mathlib.Core.Path.{_≡_};
 ghost use mathlib.Core.List.{List, _∷_};
-ghost use Prim.Native.Nat.{ℕ, suc, _%_, _^_};
+ghost use Prim.Native.Nat.{ℕ, suc, _+_, _%_, _^_};
 ghost use lib.ListN.{length, drop};
 ghost use Rattle.book.specs.Ast.{Ty, Value, Case};
 ghost use Rattle.book.specs.Entry.{entries};
@@ -43,6 +43,13 @@ fn count_cases(kinds: &[u64], words: &[u64]) -> u64
         cases += 1;
     }
     cases
+}
+
+// The label of the next case.
+fn next_label(label: u64) -> u64
+    ensures { λ r. ⌜ r ≡ (label + 1) % 2 ^ 64 ⌝ }
+{
+    wrapping_add_u64(label, 1)
 }
 
 // The test of a case: the value, the case's number, equal, a jump to the case's label.
@@ -94,7 +101,7 @@ fn case_tests(
         reached = case_test(
             kind, word, width, words[at], label, work, lines, operands, reached,
         );
-        label = wrapping_add_u64(label, 1);
+        label = next_label(label);
         at += 2;
     }
     reached
@@ -151,7 +158,7 @@ fn case_edges(
         reached = case_edge(
             pred, words[at + 1], label, book_kinds, book_words, names, work, lines, operands, reached,
         );
-        label = wrapping_add_u64(label, 1);
+        label = next_label(label);
         at += 2;
     }
     reached

@@ -18,7 +18,7 @@ use Rattle.gen_term.proofs.switch.case_edges.Tie as tie
 use Rattle.gen_term.proofs.switch.case_edges.Reads as reads
 use Rattle.gen_term.proofs.switch.case_edges.Lts as lts
 use Rattle.gen_term.proofs.switch.case_edge.Reads as case-edge-reads
-use Rattle.std.proofs.num.wrapping_add_u64.Reads as wrapping-add-u64-reads
+use Rattle.gen_term.proofs.switch.next_label.Reads as next-label-reads
 
 abbrev Inv-loop : tie.InvT-loop
 Inv-loop pred first kinds words book-kinds book-words names work lines₀ operands₀ reached₀ label₀ at₀ lines operands reached label at =
@@ -108,8 +108,8 @@ case-edge-requires c κs =
     record { ctx = entry .pre .ctx; maps = entry .pre .maps; target = rw (case .label) (case .below) }
 
 -- src/switch.rt:153:9
-wrapping-add-u64-requires : tie.Need-wrapping-add-u64-requires Inv-loop μ-loop
-wrapping-add-u64-requires c κs = search needs
+next-label-requires : tie.Need-next-label-requires Inv-loop μ-loop
+next-label-requires c κs = search needs
 
 -- src/switch.rt:154:9
 add-at : tie.Need-add-at Inv-loop μ-loop
@@ -145,7 +145,7 @@ loop-again c =
     (λ cs front. case-left (a .names) (a .kinds .now) (a .words .now) (loop .loop .inv .0 cs front) (turn .if1 .taken),
     after-edge .case-edge .kept .1 .1 .1 .1 .1 .1 .1 .0 ∙ loop .loop .inv .1, after-edge .case-edge .kept .1 .1 .1 .1 .1 .1 .1 .1 .0 ∙ loop .loop .inv .2, λ k l cs maps front e.
         walk-more (caseEdges k (a .pred)) (a .names) (a .kinds .now) (a .words .now) l cs (loop .loop .inv .3 k l cs maps front e) (turn .if1 .taken)
-        (c .wrapping-add-u64 .ensures) (λ n case more label value target. after-edge .case-edge .ensures k n case more maps label target))
+        (c .next-label .ensures) (λ n case more label value target. after-edge .case-edge .ensures k n case more maps label target))
 
 -- src/switch.rt:128:1
 same-length : tie.Need-same-length Inv-loop μ-loop
@@ -180,7 +180,7 @@ case-edges-spec =
     mul-case-edge
     shared-slice-read-case-edge
     case-edge-requires
-    wrapping-add-u64-requires
+    next-label-requires
     add-at
     loop-less
     loop-again

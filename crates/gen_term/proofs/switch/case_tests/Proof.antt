@@ -19,7 +19,7 @@ use Rattle.gen_term.proofs.switch.case_tests.Tie as tie
 use Rattle.gen_term.proofs.switch.case_tests.Reads as reads
 use Rattle.gen_term.proofs.switch.case_tests.Lts as lts
 use Rattle.gen_term.proofs.switch.case_test.Reads as case-test-reads
-use Rattle.std.proofs.num.wrapping_add_u64.Reads as wrapping-add-u64-reads
+use Rattle.gen_term.proofs.switch.next_label.Reads as next-label-reads
 
 abbrev Inv-loop : tie.InvT-loop
 Inv-loop kind word width first kinds words work lines₀ operands₀ reached₀ label₀ at₀ lines operands reached label at =
@@ -91,8 +91,8 @@ case-test-requires c κs =
     entry .pre .value
 
 -- src/switch.rt:96:9
-wrapping-add-u64-requires : tie.Need-wrapping-add-u64-requires Inv-loop μ-loop
-wrapping-add-u64-requires c κs = search needs
+next-label-requires : tie.Need-next-label-requires Inv-loop μ-loop
+next-label-requires c κs = search needs
 
 -- src/switch.rt:97:9
 add-at : tie.Need-add-at Inv-loop μ-loop
@@ -130,7 +130,7 @@ loop-again c =
     (λ m cs front. case-left m (a .kinds .now) (a .words .now) (loop .loop .inv .0 m cs front) (turn .if1 .taken),
     after-test .case-test .kept .1 .1 .1 .1 .1 .1 .0 ∙ loop .loop .inv .1, after-test .case-test .kept .1 .1 .1 .1 .1 .1 .1 .0 ∙ loop .loop .inv .2, λ m k l cs limits maps front e.
         walk-more (caseTests k (a .width) (valueOf (a .kind) (a .word))) m (a .kinds .now) (a .words .now) l cs (loop .loop .inv .3 m k l cs limits maps front e) (turn .if1 .taken)
-        (c .wrapping-add-u64 .ensures) (λ n case more label value target. after-test .case-test .ensures m k n case more limits maps label value))
+        (c .next-label .ensures) (λ n case more label value target. after-test .case-test .ensures m k n case more limits maps label value))
 
 -- src/switch.rt:72:1
 same-length : tie.Need-same-length Inv-loop μ-loop
@@ -165,7 +165,7 @@ case-tests-spec =
     mul-case-test
     shared-slice-read-case-test
     case-test-requires
-    wrapping-add-u64-requires
+    next-label-requires
     add-at
     loop-less
     loop-again
