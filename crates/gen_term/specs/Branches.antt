@@ -1,17 +1,17 @@
 -- `br`, line by line: each edge has its copies, and the false one a label.
-use Prim.Native.Nat.{ℕ, _*_, _+_, _<_, _≤_, _%_, _^_}
-use mathlib.Core.Path.{_≡_, refl, sym, ap, subst, _∙_}
+use Prim.Native.Nat.{ℕ, _<_, _^_}
+use mathlib.Core.Path.{_≡_, refl, subst, _∙_}
 use mathlib.Core.Option.{Option, none, some}
 use mathlib.Core.List.{List}
-use lib.ListN.{length, drop}
+use lib.ListN.{drop}
 use Rattle.book.specs.Ast.{Value}
 use Rattle.book.specs.Entry.{Entry, entries}
 use Rattle.book.specs.Kinds.{TermTag}
 use Rattle.book.specs.Fields.{termFields}
-use Rattle.book.specs.Result.{Result, ok, err, bind, okOr}
+use Rattle.book.specs.Result.{bind, okOr}
 use Rattle.assembly.specs.Line.{Line, Hint}
 use Rattle.assembly.specs.Number.{kindOf, operandOf, hintNumber}
-use Rattle.lowering.specs.Gen.{Gen, line, refuse, _>>=_, _>>_, fresh}
+use Rattle.lowering.specs.Gen.{refuse, _>>=_, _>>_}
 use Rattle.lowering.specs.Context.{FnCtx}
 use Rattle.lowering.specs.Operand.{pushValue}
 use Rattle.lowering.specs.Edge.{edge}
@@ -65,7 +65,8 @@ module _ (c : FnCtx) (pred ifTrue : ℕ) (ifFalse : Option ℕ) where
 
   module _ {s a b d e f g : Reached} {ks os k1 o1 k2 o2 k3 o3 k4 o4 k5 o5 : List ℕ} where
     pub both-ways-puts : (v : Value) (other : ℕ) {label : ℕ} → ifFalse ≡ some other → Puts (pushValue c v 1) s a ks os k1 o1 → b ≡ madeFresh a 1
-        → label ≡ a .counter → a .counter < 2 ^ 64 → Lined 19 label b d k1 o1 k2 o2 → Puts (edge c pred ifTrue) d e k2 o2 k3 o3 → Lined 15 label e f k3 o3 k4 o4 → Puts (edge c pred other) f g k4 o4 k5 o5
+        → label ≡ a .counter → a .counter < 2 ^ 64 → Lined 19 label b d k1 o1 k2 o2 → Puts (edge c pred ifTrue) d e k2 o2 k3 o3
+        → Lined 15 label e f k3 o3 k4 o4 → Puts (edge c pred other) f g k4 o4 k5 o5
         → Puts (genCondBr c pred v ifTrue ifFalse) s g ks os k5 o5
     unfolding genCondBr okOr _>>=_ bind kindOf operandOf hintNumber
     both-ways-puts v other q push made same few jump first label second =

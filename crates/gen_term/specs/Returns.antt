@@ -12,7 +12,7 @@ use Rattle.book.specs.Kinds.{TermTag}
 use Rattle.book.specs.Fields.{termFields}
 use Rattle.assembly.specs.Line.{Line}
 use Rattle.assembly.specs.Number.{kindOf, operandOf}
-use Rattle.lowering.specs.Gen.{Gen, line, skip, _>>_, when}
+use Rattle.lowering.specs.Gen.{line}
 use Rattle.lowering.specs.Context.{FnCtx}
 use Rattle.lowering.specs.Operand.{pushTyped}
 use Rattle.lowering.specs.Term.{emitFrameLeave, retValue, genRet}

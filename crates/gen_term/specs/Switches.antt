@@ -1,5 +1,5 @@
 -- `switch`, case by case: the tests, whose labels count up, then the edges.
-use Prim.Native.Nat.{ℕ, suc, _+_, _-_, _*_, _<_, _≤_, _%_, _^_}
+use Prim.Native.Nat.{ℕ, suc, _+_, _-_, _<_, _%_, _^_}
 use mathlib.Core.Path.{_≡_, refl, sym, ap, subst, _∙_}
 use mathlib.Core.List.{List, [], _∷_, append-assoc}
 use native.Mathlib.Omega.{arith}
@@ -7,13 +7,13 @@ use lib.ListN.{length, take, drop, getD, length-drop}
 use Rattle.book.specs.Ast.{Ty, Value, Case, ICmpPred}
 use Rattle.book.specs.Entry.{Entry, entries}
 use Rattle.book.specs.Kinds.{TermTag}
-use Rattle.book.specs.Fields.{Item, Field, termFields}
+use Rattle.book.specs.Fields.{termFields}
 use Rattle.book.specs.Encode.{encCase, encFields, closed}
 use Rattle.book_types.specs.Laws.{entries-part}
 use Rattle.layout_memo.specs.Front.{tyLen}
 use Rattle.assembly.specs.Line.{Line, Hint}
 use Rattle.assembly.specs.Number.{kindOf, operandOf, hintNumber, operation, icmpNumber}
-use Rattle.lowering.specs.Gen.{Gen, line, skip, _>>=_, _>>_, reserve}
+use Rattle.lowering.specs.Gen.{Gen, skip, _>>_, reserve}
 use Rattle.lowering.specs.Context.{FnCtx}
 use Rattle.lowering.specs.Operand.{intWidth, workOf, pushInt, pushValue}
 use Rattle.lowering.specs.Edge.{edge}
@@ -21,7 +21,7 @@ use Rattle.lowering.specs.Term.{caseTests, caseEdges, genSwitch}
 use Rattle.gen_lines.specs.declared.Reached.{Reached}
 use Rattle.gen_lines.specs.Puts.{Puts, Lined, madeFresh, line-puts, same-puts, then-puts}
 use Rattle.gen_lines.specs.Follow.{Asked, asked-puts, reserve-puts}
-use Rattle.gen_values.specs.Maps.{Locals, Maps}
+use Rattle.gen_values.specs.Maps.{Maps}
 use Rattle.gen_values.specs.Push.{bare-puts}
 use Rattle.gen_values.specs.Values.{Reaches}
 use Rattle.gen_values.specs.Fields.{Fields, ValueAt, entry-at, behind-type, value-at, behind-value}

@@ -1,19 +1,17 @@
 -- Terminators at their entries: optional fields, blocks' names and a switch's cases.
-use Prim.Native.Nat.{ℕ, suc, _+_, _*_, _<_, _≤_, _^_}
-use mathlib.Core.Path.{_≡_, refl, sym, ap, subst, _∙_}
+use Prim.Native.Nat.{ℕ, _+_, _<_, _≤_, _^_}
+use mathlib.Core.Path.{_≡_, refl, sym, ap, _∙_}
 use mathlib.Core.Bool.{true, false}
 use mathlib.Core.Option.{Option, none, some}
 use mathlib.Core.List.{List, [], _∷_, _++_, append-assoc}
 use native.Mathlib.Omega.{arith}
-use lib.ListN.{length, drop, getD, length-append, length-drop}
+use lib.ListN.{length, drop, getD, length-drop}
 use Rattle.book.specs.Ast.{Ty, Value, Zero, Sizeless, TypedVal, Case, Terminator}
-use Rattle.book.specs.Entry.{Entry, entry, entries}
+use Rattle.book.specs.Entry.{Entry, entries}
 use Rattle.book.specs.Kinds.{TermTag, termKind}
-use Rattle.book.specs.Fields.{Item, Field, Meanings, termFields, termTagOf, termArgs}
-use Rattle.book.specs.Encode.{encTy, valueEntry, encValue, encTyped, encBlock, encCase, encFields, encTerm, ending, closed}
-use Rattle.book.specs.Limits.{Each, TermLimits, ValueLimits, CaseLimits, NameLimits}
-use Rattle.lowering.specs.Context.{FnCtx}
-use Rattle.gen_values.specs.Maps.{Maps}
+use Rattle.book.specs.Fields.{Item, Field, termFields, termTagOf, termArgs}
+use Rattle.book.specs.Encode.{encTy, valueEntry, encValue, encTyped, encCase, encFields, encTerm, ending, closed}
+use Rattle.book.specs.Limits.{Each, TermLimits, CaseLimits}
 use Rattle.gen_values.specs.Values.{value-is}
 use Rattle.gen_values.specs.Fields.{Fields, ValueAt, entry-at, type-in}
 

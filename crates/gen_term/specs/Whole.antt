@@ -1,6 +1,6 @@
 -- A terminator by its kind: 90 to 93 "as in ast.rs".
 use Prim.Native.Nat.{ℕ}
-use mathlib.Core.Path.{_≡_, refl, sym, ap, _∙_}
+use mathlib.Core.Path.{_≡_, refl}
 use mathlib.Core.Option.{Option}
 use mathlib.Core.List.{List}
 use native.Mathlib.Omega.{arith}
@@ -11,7 +11,6 @@ use Rattle.book.specs.Kinds.{TermTag}
 use Rattle.book.specs.Fields.{termFields}
 use Rattle.assembly.specs.Line.{Line}
 use Rattle.assembly.specs.Number.{kindOf, operandOf}
-use Rattle.lowering.specs.Gen.{Gen, line}
 use Rattle.lowering.specs.Context.{FnCtx}
 use Rattle.lowering.specs.Term.{genRet, genBr, genSwitch, genTerm}
 use Rattle.gen_lines.specs.declared.Reached.{Reached}

@@ -1,5 +1,4 @@
 -- `gen_term::emit_frame_leave` meets its contract.
-use native.Mathlib.Omega.{arith}
 use Rattle.gen_term.specs.Returns as laws
 use borrow.Author.Needs.{needs}
 use Rattle.gen_term.proofs.emit_frame_leave.Statement.{statement}

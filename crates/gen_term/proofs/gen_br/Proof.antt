@@ -1,8 +1,6 @@
 -- `gen_term::gen_br` meets its contract: 21 stands for no condition.
-use mathlib.Core.Path.{_≡_, refl, sym, ap, _∙_, subst}
-use mathlib.Core.Option.{Option, some}
+use mathlib.Core.Path.{sym}
 use native.Mathlib.Omega.{arith}
-use Rattle.book.specs.Ast.{Value}
 use Rattle.gen_term.specs.Terms.{br-at}
 use Rattle.gen_term.specs.Branches as laws
 use borrow.Author.Needs.{needs}

@@ -1,5 +1,5 @@
 -- `gen_term::gen_cond_br` meets its contract.
-use mathlib.Core.Path.{_≡_, refl, sym, ap, _∙_}
+use mathlib.Core.Path.{_∙_}
 use native.Mathlib.Omega.{arith}
 use Rattle.gen_edge.specs.Walks.{value-reaches}
 use Rattle.gen_term.specs.Terms.{br-at, cond-at}
@@ -76,7 +76,10 @@ put-requires c κs = search needs
 -- src/lib.rt:127:15
 shared-slice-read-edge : tie.Need-shared-slice-read-edge
 shared-slice-read-edge c =
-    let entry = c .before .before .before .before .before .before .before .before .before .before .before .before .before .before .before .before .before .before .before .before .before .before .before .before .before .before .before .before in
+    let jumped = c .before .before .before .before .before in
+    let pushed = jumped .before .before .before .before .before .before .before .before .before in
+    let both = pushed .before .before .before .before .before in
+    let entry = both .before .before .before .before .before .before .before .before .before in
     let a = entry .args in
     let at = br-at (a .kinds .now) (a .words .now) _ (entry .pre .ifTrue) (entry .pre .ifFalse) (entry .pre .fields) in
     omega (arith, at .in-words)
@@ -84,7 +87,10 @@ shared-slice-read-edge c =
 -- src/lib.rt:126:9
 edge-requires : tie.Need-edge-requires
 edge-requires c κs =
-    let entry = c .before .before .before .before .before .before .before .before .before .before .before .before .before .before .before .before .before .before .before .before .before .before .before .before .before .before .before .before .before .before in
+    let jumped = c .before .before .before .before .before .before .before in
+    let pushed = jumped .before .before .before .before .before .before .before .before .before in
+    let both = pushed .before .before .before .before .before in
+    let entry = both .before .before .before .before .before .before .before .before .before in
     let a = entry .args in
     let at = br-at (a .kinds .now) (a .words .now) _ (entry .pre .ifTrue) (entry .pre .ifFalse) (entry .pre .fields) in
     record { ctx = entry .pre .ctx; maps = entry .pre .maps; target = rw (at .true-is) (at .true-below) }
@@ -96,7 +102,12 @@ put-requires-2 c κs = search needs
 -- src/lib.rt:131:15
 shared-slice-read-edge-2 : tie.Need-shared-slice-read-edge-2
 shared-slice-read-edge-2 c =
-    let entry = c .before .before .before .before .before .before .before .before .before .before .before .before .before .before .before .before .before .before .before .before .before .before .before .before .before .before .before .before .before .before .before .before .before .before .before .before .before .before .before .before .before .before .before in
+    let labelled = c .before .before .before .before .before in
+    let first = labelled .before .before .before .before .before .before .before in
+    let jumped = first .before .before .before .before .before .before .before .before in
+    let pushed = jumped .before .before .before .before .before .before .before .before .before in
+    let both = pushed .before .before .before .before .before in
+    let entry = both .before .before .before .before .before .before .before .before .before in
     let a = entry .args in
     let at = br-at (a .kinds .now) (a .words .now) _ (entry .pre .ifTrue) (entry .pre .ifFalse) (entry .pre .fields) in
     at .in-words
@@ -104,7 +115,11 @@ shared-slice-read-edge-2 c =
 -- src/lib.rt:130:5
 edge-requires-2 : tie.Need-edge-requires-2
 edge-requires-2 c κs =
-    let both = c .before .before .before .before .before .before .before .before .before .before .before .before .before .before .before .before .before .before .before .before .before .before .before .before .before .before .before .before .before .before .before .before .before .before .before .before in
+    let labelled = c .before .before .before .before .before .before .before in
+    let first = labelled .before .before .before .before .before .before .before in
+    let jumped = first .before .before .before .before .before .before .before .before in
+    let pushed = jumped .before .before .before .before .before .before .before .before .before in
+    let both = pushed .before .before .before .before .before in
     let entry = both .before .before .before .before .before .before .before .before .before in
     let a = entry .args in
     let at = br-at (a .kinds .now) (a .words .now) _ (entry .pre .ifTrue) (entry .pre .ifFalse) (entry .pre .fields) in

@@ -1,5 +1,5 @@
 -- `gen_term::switch::case_edges` meets its contract: what is left of the edges does them all.
-use Prim.Native.Nat.{ℕ, _+_, _-_, _%_, _^_}
+use Prim.Native.Nat.{ℕ, _-_, _%_, _^_}
 use mathlib.Core.Path.{_≡_, refl, _∙_}
 use mathlib.Core.List.{List}
 use native.Mathlib.Omega.{arith}
@@ -9,7 +9,6 @@ use Rattle.book.specs.Ast.{Case}
 use Rattle.book.specs.Entry.{entries}
 use Rattle.lowering.specs.Context.{FnCtx}
 use Rattle.gen_term.specs.Terms.{Cases}
-use mathlib.Core.Path.{sym}
 use Rattle.lowering.specs.Term.{caseEdges}
 use Rattle.gen_values.specs.Maps.{Maps}
 use Rattle.gen_term.specs.Switches.{CaseWalk, CasesLeft, case-in, case-at, case-left, walk-start, walk-more, walk-end, no-edges}

@@ -1,9 +1,7 @@
 -- `gen_term::switch::count_cases` meets its contract: the cases counted lie behind the place.
-use Prim.Native.Nat.{ℕ, _+_, _-_, _≤_}
+use Prim.Native.Nat.{ℕ, _-_, _≤_}
 use mathlib.Core.List.{List}
-use mathlib.Core.Path.{refl}
 use native.Mathlib.Omega.{arith}
-use borrow.Author.Needs.{needs}
 use lib.ListN.{length}
 use Rattle.book.specs.Ast.{Case}
 use Rattle.book.specs.Entry.{entries}

@@ -1,6 +1,5 @@
 -- `gen_term::switch::gen_switch` meets its contract: the fields are read one behind the other, the cases handed on from the first.
-use Prim.Native.Nat.{_+_}
-use mathlib.Core.Path.{_≡_, refl, sym, ap, _∙_}
+use mathlib.Core.Path.{_≡_, refl, ap, _∙_}
 use native.Mathlib.Omega.{arith}
 use lib.ListN.{drop}
 use Rattle.book.specs.Entry.{entries}
@@ -339,7 +338,9 @@ edge-requires c κs =
 -- src/switch.rt:192:5
 case-edges-requires : tie.Need-case-edges-requires
 case-edges-requires c κs =
-    let after-skip = c .before .before .before .before .before .before .before .before .before .before .before .before .before .before .before .before .before .before .before .before .before .before .before .before .before .before .before .before in
+    let gone = c .before .before .before .before .before .before in
+    let tests = gone .before .before .before .before .before .before .before .before in
+    let after-skip = tests .before .before .before .before .before .before .before .before .before .before .before .before .before .before in
     let entry = after-skip .before .before .before .before .before .before .before .before .before .before in
     let a = entry .args in
     let long : after-skip .skip .result ≡ tyLen (a .names) (drop 1 (entries (a .kinds .now) (a .words .now))) = after-skip .skip .ensures
