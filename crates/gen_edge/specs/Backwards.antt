@@ -1,14 +1,14 @@
 -- Lines stored from the last place down: "then sets slots backwards".
 use Prim.Native.Nat.{ℕ, suc, _+_, _<_, _≤_, _%_, _^_}
-use mathlib.Core.Path.{_≡_, refl, sym, ap, subst, _∙_}
+use mathlib.Core.Path.{_≡_, refl, sym, ap, _∙_}
 use mathlib.Core.List.{List, [], _∷_, _++_, map, reverse, reverse-append, reverse-cons, map-append}
 use native.Mathlib.Omega.{arith}
 use lib.ListN.{length, set, length-set, length-map, length-reverse}
 use lib.Seq.{sets, set-comm}
-use Rattle.book.specs.Result.{Result, ok, err, bind}
+use Rattle.book.specs.Result.{ok, bind}
 use Rattle.assembly.specs.Line.{Line}
 use Rattle.assembly.specs.Number.{kindOf, operandOf}
-use Rattle.lowering.specs.Gen.{Gen, Out, lines, line, skip, after, _>>_, each}
+use Rattle.lowering.specs.Gen.{lines, line, skip, after, _>>_, each}
 use Rattle.lowering.specs.Context.{FnCtx}
 use Rattle.lowering.specs.Edge.{Copy, setCopy}
 use Rattle.gen_lines.specs.declared.Reached.{Reached}
@@ -58,10 +58,12 @@ module _ (xs : List ℕ) (x : ℕ) {first left place : ℕ} {ks os ks′ os′ k
       record {
         kinds = λ h.
             let n : first + suc left ≡ suc (first + left) = omega arith in
-            ek ∙ rw (at h, b .kinds h, n) (sets-front ks (first + left) 11 (map (λ (y : ℕ). 11) (reverse xs))) ∙ ap (λ r. sets ks (first + left) (map (λ (y : ℕ). 11) r)) (sym (reverse-more xs x));
+            ek ∙ rw (at h, b .kinds h, n) (sets-front ks (first + left) 11 (map (λ (y : ℕ). 11) (reverse xs)))
+            ∙ ap (λ r. sets ks (first + left) (map (λ (y : ℕ). 11) r)) (sym (reverse-more xs x));
         operands = λ h.
             let n : first + suc left ≡ suc (first + left) = omega arith in
-            eo ∙ rw (at h, b .operands h, n) (sets-front os (first + left) (x % 2 ^ 64) (map (λ (y : ℕ). y % 2 ^ 64) (reverse xs))) ∙ ap (λ r. sets os (first + left) (map (λ (y : ℕ). y % 2 ^ 64) r)) (sym (reverse-more xs x));
+            eo ∙ rw (at h, b .operands h, n) (sets-front os (first + left) (x % 2 ^ 64) (map (λ (y : ℕ). y % 2 ^ 64) (reverse xs)))
+            ∙ ap (λ r. sets os (first + left) (map (λ (y : ℕ). y % 2 ^ 64) r)) (sym (reverse-more xs x));
         long-kinds = ap length ek ∙ length-set ks′ place 11 ∙ b .long-kinds;
         long-operands = ap length eo ∙ length-set os′ place (x % 2 ^ 64) ∙ b .long-operands;
       }

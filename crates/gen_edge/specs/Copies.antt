@@ -1,31 +1,30 @@
 -- The copies of an edge, phi by phi: what is refused before a value is pushed, and the values pushed. "The first matching predecessor counts."
-use Prim.Native.Nat.{ℕ, suc, _+_, _-_, _*_, _<_, _≤_}
+use Prim.Native.Nat.{ℕ, _+_, _-_, _*_, _≤_}
 use mathlib.Core.Path.{_≡_, refl, sym, ap, subst, _∙_}
 use mathlib.Core.Bool.{Bool, true, false, cond, not, _&&_}
 use mathlib.Core.Option.{Option, none, some}
 use mathlib.Core.List.{List, [], _∷_, _++_, map, map-append}
 use native.Mathlib.Omega.{arith}
 use borrow.Author.Tests.{eq-eqb, ne-eqb, eqb-true, eqb-false}
-use lib.ListN.{length, getD, drop, length-append}
+use lib.ListN.{length, getD}
 use lib.Dec.{eqb}
 use Rattle.book.specs.Ast.{Ty, Value, Incoming, Inst}
 use Rattle.book.specs.Rule.{pick}
 use Rattle.book.specs.Shape.{Shape, shape}
 use Rattle.book.specs.Map.{lookup}
 use Rattle.book.specs.Encode.{destWord}
-use Rattle.book.specs.Entry.{Entry, entries}
-use Rattle.book.specs.Limits.{Maybe, NameLimits, ValueLimits}
+use Rattle.book.specs.Limits.{Maybe, NameLimits}
 use Rattle.book.specs.Result.{Result, ok, err, bind, okOr}
 use Rattle.lowering.specs.Gen.{Gen, _>>=_, _>>_, each}
 use Rattle.lowering.specs.Context.{FnCtx, named, slotOf}
 use Rattle.lowering.specs.Operand.{intWidth, pushValue, pushTyped}
-use Rattle.lowering.specs.Edge.{Copy, incomingFrom, copyOf, copyStep, copies, pushCopy, setCopy}
+use Rattle.lowering.specs.Edge.{Copy, incomingFrom, copyOf, copyStep, copies, pushCopy}
 use Rattle.gen_lines.specs.declared.Reached.{Reached}
-use Rattle.gen_lines.specs.Puts.{Puts, Barred, orElse, madeRefused, then-puts, same-puts}
+use Rattle.gen_lines.specs.Puts.{Puts, Barred, orElse, madeRefused, then-puts}
 use Rattle.gen_lines.specs.Follow.{Asked, Answered, asked-puts, asked-ok, asked-err, none-puts, more-puts}
 use Rattle.gen_values.specs.Maps.{Locals, numbered}
 use Rattle.gen_values.specs.Push.{some-of, none-of}
-use Rattle.gen_values.specs.Values.{valueOf, widthBy, Reaches, DestReaches}
+use Rattle.gen_values.specs.Values.{valueOf, DestReaches}
 use Rattle.gen_values.specs.Fields.{WidthSays, ValueAt}
 use Rattle.gen_edge.specs.Phis.{Phi, phiThen, leading}
 

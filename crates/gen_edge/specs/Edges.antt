@@ -1,31 +1,30 @@
 -- The pass that sets the slots, and an edge as a whole.
 use Prim.Native.Nat.{ℕ, suc, _+_, _-_, _*_, _<_, _≤_, _%_, _^_}
 use mathlib.Core.Path.{_≡_, refl, sym, ap, subst, _∙_}
-use mathlib.Core.Option.{Option, none, some}
+use mathlib.Core.Option.{some}
 use mathlib.Core.List.{List, [], _∷_, _++_, map, map-append, reverse, append-nil, append-assoc}
 use native.Mathlib.Omega.{arith}
 use native.Mathlib.Nat.{mod-eq-of-lt}
 use lib.ListN.{length, getD, drop, take, set, length-append, length-map}
 use Rattle.book.specs.Ast.{Incoming, BasicBlock}
 use Rattle.book.specs.Entry.{Entry, entries}
-use Rattle.book.specs.Encode.{destWord, ending}
+use Rattle.book.specs.Encode.{ending}
 use Rattle.book.specs.Map.{lookup}
-use Rattle.book.specs.Result.{Result, ok, err, bind, okOr}
+use Rattle.book.specs.Result.{bind, okOr}
 use Rattle.book_types.specs.Laws.{entries-part, within-kinds, within-words}
 use Rattle.assembly.specs.Line.{Line}
 use Rattle.assembly.specs.Number.{kindOf, operandOf}
-use Rattle.lowering.specs.Gen.{Gen, line, refuse, _>>=_, _>>_, each}
+use Rattle.lowering.specs.Gen.{refuse, _>>=_, _>>_, each}
 use Rattle.lowering.specs.Context.{FnCtx}
-use Rattle.lowering.specs.Edge.{Copy, copies, pushCopy, setCopy, emitEdgeCopies, edge}
-use Rattle.layout_memo.specs.Front.{tyLen}
+use Rattle.lowering.specs.Edge.{Copy, setCopy, emitEdgeCopies, edge}
 use Rattle.gen_lines.specs.declared.Reached.{Reached}
-use Rattle.gen_lines.specs.Puts.{Puts, Lined, most, further, madeRefused, refuse-puts, same-puts, then-puts, line-puts}
-use Rattle.gen_values.specs.Maps.{Locals, Maps, BlockAt}
+use Rattle.gen_lines.specs.Puts.{Puts, Lined, further, madeRefused, refuse-puts, same-puts, then-puts, line-puts}
+use Rattle.gen_values.specs.Maps.{Maps, BlockAt}
 use Rattle.gen_values.specs.Push.{word-same}
 use Rattle.gen_values.specs.Values.{DestReaches}
 use Rattle.gen_edge.specs.Phis.{Phi, leading, encPhi, Leading, Pairs, PhiAt, pairs-in, pairs-end, pairs-next, leading-next, leading-kind, leading-in, block-leads}
 use Rattle.gen_edge.specs.Copies.{slotWord, slotNumber, copies-leading, dest-reaches, pushed-end}
-use Rattle.gen_edge.specs.Walks.{Lent, Passed}
+use Rattle.gen_edge.specs.Walks.{Passed}
 use Rattle.gen_edge.specs.Backwards.{Set, set-none, set-more, set-puts}
 
 -- ---- behind a phi

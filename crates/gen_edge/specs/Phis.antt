@@ -1,7 +1,7 @@
 -- The leading phis of a block: "the scan of leading phis ends at the first instruction that is none". What stands at a place of their entries.
-use Prim.Native.Nat.{ℕ, suc, _+_, _*_, _<_, _≤_, _^_}
+use Prim.Native.Nat.{ℕ, _+_, _<_, _≤_, _^_}
 use mathlib.Core.Path.{_≡_, refl, sym, ap, subst, _∙_}
-use mathlib.Core.Option.{Option, none, some}
+use mathlib.Core.Option.{Option, some}
 use mathlib.Core.List.{List, [], _∷_, _++_, append-assoc}
 use native.Mathlib.Omega.{arith}
 use lib.ListN.{length, drop, getD, length-append, length-drop}
@@ -10,16 +10,16 @@ use Rattle.book.specs.Ast.{Ty, Value, Zero, Incoming, InstKind, Inst, Terminato
 use Rattle.book.specs.Entry.{Entry, entry, entries}
 use Rattle.book.specs.Kinds.{InstTag, instKind, instTag, instTags, termKind}
 use Rattle.book.specs.Rule.{find}
-use Rattle.book.specs.Fields.{Item, Field, Meanings, instFields, instTagOf, instArgs, termTagOf}
+use Rattle.book.specs.Fields.{Item, Field, instFields, instTagOf, termTagOf}
 use Rattle.book.specs.Shape.{Shape, shape}
-use Rattle.book.specs.Encode.{encTy, valueEntry, encValue, encBlock, encIncoming, encFields, encInst, encTerm, destWord, ending, closed}
-use Rattle.book.specs.Limits.{Each, Maybe, TyTo, ValueLimits, NameLimits, IncomingLimits, InstLimits, FieldsLimits}
+use Rattle.book.specs.Encode.{encTy, valueEntry, encIncoming, encFields, encInst, encTerm, destWord, ending, closed}
+use Rattle.book.specs.Limits.{Each, Maybe, NameLimits, IncomingLimits, InstLimits, FieldsLimits}
 use Rattle.book.specs.AgreeInst.{inst-found}
 use Rattle.layout_memo.specs.Front.{Starts, tyLen, len-is, enc-pos}
 use Rattle.lowering.specs.Operand.{intWidth}
-use Rattle.gen_values.specs.Values.{valueOf, widthBy, value-is}
+use Rattle.gen_values.specs.Values.{widthBy, value-is}
 use Rattle.gen_values.specs.Maps.{BlockAt}
-use Rattle.gen_values.specs.Fields.{Fields, ValueAt, WidthSays, entry-at, type-starts, type-in, width-is}
+use Rattle.gen_values.specs.Fields.{Fields, ValueAt, WidthSays, entry-at, type-in, width-is}
 
 pub record Phi : Type 0 where
   pub dest : Option ℕ

@@ -1,24 +1,22 @@
 -- The passes over leading phis, and over the incoming pairs of one.
-use Prim.Native.Nat.{ℕ, suc, _+_, _*_, _<_, _≤_}
+use Prim.Native.Nat.{ℕ, _+_, _*_, _<_, _≤_}
 use mathlib.Core.Path.{_≡_, refl, sym, ap, subst, _∙_}
-use mathlib.Core.Bool.{Bool, true, false}
 use mathlib.Core.List.{List, [], _∷_, _++_, append-nil, append-assoc}
 use native.Mathlib.Omega.{arith}
-use native.Mathlib.Numerals.{add-one}
 use lib.ListN.{length, getD, drop, length-append}
 use Rattle.book.specs.Ast.{Ty, Value, Incoming}
 use Rattle.book.specs.Entry.{entries}
 use Rattle.book.specs.Limits.{ValueLimits}
 use Rattle.lowering.specs.Context.{FnCtx}
 use Rattle.lowering.specs.Operand.{intWidth, pushTyped}
-use Rattle.lowering.specs.Edge.{Copy, pushCopy}
+use Rattle.lowering.specs.Edge.{pushCopy}
 use Rattle.layout_memo.specs.Front.{tyLen}
 use Rattle.gen_lines.specs.declared.Reached.{Reached}
 use Rattle.gen_lines.specs.Puts.{Puts, orElse}
 use Rattle.gen_values.specs.Maps.{Locals}
 use Rattle.gen_values.specs.Values.{valueOf, widthBy, Reaches, DestReaches}
 use Rattle.gen_values.specs.Fields.{WidthSays, ValueAt}
-use Rattle.gen_edge.specs.Phis.{Phi, Leading, Pairs, PairAt, PhiAt, pairs-in, pairs-end, pairs-next, leading-in, leading-end, leading-next}
+use Rattle.gen_edge.specs.Phis.{Phi, Leading, Pairs, PhiAt, pairs-in, pairs-end, pairs-next, leading-in, leading-end, leading-next}
 use Rattle.gen_edge.specs.Copies.{FoundAt, Pushed, copyAt, noted, noted-found, asked-phi, pushed-none, pushed-more, found-none, dest-reaches}
 
 -- what a pass is lent: phis of some context
@@ -62,7 +60,7 @@ pub record PushAsk (ks ws work : List ℕ) (ty found : ℕ) : Type 0 where
   pub value : (found ≡ 0 → ⊥) → (found < length ks) × (found < length ws) × Reaches (getD ks found 0) (getD ws found 0) work
 
 -- ---- pairs
-value-reaches : (m : ℕ) {ks ws work : List ℕ} {a : ℕ} {v : Value} → ValueAt m ks ws a v → 8 * m + 64 ≤ length work → Reaches (getD ks a 0) (getD ws a 0) work
+pub value-reaches : (m : ℕ) {ks ws work : List ℕ} {a : ℕ} {v : Value} → ValueAt m ks ws a v → 8 * m + 64 ≤ length work → Reaches (getD ks a 0) (getD ws a 0) work
 value-reaches m {ks} {ws} {work} {a} {v} q room =
     record { there = λ e. let l : getD ws a 0 < m = subst (λ (x : Value). ValueLimits m x) (sym (q .is) ∙ e) (q .limits) in omega arith }
 

@@ -1,5 +1,4 @@
 -- `gen_edge::edge` meets its contract.
-use native.Mathlib.Omega.{arith}
 use Rattle.gen_edge.specs.Edges.{edge-puts}
 use borrow.Author.Needs.{needs}
 use Rattle.gen_edge.proofs.edge.Statement.{statement}
@@ -32,7 +31,8 @@ returns c = λ k maps.
     let after-copies = after-put .before .before .before .before .before .before .before in
     let entry = after-copies .before .before .before .before .before .before .before .before in
     let a = entry .args in
-    edge-puts k (a .pred) (a .succ) (a .names) (a .book-kinds .now) (a .book-words .now) (a .work .now) maps (entry .pre .target) (search needs) (after-copies .emit-edge-copies .ensures k maps) (after-put .put .ensures)
+    edge-puts k (a .pred) (a .succ) (a .names) (a .book-kinds .now) (a .book-words .now) (a .work .now) maps (entry .pre .target) (search needs)
+    (after-copies .emit-edge-copies .ensures k maps) (after-put .put .ensures)
 
 pub edge-spec : {M : Type 1} → statement M
 edge-spec =

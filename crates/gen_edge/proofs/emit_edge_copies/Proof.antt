@@ -36,7 +36,8 @@ returns : tie.Need-returns
 returns c = λ k maps.
     let entry = c .before .before .before .before .before .before .before .before in
     let a = entry .args in
-    unknown-puts k (a .pred) (a .succ) (a .names) (a .book-kinds .now) (a .book-words .now) (a .work .now) maps (entry .pre .target) refl (c .before .if1 .taken) (a .s) (a .lines .now) (a .operands .now) (c .refuse .ensures)
+    unknown-puts k (a .pred) (a .succ) (a .names) (a .book-kinds .now) (a .book-words .now) (a .work .now) maps (entry .pre .target) refl (c .before .if1 .taken)
+    (a .s) (a .lines .now) (a .operands .now) (c .refuse .ensures)
 
 -- src/lib.rt:268:15
 sub-at : tie.Need-sub-at

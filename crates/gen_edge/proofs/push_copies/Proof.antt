@@ -1,12 +1,12 @@
 -- `gen_edge::push_copies` meets its contract. The outer loop has the phis passed, what was noted of them and their values pushed; the inner one has the
 -- pairs passed and the first of them for the predecessor.
-use Prim.Native.Nat.{ℕ, _+_, _-_, _*_, _<_, _≤_}
-use mathlib.Core.Path.{_≡_, refl, sym, ap, _∙_}
+use Prim.Native.Nat.{_+_, _-_, _≤_}
+use mathlib.Core.Path.{_≡_, ap, _∙_}
 use mathlib.Core.Logic.{⊎-elim}
 use mathlib.Core.List.{List}
 use native.Mathlib.Omega.{arith}
 use borrow.Author.Needs.{needs}
-use lib.ListN.{length, drop, getD}
+use lib.ListN.{length, drop}
 use Rattle.book.specs.Entry.{entries}
 use Rattle.book_types.specs.Laws.{entries-part}
 use Rattle.layout_memo.specs.Front.{tyLen}

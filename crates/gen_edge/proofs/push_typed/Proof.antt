@@ -3,7 +3,7 @@ use Rattle.lowering.specs.Operand.{intWidth}
 use Rattle.gen_values.specs.Fields.{WidthSays}
 use Rattle.gen_edge.specs.Copies.{typed-puts}
 use Prim.Native.Nat.{ℕ}
-use mathlib.Core.Path.{_∙_, ap, refl, sym, subst}
+use mathlib.Core.Path.{refl, sym, subst}
 use borrow.Author.Needs.{needs}
 use Rattle.gen_edge.proofs.push_typed.Statement.{statement}
 use Rattle.gen_edge.proofs.push_typed.Tie as tie

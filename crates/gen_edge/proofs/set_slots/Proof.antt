@@ -1,7 +1,7 @@
 -- `gen_edge::set_slots` meets its contract: the slots of the phis passed stand from the last place down, as many as are left in front of them.
 use Prim.Native.Nat.{_%_, _^_}
 use Rattle.gen_lines.specs.Puts.{further}
-use mathlib.Core.Path.{_≡_, refl, sym, ap, _∙_}
+use mathlib.Core.Path.{_≡_, refl, ap, _∙_}
 use mathlib.Core.List.{List}
 use native.Mathlib.Omega.{arith}
 use borrow.Author.Needs.{needs}
@@ -142,7 +142,8 @@ returns : tie.Need-returns Inv-loop μ-loop
 returns c = λ k ps cps front e slots.
     let loop = c .before .before in
     let a = loop .before .before .before .before .before .before .args in
-    set-end (a .names) (a .kinds .now) (a .words .now) (a .work .now) ps (loop .loop .inv ps front e) (c .before .loop-test .left) k cps slots refl (c .beyond .ensures ∙ ap (further (a .s .at)) e) refl refl
+    set-end (a .names) (a .kinds .now) (a .words .now) (a .work .now) ps (loop .loop .inv ps front e) (c .before .loop-test .left) k cps slots refl
+    (c .beyond .ensures ∙ ap (further (a .s .at)) e) refl refl
 
 pub set-slots-spec : {M : Type 1} → statement M
 set-slots-spec =
