@@ -134,7 +134,8 @@ module _ {m : ℕ} (ks ws : List ℕ) {bs : List Entry} (work : List ℕ) (f : F
           let d : getD ws 0 0 ≤ m = dest-within (k .inst .dest) (inst-front ks ws (k .at) .dest) (k .at .keeps .0) in
           record { args = a .args; fields = a .fields; named = d; ready = t .ready bs (k .ready); ends = omega (arith, k .ends going, t .off) }
 
-      pub step-alloca : (k : StepAsk m f (entries ks ws) bs work) {work″ : List ℕ} {r : Frame} → AllocaDone m (getD ws 0 0) (lent ks ws 1) bs work′ work″ taken r → Stepped m (entries ks ws) bs work work″ f r
+      pub step-alloca : (k : StepAsk m f (entries ks ws) bs work) {work″ : List ℕ} {r : Frame} → AllocaDone m (getD ws 0 0) (lent ks ws 1) bs work′ work″ taken r
+          → Stepped m (entries ks ws) bs work work″ f r
       unfolding bind
       step-alloca k {work″} {r} done =
           let own = alloca-front ks ws (k .at) e in

@@ -123,7 +123,8 @@ book-sized : (b : Book) → Sized (b .function) (length (encode b))
 unfolding encode
 book-sized b =
     let s = function-sized (b .function) in
-    let l : length (encFunction (b .function)) ≤ length (encode b) = omega (arith, ending-end encStruct (encFunction (b .function)) (b .structs), ending-end encMark (ending encStruct (encFunction (b .function)) (b .structs)) (b .marks)) in
+    let f = encFunction (b .function) in
+    let l : length f ≤ length (encode b) = omega (arith, ending-end encStruct f (b .structs), ending-end encMark (ending encStruct f (b .structs)) (b .marks)) in
     record { labels = omega (arith, s .labels); params = omega (arith, s .params) }
 
 -- ---- arguments

@@ -1,9 +1,9 @@
--- `gen_frame::fix_place` meets its contract: the place starts where the alignment says, and its end is tested without wrapping.
+-- `gen_frame::places::fix_place` meets its contract: the place starts where the alignment says, and its end is tested without wrapping.
 use native.Mathlib.Omega.{arith}
 use Rattle.gen_frame.specs.Fixed as laws
 use borrow.Author.Needs.{needs}
-use Rattle.gen_frame.proofs.fix_place.Statement.{statement}
-use Rattle.gen_frame.proofs.fix_place.Tie as tie
+use Rattle.gen_frame.proofs.places.fix_place.Statement.{statement}
+use Rattle.gen_frame.proofs.places.fix_place.Tie as tie
 
 align-up-requires : tie.Need-align-up-requires
 align-up-requires c κs = search needs
