@@ -15,11 +15,7 @@ add-end : tie.Need-add-end
 add-end c =
     let after-align-up = c .before in
     let entry = after-align-up .before .before in
-    omega (
-      arith,
-      laws.end-fits (entry .args .align) (entry .args .size) (entry .args .count) (entry .args .f)
-          (after-align-up .align-up .ensures) (entry .pre .ends) (entry .pre .aligned) (c .bytes .ensures),
-    )
+    omega (arith, laws.end-fits (entry .args .f .off) _ (after-align-up .align-up .ensures) (entry .pre .ends) (omega arith) (c .bytes .ensures))
 
 barred-requires : tie.Need-barred-requires
 barred-requires c κs = search needs
