@@ -4,7 +4,7 @@ use mathlib.Core.Path.{_≡_, refl, sym, ap, subst, _∙_}
 use mathlib.Core.Bool.{Bool, true, false, cond, _||_}
 use mathlib.Core.List.{List, _++_}
 use native.Mathlib.Omega.{arith}
-use lib.ListN.{length, drop, getD, length-drop}
+use lib.ListN.{drop, getD, length-drop}
 use lib.Dec.{leb}
 use Rattle.names.specs.Name.{nameAt}
 use Rattle.names.specs.Spelling.{isSyscall, isBcmp, isMemcmp, hasOverflow}
