@@ -27,8 +27,8 @@ use Rattle.gen_values.specs.Fields.{Fields, entry-at, type-starts, type-is, beh
 use Rattle.gen_frame.specs.Frames.{barredBy, dynamicBy, FrameSays}
 use Rattle.gen_frame.specs.Placed.{PlaceStep, PlaceDone, same-step, step-none}
 use Rattle.gen_frame.specs.declared.Frame.{Frame}
-use Rattle.gen_frame.specs.declared.Count.{Count}
-use Rattle.gen_frame.specs.declared.Count.the-variants as count
+use Rattle.gen_frame.specs.declared.places.Count.{Count}
+use Rattle.gen_frame.specs.declared.places.Count.the-variants as count
 
 -- ---- the count
 -- it stands at the front
@@ -152,7 +152,8 @@ module _ (m dest : ℕ) (ks ws : List ℕ) (args : Meanings allocaFields) (k : F
     step-named d bs p = rw (ne-eqb dest 0 z) (ap (λ x. place (structsIn m bs) (dest - 1) (args .0) x p) (sym e ∙ d))
 
     -- a fixed count
-    pub alloca-fixed : {bs : List Entry} {work work′ : List ℕ} {f r : Frame} {n : ℕ} → c ≡ count.Fixed n → PlaceDone m (dest - 1) n (entries ks ws) bs work work′ f r → PlaceStep m bs work work′ f r (stepOf bs)
+    pub alloca-fixed : {bs : List Entry} {work work′ : List ℕ} {f r : Frame} {n : ℕ} → c ≡ count.Fixed n → PlaceDone m (dest - 1) n (entries ks ws) bs work work′ f r
+        → PlaceStep m bs work work′ f r (stepOf bs)
     alloca-fixed {bs} {n = n} d s =
         same-step (place (structsIn m bs) (dest - 1) (tyOf m (entries ks ws)) (some n)) (stepOf bs)
         (λ p. step-named (ap countBy d) bs p ∙ ap (λ t. place (structsIn m bs) (dest - 1) t (some n) p) (sym (type-is ks ws 0 k))) s

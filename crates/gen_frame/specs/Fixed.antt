@@ -82,5 +82,6 @@ module _ (align size count : ℕ) (f : Frame) where
         let e : start + r ≡ endOf = ap (λ x. x + r) s ∙ q .0 in
         (rw (q .1) (ap (λ x. record { slots = f .slots; off = x; dynamic = f .dynamic; refused = false }) e), rw (q .1) (ap (λ x. set work (8 * name + 3) (x + 1)) s))
 
-  pub end-fits : {start r : ℕ} → start ≡ startOf → f .off ≤ 2147483648 → align ≤ 8 → Product size count r → start + r < 2 ^ 63
-  end-fits e a b p = omega (arith, align-most (f .off) align, p .fits)
+-- the sum of a place's start and bytes fits
+pub end-fits : (off align : ℕ) {size count start r : ℕ} → start ≡ alignUp off align → off ≤ 2147483648 → align ≤ 16 → Product size count r → start + r < 2 ^ 63
+end-fits off align e a b p = omega (arith, align-most off align, p .fits)

@@ -21,6 +21,10 @@ use Rattle.gen_values.specs.Maps.{numbered}
 use Rattle.gen_frame.specs.declared.Frame.{Frame}
 
 -- ---- answers
+-- none is refused and not
+pub never : {A : Type 0} {b : Bool} → b ≡ true → b ≡ false → A
+never p q = absurd (let z : _≡_ {A = ℕ} 0 1 = cc in omega arith)
+
 abbrev pub barredBy : Frame → ℕ → Frame
 barredBy f e = record { slots = f .slots; off = e; dynamic = f .dynamic; refused = true }
 

@@ -24,7 +24,7 @@ use Rattle.layout_memo.specs.Front.{kindOf, kind-at}
 use Rattle.layout_memo.specs.Work.{Ready, structsIn}
 use Rattle.layout_memo.specs.Calls.{lent}
 use Rattle.lowering.specs.Context.{Slots, noSlots, slotStep, slotMap}
-use Rattle.gen_frame.specs.Frames.{SlotsHold, Overflows, FrameSays, FrameKept, kept-none, kept-then, overflows-kept}
+use Rattle.gen_frame.specs.Frames.{never, SlotsHold, Overflows, FrameSays, FrameKept, kept-none, kept-then, overflows-kept}
 use Rattle.gen_frame.specs.Taken.{InstAt}
 use Rattle.gen_frame.specs.Steps.{Stepped}
 use Rattle.gen_frame.specs.Parts.{Left, Part, PartLen, PartAsk, PartDone, left-there, left-done, left-part, term-pos, inst-pos}
@@ -80,9 +80,6 @@ pub record Going (m : ℕ) (es bs : List Entry) (work₀ work : List ℕ) (at : 
   pub ready : Ready m bs work
   pub kept : FrameKept m work₀ work
   pub few : f .slots ≤ 2 * at
-
-never : {A : Type 0} {b : Bool} → b ≡ true → b ≡ false → A
-never p q = absurd (let z : _≡_ {A = ℕ} 0 1 = cc in omega arith)
 
 abbrev pub first : Frame
 first = record { slots = 0; off = 0; dynamic = false; refused = false }

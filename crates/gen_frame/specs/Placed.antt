@@ -61,7 +61,8 @@ module _ (m name : ℕ) where
   PlaceDone count es bs work work′ f r = PlaceStep m bs work work′ f r (place (structsIn m bs) name (tyOf m es) (some count))
 
 -- the same step by another name
-pub same-step : {m : ℕ} {bs : List Entry} {work work′ : List ℕ} {f r : Frame} (one all : Places → Result Places) → ((p : Places) → all p ≡ one p) → PlaceStep m bs work work′ f r one → PlaceStep m bs work work′ f r all
+pub same-step : {m : ℕ} {bs : List Entry} {work work′ : List ℕ} {f r : Frame} (one all : Places → Result Places) → ((p : Places) → all p ≡ one p)
+    → PlaceStep m bs work work′ f r one → PlaceStep m bs work work′ f r all
 same-step {m} {bs} {work} {work′} {f} {r} one all e s =
     record { ready = s .ready; kept = s .kept; slots = s .slots; says = λ p h. subst (λ (q : Result Places). FrameSays m q work′ r) (sym (e p)) (s .says p h) }
 
@@ -76,7 +77,8 @@ holds-after a h =
     record { going = h .going; off = h .off; within = h .within; dynamic = h .dynamic; words = λ x l. a .kept .same (8 * x + 3) (λ y _ e. omega arith) ∙ h .words x l }
 
 -- a measurement, then a step
-then-step : {m : ℕ} {bs : List Entry} {a b c : List ℕ} {f r : Frame} (one all : Places → Result Places) → After m bs a b → PlaceStep m bs b c f r one → ((p : Places) → all p ≡ one p) → PlaceStep m bs a c f r all
+then-step : {m : ℕ} {bs : List Entry} {a b c : List ℕ} {f r : Frame} (one all : Places → Result Places)
+    → After m bs a b → PlaceStep m bs b c f r one → ((p : Places) → all p ≡ one p) → PlaceStep m bs a c f r all
 then-step {m} {bs} {a} {b} {c} {f} {r} one all x y e =
     record {
       ready = y .ready;
@@ -86,7 +88,8 @@ then-step {m} {bs} {a} {b} {c} {f} {r} one all x y e =
     }
 
 -- a refusal while measuring
-barred-step : {m : ℕ} {bs : List Entry} {work work′ : List ℕ} {f r : Frame} {e : ℕ} (all : Places → Result Places) → After m bs work work′ → r ≡ barredBy f e → ((p : Places) → all p ≡ err e) → PlaceStep m bs work work′ f r all
+barred-step : {m : ℕ} {bs : List Entry} {work work′ : List ℕ} {f r : Frame} {e : ℕ} (all : Places → Result Places)
+    → After m bs work work′ → r ≡ barredBy f e → ((p : Places) → all p ≡ err e) → PlaceStep m bs work work′ f r all
 barred-step {m} {bs} {work} {work′} {f} {r} {e} all a d h =
     then-step (λ p. err e) all a
     (step-none (λ p. err e) (a .ready) (ap (λ (x : Frame). x .slots) d) (λ p k. (ap (λ (x : Frame). x .refused) d, ap (λ (x : Frame). x .off) d))) h

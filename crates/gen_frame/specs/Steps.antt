@@ -1,7 +1,7 @@
 -- One instruction of the frame pass: its slots, and its place where it is an alloca.
 use Prim.Native.Nat.{ℕ, _+_, _*_, _≤_, _^_}
 use mathlib.Core.Path.{_≡_, refl, sym, ap, subst, _∙_}
-use mathlib.Core.Bool.{Bool, true, false}
+use mathlib.Core.Bool.{true, false}
 use mathlib.Core.List.{List}
 use mathlib.Core.Option.{Option, none, some}
 use native.Mathlib.Omega.{arith}
@@ -20,7 +20,7 @@ use Rattle.layout_memo.specs.Calls.{lent}
 use Rattle.lowering.specs.Context.{Slots, slotStep}
 use Rattle.gen_values.specs.Values.{destOf, dest-is}
 use Rattle.gen_values.specs.Fields.{Fields}
-use Rattle.gen_frame.specs.Frames.{SlotsHold, Overflows, FrameSays, FrameKept, kept-none, kept-then, kept-places}
+use Rattle.gen_frame.specs.Frames.{never, SlotsHold, Overflows, FrameSays, FrameKept, kept-none, kept-then, kept-places}
 use Rattle.gen_frame.specs.Allocas.{allocaFields, AllocaAsk, AllocaDone}
 use Rattle.gen_frame.specs.Taken.{InstAt, inst-front, same-tag, TakeAsk, Taken}
 use Rattle.gen_frame.specs.declared.Frame.{Frame}
@@ -96,9 +96,6 @@ dest-within : {m : ℕ} (o : Option ℕ) {d : ℕ} → d ≡ destWord o → Mayb
 dest-within none e l = omega arith
 dest-within (some x) e l = omega arith
 
-never : {A : Type 0} {b : Bool} → b ≡ true → b ≡ false → A
-never p q = absurd (let z : _≡_ {A = ℕ} 0 1 = cc in omega arith)
-
 module _ {m : ℕ} (ks ws : List ℕ) {bs : List Entry} (work : List ℕ) (f : Frame) where
   pub take-ask : StepAsk m f (entries ks ws) bs work → TakeAsk m f (entries ks ws) work
   take-ask k = record { inst = k .inst; at = k .at; room = k .ready .room; few = k .few }
@@ -134,7 +131,8 @@ module _ {m : ℕ} (ks ws : List ℕ) {bs : List Entry} (work : List ℕ) (f : F
           let d : getD ws 0 0 ≤ m = dest-within (k .inst .dest) (inst-front ks ws (k .at) .dest) (k .at .keeps .0) in
           record { args = a .args; fields = a .fields; named = d; ready = t .ready bs (k .ready); ends = omega (arith, k .ends going, t .off) }
 
-      pub step-alloca : (k : StepAsk m f (entries ks ws) bs work) {work″ : List ℕ} {r : Frame} → AllocaDone m (getD ws 0 0) (lent ks ws 1) bs work′ work″ taken r → Stepped m (entries ks ws) bs work work″ f r
+      pub step-alloca : (k : StepAsk m f (entries ks ws) bs work) {work″ : List ℕ} {r : Frame} → AllocaDone m (getD ws 0 0) (lent ks ws 1) bs work′ work″ taken r
+          → Stepped m (entries ks ws) bs work work″ f r
       unfolding bind
       step-alloca k {work″} {r} done =
           let own = alloca-front ks ws (k .at) e in

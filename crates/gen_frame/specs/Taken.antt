@@ -18,11 +18,11 @@ use Rattle.book.specs.Shape.{Shape, shape}
 use Rattle.book.specs.AgreeInst.{inst-found}
 use Rattle.book_types.specs.Laws.{entries-part}
 use Rattle.layout.specs.Frame.{Places}
-use Rattle.layout_memo.specs.Front.{Starts, tyLen}
+use Rattle.layout_memo.specs.Front.{tyLen}
 use Rattle.layout_memo.specs.Work.{Ready}
 use Rattle.layout_memo.specs.Calls.{lent}
 use Rattle.lowering.specs.Context.{Slots, callSlots, slotsFor, slotStep}
-use Rattle.gen_values.specs.Fields.{Fields, entry-at, type-starts, behind-type}
+use Rattle.gen_values.specs.Fields.{Fields, entry-at, behind-type}
 use Rattle.gen_frame.specs.Frames.{SlotsHold, Overflows, PlacesHold, FrameKept, kept-none, word-set, ready-set}
 use Rattle.gen_frame.specs.declared.Frame.{Frame}
 
@@ -62,9 +62,6 @@ pub record CalleeAt (m : ℕ) (v : Value) (ks ws work : List ℕ) (n : ℕ) : Ty
   pub doubled : getD ks n 0 ≡ 31 → 4 ≤ getD work (8 * getD ws n 0 + 5) 0 → (names : List (List ℕ)) → Overflows names m work → 2 ≡ callSlots names v
 
 module _ {m : ℕ} (ks ws work : List ℕ) (args : Meanings callFields) (k : Fields m callFields args (entries ks ws)) where
-  pub call-starts : Starts m (entries ks ws)
-  call-starts = type-starts ks ws 0 k
-
   pub callee-at : {n : ℕ} → n ≡ tyLen m (entries ks ws) → CalleeAt m (args .1 .0) ks ws work n
   unfolding encFields callSlots
   callee-at {n} e =

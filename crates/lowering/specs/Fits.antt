@@ -1,11 +1,12 @@
 -- Law: every operand and the next counter of an accepted function fit a word. The labels are at most two for each entry of the book.
-use Prim.Native.Nat.{ℕ, _+_, _*_, _<_, _≤_, _^_}
-use mathlib.Core.Path.{_≡_, subst}
+use Prim.Native.Nat.{ℕ, _+_, _*_, _%_, _<_, _≤_, _^_}
+use mathlib.Core.Path.{_≡_, refl, subst}
 use mathlib.Core.Logic.{⊎-elim}
 use mathlib.Core.Option.{Option, none, some}
-use mathlib.Core.List.{List, [], _∷_, _++_}
+use mathlib.Core.List.{List, [], _∷_, _++_, map}
 use lib.ListN.{length, length-append}
 use native.Mathlib.Omega.{arith}
+use native.Mathlib.Nat.{mod-eq-of-lt}
 use borrow.Author.Tests.{leb-true}
 use lib.Dec.{leb}
 use Rattle.numbers.specs.Align.{align-most}
@@ -103,7 +104,8 @@ param-pos : (p : Param) → 1 ≤ length (encParam p)
 unfolding encParam
 param-pos p = omega arith
 
-record Sized (f : Function) (n : ℕ) : Type 0 where
+-- the labels and the parameters of a function of n entries
+pub record Sized (f : Function) (n : ℕ) : Type 0 where
   pub labels : functionLabels f ≤ 2 * n
   pub params : length (f .params) ≤ n
 
@@ -119,11 +121,12 @@ function-sized f =
       params = omega (arith, items-within encParam param-pos (entry 0 0 ∷ []) (f .params));
     }
 
-book-sized : (b : Book) → Sized (b .function) (length (encode b))
+pub book-sized : (b : Book) → Sized (b .function) (length (encode b))
 unfolding encode
 book-sized b =
     let s = function-sized (b .function) in
-    let l : length (encFunction (b .function)) ≤ length (encode b) = omega (arith, ending-end encStruct (encFunction (b .function)) (b .structs), ending-end encMark (ending encStruct (encFunction (b .function)) (b .structs)) (b .marks)) in
+    let f = encFunction (b .function) in
+    let l : length f ≤ length (encode b) = omega (arith, ending-end encStruct f (b .structs), ending-end encMark (ending encStruct f (b .structs)) (b .marks)) in
     record { labels = omega (arith, s .labels); params = omega (arith, s .params) }
 
 -- ---- arguments
@@ -227,14 +230,24 @@ counter-low book names counter work s h =
     leb-true counter (2 ^ 32) (given-ok (leb counter (2 ^ 32)) 1 tt (c .0) (c .1) .0)
 
 -- "any number for `push`, `get_arg` and numbered labels": any that a word holds
+pub checked-fits : (book names : List ℕ) (counter work : ℕ) (s : Sound) → checked book names counter work ≡ ok s
+    → (o : Out) → genFunction (codegenOf (s .names) (s .book)) (s .book .function) counter ≡ ok o → Fits o
+checked-fits book names counter work s h o e =
+    let l = checked-lent book names counter work s h in
+    let k = slice-sound book (l .counted) (l .read) .1 in
+    let few : length (s .names) ≤ 131072 = omega (arith, names-counted (l .counted .count) names (s .names) (l .spelled), k .names) in
+    let small : length (encode (s .book)) ≤ 1048576 = subst (λ (b : Book). length (encode b) ≤ 1048576) (l .same) (k .entries) in
+    function-fits (s .names) (s .book) (l .limits) few small counter (counter-low book names counter work s h) o e
+
 pub generated-fits : (book names : List ℕ) (counter work room : ℕ) (o : Out) → generated book names counter work room ≡ ok o → Fits o
 unfolding generated
 generated-fits book names counter work room o h =
     let a = bind-ok (checked book names counter work) _ o h in
     let c = bind-ok (genFunction (codegenOf (a .0 .names) (a .0 .book)) (a .0 .book .function) counter) _ o (a .2) in
     let d = given-ok _ _ (c .0) o (c .2) in
-    let l = checked-lent book names counter work (a .0) (a .1) in
-    let s = slice-sound book (l .counted) (l .read) .1 in
-    let few : length (a .0 .names) ≤ 131072 = omega (arith, names-counted (l .counted .count) names (a .0 .names) (l .spelled), s .names) in
-    let small : length (encode (a .0 .book)) ≤ 1048576 = subst (λ (b : Book). length (encode b) ≤ 1048576) (l .same) (s .entries) in
-    subst Fits (d .1) (function-fits (a .0 .names) (a .0 .book) (l .limits) few small counter (counter-low book names counter work (a .0) (a .1)) (c .0) (c .1))
+    subst Fits (d .1) (checked-fits book names counter work (a .0) (a .1) (c .0) (c .1))
+
+-- as words they are what they are
+pub operands-same : (ls : List Line) → Each (λ l. operandOf l < 2 ^ 64) ls → map (λ l. operandOf l % 2 ^ 64) ls ≡ map operandOf ls
+operands-same [] h = refl
+operands-same (l ∷ ls) h = let e = mod-eq-of-lt (h .0) in let r = operands-same ls (h .1) in cc

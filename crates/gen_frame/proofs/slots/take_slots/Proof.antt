@@ -1,9 +1,9 @@
--- `gen_frame::take_slots` meets its contract: the name's word 1 is set, whatever stood there.
+-- `gen_frame::slots::take_slots` meets its contract: the name's word 1 is set, whatever stood there.
 use native.Mathlib.Omega.{arith}
 use Rattle.gen_frame.specs.Taken as laws
 use borrow.Author.Needs.{needs}
-use Rattle.gen_frame.proofs.take_slots.Statement.{statement}
-use Rattle.gen_frame.proofs.take_slots.Tie as tie
+use Rattle.gen_frame.proofs.slots.take_slots.Statement.{statement}
+use Rattle.gen_frame.proofs.slots.take_slots.Tie as tie
 
 shared-slice-read-dest : tie.Need-shared-slice-read-dest
 shared-slice-read-dest c =

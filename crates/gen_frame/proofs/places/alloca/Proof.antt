@@ -1,9 +1,9 @@
--- `gen_frame::alloca` meets its contract: a missing name is found first, a varying count measures nothing.
+-- `gen_frame::places::alloca` meets its contract: a missing name is found first, a varying count measures nothing.
 use native.Mathlib.Omega.{arith}
 use Rattle.gen_frame.specs.Allocas as laws
 use borrow.Author.Needs.{needs}
-use Rattle.gen_frame.proofs.alloca.Statement.{statement}
-use Rattle.gen_frame.proofs.alloca.Tie as tie
+use Rattle.gen_frame.proofs.places.alloca.Statement.{statement}
+use Rattle.gen_frame.proofs.places.alloca.Tie as tie
 
 barred-requires : tie.Need-barred-requires
 barred-requires c κs = search needs

@@ -1,8 +1,8 @@
--- `gen_frame::slots_for` meets its contract.
+-- `gen_frame::slots::slots_for` meets its contract.
 use Rattle.gen_frame.specs.Taken as laws
 use borrow.Author.Needs.{needs}
-use Rattle.gen_frame.proofs.slots_for.Statement.{statement}
-use Rattle.gen_frame.proofs.slots_for.Tie as tie
+use Rattle.gen_frame.proofs.slots.slots_for.Statement.{statement}
+use Rattle.gen_frame.proofs.slots.slots_for.Tie as tie
 
 shared-slice-read-match : tie.Need-shared-slice-read-match
 shared-slice-read-match c =

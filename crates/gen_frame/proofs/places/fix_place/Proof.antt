@@ -1,9 +1,9 @@
--- `gen_frame::fix_place` meets its contract: the place starts where the alignment says, and its end is tested without wrapping.
+-- `gen_frame::places::fix_place` meets its contract: the place starts where the alignment says, and its end is tested without wrapping.
 use native.Mathlib.Omega.{arith}
 use Rattle.gen_frame.specs.Fixed as laws
 use borrow.Author.Needs.{needs}
-use Rattle.gen_frame.proofs.fix_place.Statement.{statement}
-use Rattle.gen_frame.proofs.fix_place.Tie as tie
+use Rattle.gen_frame.proofs.places.fix_place.Statement.{statement}
+use Rattle.gen_frame.proofs.places.fix_place.Tie as tie
 
 align-up-requires : tie.Need-align-up-requires
 align-up-requires c κs = search needs
@@ -15,11 +15,7 @@ add-end : tie.Need-add-end
 add-end c =
     let after-align-up = c .before in
     let entry = after-align-up .before .before in
-    omega (
-      arith,
-      laws.end-fits (entry .args .align) (entry .args .size) (entry .args .count) (entry .args .f)
-          (after-align-up .align-up .ensures) (entry .pre .ends) (entry .pre .aligned) (c .bytes .ensures),
-    )
+    omega (arith, laws.end-fits (entry .args .f .off) _ (after-align-up .align-up .ensures) (entry .pre .ends) (omega arith) (c .bytes .ensures))
 
 barred-requires : tie.Need-barred-requires
 barred-requires c κs = search needs

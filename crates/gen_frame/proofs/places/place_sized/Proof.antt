@@ -1,8 +1,8 @@
--- `gen_frame::place_sized` meets its contract: a size that is refused is handed on, a known one fixes the place.
+-- `gen_frame::places::place_sized` meets its contract: a size that is refused is handed on, a known one fixes the place.
 use Rattle.gen_frame.specs.Placed as laws
 use borrow.Author.Needs.{needs}
-use Rattle.gen_frame.proofs.place_sized.Statement.{statement}
-use Rattle.gen_frame.proofs.place_sized.Tie as tie
+use Rattle.gen_frame.proofs.places.place_sized.Statement.{statement}
+use Rattle.gen_frame.proofs.places.place_sized.Tie as tie
 
 size-of-requires : tie.Need-size-of-requires
 size-of-requires c κs = search needs

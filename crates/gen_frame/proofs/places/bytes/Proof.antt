@@ -1,8 +1,8 @@
--- `gen_frame::bytes` meets its contract: the product, or 2^31 + 1 where the count alone exceeds 2^31.
+-- `gen_frame::places::bytes` meets its contract: the product, or 2^31 + 1 where the count alone exceeds 2^31.
 use native.Mathlib.Omega.{arith}
 use Rattle.gen_frame.specs.Fixed as laws
-use Rattle.gen_frame.proofs.bytes.Statement.{statement}
-use Rattle.gen_frame.proofs.bytes.Tie as tie
+use Rattle.gen_frame.proofs.places.bytes.Statement.{statement}
+use Rattle.gen_frame.proofs.places.bytes.Tie as tie
 
 returns : tie.Need-returns
 returns c = laws.product-none _ _ (c .if1 .taken)

@@ -1,9 +1,9 @@
--- `gen_frame::count_of` meets its contract: kind 21 is no type's, and a constant stands behind its type.
+-- `gen_frame::places::count_of` meets its contract: kind 21 is no type's, and a constant stands behind its type.
 use native.Mathlib.Omega.{arith}
 use Rattle.gen_frame.specs.Allocas as laws
 use borrow.Author.Needs.{needs}
-use Rattle.gen_frame.proofs.count_of.Statement.{statement}
-use Rattle.gen_frame.proofs.count_of.Tie as tie
+use Rattle.gen_frame.proofs.places.count_of.Statement.{statement}
+use Rattle.gen_frame.proofs.places.count_of.Tie as tie
 
 shared-slice-read-if1 : tie.Need-shared-slice-read-if1
 shared-slice-read-if1 c =

@@ -1,8 +1,8 @@
--- `gen_frame::place` meets its contract: an alignment that is refused is handed on before the size is measured.
+-- `gen_frame::places::place` meets its contract: an alignment that is refused is handed on before the size is measured.
 use Rattle.gen_frame.specs.Placed as laws
 use borrow.Author.Needs.{needs}
-use Rattle.gen_frame.proofs.place.Statement.{statement}
-use Rattle.gen_frame.proofs.place.Tie as tie
+use Rattle.gen_frame.proofs.places.place.Statement.{statement}
+use Rattle.gen_frame.proofs.places.place.Tie as tie
 
 align-of-requires : tie.Need-align-of-requires
 align-of-requires c κs = search needs

@@ -1,9 +1,9 @@
--- `gen_frame::call_slots` meets its contract: word 5 of a global says whether its name contains `.with.overflow.`
+-- `gen_frame::slots::call_slots` meets its contract: word 5 of a global says whether its name contains `.with.overflow.`
 use native.Mathlib.Omega.{arith}
 use Rattle.gen_frame.specs.Taken as laws
 use borrow.Author.Needs.{needs}
-use Rattle.gen_frame.proofs.call_slots.Statement.{statement}
-use Rattle.gen_frame.proofs.call_slots.Tie as tie
+use Rattle.gen_frame.proofs.slots.call_slots.Statement.{statement}
+use Rattle.gen_frame.proofs.slots.call_slots.Tie as tie
 
 skip-requires : tie.Need-skip-requires
 skip-requires c κs = search needs
