@@ -26,7 +26,7 @@ use Rattle.gen_values.specs.Values.{widthBy}
 use Rattle.gen_values.specs.Fields.{Fields, WidthSays, ValueAt, type-in, width-is}
 use Rattle.gen_gep.specs.declared.Way.{Way}
 use Rattle.gen_gep.specs.Indices.{indexThen, indexIn, value-behind}
-use Rattle.gen_gep.specs.Terms.{Stays, stays-none, stays-then, stays-after, Terms, stored, terms-stored, stays-stored, terms-after}
+use Rattle.gen_gep.specs.Terms.{Stays, stays-none, stays-then, stays-after, TermIs, Terms, stored, terms-stored, stays-stored, terms-after}
 
 -- ---- the definition's walk, the first index and the later ones alike
 module _ (structs : List StructType) where
@@ -170,7 +170,7 @@ module _ (m : ℕ) (bk bw work : List ℕ) (k : GepWalk) (w : Way) (index : ℕ)
           type = refl;
           sum = at .sum;
           count = length-append (k .varTerms) (term bits ∷ []) ∙ (let q = at .count in omega arith);
-          terms = rw e (terms-stored m bk bw work (w .terms) index size room few (k .varTerms) (term bits) (at .count) (at .terms) (record { holds = p; fields = f; val = refl; width = refl; stride = refl }));
+          terms = rw e (terms-stored m bk bw work (w .terms) index size room few (k .varTerms) (term bits) (at .count) (at .terms) is);
         };
         asked = asked-then (λ (iw : ℕ). ok (on iw)) (width-by asked (width-is bk bw index f)) (asked-ok t (on bits));
         front = front;
@@ -184,6 +184,9 @@ module _ (m : ℕ) (bk bw work : List ℕ) (k : GepWalk) (w : Way) (index : ℕ)
 
       term : ℕ → VarTerm
       term iw = varTerm (indexIn p) iw size
+
+      is : TermIs m bk bw index size (term bits)
+      is = record { holds = p; fields = f; val = refl; width = refl; stride = refl }
 
       on : ℕ → GepWalk
       on iw = record { constOff = k .constOff; varTerms = k .varTerms ++ (term iw ∷ []); curTy = tyOf m (drop next (entries bk bw)) }
