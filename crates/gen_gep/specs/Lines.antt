@@ -30,11 +30,11 @@ use Rattle.gen_gep.specs.Loop.{Walked}
 
 -- ---- single lines
 module _ {s t : Reached} {ks os ks′ os′ : List ℕ} where
-  pub add-puts : Lined 44 0 s t ks os ks′ os′ → Puts add64 s t ks os ks′ os′
+  add-puts : Lined 44 0 s t ks os ks′ os′ → Puts add64 s t ks os ks′ os′
   unfolding add64 kindOf operandOf operation binNumber
   add-puts h = bare-puts (Line.bin BinOp.add Work.w64) refl refl h
 
-  pub mul-puts : Lined 46 0 s t ks os ks′ os′ → Puts mul64 s t ks os ks′ os′
+  mul-puts : Lined 46 0 s t ks os ks′ os′ → Puts mul64 s t ks os ks′ os′
   unfolding mul64 kindOf operandOf operation binNumber
   mul-puts h = bare-puts (Line.bin BinOp.mul Work.w64) refl refl h
 

@@ -33,7 +33,7 @@ module _ {m : ℕ} {es : List Entry} where
   stays-after a = record { ready = a .ready; long = a .kept .long; same = λ i l n. a .kept .same i n }
 
   -- a word behind the names' is stored
-  pub stays-set : {work : List ℕ} (i v : ℕ) → 8 * m ≤ i → Ready m es work → Stays m es work (set work i v)
+  stays-set : {work : List ℕ} (i v : ℕ) → 8 * m ≤ i → Ready m es work → Stays m es work (set work i v)
   stays-set {work} i v l r =
       record {
         ready = record {
@@ -84,7 +84,7 @@ module _ (m : ℕ) (bk bw : List ℕ) where
       → TermAt m bk bw work j t → TermAt m bk bw work′ j t
   term-kept work work′ j t a b k = rw (a, b) k
 
-  pub terms-kept : (work work′ : List ℕ) (j : ℕ) (ts : List VarTerm) → ((i : ℕ) → 8 * m ≤ i → i < 8 * m + 2 * (j + length ts) → getD work′ i 0 ≡ getD work i 0)
+  terms-kept : (work work′ : List ℕ) (j : ℕ) (ts : List VarTerm) → ((i : ℕ) → 8 * m ≤ i → i < 8 * m + 2 * (j + length ts) → getD work′ i 0 ≡ getD work i 0)
       → Terms m bk bw work j ts → Terms m bk bw work′ j ts
   terms-kept work work′ j [] same k = tt
   terms-kept work work′ j (t ∷ ts) same k = (

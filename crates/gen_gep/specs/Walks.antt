@@ -14,7 +14,7 @@ use Rattle.book.specs.Result.{Result, ok, err, bind}
 use Rattle.layout.specs.Step.{Step as GepStep, constInt, stride}
 use Rattle.layout_memo.specs.Front.{Starts, tyOf, tyLen}
 use Rattle.layout_memo.specs.Work.{Ready, After}
-use Rattle.layout_step.specs.Steps.{AskAt, Stepped, Steps, StepOutcome, indexOf, arrayBy, stepBy, step-by}
+use Rattle.layout_step.specs.Steps.{Stepped, Steps, StepOutcome, indexOf, arrayBy, stepBy, step-by}
 use Rattle.layout_step.specs.declared.Index.{Index}
 use Rattle.layout_step.specs.declared.Step.{Step}
 use Rattle.lowering.specs.Operand.{intWidth}
@@ -115,9 +115,6 @@ pub record TakeAsk (m : ℕ) (bk bw work : List ℕ) (index value : ℕ) (w : Wa
   pub few : w .terms < 32
 
 module _ {m : ℕ} {bk bw work : List ℕ} {index value : ℕ} {w : Way} (t : TakeAsk m bk bw work index value w) where
-  pub take-step : AskAt m (entries bk bw) work (w .ty)
-  take-step = record { front = t .front; ready = t .ready }
-
   pub take-value : {p : Meanings indexThen} → Fields m indexThen p (drop index (entries bk bw)) → ValueAt m bk bw value (p .1 .0)
   take-value f = value-behind bk bw index f refl (t .behind)
 
