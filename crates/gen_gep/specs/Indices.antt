@@ -48,7 +48,7 @@ type-open (Ty.struct true ts) ks ws a tail h z = omega (arith, entry-at ks ws a 
 
 module _ (m : ℕ) (ks ws : List ℕ) (a : ℕ) where
   -- the list at its end
-  pub list-closed : Fields m indexList ([], tt) (drop a (entries ks ws)) → (getD ks a 0 ≡ 0) × (a < length ks)
+  list-closed : Fields m indexList ([], tt) (drop a (entries ks ws)) → (getD ks a 0 ≡ 0) × (a < length ks)
   unfolding encFields ending
   list-closed f = let q = entry-at ks ws a _ _ (f .here) in (q .0, q .2)
 
@@ -57,7 +57,7 @@ module _ (m : ℕ) (ks ws : List ℕ) (a : ℕ) where
     taken = (idx .ty, (idx .val, (is, tt)))
 
     -- an index in front, and the list behind it
-    pub list-first : Fields m indexThen taken (drop a (entries ks ws))
+    list-first : Fields m indexThen taken (drop a (entries ks ws))
     unfolding encFields ending
     list-first =
         record {
@@ -71,7 +71,7 @@ module _ (m : ℕ) (ks ws : List ℕ) (a : ℕ) where
     unfolding encFields ending
     in-front = f .here ∙ simp append-assoc
 
-    pub list-open : (getD ks a 0 ≡ 0 → ⊥) × (a < length ks)
+    list-open : (getD ks a 0 ≡ 0 → ⊥) × (a < length ks)
     list-open = (type-open (idx .ty) ks ws a _ in-front, type-in ks ws a list-first .0)
 
   pub list-in : (is : List TypedVal) → Fields m indexList (is, tt) (drop a (entries ks ws)) → a < length ks

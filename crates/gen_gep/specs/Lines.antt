@@ -30,11 +30,11 @@ use Rattle.gen_gep.specs.Loop.{Walked}
 
 -- ---- single lines
 module _ {s t : Reached} {ks os ks′ os′ : List ℕ} where
-  pub add-puts : Lined 44 0 s t ks os ks′ os′ → Puts add64 s t ks os ks′ os′
+  add-puts : Lined 44 0 s t ks os ks′ os′ → Puts add64 s t ks os ks′ os′
   unfolding add64 kindOf operandOf operation binNumber
   add-puts h = bare-puts (Line.bin BinOp.add Work.w64) refl refl h
 
-  pub mul-puts : Lined 46 0 s t ks os ks′ os′ → Puts mul64 s t ks os ks′ os′
+  mul-puts : Lined 46 0 s t ks os ks′ os′ → Puts mul64 s t ks os ks′ os′
   unfolding mul64 kindOf operandOf operation binNumber
   mul-puts h = bare-puts (Line.bin BinOp.mul Work.w64) refl refl h
 
@@ -64,7 +64,9 @@ module _ (c : FnCtx) (m : ℕ) (bk bw work : List ℕ) {s t u : Reached} {ks os 
       let x : Ith m bk bw work 0 i ts = term-at m bk bw work 0 i ts l k in
       let n : i + 1 ≡ suc i = omega arith in
       let e : take (i + 1) ts ≡ take i ts ++ (x .term ∷ []) = ap (λ j. take j ts) n ∙ x .more in
-      subst (λ (l : List VarTerm). Puts (each (genVarTerm c) l) s u ks os ks″ os″) (sym e) (more-puts (genVarTerm c) (take i ts) (x .term) p (q (x .term) (subst (λ (j : ℕ). TermAt m bk bw work j (x .term)) (let z : 0 + i ≡ i = omega arith in z) (x .here))))
+      let z : 0 + i ≡ i = omega arith in
+      let here : TermAt m bk bw work i (x .term) = subst (λ (j : ℕ). TermAt m bk bw work j (x .term)) z (x .here) in
+      subst (λ (l : List VarTerm). Puts (each (genVarTerm c) l) s u ks os ks″ os″) (sym e) (more-puts (genVarTerm c) (take i ts) (x .term) p (q (x .term) here))
 
 -- all of them
 pub terms-all : (c : FnCtx) (i : ℕ) (ts : List VarTerm) {s t : Reached} {ks os ks′ os′ : List ℕ} → length ts ≤ i → Puts (each (genVarTerm c) (take i ts)) s t ks os ks′ os′

@@ -33,7 +33,7 @@ module _ {m : ℕ} {es : List Entry} where
   stays-after a = record { ready = a .ready; long = a .kept .long; same = λ i l n. a .kept .same i n }
 
   -- a word behind the names' is stored
-  pub stays-set : {work : List ℕ} (i v : ℕ) → 8 * m ≤ i → Ready m es work → Stays m es work (set work i v)
+  stays-set : {work : List ℕ} (i v : ℕ) → 8 * m ≤ i → Ready m es work → Stays m es work (set work i v)
   stays-set {work} i v l r =
       record {
         ready = record {
@@ -79,11 +79,12 @@ Terms m bk bw work j [] = Unit {0}
 Terms m bk bw work j (t ∷ ts) = TermAt m bk bw work j t × Terms m bk bw work (suc j) ts
 
 module _ (m : ℕ) (bk bw : List ℕ) where
-  term-kept : (work work′ : List ℕ) (j : ℕ) (t : VarTerm) → getD work′ (8 * m + 2 * j) 0 ≡ getD work (8 * m + 2 * j) 0 → getD work′ (8 * m + 2 * j + 1) 0 ≡ getD work (8 * m + 2 * j + 1) 0
+  term-kept : (work work′ : List ℕ) (j : ℕ) (t : VarTerm) → getD work′ (8 * m + 2 * j) 0 ≡ getD work (8 * m + 2 * j) 0
+      → getD work′ (8 * m + 2 * j + 1) 0 ≡ getD work (8 * m + 2 * j + 1) 0
       → TermAt m bk bw work j t → TermAt m bk bw work′ j t
   term-kept work work′ j t a b k = rw (a, b) k
 
-  pub terms-kept : (work work′ : List ℕ) (j : ℕ) (ts : List VarTerm) → ((i : ℕ) → 8 * m ≤ i → i < 8 * m + 2 * (j + length ts) → getD work′ i 0 ≡ getD work i 0)
+  terms-kept : (work work′ : List ℕ) (j : ℕ) (ts : List VarTerm) → ((i : ℕ) → 8 * m ≤ i → i < 8 * m + 2 * (j + length ts) → getD work′ i 0 ≡ getD work i 0)
       → Terms m bk bw work j ts → Terms m bk bw work′ j ts
   terms-kept work work′ j [] same k = tt
   terms-kept work work′ j (t ∷ ts) same k = (
@@ -91,7 +92,8 @@ module _ (m : ℕ) (bk bw : List ℕ) where
     terms-kept work work′ (suc j) ts (λ i l h. same i l (omega arith)) (k .1),
   )
 
-  terms-more : (work : List ℕ) (j : ℕ) (ts : List VarTerm) (t : VarTerm) (n : ℕ) → n ≡ j + length ts → Terms m bk bw work j ts → TermAt m bk bw work n t → Terms m bk bw work j (ts ++ (t ∷ []))
+  terms-more : (work : List ℕ) (j : ℕ) (ts : List VarTerm) (t : VarTerm) (n : ℕ) → n ≡ j + length ts → Terms m bk bw work j ts → TermAt m bk bw work n t
+      → Terms m bk bw work j (ts ++ (t ∷ []))
   terms-more work j [] t n e k h = (subst (λ (i : ℕ). TermAt m bk bw work i t) (let q : n ≡ j = omega arith in q) h, tt)
   terms-more work j (u ∷ ts) t n e k h = (k .0, terms-more work (suc j) ts t n (omega arith) (k .1) h)
 

@@ -14,7 +14,7 @@ use Rattle.book.specs.Result.{Result, ok, err, bind}
 use Rattle.layout.specs.Step.{Step as GepStep, constInt, stride}
 use Rattle.layout_memo.specs.Front.{Starts, tyOf, tyLen}
 use Rattle.layout_memo.specs.Work.{Ready, After}
-use Rattle.layout_step.specs.Steps.{AskAt, Stepped, Steps, StepOutcome, indexOf, arrayBy, stepBy, step-by}
+use Rattle.layout_step.specs.Steps.{Stepped, Steps, StepOutcome, indexOf, arrayBy, stepBy, step-by}
 use Rattle.layout_step.specs.declared.Index.{Index}
 use Rattle.layout_step.specs.declared.Step.{Step}
 use Rattle.lowering.specs.Operand.{intWidth}
@@ -26,7 +26,7 @@ use Rattle.gen_values.specs.Values.{widthBy}
 use Rattle.gen_values.specs.Fields.{Fields, WidthSays, ValueAt, type-in, width-is}
 use Rattle.gen_gep.specs.declared.Way.{Way}
 use Rattle.gen_gep.specs.Indices.{indexThen, indexIn, value-behind}
-use Rattle.gen_gep.specs.Terms.{Stays, stays-none, stays-then, stays-after, Terms, stored, terms-stored, stays-stored, terms-after}
+use Rattle.gen_gep.specs.Terms.{Stays, stays-none, stays-then, stays-after, TermIs, Terms, stored, terms-stored, stays-stored, terms-after}
 
 -- ---- the definition's walk, the first index and the later ones alike
 module _ (structs : List StructType) where
@@ -115,9 +115,6 @@ pub record TakeAsk (m : ℕ) (bk bw work : List ℕ) (index value : ℕ) (w : Wa
   pub few : w .terms < 32
 
 module _ {m : ℕ} {bk bw work : List ℕ} {index value : ℕ} {w : Way} (t : TakeAsk m bk bw work index value w) where
-  pub take-step : AskAt m (entries bk bw) work (w .ty)
-  take-step = record { front = t .front; ready = t .ready }
-
   pub take-value : {p : Meanings indexThen} → Fields m indexThen p (drop index (entries bk bw)) → ValueAt m bk bw value (p .1 .0)
   take-value f = value-behind bk bw index f refl (t .behind)
 
@@ -170,7 +167,7 @@ module _ (m : ℕ) (bk bw work : List ℕ) (k : GepWalk) (w : Way) (index : ℕ)
           type = refl;
           sum = at .sum;
           count = length-append (k .varTerms) (term bits ∷ []) ∙ (let q = at .count in omega arith);
-          terms = rw e (terms-stored m bk bw work (w .terms) index size room few (k .varTerms) (term bits) (at .count) (at .terms) (record { holds = p; fields = f; val = refl; width = refl; stride = refl }));
+          terms = rw e (terms-stored m bk bw work (w .terms) index size room few (k .varTerms) (term bits) (at .count) (at .terms) is);
         };
         asked = asked-then (λ (iw : ℕ). ok (on iw)) (width-by asked (width-is bk bw index f)) (asked-ok t (on bits));
         front = front;
@@ -184,6 +181,9 @@ module _ (m : ℕ) (bk bw work : List ℕ) (k : GepWalk) (w : Way) (index : ℕ)
 
       term : ℕ → VarTerm
       term iw = varTerm (indexIn p) iw size
+
+      is : TermIs m bk bw index size (term bits)
+      is = record { holds = p; fields = f; val = refl; width = refl; stride = refl }
 
       on : ℕ → GepWalk
       on iw = record { constOff = k .constOff; varTerms = k .varTerms ++ (term iw ∷ []); curTy = tyOf m (drop next (entries bk bw)) }

@@ -74,7 +74,8 @@ fn first_step(
 ) -> Step
     requires { ⌜ AskAt names (entries (now «book_kinds») (now «book_words»)) (now work) at ⌝ }
     ensures { λ r. ⌜ StepOutcome names (entries (now («book_kinds» .entry)) (now («book_words» .entry))) (now (work .entry)) (now (work .exit))
-        (arrayBy (structsIn names (entries (now («book_kinds» .entry)) (now («book_words» .entry)))) (tyOf names (drop at (entries (now («book_kinds» .entry)) (now («book_words» .entry))))) (indexOf index)) r ⌝ }
+        (arrayBy (structsIn names (entries (now («book_kinds» .entry)) (now («book_words» .entry))))
+        (tyOf names (drop at (entries (now («book_kinds» .entry)) (now («book_words» .entry))))) (indexOf index)) r ⌝ }
 {
     match size_of(
         &book_kinds[at..],
@@ -105,7 +106,8 @@ fn next_step(
 ) -> Step
     requires { ⌜ AskAt names (entries (now «book_kinds») (now «book_words»)) (now work) at ⌝ }
     ensures { λ r. ⌜ StepOutcome names (entries (now («book_kinds» .entry)) (now («book_words» .entry))) (now (work .entry)) (now (work .exit))
-        (stepFrom (structsIn names (entries (now («book_kinds» .entry)) (now («book_words» .entry)))) first (tyOf names (drop at (entries (now («book_kinds» .entry)) (now («book_words» .entry))))) (indexOf index)) r ⌝ }
+        (stepFrom (structsIn names (entries (now («book_kinds» .entry)) (now («book_words» .entry)))) first
+        (tyOf names (drop at (entries (now («book_kinds» .entry)) (now («book_words» .entry))))) (indexOf index)) r ⌝ }
 {
     if first {
         return first_step(book_kinds, book_words, work, names, at, index);
@@ -209,7 +211,8 @@ fn walk_index(
     ensures { λ r. ⌜ ((p : Meanings indexThen) (k : GepWalk) → Fields names indexThen p (drop index (entries (now («book_kinds» .entry)) (now («book_words» .entry))))
         → WalkAt names (now («book_kinds» .entry)) (now («book_words» .entry)) (now (work .entry)) k w
         → Went names (now («book_kinds» .entry)) (now («book_words» .entry)) (now (work .entry)) (now (work .exit))
-        (bind (stepFrom (structsIn names (entries (now («book_kinds» .entry)) (now («book_words» .entry)))) (w .first) (k .curTy) (constInt (indexIn p .val))) (λ (t : GepStep). tookOf t (indexIn p) k)) w r) ⌝ }
+        (bind (stepFrom (structsIn names (entries (now («book_kinds» .entry)) (now («book_words» .entry)))) (w .first) (k .curTy) (constInt (indexIn p .val)))
+        (λ (t : GepStep). tookOf t (indexIn p) k)) w r) ⌝ }
 {
     let step = next_step(
         book_kinds,
@@ -223,7 +226,8 @@ fn walk_index(
     took(book_kinds, book_words, work, names, index, step, w)
 }
 
-// The walk over the indices of a list at a place, from the base type at another.
+// The walk over the indices of a list at a place, from the base type at another. A refusal is noted and goes through: the
+// walk goes on from the type that it had, and what it finds then counts for nothing.
 fn walk(
     book_kinds: &[u64],
     book_words: &[u64],

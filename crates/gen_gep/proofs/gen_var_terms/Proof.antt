@@ -121,7 +121,8 @@ loop-again c =
       called .kept .1 .1 .1 .1 .1 .1 .0 ∙ inv .1,
       called .kept .1 .1 .1 .1 .1 .1 .1 .0 ∙ inv .2,
       λ k ts locals terms e.
-          terms-on k (a .names) (a .book-kinds .now) (a .book-words .now) (a .work .now) (at-loop .loop .i) ts (omega arith) terms (inv .3 k ts locals terms e) (λ x here. called .ensures k x locals here),
+          let so-far = inv .3 k ts locals terms e in
+          terms-on k (a .names) (a .book-kinds .now) (a .book-words .now) (a .work .now) (at-loop .loop .i) ts (omega arith) terms so-far (λ x here. called .ensures k x locals here),
     )
 
 same-length : tie.Need-same-length Inv-loop μ-loop

@@ -1,5 +1,4 @@
 -- `gen_gep::vary` meets its contract: a term is stored behind the others.
-use Prim.Native.Nat.{_+_, _*_}
 use mathlib.Core.Path.{refl}
 use native.Mathlib.Omega.{arith}
 use lib.ListN.{length-set}
@@ -35,8 +34,7 @@ mul-work-2 c = search needs
 slice-write-work-2 : tie.Need-slice-write-work-2
 slice-write-work-2 c =
     let entry = c .before .before .before .before .before in
-    let w = entry .args .work .now in
-    omega (arith, entry .pre .room, entry .pre .few, length-set w (8 * entry .args .names + 2 * entry .args .w .terms) (entry .args .index))
+    simp length-set (omega (arith, entry .pre .room, entry .pre .few))
 
 add-t13 : tie.Need-add-t13
 add-t13 c = search needs

@@ -35,9 +35,9 @@ returns c =
     let o = after-next-step .next-step .ensures in
     λ p k f at.
     let ei = after-index-at .index-at .ensures (a .names) (p .1 .0) (take-value (entry .pre) f) in
-    went-after (o .after)
-    (after-took .took .ensures p k _ f (o .after .ready) (entry .pre .front) (same-step (structsIn (a .names) (entries (a .book-kinds .now) (a .book-words .now))) at (after-index-at .index-at .result) (indexIn p) ei (after-next-step .next-step .result) (o .says))
-    (walk-after (o .after) at))
+    let structs = structsIn (a .names) (entries (a .book-kinds .now) (a .book-words .now)) in
+    let says = same-step structs at (after-index-at .index-at .result) (indexIn p) ei (after-next-step .next-step .result) (o .says) in
+    went-after (o .after) (after-took .took .ensures p k _ f (o .after .ready) (entry .pre .front) says (walk-after (o .after) at))
 
 pub walk-index-spec : {M : Type 1} → statement M
 walk-index-spec =
