@@ -102,7 +102,8 @@ module _ (m : ℕ) (fs : List Field) (ks ws : List ℕ) (a : ℕ) where
       at none f = record { at = record { says = z; in-kinds = absent-kind ks ws a f .1 }; behind = behind-absent ks ws a f }
       at (some tv) f = absurd (omega (arith, type-kind ks ws a (present f) .1))
 
-  pub count-present : (getD ks a 0 ≡ 21 → ⊥) → {n : ℕ} → n ≡ tyLen m (lent ks ws a) → (p : Meanings (Field.optional Item.typed ∷ fs)) → Fields m (Field.optional Item.typed ∷ fs) p (drop a (entries ks ws))
+  pub count-present : (getD ks a 0 ≡ 21 → ⊥) → {n : ℕ} → n ≡ tyLen m (lent ks ws a) → (p : Meanings (Field.optional Item.typed ∷ fs))
+      → Fields m (Field.optional Item.typed ∷ fs) p (drop a (entries ks ws))
       → CountPlaced m fs ks ws (a + n) p
   count-present z {n} e p f = at (p .0) f
     where

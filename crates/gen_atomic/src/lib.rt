@@ -95,10 +95,11 @@ pub fn gen_atomic_store(
         s r (now (lines .entry)) (now (operands .entry)) (now (lines .exit)) (now (operands .exit))) ⌝ }
 {
     let wide = require_atomic_width(kinds, words, book_kinds, book_words, work, names, s);
-    let at = skip(kinds, words, names);
-    let address = push_at(kinds, words, at + 1, 64, work, lines, operands, wide);
-    let value = push_at(kinds, words, at, 64, work, lines, operands, address);
-    put(lines, operands, value, 84, 0)
+    let value = skip(kinds, words, names);
+    let address = value + 1;
+    let below = push_at(kinds, words, address, 64, work, lines, operands, wide);
+    let both = push_at(kinds, words, value, 64, work, lines, operands, below);
+    put(lines, operands, both, 84, 0)
 }
 
 // A slot, 0 where it was refused, and what was reached.

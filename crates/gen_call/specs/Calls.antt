@@ -233,8 +233,8 @@ module _ (c : FnCtx) (dest : Option ℕ) (name : ℕ) (ty : Ty) (args : List Typ
   unfolding genSyscall kindOf operandOf when
   void-puts e z p l = let v : isVoid ty ≡ true = sym e ∙ z in rw v (then-puts p (then-puts (line-puts (Line.syscall name) refl (word-same few) l) (skip-puts u ks₂ os₂)))
 
-  pub result-puts : {w : Reached} {ks₃ os₃ : List ℕ} {b : Bool} → b ≡ isVoid ty → b ≡ false → Puts (pushArgs c args) s t ks os ks₁ os₁ → Lined 6 name t u ks₁ os₁ ks₂ os₂ → Puts (storeOrPop c dest) u w ks₂ os₂ ks₃ os₃
-      → Puts (genSyscall c dest name ty args) s w ks os ks₃ os₃
+  pub result-puts : {w : Reached} {ks₃ os₃ : List ℕ} {b : Bool} → b ≡ isVoid ty → b ≡ false → Puts (pushArgs c args) s t ks os ks₁ os₁ → Lined 6 name t u ks₁ os₁ ks₂ os₂
+      → Puts (storeOrPop c dest) u w ks₂ os₂ ks₃ os₃ → Puts (genSyscall c dest name ty args) s w ks os ks₃ os₃
   unfolding genSyscall kindOf operandOf when
   result-puts e z p l r = let v : isVoid ty ≡ false = sym e ∙ z in rw v (then-puts p (then-puts (line-puts (Line.syscall name) refl (word-same few) l) r))
 

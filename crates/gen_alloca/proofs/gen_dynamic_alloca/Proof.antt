@@ -74,7 +74,11 @@ moved-requires c κs = search needs
 
 same-length : tie.Need-same-length
 same-length c =
-    let after-align-or = c .before .before .before .before .before .before .before .before .before .before .before .before .before .before .before .before .before .before .before .before .before .before .before .before .before in
+    let after-moved = c .before .before .before .before in
+    let after-push-count = after-moved .before .before .before .before .before .before .before in
+    let after-raised = after-push-count .before .before .before .before .before .before .before .before in
+    let after-larger = after-raised .before .before .before in
+    let after-align-or = after-larger .before .before .before in
     let after-measured-size = after-align-or .before .before .before .before .before .before in
     after-align-or .align-or .ensures .after .kept .long ∙ after-measured-size .measured-size .ensures .after .kept .long
 

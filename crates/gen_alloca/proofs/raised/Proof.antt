@@ -41,7 +41,8 @@ same-length c =
     let after-put2 = after-push-int2 .before .before .before .before .before .before .before in
     let after-push-int = after-put2 .before .before .before .before .before .before .before in
     let after-put = after-push-int .before .before .before .before .before .before .before in
-    after-put4 .put4 .kept .0 ∙ after-put3 .put3 .kept .0 ∙ after-push-int2 .push-int2 .kept .1 .1 .0 ∙ after-put2 .put2 .kept .0 ∙ after-push-int .push-int .kept .1 .1 .0 ∙ after-put .put .kept .0
+    after-put4 .put4 .kept .0 ∙ after-put3 .put3 .kept .0 ∙ after-push-int2 .push-int2 .kept .1 .1 .0
+    ∙ after-put2 .put2 .kept .0 ∙ after-push-int .push-int .kept .1 .1 .0 ∙ after-put .put .kept .0
 
 same-length-2 : tie.Need-same-length-2
 same-length-2 c =
@@ -51,7 +52,8 @@ same-length-2 c =
     let after-put2 = after-push-int2 .before .before .before .before .before .before .before in
     let after-push-int = after-put2 .before .before .before .before .before .before .before in
     let after-put = after-push-int .before .before .before .before .before .before .before in
-    after-put4 .put4 .kept .1 .0 ∙ after-put3 .put3 .kept .1 .0 ∙ after-push-int2 .push-int2 .kept .1 .1 .1 .0 ∙ after-put2 .put2 .kept .1 .0 ∙ after-push-int .push-int .kept .1 .1 .1 .0 ∙ after-put .put .kept .1 .0
+    after-put4 .put4 .kept .1 .0 ∙ after-put3 .put3 .kept .1 .0 ∙ after-push-int2 .push-int2 .kept .1 .1 .1 .0
+    ∙ after-put2 .put2 .kept .1 .0 ∙ after-push-int .push-int .kept .1 .1 .1 .0 ∙ after-put .put .kept .1 .0
 
 returns : tie.Need-returns
 returns c = λ g t ks os p.

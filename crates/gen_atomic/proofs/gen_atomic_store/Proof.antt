@@ -17,8 +17,8 @@ require-atomic-width-requires c κs =
 skip-requires : tie.Need-skip-requires
 skip-requires c κs = search needs
 
-add-push-at : tie.Need-add-push-at
-add-push-at c =
+add-address : tie.Need-add-address
+add-address c =
     let entry = c .before .before .before .before .before .before .before .before .before .before .before .before in
     let ks = entry .args .kinds .now in
     let ws = entry .args .words .now in
@@ -50,7 +50,11 @@ put-requires c κs = search needs
 
 same-length : tie.Need-same-length
 same-length c =
-    let after-require-atomic-width = c .before .before .before .before .before .before .before .before .before .before .before .before .before .before .before .before .before .before .before .before .before .before .before .before .before .before in
+    let after-put = c .before .before .before .before in
+    let after-push-at2 = after-put .before .before .before .before .before .before .before in
+    let after-push-at = after-push-at2 .before .before .before .before .before .before .before .before in
+    let after-skip = after-push-at .before .before .before .before in
+    let after-require-atomic-width = after-skip .before .before .before in
     after-require-atomic-width .require-atomic-width .kept .1 .1 .1 .1 .0
 
 same-length-2 : tie.Need-same-length-2
@@ -85,7 +89,7 @@ gen-atomic-store-spec =
     (tie.spec
     require-atomic-width-requires
     skip-requires
-    add-push-at
+    add-address
     push-at-requires
     push-at-requires-2
     put-requires

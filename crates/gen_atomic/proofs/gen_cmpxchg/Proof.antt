@@ -64,7 +64,9 @@ add-push-at-2 c =
 
 push-at-requires-3 : tie.Need-push-at-requires-3
 push-at-requires-3 c κs =
-    let after-skip = c .before .before .before .before .before .before .before .before .before .before .before .before .before .before .before .before in
+    let after-push-at2 = c .before .before .before .before .before .before in
+    let after-push-at = after-push-at2 .before .before .before .before .before .before .before in
+    let after-skip = after-push-at .before .before .before in
     let entry = after-skip .before .before .before .before .before .before .before in
     let ks = entry .args .kinds .now in
     let ws = entry .args .words .now in
@@ -78,7 +80,11 @@ put-requires c κs = search needs
 
 add-set-both : tie.Need-add-set-both
 add-set-both c =
-    let after-skip = c .before .before .before .before .before .before .before .before .before .before .before .before .before .before .before .before .before .before .before .before .before .before .before .before .before .before .before .before in
+    let after-put = c .before .before .before .before in
+    let after-push-at3 = after-put .before .before .before .before .before .before .before in
+    let after-push-at2 = after-push-at3 .before .before .before .before .before .before .before in
+    let after-push-at = after-push-at2 .before .before .before .before .before .before .before in
+    let after-skip = after-push-at .before .before .before in
     let entry = after-skip .before .before .before .before .before .before .before in
     let ks = entry .args .kinds .now in
     let ws = entry .args .words .now in
@@ -88,7 +94,11 @@ add-set-both c =
 
 set-both-requires : tie.Need-set-both-requires
 set-both-requires c κs =
-    let after-skip = c .before .before .before .before .before .before .before .before .before .before .before .before .before .before .before .before .before .before .before .before .before .before .before .before .before .before .before .before .before .before in
+    let after-put = c .before .before .before .before .before .before in
+    let after-push-at3 = after-put .before .before .before .before .before .before .before in
+    let after-push-at2 = after-push-at3 .before .before .before .before .before .before .before in
+    let after-push-at = after-push-at2 .before .before .before .before .before .before .before in
+    let after-skip = after-push-at .before .before .before in
     let entry = after-skip .before .before .before .before .before .before .before in
     let ks = entry .args .kinds .now in
     let ws = entry .args .words .now in
@@ -104,7 +114,8 @@ same-length c =
     let after-push-at3 = after-put .before .before .before .before .before .before .before in
     let after-push-at2 = after-push-at3 .before .before .before .before .before .before .before in
     let after-push-at = after-push-at2 .before .before .before .before .before .before .before in
-    after-set-both .set-both .kept .1 .1 .1 .1 .1 .0 ∙ after-put .put .kept .0 ∙ after-push-at3 .push-at3 .kept .1 .1 .1 .1 .1 .0 ∙ after-push-at2 .push-at2 .kept .1 .1 .1 .1 .1 .0 ∙ after-push-at .push-at .kept .1 .1 .1 .1 .1 .0
+    after-set-both .set-both .kept .1 .1 .1 .1 .1 .0 ∙ after-put .put .kept .0
+    ∙ after-push-at3 .push-at3 .kept .1 .1 .1 .1 .1 .0 ∙ after-push-at2 .push-at2 .kept .1 .1 .1 .1 .1 .0 ∙ after-push-at .push-at .kept .1 .1 .1 .1 .1 .0
 
 same-length-2 : tie.Need-same-length-2
 same-length-2 c =
@@ -113,7 +124,8 @@ same-length-2 c =
     let after-push-at3 = after-put .before .before .before .before .before .before .before in
     let after-push-at2 = after-push-at3 .before .before .before .before .before .before .before in
     let after-push-at = after-push-at2 .before .before .before .before .before .before .before in
-    after-set-both .set-both .kept .1 .1 .1 .1 .1 .1 .0 ∙ after-put .put .kept .1 .0 ∙ after-push-at3 .push-at3 .kept .1 .1 .1 .1 .1 .1 .0 ∙ after-push-at2 .push-at2 .kept .1 .1 .1 .1 .1 .1 .0 ∙ after-push-at .push-at .kept .1 .1 .1 .1 .1 .1 .0
+    after-set-both .set-both .kept .1 .1 .1 .1 .1 .1 .0 ∙ after-put .put .kept .1 .0
+    ∙ after-push-at3 .push-at3 .kept .1 .1 .1 .1 .1 .1 .0 ∙ after-push-at2 .push-at2 .kept .1 .1 .1 .1 .1 .1 .0 ∙ after-push-at .push-at .kept .1 .1 .1 .1 .1 .1 .0
 
 returns : tie.Need-returns
 returns c = λ p k fields maps.

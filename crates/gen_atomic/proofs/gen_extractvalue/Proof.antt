@@ -41,7 +41,11 @@ put-requires c κs = search needs
 
 store-dest-requires : tie.Need-store-dest-requires
 store-dest-requires c κs =
-    let entry = c .before .before .before .before .before .before .before .before .before .before .before .before .before .before .before .before .before .before .before .before in
+    let after-put = c .before .before .before .before .before .before in
+    let after-wrapping-add-u64 = after-put .before in
+    let after-need = after-wrapping-add-u64 .before .before .before in
+    let after-agg-slot = after-need .before .before in
+    let entry = after-agg-slot .before .before .before .before .before .before .before .before in
     given.dest-reaches (entry .pre)
 
 same-length : tie.Need-same-length
@@ -64,7 +68,8 @@ returns c = λ p k fields maps.
     let agg = value-at ks ws 0 fields in
     let index = places.index-is ks ws 1 (behind-value ks ws 0 fields) in
     rw (sym index)
-    (laws.extract-puts k (p .0) _ _ (rw (agg .is) at (after-agg-slot .agg-slot .ensures m k (rw (agg .is) (agg .limits)) maps)) (after-need .need .ensures) (after-wrapping-add-u64 .wrapping-add-u64 .ensures) (after-put .put .ensures)
+    (laws.extract-puts k (p .0) _ _ (rw (agg .is) at (after-agg-slot .agg-slot .ensures m k (rw (agg .is) (agg .limits)) maps))
+    (after-need .need .ensures) (after-wrapping-add-u64 .wrapping-add-u64 .ensures) (after-put .put .ensures)
     (after-store-dest .store-dest .ensures m k (entry .pre .result) maps))
 
 pub gen-extractvalue-spec : {M : Type 1} → statement M

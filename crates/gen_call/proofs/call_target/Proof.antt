@@ -26,7 +26,8 @@ returns c = λ m k limits maps defined.
     let after-need = after-call-operand .before .before .before in
     let then1 = after-need .before in
     let entry = then1 .before .before .before .before in
-    laws.target-global k (entry .args .kind) (entry .args .word) (entry .args .args) (then1 .if1 .taken) (entry .args .defined) defined (after-need .need .ensures) (after-call-operand .call-operand .ensures) (after-put .put .ensures)
+    laws.target-global k (entry .args .kind) (entry .args .word) (entry .args .args) (then1 .if1 .taken) (entry .args .defined) defined
+    (after-need .need .ensures) (after-call-operand .call-operand .ensures) (after-put .put .ensures)
 
 push-value-requires : tie.Need-push-value-requires
 push-value-requires c κs = search needs
@@ -46,7 +47,8 @@ returns-2 c = λ m k limits maps defined.
     let after-push-value = after-put2 .before .before .before .before .before .before .before in
     let then2 = after-push-value .before .before .before in
     let entry = then2 .before .before .before .before .before in
-    laws.target-local k (entry .args .kind) (entry .args .word) (entry .args .args) (then2 .if2 .taken) (search needs) (after-push-value .push-value .ensures m k limits maps) (after-put2 .put2 .ensures)
+    laws.target-local k (entry .args .kind) (entry .args .word) (entry .args .args) (then2 .if2 .taken)
+    (search needs) (after-push-value .push-value .ensures m k limits maps) (after-put2 .put2 .ensures)
 
 refuse-requires : tie.Need-refuse-requires
 refuse-requires c κs = search needs

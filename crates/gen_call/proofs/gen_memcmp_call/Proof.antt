@@ -26,7 +26,9 @@ put-requires c κs = search needs
 
 store-or-pop-requires : tie.Need-store-or-pop-requires
 store-or-pop-requires c κs =
-    let entry = c .before .before .before .before .before .before .before .before .before .before .before .before .before .before .before .before .before .before .before .before .before in
+    let after-put = c .before .before .before .before .before .before in
+    let after-push-args = after-put .before .before .before .before .before .before .before in
+    let entry = after-push-args .before .before .before .before .before .before .before .before in
     let ks = entry .args .kinds .now in
     let ws = entry .args .words .now in
     laws.dest-there ks ws (entry .args .callee) (entry .pre)

@@ -66,7 +66,10 @@ mul-call-target-2 c =
 
 shared-slice-read-call-target-2 : tie.Need-shared-slice-read-call-target-2
 shared-slice-read-call-target-2 c =
-    let entry = c .before .before .before .before .before .before .before .before .before .before .before .before .before .before .before .before in
+    let after-push-args = c .before .before .before .before .before .before in
+    let after-need = after-push-args .before .before .before in
+    let after-count-args = after-need .before in
+    let entry = after-count-args .before .before .before .before .before .before in
     let ks = entry .args .kinds .now in
     let ws = entry .args .words .now in
     let value = laws.lent-value ks ws (entry .args .callee) (entry .pre) in
@@ -74,7 +77,10 @@ shared-slice-read-call-target-2 c =
 
 call-target-requires : tie.Need-call-target-requires
 call-target-requires c κs =
-    let entry = c .before .before .before .before .before .before .before .before .before .before .before .before .before .before .before .before .before .before in
+    let after-push-args = c .before .before .before .before .before .before .before .before in
+    let after-need = after-push-args .before .before .before in
+    let after-count-args = after-need .before in
+    let entry = after-count-args .before .before .before .before .before .before in
     let ks = entry .args .kinds .now in
     let ws = entry .args .words .now in
     let value = laws.lent-value ks ws (entry .args .callee) (entry .pre) in
@@ -82,7 +88,11 @@ call-target-requires c κs =
 
 store-or-pop-requires : tie.Need-store-or-pop-requires
 store-or-pop-requires c κs =
-    let entry = c .before .before .before .before .before .before .before .before .before .before .before .before .before .before .before .before .before .before .before .before .before .before .before .before .before in
+    let after-call-target = c .before .before .before .before .before .before in
+    let after-push-args = after-call-target .before .before .before .before .before .before .before .before .before in
+    let after-need = after-push-args .before .before .before in
+    let after-count-args = after-need .before in
+    let entry = after-count-args .before .before .before .before .before .before in
     let ks = entry .args .kinds .now in
     let ws = entry .args .words .now in
     laws.dest-there ks ws (entry .args .callee) (entry .pre)

@@ -54,11 +54,15 @@ returns c = λ p k ty fields maps void.
     let ks = entry .args .kinds .now in
     let ws = entry .args .words .now in
     let few = after-put .before .shared-slice-known4 .given (entry .args .callee) in
-    laws.void-puts k _ _ ty (p .1 .0) (omega (arith, few)) void (c .if1 .taken) (after-push-args .push-args .ensures (p .1 .0) k (behind-value ks ws (entry .args .callee) fields) maps) (after-put .put .ensures)
+    laws.void-puts k _ _ ty (p .1 .0) (omega (arith, few)) void (c .if1 .taken)
+    (after-push-args .push-args .ensures (p .1 .0) k (behind-value ks ws (entry .args .callee) fields) maps) (after-put .put .ensures)
 
 store-or-pop-requires : tie.Need-store-or-pop-requires
 store-or-pop-requires c κs =
-    let entry = c .before .before .before .before .before .before .before .before .before .before .before .before .before .before .before .before .before .before .before .before .before .before .before in
+    let else1 = c .before .before in
+    let after-put = else1 .before .before .before .before .before in
+    let after-push-args = after-put .before .before .before .before .before .before .before .before in
+    let entry = after-push-args .before .before .before .before .before .before .before .before in
     let ks = entry .args .kinds .now in
     let ws = entry .args .words .now in
     laws.dest-there ks ws (entry .args .callee) (entry .pre)
@@ -79,7 +83,8 @@ returns-2 c = λ p k ty fields maps void.
     let ks = entry .args .kinds .now in
     let ws = entry .args .words .now in
     let few = after-put .before .shared-slice-known4 .given (entry .args .callee) in
-    laws.result-puts k _ _ ty (p .1 .0) (omega (arith, few)) void (else1 .if1 .left) (after-push-args .push-args .ensures (p .1 .0) k (behind-value ks ws (entry .args .callee) fields) maps) (after-put .put .ensures)
+    laws.result-puts k _ _ ty (p .1 .0) (omega (arith, few)) void (else1 .if1 .left)
+    (after-push-args .push-args .ensures (p .1 .0) k (behind-value ks ws (entry .args .callee) fields) maps) (after-put .put .ensures)
     (after-store-or-pop .store-or-pop .ensures (entry .args .names) k (entry .pre .result) maps)
 
 pub gen-syscall-spec : {M : Type 1} → statement M

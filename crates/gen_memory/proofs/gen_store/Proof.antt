@@ -57,7 +57,12 @@ put-requires c κs = search needs
 
 same-length : tie.Need-same-length
 same-length c =
-    let after-measured-size = c .before .before .before .before .before .before .before .before .before .before .before .before .before .before .before .before .before .before .before .before .before .before .before .before .before .before .before .before in
+    let after-put = c .before .before .before .before in
+    let after-push-typed = after-put .before .before .before .before .before .before .before .before in
+    let after-push-at = after-push-typed .before .before .before .before .before .before .before .before in
+    let after-skip = after-push-at .before .before .before .before in
+    let after-mem-of = after-skip .before in
+    let after-measured-size = after-mem-of .before .before .before in
     after-measured-size .measured-size .ensures .after .kept .long
 
 same-length-2 : tie.Need-same-length-2

@@ -31,7 +31,8 @@ returns-5 : tie.Need-returns-5
 returns-5 c =
     let at-match-rest = c .before in
     let entry = at-match-rest .before in
-    laws.mem-none (entry .args .s) (entry .args .bytes) (at-match-rest .match .rest .0 .0 .0 .1) (at-match-rest .match .rest .0 .0 .1) (at-match-rest .match .rest .0 .1) (at-match-rest .match .rest .1)
+    laws.mem-none (entry .args .s) (entry .args .bytes)
+    (at-match-rest .match .rest .0 .0 .0 .1) (at-match-rest .match .rest .0 .0 .1) (at-match-rest .match .rest .0 .1) (at-match-rest .match .rest .1)
     (c .refuse .ensures)
 
 pub mem-of-spec : {M : Type 1} → statement M
