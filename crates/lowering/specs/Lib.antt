@@ -21,6 +21,9 @@ pub mod AllowedBlocks
 pub mod AllowedFunction
 pub mod Printable
 pub mod Bounds
+pub mod Words
+pub mod WordsOf
+pub mod Fits
 pub mod Open
 pub mod Sheet
 pub mod Sheets

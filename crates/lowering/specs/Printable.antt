@@ -37,7 +37,7 @@ pub record Lent (book names : List ℕ) (s : Sound) : Type 0 where
   pub same : counted .book ≡ s .book
   pub limits : Limits (length (s .names)) (s .book)
 
-names-counted : (m : ℕ) (names : List ℕ) (ns : List (List ℕ)) → namesIn m names ≡ some ns → length ns ≡ m
+pub names-counted : (m : ℕ) (names : List ℕ) (ns : List (List ℕ)) → namesIn m names ≡ some ns → length ns ≡ m
 unfolding namesIn accepted
 names-counted m names ns h = go (counts m (namesOf names)) refl h
   where

@@ -1,0 +1,2 @@
+-- `alloca`: its fields, and its lines part by part.
+pub mod Alloca

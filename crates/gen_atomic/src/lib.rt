@@ -1,0 +1,229 @@
+// Atomics, and the two slots of a `cmpxchg`. The entries are lent from the first field on.
+use gen_fields::push_at;
+use gen_lines::Reached;
+use gen_lines::put;
+use gen_lines::refuse;
+use gen_size::measured_size;
+use gen_values::need;
+use gen_values::store_dest;
+use layout_memo::skip;
+use std::num::wrapping_add_u64;
+ghost use mathlib.Core.Path.{_≡_};
+ghost use mathlib.Core.List.{List, _∷_};
+ghost use Prim.Native.Nat.{ℕ, _+_, _*_, _<_, _≤_};
+ghost use lib.ListN.{length};
+ghost use Rattle.book.specs.Ast.{Value};
+ghost use Rattle.book.specs.Entry.{entries};
+ghost use Rattle.book.specs.Kinds.{InstTag};
+ghost use Rattle.book.specs.Fields.{Item, Field, Meanings, instFields};
+ghost use Rattle.book.specs.Limits.{ValueLimits};
+ghost use Rattle.book.specs.Map.{lookup};
+ghost use Rattle.book.specs.Result.{okOr};
+ghost use Rattle.lowering.specs.Context.{FnCtx, slotOf};
+ghost use Rattle.lowering.specs.Memory.{requireAtomicWidth, genAtomicLoad, genAtomicStore, genCmpxchg, aggSlot, genExtractValue};
+ghost use Rattle.gen_lines.specs.Puts.{Puts};
+ghost use Rattle.gen_lines.specs.Follow.{Asked};
+ghost use Rattle.gen_values.specs.Values.{valueOf, Reaches, destOf, DestReaches};
+ghost use Rattle.gen_values.specs.Maps.{Locals, Maps, Did};
+ghost use Rattle.gen_values.specs.Fields.{Fields, ValueAt};
+ghost use Rattle.gen_fields.specs.Places.{OperandAt};
+ghost use Rattle.gen_fields.specs.Given.{Given};
+ghost use Rattle.gen_size.specs.Sizes.{Measurable};
+ghost use Rattle.gen_size.specs.Lent.{Lent};
+ghost use Rattle.gen_atomic.specs.Atomic.{setBoth};
+
+// `require_atomic_width` of the type at the front: no line.
+pub fn require_atomic_width(
+    kinds: &[u64],
+    words: &[u64],
+    book_kinds: &[u64],
+    book_words: &[u64],
+    work: &mut [u64],
+    names: u64,
+    s: Reached,
+) -> Reached
+    requires { ⌜ Measurable names (entries (now kinds) (now words)) (entries (now «book_kinds») (now «book_words»)) (now work) ⌝ }
+    ensures { λ r. ⌜ ((fs : List Field) (p : Meanings (Field.plain Item.type ∷ fs)) (c : FnCtx) (ks os : List ℕ)
+        → Fields names (Field.plain Item.type ∷ fs) p (entries (now (kinds .entry)) (now (words .entry)))
+        → Maps names (entries (now («book_kinds» .entry)) (now («book_words» .entry))) c (now (work .entry))
+        → Did (requireAtomicWidth c (p .0)) names (entries (now («book_kinds» .entry)) (now («book_words» .entry))) c (now (work .exit)) s r ks os ks os) ⌝ }
+{
+    let size = measured_size(kinds, words, book_kinds, book_words, work, names, s);
+    need(size.s, size.bytes == 8, 12)
+}
+
+// An atomic `load`, without its result.
+pub fn gen_atomic_load(
+    kinds: &[u64],
+    words: &[u64],
+    book_kinds: &[u64],
+    book_words: &[u64],
+    work: &mut [u64],
+    names: u64,
+    lines: &mut [u16],
+    operands: &mut [u64],
+    s: Reached,
+) -> Reached
+    requires { ⌜ Lent names (instFields InstTag.atomicLoad) (entries (now kinds) (now words)) (entries (now «book_kinds») (now «book_words»)) (now work) ⌝ }
+    ensures { λ r. ⌜ ((p : Meanings (instFields InstTag.atomicLoad)) (c : FnCtx) → Fields names (instFields InstTag.atomicLoad) p (entries (now (kinds .entry)) (now (words .entry)))
+        → Maps names (entries (now («book_kinds» .entry)) (now («book_words» .entry))) c (now (work .entry))
+        → Did (genAtomicLoad c (p .0) (p .1 .0)) names (entries (now («book_kinds» .entry)) (now («book_words» .entry))) c (now (work .exit))
+        s r (now (lines .entry)) (now (operands .entry)) (now (lines .exit)) (now (operands .exit))) ⌝ }
+{
+    let wide = require_atomic_width(kinds, words, book_kinds, book_words, work, names, s);
+    let at = skip(kinds, words, names);
+    let address = push_at(kinds, words, at, 64, work, lines, operands, wide);
+    put(lines, operands, address, 83, 0)
+}
+
+// An atomic `store`: the address first, so that the value is popped first.
+pub fn gen_atomic_store(
+    kinds: &[u64],
+    words: &[u64],
+    book_kinds: &[u64],
+    book_words: &[u64],
+    work: &mut [u64],
+    names: u64,
+    lines: &mut [u16],
+    operands: &mut [u64],
+    s: Reached,
+) -> Reached
+    requires { ⌜ Lent names (instFields InstTag.atomicStore) (entries (now kinds) (now words)) (entries (now «book_kinds») (now «book_words»)) (now work) ⌝ }
+    ensures { λ r. ⌜ ((p : Meanings (instFields InstTag.atomicStore)) (c : FnCtx) → Fields names (instFields InstTag.atomicStore) p (entries (now (kinds .entry)) (now (words .entry)))
+        → Maps names (entries (now («book_kinds» .entry)) (now («book_words» .entry))) c (now (work .entry))
+        → Did (genAtomicStore c (p .0) (p .1 .0) (p .1 .1 .0)) names (entries (now («book_kinds» .entry)) (now («book_words» .entry))) c (now (work .exit))
+        s r (now (lines .entry)) (now (operands .entry)) (now (lines .exit)) (now (operands .exit))) ⌝ }
+{
+    let wide = require_atomic_width(kinds, words, book_kinds, book_words, work, names, s);
+    let value = skip(kinds, words, names);
+    let address = value + 1;
+    let below = push_at(kinds, words, address, 64, work, lines, operands, wide);
+    let both = push_at(kinds, words, value, 64, work, lines, operands, below);
+    put(lines, operands, both, 84, 0)
+}
+
+// A slot, 0 where it was refused, and what was reached.
+pub struct Slot {
+    pub slot: u64,
+    pub s: Reached,
+}
+
+// The slot of a name; where it has none, a refusal with this number.
+fn name_slot(name: u64, number: u64, work: &[u64], s: Reached) -> Slot
+    requires { ⌜ 8 * name + 1 < length (now work) ⌝ }
+    ensures { λ r. ⌜ ((m : ℕ) (c : FnCtx) → name < m → Locals c m (now (work .entry)) → Asked (okOr number (lookup name (c .slots))) s (r .s) (r .slot)) ⌝ }
+{
+    let word = work[8 * (name as usize) + 1];
+    if word == 0 {
+        return Slot {
+            slot: 0,
+            s: refuse(s, number),
+        };
+    }
+    Slot { slot: word - 1, s }
+}
+
+// The slot of a result.
+fn slot_of(dest: u64, work: &[u64], s: Reached) -> Slot
+    requires { ⌜ DestReaches dest (now work) ⌝ }
+    ensures { λ r. ⌜ ((m : ℕ) (c : FnCtx) → dest ≤ m → Locals c m (now (work .entry)) → Asked (slotOf c (destOf dest)) s (r .s) (r .slot)) ⌝ }
+{
+    if dest == 0 {
+        return Slot {
+            slot: 0,
+            s: refuse(s, 5),
+        };
+    }
+    name_slot(dest - 1, 5, work, s)
+}
+
+// The cell found goes into the slot, and whether it was the one compared with, whose value is at the place, into the next.
+fn set_both(
+    kinds: &[u64],
+    words: &[u64],
+    at: usize,
+    slot: u64,
+    work: &[u64],
+    lines: &mut [u16],
+    operands: &mut [u64],
+    s: Reached,
+) -> Reached
+    requires { ⌜ OperandAt (now kinds) (now words) at (now work) ⌝ }
+    ensures { λ r. ⌜ ((m : ℕ) (c : FnCtx) (v : Value) → ValueAt m (now (kinds .entry)) (now (words .entry)) at v → Locals c m (now (work .entry))
+        → Puts (setBoth c v slot) s r (now (lines .entry)) (now (operands .entry)) (now (lines .exit)) (now (operands .exit))) ⌝ }
+{
+    let twice = put(lines, operands, s, 87, 0);
+    let found = put(lines, operands, twice, 11, slot);
+    let compared = push_at(kinds, words, at, 64, work, lines, operands, found);
+    let equal = put(lines, operands, compared, 57, 0);
+    put(lines, operands, equal, 11, wrapping_add_u64(slot, 1))
+}
+
+// `gen_cmpxchg`, behind its `require_atomic_width`.
+pub fn gen_cmpxchg(
+    kinds: &[u64],
+    words: &[u64],
+    names: u64,
+    dest: u64,
+    work: &[u64],
+    lines: &mut [u16],
+    operands: &mut [u64],
+    s: Reached,
+) -> Reached
+    requires { ⌜ Given names (instFields InstTag.cmpxchg) (entries (now kinds) (now words)) dest (now work) ⌝ }
+    ensures { λ r. ⌜ ((p : Meanings (instFields InstTag.cmpxchg)) (c : FnCtx) → Fields names (instFields InstTag.cmpxchg) p (entries (now (kinds .entry)) (now (words .entry)))
+        → Locals c names (now (work .entry)) → Puts (genCmpxchg c (p .1 .0) (p .1 .1 .0) (p .1 .1 .1 .0) (destOf dest))
+        s r (now (lines .entry)) (now (operands .entry)) (now (lines .exit)) (now (operands .exit))) ⌝ }
+{
+    let own = slot_of(dest, work, s);
+    let at = skip(kinds, words, names);
+    let address = push_at(kinds, words, at, 64, work, lines, operands, own.s);
+    let compared = push_at(kinds, words, at + 1, 64, work, lines, operands, address);
+    let new = push_at(kinds, words, at + 2, 64, work, lines, operands, compared);
+    let found = put(lines, operands, new, 85, 0);
+    set_both(kinds, words, at + 1, own.slot, work, lines, operands, found)
+}
+
+// The first slot of the value that this entry is: of a local that has one.
+fn agg_slot(kind: u64, word: u64, work: &[u64], s: Reached) -> Slot
+    requires { ⌜ Reaches kind word (now work) ⌝ }
+    ensures { λ r. ⌜ ((m : ℕ) (c : FnCtx) → ValueLimits m (valueOf kind word) → Locals c m (now (work .entry))
+        → Asked (okOr 16 (aggSlot c (valueOf kind word))) s (r .s) (r .slot)) ⌝ }
+{
+    if kind == 30 {
+        return name_slot(word, 16, work, s);
+    }
+    Slot {
+        slot: 0,
+        s: refuse(s, 16),
+    }
+}
+
+// `gen_extractvalue`
+pub fn gen_extractvalue(
+    kinds: &[u64],
+    words: &[u64],
+    names: u64,
+    dest: u64,
+    work: &[u64],
+    lines: &mut [u16],
+    operands: &mut [u64],
+    s: Reached,
+) -> Reached
+    requires { ⌜ Given names (instFields InstTag.extractValue) (entries (now kinds) (now words)) dest (now work) ⌝ }
+    ensures { λ r. ⌜ ((p : Meanings (instFields InstTag.extractValue)) (c : FnCtx) → Fields names (instFields InstTag.extractValue) p (entries (now (kinds .entry)) (now (words .entry)))
+        → Locals c names (now (work .entry)) → Puts (genExtractValue c (p .0) (p .1 .0) (destOf dest))
+        s r (now (lines .entry)) (now (operands .entry)) (now (lines .exit)) (now (operands .exit))) ⌝ }
+{
+    let first = agg_slot(kinds[0], words[0], work, s);
+    let index = words[1];
+    let known = need(first.s, index <= 1, 16);
+    let got = put(
+        lines,
+        operands,
+        known,
+        10,
+        wrapping_add_u64(first.slot, index),
+    );
+    store_dest(dest, work, lines, operands, got)
+}

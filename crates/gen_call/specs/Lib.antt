@@ -1,0 +1,3 @@
+-- Arguments one after the other, and calls part by part.
+pub mod Args
+pub mod Calls

@@ -1,0 +1,4 @@
+// `gen_inst`
+pub mod measured;
+pub mod own;
+pub mod values;

@@ -1,0 +1,17 @@
+-- `gen_lines::refuse` meets its contract.
+use borrow.Author.Needs.{needs}
+use Rattle.gen_lines.proofs.refuse.Statement.{statement}
+use Rattle.gen_lines.proofs.refuse.Tie as tie
+use Rattle.gen_lines.proofs.refuse.Reads as reads
+use Rattle.gen_lines.proofs.refuse.Lts as lts
+
+-- src/lib.rt:49:1
+returns : tie.Need-returns
+returns c = search needs
+
+-- src/lib.rt:49:1
+returns-2 : tie.Need-returns-2
+returns-2 c = rw (c .if1 .left)
+
+pub refuse-spec : {M : Type 1} → statement M
+refuse-spec = tie.close (tie.spec returns returns-2)

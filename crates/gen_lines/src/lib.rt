@@ -1,0 +1,94 @@
+// Where lines are put. One code counts and writes: a pass that is lent line slices of length 0 stores nothing. What a
+// generator reached is handed through, and a refusal goes through unchanged, so that generators follow one another without
+// a test between them.
+use std::num::wrapping_add_u64;
+ghost use mathlib.Core.Path.{_≡_};
+ghost use lib.ListN.{set};
+ghost use Rattle.gen_lines.specs.Puts.{further as furtherFrom, Lined, madeFresh, madeRefused};
+
+// The place behind the last line and the label counter; or that a generator refused, and its number in place of the counter.
+pub struct Reached {
+    pub at: usize,
+    pub counter: u64,
+    pub refused: bool,
+}
+
+// The place behind one line more. Counting ends at 2^62, which no line slice reaches.
+fn further(at: usize) -> usize
+    ensures { λ r. ⌜ r ≡ furtherFrom at 1 ⌝ }
+{
+    if at < 4611686018427387904 {
+        at + 1
+    } else {
+        4611686018427387904
+    }
+}
+
+// Stores a kind where the slice reaches so far.
+fn store_kind(lines: &mut [u16], at: usize, kind: u16)
+    ensures { λ r. ⌜ now (lines .exit) ≡ set (now (lines .entry)) at kind ⌝ }
+{
+    if at < lines.len() {
+        lines[at] = kind;
+    }
+}
+
+// Stores an operand where the slice reaches so far.
+fn store_operand(operands: &mut [u64], at: usize, operand: u64)
+    ensures { λ r. ⌜ now (operands .exit) ≡ set (now (operands .entry)) at operand ⌝ }
+{
+    if at < operands.len() {
+        operands[at] = operand;
+    }
+}
+
+// `line`: one line more.
+pub fn put(lines: &mut [u16], operands: &mut [u64], s: Reached, kind: u16, operand: u64) -> Reached
+    ensures { λ r. ⌜ Lined kind operand s r (now (lines .entry)) (now (operands .entry)) (now (lines .exit)) (now (operands .exit)) ⌝ }
+{
+    let at = s.at;
+    store_kind(lines, at, kind);
+    store_operand(operands, at, operand);
+    Reached {
+        at: further(at),
+        counter: s.counter,
+        refused: s.refused,
+    }
+}
+
+// A refusal, unless one came before.
+pub fn refuse(s: Reached, number: u64) -> Reached
+    ensures { λ r. ⌜ r ≡ madeRefused s number ⌝ }
+{
+    if s.refused {
+        s
+    } else {
+        Reached {
+            at: s.at,
+            counter: number,
+            refused: true,
+        }
+    }
+}
+
+// `fresh_label`, so many at once: the counter behind them.
+pub fn fresh(s: Reached, labels: u64) -> Reached
+    ensures { λ r. ⌜ r ≡ madeFresh s labels ⌝ }
+{
+    if s.refused {
+        s
+    } else {
+        Reached {
+            at: s.at,
+            counter: wrapping_add_u64(s.counter, labels),
+            refused: false,
+        }
+    }
+}
+
+// The next label's number.
+pub fn label(s: Reached) -> u64
+    ensures { λ r. ⌜ r ≡ s .counter ⌝ }
+{
+    s.counter
+}

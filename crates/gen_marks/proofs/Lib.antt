@@ -1,0 +1,2 @@
+-- What the scan of a name rests on.
+pub mod Scan

@@ -1,0 +1,2 @@
+-- Loads, stores and `freeze`, part by part.
+pub mod Memory

@@ -1,0 +1,2 @@
+-- Selects: the generator's lines from its fields.
+pub mod Select

@@ -1,0 +1,69 @@
+-- `gen_walk::next_inst` meets its contract: what was passed is low.
+use Prim.Native.Nat.{ℕ, _≤_, _<_, _-_}
+use native.Mathlib.Omega.{arith}
+use lib.ListN.{length, getD}
+use borrow.Author.Needs.{needs}
+use Rattle.gen_walk.specs.Walk.{passed}
+use Rattle.gen_walk.proofs.next_inst.Statement.{statement}
+use Rattle.gen_walk.proofs.next_inst.Tie as tie
+use Rattle.gen_walk.proofs.next_inst.Reads as reads
+use Rattle.gen_walk.proofs.next_inst.Lts as lts
+
+abbrev Inv-loop : tie.InvT-loop
+Inv-loop kinds at i₀ i = (at ≤ i) × (i ≤ length kinds) × ((k : ℕ) → at ≤ k → k < i → getD kinds k 0 < 40)
+
+abbrev μ-loop : tie.MeasureT-loop
+μ-loop kinds at i₀ i = length kinds - i
+
+-- src/lib.rt:13:5
+loop-holds : tie.Need-loop-holds Inv-loop μ-loop
+loop-holds c = (omega arith, c .pre, λ k a b. absurd (omega arith))
+
+-- src/lib.rt:14:18
+mul-if1 : tie.Need-mul-if1 Inv-loop μ-loop
+mul-if1 c = search needs
+
+-- src/lib.rt:14:18
+shared-slice-read-if1 : tie.Need-shared-slice-read-if1 Inv-loop μ-loop
+shared-slice-read-if1 c = search needs
+
+-- src/lib.rt:15:13
+returns : tie.Need-returns Inv-loop μ-loop
+returns c =
+    let inv = c .before .before .before .loop .inv in
+    record { from = inv .0; within = inv .1; low = inv .2; high = λ _. c .if1 .taken }
+
+-- src/lib.rt:17:9
+add-i : tie.Need-add-i Inv-loop μ-loop
+add-i c = search needs
+
+-- src/lib.rt:13:5
+loop-less : tie.Need-loop-less Inv-loop μ-loop
+loop-less c = search needs
+
+-- src/lib.rt:13:5
+loop-again : tie.Need-loop-again Inv-loop μ-loop
+loop-again c =
+    let at-loop = c .before .before .before in
+    (omega arith, omega arith, λ k a b. passed (λ n. getD (c .before .before .before .before .args .kinds .now) n 0 < 40) (at-loop .loop .i) k (at-loop .loop .inv .2 k a) (c .if1 .left) b)
+
+-- src/lib.rt:8:1
+returns-2 : tie.Need-returns-2 Inv-loop μ-loop
+returns-2 c =
+    let inv = c .before .loop .inv in
+    record { from = inv .0; within = inv .1; low = inv .2; high = λ l. absurd (omega arith) }
+
+pub next-inst-spec : {M : Type 1} → statement M
+next-inst-spec =
+    tie.close
+    (tie.spec
+    Inv-loop
+    μ-loop
+    loop-holds
+    mul-if1
+    shared-slice-read-if1
+    returns
+    add-i
+    loop-less
+    loop-again
+    returns-2)

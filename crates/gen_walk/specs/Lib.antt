@@ -1,0 +1,2 @@
+-- Where the next instruction and the next block stand.
+pub mod Walk
