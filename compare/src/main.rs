@@ -11,6 +11,7 @@ mod features;
 mod hash;
 #[cfg(proved)]
 mod large;
+mod lines;
 mod measure;
 #[cfg(proved)]
 mod neighbours;
@@ -28,6 +29,8 @@ mod scratch;
 mod show;
 mod stats;
 mod table;
+#[cfg(translating)]
+mod translator;
 mod two_runs;
 mod vectors;
 mod visit;
@@ -117,6 +120,10 @@ fn run(args: &[&str]) -> Result<(), String> {
         ["checking", seed, count] => checking::compare(number(seed)?, number(count)?),
         #[cfg(proved)]
         ["printing", seed, count, names] => printing::compare(number(seed)?, number(count)?, number(names)?),
+        #[cfg(translating)]
+        ["translator", seed, count] => translator::compare(number(seed)?, number(count)?),
+        #[cfg(not(translating))]
+        ["translator", ..] => Err("built without the proved translator: see README.md".to_string()),
         #[cfg(not(proved))]
         ["checking" | "printing", ..] => Err("built without the static library of the crate `exports`: see README.md".to_string()),
         ["test"] => cases::test(),
