@@ -1,9 +1,9 @@
 //! Compares the proved printer with a printer written from docs/LINES.md, on random lines of every kind, and times both.
 use crate::book::{kind, Type};
+use crate::clock::best;
 use crate::lines::Printer;
 use crate::proved;
 use crate::rng::Rng;
-use std::time::{Duration, Instant};
 
 /// The best of so many calls is printed.
 const CALLS: usize = 5;
@@ -68,25 +68,13 @@ impl Made {
     }
 }
 
-/// The last answer, and the least time.
-pub fn best<T>(mut call: impl FnMut() -> T) -> (T, Duration) {
-    let mut timed = || {
-        let start = Instant::now();
-        (call(), start.elapsed())
-    };
-    (1..CALLS).fold(timed(), |(_, least), _| {
-        let (answer, time) = timed();
-        (answer, time.min(least))
-    })
-}
-
 pub fn compare(seed: u64, count: u64, many: u64) -> Result<(), String> {
     let lines = lines(seed, count as usize, many.max(1) as usize);
     let (book, names) = (lines.book(), lines.names.iter().map(|name| format!("{name}\n")).collect::<String>());
-    let (owed, written) = best(|| lines.text());
+    let (owed, written) = best(CALLS, || lines.text());
     let mut text = vec![b'!'; owed.len() + 1];
     let (answer, printed) =
-        best(|| proved::print(&book, names.as_bytes(), &lines.kinds, &lines.operands, &mut text));
+        best(CALLS, || proved::print(&book, names.as_bytes(), &lines.kinds, &lines.operands, &mut text));
     let room = owed.len() - 1;
     let short = proved::print(&book, names.as_bytes(), &lines.kinds, &lines.operands, &mut text[..room]);
     println!("{count} lines, {many} names, {} bytes: {printed:?} proved, {written:?} by std's formatting", owed.len());

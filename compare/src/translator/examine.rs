@@ -112,7 +112,8 @@ impl Calls<'_> {
         self.accepted(&lines, accepted.next, Lengths { work: self.lent.work, kinds: count, operands: count })?;
         self.texts(&printer, &accepted.text(), count)?;
         let any = self.rng.below(count);
-        let short = [(count - 1, count), (count, count - 1), (count - 1, count - 1), (0, 0), (0, count), (any, count + 1), (count + 1, any)];
+        let less = count - 1;
+        let short = [(less, count), (count, less), (less, less), (0, 0), (0, count), (any, count + 1), (count + 1, any)];
         let (kinds, operands) = *self.rng.pick(&short);
         self.refused(20, self.lent.counter, Lengths { work, kinds, operands })?;
         self.spoiled(None)
