@@ -15,6 +15,8 @@ use uvclang::codegen::access;
 mod copies;
 mod hostile;
 
+pub use hostile::shapes;
+
 /// The best of so many passes counts.
 const PASSES: usize = 9;
 

@@ -73,6 +73,7 @@ const USAGE: &str = "usage:
                                      its time; built in as above
   compare translator SEED COUNT      whether the proved translator gives the Rust's lines, next counter and refusals, on random
                                      books, damaged copies, faulty statements and books at the limits; built in as above
+  compare translator shapes          the same of the shapes that `compare bench` times
   compare bench [SEED]               times of the proved translator and printer beside the Rust's; built in as above
   compare test                       tests of this program";
 
@@ -133,6 +134,8 @@ fn run(args: &[&str]) -> Result<(), String> {
         ["checking", seed, count] => checking::compare(number(seed)?, number(count)?),
         #[cfg(proved)]
         ["printing", seed, count, names] => printing::compare(number(seed)?, number(count)?, number(names)?),
+        #[cfg(translating)]
+        ["translator", "shapes"] => translator::shapes(),
         #[cfg(translating)]
         ["translator", seed, count] => translator::compare(number(seed)?, number(count)?),
         #[cfg(translating)]

@@ -1,5 +1,6 @@
 //! Compares the proved translator with the published Rust: books at the limits and written by hand, random books, damaged
 //! copies, statements whose parts are right or wrong, books one change away from some; each lent in several ways.
+use crate::bench;
 use crate::book::Lent;
 use crate::cases;
 use crate::check::work_needed;
@@ -48,9 +49,18 @@ pub const SORTS: [&str; 5] = ["limits", "random", "damaged", "faulty", "near"];
 /// Counters for books that do not ask for one.
 const COUNTERS: [u64; 6] = [0, 0, 1, 7, (1 << 32) - 1, 1 << 32];
 
+/// Books that are always the same, and all that is made of so many indices.
 pub fn compare(seed: u64, count: u64) -> Result<(), String> {
+    run(&fixed(), seed, count)
+}
+
+/// The shapes of `compare bench`.
+pub fn shapes() -> Result<(), String> {
+    run(&bench::shapes().into_iter().map(|large| (large.what.to_string(), large.lent)).collect::<Vec<_>>(), 0, 0)
+}
+
+fn run(fixed: &[(String, Lent)], seed: u64, count: u64) -> Result<(), String> {
     let start = Instant::now();
-    let fixed = fixed();
     let (next, next_fixed) = (AtomicU64::new(0), AtomicU64::new(0));
     let threads = thread::available_parallelism().map_or(1, usize::from);
     let work = || {

@@ -142,7 +142,7 @@ fn long_names(count: usize, length: usize) -> Vec<String> {
     (0..count).map(|number| format!("{}{number:06}", "a".repeat(length - 6))).collect()
 }
 
-fn shapes() -> Vec<Large> {
+pub fn shapes() -> Vec<Large> {
     let named_struct = [(kind::NAMED, 0)];
     let freeze = |ty: &[(u64, u64)]| [&[(kind::FREEZE, 2)], ty, &[NULL]].concat();
     let place = |ty: &[(u64, u64)]| [&[(kind::ALLOCA, 2)], ty, &[(kind::ABSENT, 0), (kind::ABSENT, 0)]].concat();
@@ -154,6 +154,7 @@ fn shapes() -> Vec<Large> {
     let filled = |part: &[(u64, u64)]| unreachable(&part.repeat(((ENTRIES - 20) / part.len()).min(65_000)));
     let wide = nested(31, &vec![BYTE; ENTRIES - 300]);
     let inner = field_of(&wide, &[0; 32]);
+    let last = field_of(&named_struct, &[0, 19_999]);
     let case = [(kind::INTEGER, 7), (kind::TARGET, 0)];
     let cases = [vec![(kind::SWITCH, 0), WORD, NULL, (kind::TARGET, 0)], case.repeat(100_000), vec![END]];
     let select = [(kind::SELECT, 2), (kind::GLOBAL, 0), WORD, (kind::GLOBAL, 0), NULL];
@@ -162,7 +163,7 @@ fn shapes() -> Vec<Large> {
         doubling("structs that double, 31 of them, measured 60,000 times", 31, 60_000),
         doubling("structs that double, 60 of them", 60, 1),
         fields("a struct of 20,000 fields, measured 60,000 times", 20_000, &freeze(&named_struct), 60_000),
-        fields("a struct of 20,000 fields, the last asked for 20,000 times", 20_000, &field_of(&named_struct, &[0, 19_999]), 20_000),
+        fields("a struct of 20,000 fields, the last asked for 20,000 times", 20_000, &last, 20_000),
         fields("a struct of 2,000 fields in 60,000 places", 2000, &place(&named_struct), 60_000),
         large::large("types of 64 levels, measured", 0, &filled(&freeze(&arrays(64))), 2),
         large::large("32 indices that vary", 0, &filled(&varying), 2),

@@ -136,6 +136,12 @@ impl Calls<'_> {
             let printed = String::from_utf8_lossy(start);
             return Err((Difference::ProvedText, format!("it answers {found:?}; {}", first_line(&printed, owed))));
         }
+        let short = &mut text[..owed.len() - 1];
+        short.fill(b'!');
+        let found = proved::print(&self.lent.slices.book, &self.lent.slices.names, kinds, operands, short);
+        if found != (20, 0) || short.iter().any(|byte| *byte != b'!') {
+            return Err((Difference::ProvedText, format!("one byte short it answers {found:?}, or changes the text")));
+        }
         Ok(())
     }
 

@@ -4,7 +4,7 @@ use super::Examiner;
 use crate::book::Lent;
 
 /// Beyond so many entries it would take too long.
-const MOST: usize = 3000;
+const MOST: u64 = 3000;
 const STRETCHES: [usize; 12] = [64, 32, 16, 9, 8, 7, 6, 5, 4, 3, 2, 1];
 
 fn without(lent: &Lent, start: usize, length: usize) -> Lent {
@@ -22,8 +22,8 @@ fn without(lent: &Lent, start: usize, length: usize) -> Lent {
 pub fn smaller(examiner: &mut Examiner, lent: &Lent, seed: u64, sort: Difference) -> Option<(Lent, Found)> {
     let mut best = None;
     let mut lent = lent.clone();
-    let whole = |lent: &Lent| lent.slices.book.first().is_some_and(|n| lent.slices.book.len() as u64 == n.wrapping_mul(2).wrapping_add(2));
-    if !whole(&lent) || lent.slices.book[0] as usize > MOST {
+    let length = lent.slices.book.len() as u64;
+    if length < 2 || length > 2 * MOST + 2 || lent.slices.book[0] != (length - 2) / 2 || length % 2 == 1 {
         return None;
     }
     loop {
