@@ -119,11 +119,11 @@ fn switch(what: &'static str, cases: usize, phis: u64) -> Large {
     large::large(what, 0, &entries, 2 + phis as usize)
 }
 
-/// A function that freezes the address of each name, so that each is printed.
+/// A function that stores the address of each name, so that each is printed.
 fn every_name(what: &'static str, names: Vec<String>) -> Large {
-    let count = names.len() as u64;
-    let freezes = (0..count).flat_map(|name| [(kind::FREEZE, 1), (kind::PTR, 0), (kind::GLOBAL, name)]);
-    named(what, &unreachable(&freezes.collect::<Vec<_>>()), names)
+    let store = |name: u64| [(kind::STORE, 0), (kind::PTR, 0), (kind::GLOBAL, name), NULL, (kind::ABSENT, 0)];
+    let stores: Entries = (0..names.len() as u64).flat_map(store).collect();
+    named(what, &unreachable(&stores), names)
 }
 
 /// Names of one to three bytes, as many as a book may have.

@@ -109,7 +109,7 @@ impl Tally {
         let mut message = String::from("differences:");
         for (sort, smallest) in &self.differences {
             let shorter = smaller(&mut examiner, &smallest.lent, smallest.seed, *sort);
-            let note = if shorter.is_some() { ", with entries left out" } else { "" };
+            let note = if shorter.is_some() { ", with entries and names left out" } else { "" };
             let (lent, (_, what)) = shorter.unwrap_or_else(|| (smallest.lent.clone(), smallest.found.clone()));
             let (words, names) = (&lent.slices.book, String::from_utf8_lossy(&lent.slices.names).into_owned());
             let head = format!("\n\n{} in {} books; the smallest is {}{note}: ", sort.says(), smallest.count, smallest.place);
