@@ -398,6 +398,15 @@ fn limits() -> Vec<(&'static str, Option<u8>, Slices)> {
     ]
 }
 
+/// All books above, with what they are.
+#[cfg(translating)]
+pub fn books() -> Vec<(String, Slices)> {
+    let sheets = sheets().into_iter().map(|sheet| (sheet.name, sheet.slices));
+    let refused = refused().into_iter().chain(broken()).map(|(name, _, slices)| (name, slices));
+    let limits = limits().into_iter().map(|(name, _, slices)| (name, slices));
+    sheets.chain(refused).chain(limits).map(|(name, slices)| (name.to_string(), slices)).collect()
+}
+
 // ---- the rest
 
 fn work_slice() -> Result<(), String> {

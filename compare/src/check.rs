@@ -46,6 +46,14 @@ pub fn check(lent: &Lent) -> Verdict {
     Verdict::Sound(Book { names, marks, structs, function })
 }
 
+/// The book that the entries stand for with other names than those lent, which need not ascend; none where they are none.
+pub fn read_with(book: &[u64], names: Vec<String>) -> Option<Book> {
+    let (entries, _) = split_entries(book).ok()?;
+    let mut reader = Reader { entries: &entries, names: &names, reserved: Set::default(), forbidden: false };
+    let (marks, structs, function) = reader.book().ok()?;
+    Some(Book { names, marks, structs, function })
+}
+
 /// Refusal 1.
 struct Broken;
 

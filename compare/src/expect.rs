@@ -1,5 +1,5 @@
 //! What a translator should reply to what it is lent: the one place that knows the whole of it. Every comparison starts here.
-use crate::book::Lent;
+use crate::book::{Book, Lent};
 use crate::check::{check, Verdict};
 use crate::oracle::{self, Accepted, Answer};
 use crate::refusal;
@@ -17,21 +17,29 @@ const MOST_STEPS: u64 = 10_000_000;
 
 /// An error means that the Rust gave something unknown, or another refusal than our own reading: never expected.
 pub fn expected(lent: &Lent) -> Result<Expected, String> {
-    let book = match check(lent) {
-        Verdict::Refused(number) => return Ok(Expected::Refused(number)),
-        Verdict::Sound(book) => book,
-    };
-    let first = refusal::first(&book);
+    expected_of(lent).map(|(expected, _)| expected)
+}
+
+/// The same, with the book that a sound one's entries stand for.
+pub fn expected_of(lent: &Lent) -> Result<(Expected, Option<Book>), String> {
+    match check(lent) {
+        Verdict::Refused(number) => Ok((Expected::Refused(number), None)),
+        Verdict::Sound(book) => Ok((of_book(&book, lent.counter)?, Some(book))),
+    }
+}
+
+fn of_book(book: &Book, counter: u64) -> Result<Expected, String> {
+    let first = refusal::first(book);
     if first.refusal == Some(7) {
         return Ok(Expected::Refused(7));
     }
-    if oracle::calls_others(&book) {
+    if oracle::calls_others(book) {
         return Ok(Expected::Open("it calls a name that should be marked as reserved"));
     }
     if first.steps > MOST_STEPS {
         return Ok(Expected::Open("the Rust would measure its types for too long"));
     }
-    let (found, expected) = match oracle::answer(&book, lent.counter) {
+    let (found, expected) = match oracle::answer(book, counter) {
         Answer::Accepted(accepted) => (None, Expected::Accepted(accepted)),
         Answer::Refused(number) => (Some(number), Expected::Refused(number)),
         Answer::Strange(what) => return Err(format!("the Rust gives something unknown: {what}")),

@@ -9,7 +9,7 @@ pub struct Large {
     pub lent: Lent,
 }
 
-type Entries = Vec<(u64, u64)>;
+pub type Entries = Vec<(u64, u64)>;
 
 const ENTRIES: usize = MOST_ENTRIES as usize;
 const NAMES: usize = MOST_NAMES as usize;
@@ -28,7 +28,7 @@ fn names_of(numbers: impl Iterator<Item = usize>) -> Vec<u8> {
     numbers.flat_map(|number| format!("n{number:06}\n").into_bytes()).collect()
 }
 
-fn large(what: &'static str, answer: u64, entries: &[(u64, u64)], names: usize) -> Large {
+pub fn large(what: &'static str, answer: u64, entries: &[(u64, u64)], names: usize) -> Large {
     let mut book = vec![entries.len() as u64, names as u64];
     book.extend(entries.iter().map(|entry| entry.0));
     book.extend(entries.iter().map(|entry| entry.1));
@@ -37,11 +37,11 @@ fn large(what: &'static str, answer: u64, entries: &[(u64, u64)], names: usize) 
 }
 
 /// `void` function 0 without parameters, with one block of these instructions and this terminator.
-fn function(insts: &[(u64, u64)], term: &[(u64, u64)]) -> Entries {
+pub fn function(insts: &[(u64, u64)], term: &[(u64, u64)]) -> Entries {
     [&[(kind::FUNCTION, 0), VOID, END, (kind::BLOCK, 0)], insts, term, &[END]].concat()
 }
 
-fn unreachable(insts: &[(u64, u64)]) -> Entries {
+pub fn unreachable(insts: &[(u64, u64)]) -> Entries {
     function(insts, &[(kind::UNREACHABLE, 0)])
 }
 
@@ -58,14 +58,14 @@ fn repeated(part: &[(u64, u64)], others: usize) -> Entries {
 }
 
 /// A type of so many levels.
-fn arrays(levels: usize) -> Entries {
+pub fn arrays(levels: usize) -> Entries {
     let mut entries = vec![(kind::ARRAY, 1); levels - 1];
     entries.push(BYTE);
     entries
 }
 
 /// A struct within a struct, of so many levels, the innermost with these fields.
-fn nested(levels: usize, fields: &[(u64, u64)]) -> Entries {
+pub fn nested(levels: usize, fields: &[(u64, u64)]) -> Entries {
     [&vec![(kind::STRUCT, 0); levels], fields, &vec![END; levels]].concat()
 }
 

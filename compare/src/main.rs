@@ -1,9 +1,13 @@
 //! Builds the published code generator as an oracle, and random and damaged books to compare with it. See README.md.
+#[cfg(translating)]
+mod bench;
 mod book;
 mod cases;
 mod check;
 #[cfg(proved)]
 mod checking;
+#[cfg(proved)]
+mod clock;
 mod damage;
 mod definitions;
 mod expect;
@@ -11,6 +15,7 @@ mod features;
 mod hash;
 #[cfg(proved)]
 mod large;
+mod lines;
 mod measure;
 #[cfg(proved)]
 mod neighbours;
@@ -28,6 +33,8 @@ mod scratch;
 mod show;
 mod stats;
 mod table;
+#[cfg(translating)]
+mod translator;
 mod two_runs;
 mod vectors;
 mod visit;
@@ -47,6 +54,8 @@ const USAGE: &str = "usage:
   compare checks SEED COUNT          what damaged copies meet
   compare vectors SEED COUNT DIR [MOST]
                                      random and damaged books of at most MOST entries with their answers
+  compare vectors numbers SEED COUNT FILE [MOST]
+                                     small books of every refusal with their answers and lines, as numbers alone
   compare program SEED COUNT COMMAND..
                                      whether a program prints what `compare oracle` does
   compare faulty SEED COUNT          what random statements meet whose parts are right or wrong
@@ -62,6 +71,10 @@ const USAGE: &str = "usage:
                                      static library of the crate `exports` stands
   compare printing SEED LINES NAMES  whether the proved printer prints random lines of every kind as docs/LINES.md says, and
                                      its time; built in as above
+  compare translator SEED COUNT      whether the proved translator gives the Rust's lines, next counter and refusals, on random
+                                     books, damaged copies, faulty statements and books at the limits; built in as above
+  compare translator shapes          the same of the shapes that `compare bench` times
+  compare bench [SEED]               times of the proved translator and printer beside the Rust's; built in as above
   compare test                       tests of this program";
 
 /// The published Rust goes down into types by plain recursion.
@@ -97,6 +110,10 @@ fn run(args: &[&str]) -> Result<(), String> {
         }
         ["stats", seed, count] => stats::books(number(seed)?, number(count)?),
         ["checks", seed, count] => stats::damaged(number(seed)?, number(count)?),
+        ["vectors", "numbers", seed, count, file] => vectors::write_numbers(number(seed)?, number(count)?, file, 60),
+        ["vectors", "numbers", seed, count, file, most] => {
+            vectors::write_numbers(number(seed)?, number(count)?, file, number(most)?)
+        }
         ["vectors", seed, count, folder] => vectors::write(number(seed)?, number(count)?, folder, u64::MAX),
         ["vectors", seed, count, folder, most] => vectors::write(number(seed)?, number(count)?, folder, number(most)?),
         ["program", seed, count, command @ ..] if !command.is_empty() => {
@@ -117,6 +134,16 @@ fn run(args: &[&str]) -> Result<(), String> {
         ["checking", seed, count] => checking::compare(number(seed)?, number(count)?),
         #[cfg(proved)]
         ["printing", seed, count, names] => printing::compare(number(seed)?, number(count)?, number(names)?),
+        #[cfg(translating)]
+        ["translator", "shapes"] => translator::shapes(),
+        #[cfg(translating)]
+        ["translator", seed, count] => translator::compare(number(seed)?, number(count)?),
+        #[cfg(translating)]
+        ["bench"] => bench::bench(1),
+        #[cfg(translating)]
+        ["bench", seed] => bench::bench(number(seed)?),
+        #[cfg(not(translating))]
+        ["translator" | "bench", ..] => Err("built without the proved translator: see README.md".to_string()),
         #[cfg(not(proved))]
         ["checking" | "printing", ..] => Err("built without the static library of the crate `exports`: see README.md".to_string()),
         ["test"] => cases::test(),

@@ -2,19 +2,21 @@
 use crate::book::{Lent, Slices};
 use crate::expect::{expected, Expected};
 use crate::runs;
+use crate::written::faulty;
 use std::io::Write;
 use std::process::{Command, Stdio};
 
 /// A longer file is a 1 for such a program.
 const MOST_BYTES: usize = 65_536;
 
-/// Random books and one damaged copy of each. The first difference is an error.
+/// Random books, one damaged copy of each, and as many faulty statements. The first difference is an error.
 pub fn compare(seed: u64, count: u64, command: &[&str]) -> Result<(), String> {
     let mut compared = 0;
     for index in 0..count {
         let lent = runs::book(seed, index, false);
         let copy = runs::copy(&lent, seed, index, 0);
-        for (what, lent) in [("book", &lent), ("damaged copy of book", &copy)] {
+        let statement = faulty::lent(seed, index);
+        for (what, lent) in [("book", &lent), ("damaged copy of book", &copy), ("faulty book", &statement)] {
             let file = lent.slices.to_file();
             let place = |error| format!("seed {seed}, {what} {index}: {error}");
             let Some(owed) = reply(&file).map_err(place)? else { continue };

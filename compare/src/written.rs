@@ -2,6 +2,8 @@
 //! with two faults before any statement. The Rust's answer must be the one that stands beside a book; `compare written` writes
 //! them as checked tables of crates/lowering.
 use crate::book::Lent;
+#[cfg(translating)]
+use crate::book::Slices;
 use crate::expect::{expected, Expected};
 use crate::table::{self, Row};
 
@@ -56,6 +58,13 @@ pub fn write(folder: &str) -> Result<(), String> {
 /// Every book with its answer, for the tests of this program.
 pub fn tests() -> Vec<(String, Result<(), String>)> {
     tables().into_iter().flat_map(|table| table.3).map(|book| (book.title.clone(), row(&book).map(|_| ()))).collect()
+}
+
+/// Every book, with what it is.
+#[cfg(translating)]
+pub fn books() -> Vec<(String, Slices)> {
+    let read = |book: Written| (book.title, notation::read(&book.text).expect("words of the notation"));
+    tables().into_iter().flat_map(|table| table.3).map(read).collect()
 }
 
 /// The book of a row. The Rust's answer must be the one stated.

@@ -1,0 +1,185 @@
+//! Shapes that a careless translator is slow on. The time for an entry should be that of any other book.
+use crate::book::{kind, Lent, Slices};
+use crate::check::{work_needed, MOST_ENTRIES, MOST_NAMES};
+use crate::clock::best;
+use crate::large::{self, arrays, function, nested, unreachable, Entries, Large};
+use crate::proved;
+
+const NAMES: usize = MOST_NAMES as usize;
+const ENTRIES: usize = MOST_ENTRIES as usize;
+const END: (u64, u64) = (kind::END, 0);
+const VOID: (u64, u64) = (kind::VOID, 0);
+const BYTE: (u64, u64) = (kind::INT, 8);
+const WORD: (u64, u64) = (kind::INT, 64);
+const NULL: (u64, u64) = (kind::NULL, 0);
+
+/// Lines beyond these are not made room for.
+const MOST_LINES: usize = 1 << 23;
+const MOST_TEXT: usize = 1 << 28;
+
+/// The best of so many calls.
+const CALLS: usize = 3;
+
+pub fn table() -> Result<(), String> {
+    println!("\nns for each entry, name and line, the best of {CALLS} calls; print: ns a line");
+    println!("{:>9}{:>8}{:>9}{:>8}{:>8}{:>11}{:>8}", "entries", "names", "lines", "answer", "check", "translate", "print");
+    let sound = large::books().into_iter().filter(|large| large.answer == 0);
+    shapes().into_iter().chain(sound).for_each(|large| row(&large));
+    Ok(())
+}
+
+fn least<T>(call: impl FnMut() -> T) -> (T, f64) {
+    let (answer, time) = best(CALLS, call);
+    (answer, time.as_nanos() as f64)
+}
+
+fn row(large: &Large) {
+    let lent = &large.lent;
+    let mut work = vec![1; lent.work];
+    let (mut kinds, mut operands) = (vec![0; 0], vec![0; 0]);
+    let mut room = 1 << 18;
+    let (reply, translated) = loop {
+        kinds.resize(room, 0);
+        operands.resize(room, 0);
+        let answer = proved::translate(&lent.slices, 0, &mut work, &mut kinds, &mut operands);
+        if answer.refusal != 20 || room >= MOST_LINES {
+            break least(|| proved::translate(&lent.slices, 0, &mut work, &mut kinds, &mut operands));
+        }
+        room *= 4;
+    };
+    let (_, checked) = least(|| proved::check(lent));
+    let lines = if reply.refusal == 0 { reply.lines as usize } else { 0 };
+    let [entries, names] = [lent.slices.book[0], lent.slices.book[1]];
+    let size = (entries + names) as f64 + lines as f64;
+    let mut text = vec![0; if lines == 0 { 0 } else { (64 * lines + lent.slices.names.len() * 2).min(MOST_TEXT) }];
+    let (book, bytes) = (&lent.slices.book, &lent.slices.names);
+    let print = || proved::print(book, bytes, &kinds[..lines], &operands[..lines], &mut text);
+    let printed = if lines > 0 { format!("{:.1}", least(print).1 / lines as f64) } else { String::new() };
+    let (checked, translated) = (checked / (entries + names) as f64, translated / size);
+    let answer = if reply.refusal == 0 { String::new() } else { reply.refusal.to_string() };
+    println!("{entries:>9}{names:>8}{lines:>9}{answer:>8}{checked:>8.1}{translated:>11.1}{printed:>8}  {}", large.what);
+}
+
+/// A book with its names given.
+fn named(what: &'static str, entries: &[(u64, u64)], names: Vec<String>) -> Large {
+    let names: Vec<&str> = names.iter().map(String::as_str).collect();
+    let work = work_needed(names.len());
+    Large { what, answer: 0, lent: Lent { slices: Slices::new(entries, &names), counter: 0, work } }
+}
+
+/// `%0 = {}`, `%1 = {%0, %0}` and so on, then a function that freezes the last of them so often. Name COUNT is the result.
+fn doubling(what: &'static str, count: u64, times: usize) -> Large {
+    let mut entries: Entries = vec![(kind::NAMED_STRUCT, 0), (kind::STRUCT, 0), END];
+    for number in 1..count {
+        let field = (kind::NAMED, number - 1);
+        entries.extend([(kind::NAMED_STRUCT, number), (kind::STRUCT, 0), field, field, END]);
+    }
+    entries.extend(unreachable(&[(kind::FREEZE, count + 1), (kind::NAMED, count - 1), NULL].repeat(times)));
+    large::large(what, 0, &entries, count as usize + 1)
+}
+
+/// A named struct of so many fields, and so many statements upon it. Name 0 is the struct's, 1 a result's.
+fn fields(what: &'static str, count: usize, statement: &[(u64, u64)], times: usize) -> Large {
+    let body = [vec![(kind::NAMED_STRUCT, 0), (kind::STRUCT, 0)], [BYTE, WORD].repeat(count / 2), vec![END]].concat();
+    large::large(what, 0, &[body, unreachable(&statement.repeat(times))].concat(), 2)
+}
+
+fn field_of(ty: &[(u64, u64)], indices: &[u64]) -> Entries {
+    let indices = indices.iter().flat_map(|index| [(kind::INT, 32), (kind::INTEGER, *index)]);
+    [&[(kind::GEP, 2)], ty, &[NULL], &indices.collect::<Vec<_>>(), &[END]].concat()
+}
+
+/// Blocks that go to one block of phis, which has a pair for each of them. Name 0 is the function's and the first block's.
+fn phis(what: &'static str, blocks: u64, phis: u64, backwards: bool) -> Large {
+    let join = blocks;
+    let mut entries: Entries = vec![(kind::FUNCTION, 0), VOID, END];
+    for block in 0..blocks {
+        entries.extend([(kind::BLOCK, block), (kind::BR, 0), (kind::ABSENT, 0), (kind::TARGET, join), (kind::ABSENT, 0)]);
+    }
+    entries.push((kind::BLOCK, join));
+    for phi in 0..phis {
+        entries.extend([(kind::PHI, join + 2 + phi), WORD]);
+        let pair = |block: u64| [NULL, (kind::TARGET, if backwards { blocks - 1 - block } else { block })];
+        entries.extend((0..blocks).flat_map(pair));
+        entries.push(END);
+    }
+    entries.extend([(kind::UNREACHABLE, 0), END]);
+    large::large(what, 0, &entries, (join + 1 + phis) as usize)
+}
+
+/// A switch of so many cases that all go to a block of so many phis.
+fn switch(what: &'static str, cases: usize, phis: u64) -> Large {
+    let case = [(kind::INTEGER, 7), (kind::TARGET, 1)];
+    let mut entries: Entries = vec![(kind::FUNCTION, 0), VOID, END, (kind::BLOCK, 0)];
+    entries.extend([(kind::SWITCH, 0), WORD, NULL, (kind::TARGET, 1)]);
+    entries.extend(case.repeat(cases));
+    entries.extend([END, (kind::BLOCK, 1)]);
+    entries.extend((0..phis).flat_map(|phi| [(kind::PHI, 3 + phi), WORD, NULL, (kind::TARGET, 0), END]));
+    entries.extend([(kind::UNREACHABLE, 0), END]);
+    large::large(what, 0, &entries, 2 + phis as usize)
+}
+
+/// A function that stores the address of each name, so that each is printed.
+fn every_name(what: &'static str, names: Vec<String>) -> Large {
+    let store = |name: u64| [(kind::STORE, 0), (kind::PTR, 0), (kind::GLOBAL, name), NULL, (kind::ABSENT, 0)];
+    let stores: Entries = (0..names.len() as u64).flat_map(store).collect();
+    named(what, &unreachable(&stores), names)
+}
+
+/// Names of one to three bytes, as many as a book may have.
+fn short_names() -> Vec<String> {
+    let bytes = || (33..=126u8).map(char::from);
+    let one = bytes().map(String::from);
+    let two = bytes().flat_map(|a| bytes().map(move |b| format!("{a}{b}")));
+    let three = bytes().flat_map(|a| bytes().flat_map(move |b| bytes().map(move |c| format!("{a}{b}{c}"))));
+    let mut names: Vec<String> = one.chain(two).chain(three).take(NAMES).collect();
+    names.sort_unstable();
+    names
+}
+
+/// Names that are alike but for their ends.
+fn long_names(count: usize, length: usize) -> Vec<String> {
+    (0..count).map(|number| format!("{}{number:06}", "a".repeat(length - 6))).collect()
+}
+
+pub fn shapes() -> Vec<Large> {
+    let named_struct = [(kind::NAMED, 0)];
+    let freeze = |ty: &[(u64, u64)]| [&[(kind::FREEZE, 2)], ty, &[NULL]].concat();
+    let place = |ty: &[(u64, u64)]| [&[(kind::ALLOCA, 2)], ty, &[(kind::ABSENT, 0), (kind::ABSENT, 0)]].concat();
+    let varying = {
+        let indices = [WORD, (kind::GLOBAL, 0)].repeat(32);
+        [vec![(kind::GEP, 2)], arrays(32), vec![NULL], indices, vec![END]].concat()
+    };
+    // As often as entries and slots allow.
+    let filled = |part: &[(u64, u64)]| unreachable(&part.repeat(((ENTRIES - 20) / part.len()).min(65_000)));
+    let wide = nested(31, &vec![BYTE; ENTRIES - 300]);
+    let inner = field_of(&wide, &[0; 32]);
+    let last = field_of(&named_struct, &[0, 19_999]);
+    let case = [(kind::INTEGER, 7), (kind::TARGET, 0)];
+    let cases = [vec![(kind::SWITCH, 0), WORD, NULL, (kind::TARGET, 0)], case.repeat(100_000), vec![END]];
+    let select = [(kind::SELECT, 2), (kind::GLOBAL, 0), WORD, (kind::GLOBAL, 0), NULL];
+    vec![
+        doubling("structs that double, 31 of them", 31, 1),
+        doubling("structs that double, 31 of them, measured 60,000 times", 31, 60_000),
+        doubling("structs that double, 60 of them", 60, 1),
+        fields("a struct of 20,000 fields, measured 60,000 times", 20_000, &freeze(&named_struct), 60_000),
+        fields("a struct of 20,000 fields, the last asked for 20,000 times", 20_000, &last, 20_000),
+        fields("a struct of 2,000 fields in 60,000 places", 2000, &place(&named_struct), 60_000),
+        large::large("types of 64 levels, measured", 0, &filled(&freeze(&arrays(64))), 2),
+        large::large("32 indices that vary", 0, &filled(&varying), 2),
+        large::large("32 indices into structs in one another, the innermost wide", 0, &unreachable(&inner), 2),
+        large::large("a select after the other", 0, &filled(&select), 2),
+        large::large("a switch of 100,000 cases", 0, &function(&[], &cases.concat()), 2),
+        switch("a switch of 20,000 cases to a block of 50 phis", 20_000, 50),
+        switch("a switch of 50 cases to a block of 20,000 phis", 50, 20_000),
+        phis("60,000 phis of one pair", 1, 60_000, false),
+        phis("700 phis of 700 pairs", 700, 700, false),
+        phis("700 phis of 700 pairs, backwards", 700, 700, true),
+        phis("one phi of 20,000 pairs", 20_000, 1, false),
+        phis("one phi of 20,000 pairs, backwards", 20_000, 1, true),
+        every_name("131,072 names of one to three bytes, each pushed", short_names()),
+        every_name("131,072 names of 100 bytes, each pushed", long_names(NAMES, 100)),
+        every_name("16,384 names of 1,000 bytes, each pushed", long_names(16_384, 1000)),
+        named("131,072 names of 1,000 bytes", &unreachable(&[]), long_names(NAMES, 1000)),
+    ]
+}
