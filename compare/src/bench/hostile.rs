@@ -17,11 +17,14 @@ const NULL: (u64, u64) = (kind::NULL, 0);
 const MOST_LINES: usize = 1 << 23;
 const MOST_TEXT: usize = 1 << 28;
 
+/// So many bytes count as an entry does.
+const BYTES: usize = 16;
+
 /// The best of so many calls.
 const CALLS: usize = 3;
 
 pub fn table() -> Result<(), String> {
-    println!("\nns for each entry, name and line, the best of {CALLS} calls; print: ns a line");
+    println!("\nns for each entry, name, line and {BYTES} bytes of names or text, the best of {CALLS} calls");
     println!("{:>9}{:>8}{:>9}{:>8}{:>8}{:>11}{:>8}", "entries", "names", "lines", "answer", "check", "translate", "print");
     let sound = large::books().into_iter().filter(|large| large.answer == 0);
     shapes().into_iter().chain(sound).for_each(|large| row(&large));
@@ -50,12 +53,17 @@ fn row(large: &Large) {
     let (_, checked) = least(|| proved::check(lent));
     let lines = if reply.refusal == 0 { reply.lines as usize } else { 0 };
     let [entries, names] = [lent.slices.book[0], lent.slices.book[1]];
-    let size = (entries + names) as f64 + lines as f64;
-    let mut text = vec![0; if lines == 0 { 0 } else { (64 * lines + lent.slices.names.len() * 2).min(MOST_TEXT) }];
     let (book, bytes) = (&lent.slices.book, &lent.slices.names);
+    let size = entries as usize + names as usize + bytes.len() / BYTES;
+    let mut text = vec![0; if lines == 0 { 0 } else { (64 * lines + bytes.len() * 2).min(MOST_TEXT) }];
     let print = || proved::print(book, bytes, &kinds[..lines], &operands[..lines], &mut text);
-    let printed = if lines > 0 { format!("{:.1}", least(print).1 / lines as f64) } else { String::new() };
-    let (checked, translated) = (checked / (entries + names) as f64, translated / size);
+    let printed = if lines > 0 {
+        let ((_, count), time) = least(print);
+        format!("{:.1}", time / (size + lines + count as usize / BYTES) as f64)
+    } else {
+        String::new()
+    };
+    let (checked, translated) = (checked / size as f64, translated / (size + lines) as f64);
     let answer = if reply.refusal == 0 { String::new() } else { reply.refusal.to_string() };
     println!("{entries:>9}{names:>8}{lines:>9}{answer:>8}{checked:>8.1}{translated:>11.1}{printed:>8}  {}", large.what);
 }
