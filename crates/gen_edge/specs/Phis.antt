@@ -229,8 +229,8 @@ module _ {m : ℕ} (ks ws : List ℕ) (a : ℕ) where
       let tail = ending encPhi (f .stop ∷ f .rest) ps in
       let q = entry-at ks ws a _ _ (f .here) in
       let here : drop (a + 1) es ≡ encTy (p .ty) ++ (closed encIncoming (p .incoming) ++ tail) = q .4
-          ∙ append-assoc (encTy (p .ty)) (closed encIncoming (p .incoming) ++ []) tail
-          ∙ ap (λ (r : List Entry). encTy (p .ty) ++ r) (append-assoc (closed encIncoming (p .incoming)) [] tail) in
+      ∙ append-assoc (encTy (p .ty)) (closed encIncoming (p .incoming) ++ []) tail
+      ∙ ap (λ (r : List Entry). encTy (p .ty) ++ r) (append-assoc (closed encIncoming (p .incoming)) [] tail) in
       let small : length (drop (a + 1) es) ≤ 2 ^ 20 = omega (arith, f .few, length-drop a es, length-drop (a + 1) es) in
       let g : Fields m (Field.plain Item.type ∷ []) (p .ty, tt) (drop (a + 1) es) = record {
         rest = closed encIncoming (p .incoming) ++ tail;
@@ -253,7 +253,7 @@ module _ {m : ℕ} (ks ws : List ℕ) (a : ℕ) where
         pairs = λ {n} e.
             let l : n ≡ length (encTy (p .ty)) = e ∙ len-is s in
             let behind : drop (a + 1 + n) es ≡ closed encIncoming (p .incoming) ++ tail = sym (drop-drop n (a + 1) es) ∙ ap (drop n) here
-                ∙ ap (λ k. drop k (encTy (p .ty) ++ (closed encIncoming (p .incoming) ++ tail))) l ∙ drop-append-seam (encTy (p .ty)) _ in
+            ∙ ap (λ k. drop k (encTy (p .ty) ++ (closed encIncoming (p .incoming) ++ tail))) l ∙ drop-append-seam (encTy (p .ty)) _ in
             let few : length (drop (a + 1 + n) es) ≤ 2 ^ 20 = omega (arith, f .few, length-drop a es, length-drop (a + 1 + n) es) in
             record {
               later = tail;

@@ -124,7 +124,7 @@ module _ (c : FnCtx) (pred m : ℕ) (ks ws work : List ℕ) (ps : List Phi) wher
     module _ (maps : Locals c m work) {pair found : ℕ} (v : PairWalk pred m ks ws place (w .todo) pair found) (z : getD ks pair 0 ≡ 0) {n′ t′ : Reached} {ls″ os″ : List ℕ} where
       pub walk-more : n′ ≡ noted (getD ws place 0) found work n
           → ((found ≡ 0 → ⊥) → (m : ℕ) (c : FnCtx) (ty : Ty) → WidthSays (widthBy (getD ks (place + 1) 0) (getD ws (place + 1) 0)) (intWidth ty)
-              → ValueLimits m (valueOf (getD ks found 0) (getD ws found 0)) → Locals c m work → Puts (pushTyped c ty (valueOf (getD ks found 0) (getD ws found 0))) t t′ ls′ os′ ls″ os″)
+          → ValueLimits m (valueOf (getD ks found 0) (getD ws found 0)) → Locals c m work → Puts (pushTyped c ty (valueOf (getD ks found 0) (getD ws found 0))) t t′ ls′ os′ ls″ os″)
           → length ls″ ≡ length ls′ → length os″ ≡ length os′
           → Walk c pred m ks ws work ps (pair + 1) (count + 1) s n′ t′ ls os ls″ os″
       unfolding pushCopy
@@ -141,9 +141,9 @@ module _ (c : FnCtx) (pred m : ℕ) (ks ws work : List ℕ) (ps : List Phi) wher
             pushed = pushed-more c pred work (w .done) phi (copyAt ks ws work found phi) (w .pushed) refl
                 (asked-phi c pred m ks ws work maps phi (v .at .named) (v .at .dest) f n e)
                 (λ r.
-                    let y = noted-found (getD ws place 0) found work n e r in
-                    let q = f .present y in
-                    p y m c (phi .ty) (v .at .width) (rw (q .2 .is) (q .2 .limits)) maps) lk lo;
+                let y = noted-found (getD ws place 0) found work n e r in
+                let q = f .present y in
+                p y m c (phi .ty) (v .at .width) (rw (q .2 .is) (q .2 .limits)) maps) lk lo;
           }
 
     -- behind them all

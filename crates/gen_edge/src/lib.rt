@@ -270,7 +270,16 @@ pub fn emit_edge_copies(
     let words = &book_words[at..];
     let copies = push_copies(pred, kinds, words, names, work, lines, operands, s);
     let reached = copies.reached;
-    set_slots(kinds, words, names, work, lines, operands, copies.phis, reached)
+    set_slots(
+        kinds,
+        words,
+        names,
+        work,
+        lines,
+        operands,
+        copies.phis,
+        reached,
+    )
 }
 
 // The copies, and the jump to the block.
@@ -290,7 +299,15 @@ pub fn edge(
         → Puts (edgeOf c pred succ) s r (now (lines .entry)) (now (operands .entry)) (now (lines .exit)) (now (operands .exit))) ⌝ }
 {
     let copied = emit_edge_copies(
-        pred, succ, book_kinds, book_words, names, work, lines, operands, s,
+        pred,
+        succ,
+        book_kinds,
+        book_words,
+        names,
+        work,
+        lines,
+        operands,
+        s,
     );
     put(lines, operands, copied, 3, succ)
 }

@@ -97,7 +97,7 @@ add-pair c =
     let entry = c .before .before .before .before .before in
     let a = entry .args in
     let long : c .skip .result ≡ tyLen (a .names) (drop (a .at + 1) (entries (a .kinds .now) (a .words .now))) = c .skip .ensures
-        ∙ ap (tyLen (a .names)) (entries-part (a .at + 1) (a .kinds .now) (a .words .now)) in
+    ∙ ap (tyLen (a .names)) (entries-part (a .at + 1) (a .kinds .now) (a .words .now)) in
     let q = entry .pre .phi in
     let rest : Left (a .names) (a .kinds .now) (a .words .now) (q .more) (a .at + 1 + c .skip .result) = record { todo = q .phi .incoming; front = q .pairs long } in
     let inside = left-in (a .names) (a .kinds .now) (a .words .now) (q .more) rest in
@@ -109,7 +109,7 @@ loop-holds c =
     let entry = c .before .before .before .before .before in
     let a = entry .args in
     let long : c .skip .result ≡ tyLen (a .names) (drop (a .at + 1) (entries (a .kinds .now) (a .words .now))) = c .skip .ensures
-        ∙ ap (tyLen (a .names)) (entries-part (a .at + 1) (a .kinds .now) (a .words .now)) in
+    ∙ ap (tyLen (a .names)) (entries-part (a .at + 1) (a .kinds .now) (a .words .now)) in
     λ ps q. record { todo = q .phi .incoming; front = q .pairs long }
 
 -- src/lib.rt:168:11

@@ -35,7 +35,7 @@ abbrev Inv-phis : tie.InvT-phis
 Inv-phis pred kinds words names work lines₀ operands₀ noted₀ reached₀ phis₀ at₀ lines operands noted reached phis at =
     (phis ≤ at)
     × ((c : FnCtx) (ps : List Phi) → Locals c names work → Leading names ps (entries kinds words)
-        → Walk c pred names kinds words work ps at phis noted₀ noted reached lines₀ operands₀ lines operands)
+    → Walk c pred names kinds words work ps at phis noted₀ noted reached lines₀ operands₀ lines operands)
 
 abbrev μ-phis : tie.MeasureT-phis
 μ-phis pred kinds words names work lines₀ operands₀ noted₀ reached₀ phis₀ at₀ lines operands noted reached phis at = length kinds - at
@@ -171,10 +171,10 @@ add-pair c =
     let a = entry .args in
     let walk = phis .phis .inv .1 (entry .pre .ctx) (entry .pre .phis) (entry .pre .locals) (entry .pre .front) in
     let long : after-skip .skip .result ≡ tyLen (a .names) (drop (phis .phis .at + 1) (entries (a .kinds .now) (a .words .now))) = after-skip .skip .ensures
-        ∙ ap (tyLen (a .names)) (entries-part (phis .phis .at + 1) (a .kinds .now) (a .words .now)) in
+    ∙ ap (tyLen (a .names)) (entries-part (phis .phis .at + 1) (a .kinds .now) (a .words .now)) in
     let start : (ps : List Phi) → Leading (a .names) ps (drop (phis .phis .at) (entries (a .kinds .now) (a .words .now)))
-            → PairWalk (a .pred) (a .names) (a .kinds .now) (a .words .now) (phis .phis .at) ps (phis .phis .at + 1 + after-skip .skip .result) 0 =
-        λ ps front. pairs-start (a .pred) (a .names) (a .kinds .now) (a .words .now) (phis .phis .at) ps front (is-phi .if1 .left) long in
+    → PairWalk (a .pred) (a .names) (a .kinds .now) (a .words .now) (phis .phis .at) ps (phis .phis .at + 1 + after-skip .skip .result) 0 =
+    λ ps front. pairs-start (a .pred) (a .names) (a .kinds .now) (a .words .now) (phis .phis .at) ps front (is-phi .if1 .left) long in
     let pair = pair-in (a .pred) (a .names) (a .kinds .now) (a .words .now) (phis .phis .at) (walk .todo) (start (walk .todo) (walk .front)) in
     omega (arith, pair .0, entry .good)
 
@@ -188,10 +188,10 @@ loop-holds c =
     let a = entry .args in
     let walk = phis .phis .inv .1 (entry .pre .ctx) (entry .pre .phis) (entry .pre .locals) (entry .pre .front) in
     let long : after-skip .skip .result ≡ tyLen (a .names) (drop (phis .phis .at + 1) (entries (a .kinds .now) (a .words .now))) = after-skip .skip .ensures
-        ∙ ap (tyLen (a .names)) (entries-part (phis .phis .at + 1) (a .kinds .now) (a .words .now)) in
+    ∙ ap (tyLen (a .names)) (entries-part (phis .phis .at + 1) (a .kinds .now) (a .words .now)) in
     let start : (ps : List Phi) → Leading (a .names) ps (drop (phis .phis .at) (entries (a .kinds .now) (a .words .now)))
-            → PairWalk (a .pred) (a .names) (a .kinds .now) (a .words .now) (phis .phis .at) ps (phis .phis .at + 1 + after-skip .skip .result) 0 =
-        λ ps front. pairs-start (a .pred) (a .names) (a .kinds .now) (a .words .now) (phis .phis .at) ps front (is-phi .if1 .left) long in
+    → PairWalk (a .pred) (a .names) (a .kinds .now) (a .words .now) (phis .phis .at) ps (phis .phis .at + 1 + after-skip .skip .result) 0 =
+    λ ps front. pairs-start (a .pred) (a .names) (a .kinds .now) (a .words .now) (phis .phis .at) ps front (is-phi .if1 .left) long in
     (omega (arith, start (walk .todo) (walk .front) .at .long, long), start)
 
 -- src/lib.rt:139:15
@@ -297,12 +297,14 @@ loop-again c =
     let a = entry .args in
     let walk = phis .phis .inv .1 (entry .pre .ctx) (entry .pre .phis) (entry .pre .locals) (entry .pre .front) in
     let pairs = loop .loop .inv .1 (walk .todo) (walk .front) in
-    let inside = pair-in (a .pred) (a .names) (a .kinds .now) (a .words .now) (phis .phis .at) (walk .todo) pairs in
-    (omega (arith, loop .loop .inv .0), λ ps front.
-        pair-more (a .pred) (a .names) (a .kinds .now) (a .words .now) (phis .phis .at) ps (loop .loop .inv .1 ps front) (turn .if2 .taken)
-        (λ is i f label value. ⊎-elim
-            (λ w. found-hit (a .names) (a .pred) (a .kinds .now) (a .words .now) is i f label (w .0 .taken) (λ z. omega (arith, loop .loop .inv .0)) (w .1) value)
-            (λ w. found-miss (a .names) (a .pred) (a .kinds .now) (a .words .now) is i f label (w .0 .left) (w .1)) (c .if3 .came)))
+    let inside = pair-in (a .pred) (a .names) (a .kinds .now) (a .words .now) (phis .phis .at) (walk .todo) pairs in (
+      omega (arith, loop .loop .inv .0),
+      λ ps front.
+          pair-more (a .pred) (a .names) (a .kinds .now) (a .words .now) (phis .phis .at) ps (loop .loop .inv .1 ps front) (turn .if2 .taken)
+          (λ is i f label value. ⊎-elim
+          (λ w. found-hit (a .names) (a .pred) (a .kinds .now) (a .words .now) is i f label (w .0 .taken) (λ z. omega (arith, loop .loop .inv .0)) (w .1) value)
+          (λ w. found-miss (a .names) (a .pred) (a .kinds .now) (a .words .now) is i f label (w .0 .left) (w .1)) (c .if3 .came)),
+    )
 
 -- src/lib.rt:145:22
 mul-note : tie.Need-mul-note Inv-loop μ-loop Inv-phis μ-phis
@@ -392,11 +394,13 @@ phis-again c =
     let closed = after-note .before .before in
     let loop = closed .before .before in
     let phis = loop .before .before .before .before .before .before in
-    let a = phis .before .before .before .before .before .before .args in
-    (omega (arith, phis .phis .inv .0, loop .loop .inv .0), λ k ps maps front.
-        let walk = phis .phis .inv .1 k ps maps front in
-        walk-more k (a .pred) (a .names) (a .kinds .now) (a .words .now) (a .work .now) ps walk maps (loop .loop .inv .1 (walk .todo) (walk .front)) (closed .if2 .left)
-        (after-note .note .ensures) (after-push .push-found .ensures) (after-push .push-found .kept .1 .1 .1 .1 .1 .0) (after-push .push-found .kept .1 .1 .1 .1 .1 .1 .0))
+    let a = phis .before .before .before .before .before .before .args in (
+      omega (arith, phis .phis .inv .0, loop .loop .inv .0),
+      λ k ps maps front.
+          let walk = phis .phis .inv .1 k ps maps front in
+          walk-more k (a .pred) (a .names) (a .kinds .now) (a .words .now) (a .work .now) ps walk maps (loop .loop .inv .1 (walk .todo) (walk .front)) (closed .if2 .left)
+          (after-note .note .ensures) (after-push .push-found .ensures) (after-push .push-found .kept .1 .1 .1 .1 .1 .0) (after-push .push-found .kept .1 .1 .1 .1 .1 .1 .0),
+    )
 
 -- src/lib.rt:152:18
 noted-first-requires : tie.Need-noted-first-requires Inv-loop μ-loop Inv-phis μ-phis

@@ -101,11 +101,11 @@ loop-again c =
     let loop = turn .before in
     let a = loop .before .before .before .before .before .before .args in
     λ ps front e.
-        let walk = loop .loop .inv ps front e in
-        set-next (a .names) (a .kinds .now) (a .words .now) (a .work .now) ps walk (turn .loop-test .taken)
-        (c .behind-phi .ensures (walk .todo) (set-phi (a .names) (a .kinds .now) (a .words .now) (a .work .now) ps walk (turn .loop-test .taken)))
-        (after-put .before .wrapping-add-usize .ensures) (after-put .put-at .ensures .0)
-        (after-put .put-at .ensures .1 ∙ ap (λ x. set (loop .loop .operands) (after-put .before .wrapping-add-usize .result) (x % 2 ^ 64)) (after-slot .slot-number .ensures))
+    let walk = loop .loop .inv ps front e in
+    set-next (a .names) (a .kinds .now) (a .words .now) (a .work .now) ps walk (turn .loop-test .taken)
+    (c .behind-phi .ensures (walk .todo) (set-phi (a .names) (a .kinds .now) (a .words .now) (a .work .now) ps walk (turn .loop-test .taken)))
+    (after-put .before .wrapping-add-usize .ensures) (after-put .put-at .ensures .0)
+    (after-put .put-at .ensures .1 ∙ ap (λ x. set (loop .loop .operands) (after-put .before .wrapping-add-usize .result) (x % 2 ^ 64)) (after-slot .slot-number .ensures))
 
 -- src/lib.rt:242:13
 beyond-requires : tie.Need-beyond-requires Inv-loop μ-loop
