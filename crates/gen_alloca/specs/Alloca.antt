@@ -1,8 +1,8 @@
 -- `alloca`: where the count and the stated align stand, and `gen_dynamic_alloca` and the fixed place from their parts.
 use Prim.Native.Nat.{ℕ, _+_, _-_, _*_, _<_, _≤_, _^_, max}
-use mathlib.Core.Path.{_≡_, refl, sym, ap, subst, _∙_}
+use mathlib.Core.Path.{_≡_, refl, sym, ap, _∙_}
 use mathlib.Core.Bool.{not}
-use mathlib.Core.List.{List, [], _∷_}
+use mathlib.Core.List.{List, _∷_}
 use mathlib.Core.Option.{Option, none, some}
 use native.Mathlib.Omega.{arith}
 use borrow.Author.Tests.{eq-eqb, ne-eqb}
@@ -13,15 +13,15 @@ use Rattle.book.specs.Entry.{Entry, entries}
 use Rattle.book.specs.Kinds.{InstTag}
 use Rattle.book.specs.Fields.{Item, Field, Meanings, instFields}
 use Rattle.book.specs.Map.{lookup}
-use Rattle.book.specs.Result.{ok, err, okOr, bind}
+use Rattle.book.specs.Result.{okOr, bind}
 use Rattle.book_types.specs.Laws.{entries-part}
 use Rattle.layout.specs.Layout.{sizeOf}
 use Rattle.layout_memo.specs.Front.{tyLen}
-use Rattle.layout_memo.specs.Work.{Ready, After, after-none}
+use Rattle.layout_memo.specs.Work.{After, after-none}
 use Rattle.layout_memo.specs.Calls.{lent}
 use Rattle.assembly.specs.Line.{Line, Work}
 use Rattle.assembly.specs.Number.{kindOf, operandOf, operation, binNumber}
-use Rattle.lowering.specs.Gen.{Gen, line, skip, refuse, _>>=_, _>>_, when}
+use Rattle.lowering.specs.Gen.{Gen, line, refuse, _>>=_, _>>_, when}
 use Rattle.lowering.specs.Context.{FnCtx}
 use Rattle.lowering.specs.Operand.{pushInt, pushValue, storeDest, add64, mul64}
 use Rattle.lowering.specs.Memory.{alignOr, pushCount, genDynamicAlloca, fixedPlace, placeOf, genAlloca}

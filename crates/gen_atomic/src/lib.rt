@@ -8,7 +8,6 @@ use gen_values::need;
 use gen_values::store_dest;
 use layout_memo::skip;
 use std::num::wrapping_add_u64;
-ghost use mathlib.Core.Path.{_≡_};
 ghost use mathlib.Core.List.{List, _∷_};
 ghost use Prim.Native.Nat.{ℕ, _+_, _*_, _<_, _≤_};
 ghost use lib.ListN.{length};

@@ -2,7 +2,6 @@
 use native.Mathlib.Omega.{arith}
 use Prim.Native.Nat.{_+_}
 use mathlib.Core.Path.{_∙_}
-use lib.ListN.{drop}
 use Rattle.book.specs.Entry.{entries}
 use Rattle.gen_values.specs.Fields.{value-at, behind-value}
 use Rattle.gen_fields.specs.Places as places

@@ -1,7 +1,6 @@
 -- `gen_memory::gen_store` meets its contract.
 use native.Mathlib.Omega.{arith}
 use Prim.Native.Nat.{_+_}
-use mathlib.Core.Path.{_∙_}
 use Rattle.gen_values.specs.Fields.{value-at, behind-value}
 use Rattle.gen_size.specs.Lent as lent
 use Rattle.gen_fields.specs.Places as places
