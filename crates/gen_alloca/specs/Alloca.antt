@@ -32,7 +32,8 @@ use Rattle.gen_values.specs.Values.{destOf, DestReaches}
 use Rattle.gen_values.specs.Maps.{Maps}
 use Rattle.gen_values.specs.Push.{some-of, none-of, bare-puts, get-local-puts}
 use Rattle.gen_values.specs.Fields.{Fields, ValueAt, type-in, behind-value}
-use Rattle.gen_fields.specs.Places.{OperandAt, operand-at, behind, typed-value}
+use Rattle.gen_fields.specs.Places.{behind, typed-value}
+use Rattle.gen_values.specs.Fields.{OperandAt, operand-at}
 use Rattle.gen_fields.specs.Items.{AlignAt, AlignSays, absent-kind, behind-absent, present, type-kind, value-kind}
 use Rattle.gen_size.specs.declared.Bytes.{Bytes}
 use Rattle.gen_size.specs.Sizes.{Measurable, AlignAsked}

@@ -18,30 +18,13 @@ use Rattle.gen_lines.specs.declared.Reached.{Reached}
 use Rattle.gen_lines.specs.Puts.{Puts, orElse, madeRefused}
 use Rattle.gen_lines.specs.Follow.{asked-puts}
 use Rattle.gen_values.specs.Values.{widthBy, Reaches}
-use Rattle.gen_values.specs.Fields.{Fields, ValueAt, entry-at, value-at, behind-type, type-in, asked-width}
+use Rattle.gen_values.specs.Fields.{Fields, ValueAt, OperandAt, operand-at, entry-at, value-at, behind-type, type-in, asked-width}
 
--- a value is there, and a local's work words
-pub record OperandAt (ks ws : List ℕ) (a : ℕ) (work : List ℕ) : Type 0 where
-  pub in-kinds : a < length ks
-  pub in-words : a < length ws
-  pub reaches : Reaches (getD ks a 0) (getD ws a 0) work
-
--- and the entry that begins its type
+-- a value and the entry that begins its type
 pub record TypedAt (ks ws : List ℕ) (ty a : ℕ) (work : List ℕ) : Type 0 where
   pub type-kinds : ty < length ks
   pub type-words : ty < length ws
   pub value : OperandAt ks ws a work
-
-local-below : (m w : ℕ) (v : Value) → ValueLimits m v → v ≡ Value.local w → w < m
-local-below m w v l e = rw e at l
-
-pub operand-at : {m : ℕ} {ks ws : List ℕ} {a : ℕ} {v : Value} {work : List ℕ} → ValueAt m ks ws a v → 8 * m ≤ length work → OperandAt ks ws a work
-operand-at {m} {ks} {ws} {a} {v} q room =
-    record {
-      in-kinds = q .in-kinds;
-      in-words = q .in-words;
-      reaches = record { there = λ e. omega (arith, local-below m (getD ws a 0) v (q .limits) (sym (q .is) ∙ e)) };
-    }
 
 -- a place behind what stands at the front
 pub from-front : {a n : ℕ} → a ≡ n → a ≡ 0 + n
