@@ -1,8 +1,8 @@
 -- `alloca`: where the count and the stated align stand, and `gen_dynamic_alloca` and the fixed place from their parts.
 use Prim.Native.Nat.{ℕ, _+_, _-_, _*_, _<_, _≤_, _^_, max}
-use mathlib.Core.Path.{_≡_, refl, sym, ap, subst, _∙_}
+use mathlib.Core.Path.{_≡_, refl, sym, ap, _∙_}
 use mathlib.Core.Bool.{not}
-use mathlib.Core.List.{List, [], _∷_}
+use mathlib.Core.List.{List, _∷_}
 use mathlib.Core.Option.{Option, none, some}
 use native.Mathlib.Omega.{arith}
 use borrow.Author.Tests.{eq-eqb, ne-eqb}
@@ -13,15 +13,15 @@ use Rattle.book.specs.Entry.{Entry, entries}
 use Rattle.book.specs.Kinds.{InstTag}
 use Rattle.book.specs.Fields.{Item, Field, Meanings, instFields}
 use Rattle.book.specs.Map.{lookup}
-use Rattle.book.specs.Result.{ok, err, okOr, bind}
+use Rattle.book.specs.Result.{okOr, bind}
 use Rattle.book_types.specs.Laws.{entries-part}
 use Rattle.layout.specs.Layout.{sizeOf}
 use Rattle.layout_memo.specs.Front.{tyLen}
-use Rattle.layout_memo.specs.Work.{Ready, After, after-none}
+use Rattle.layout_memo.specs.Work.{After, after-none}
 use Rattle.layout_memo.specs.Calls.{lent}
 use Rattle.assembly.specs.Line.{Line, Work}
 use Rattle.assembly.specs.Number.{kindOf, operandOf, operation, binNumber}
-use Rattle.lowering.specs.Gen.{Gen, line, skip, refuse, _>>=_, _>>_, when}
+use Rattle.lowering.specs.Gen.{Gen, line, refuse, _>>=_, _>>_, when}
 use Rattle.lowering.specs.Context.{FnCtx}
 use Rattle.lowering.specs.Operand.{pushInt, pushValue, storeDest, add64, mul64}
 use Rattle.lowering.specs.Memory.{alignOr, pushCount, genDynamicAlloca, fixedPlace, placeOf, genAlloca}
@@ -32,7 +32,8 @@ use Rattle.gen_values.specs.Values.{destOf, DestReaches}
 use Rattle.gen_values.specs.Maps.{Maps}
 use Rattle.gen_values.specs.Push.{some-of, none-of, bare-puts, get-local-puts}
 use Rattle.gen_values.specs.Fields.{Fields, ValueAt, type-in, behind-value}
-use Rattle.gen_fields.specs.Places.{OperandAt, operand-at, behind, typed-value}
+use Rattle.gen_fields.specs.Places.{behind, typed-value}
+use Rattle.gen_values.specs.Fields.{OperandAt, operand-at}
 use Rattle.gen_fields.specs.Items.{AlignAt, AlignSays, absent-kind, behind-absent, present, type-kind, value-kind}
 use Rattle.gen_size.specs.declared.Bytes.{Bytes}
 use Rattle.gen_size.specs.Sizes.{Measurable, AlignAsked}

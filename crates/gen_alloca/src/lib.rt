@@ -1,12 +1,12 @@
 // `alloca`: a fixed place is the frame's base and an offset, a varying one moves the stack pointer. The entries are lent from
 // the type on; word 3 of a result's name has its offset with 1 added, 0 for none.
-use gen_fields::push_at;
 use gen_lines::Reached;
 use gen_lines::put;
 use gen_lines::refuse;
 use gen_size::Bytes;
 use gen_size::measured_align;
 use gen_size::measured_size;
+use gen_values::push_at;
 use gen_values::push_int;
 use gen_values::store_dest;
 use layout_memo::larger;
@@ -14,7 +14,7 @@ use layout_memo::skip;
 ghost use mathlib.Core.Path.{_≡_};
 ghost use mathlib.Core.List.{List, _∷_};
 ghost use mathlib.Core.Option.{Option};
-ghost use Prim.Native.Nat.{ℕ, _<_, _≤_};
+ghost use Prim.Native.Nat.{ℕ, _≤_};
 ghost use lib.ListN.{drop};
 ghost use Rattle.book.specs.Ast.{TypedVal};
 ghost use Rattle.book.specs.Entry.{entries};

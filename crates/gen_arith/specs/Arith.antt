@@ -19,7 +19,7 @@ use Rattle.layout_memo.specs.Front.{tyLen}
 use Rattle.gen_lines.specs.declared.Reached.{Reached}
 use Rattle.gen_lines.specs.Puts.{Puts, Lined, same-puts, then-puts}
 use Rattle.gen_lines.specs.Follow.{Asked, asked-puts}
-use Rattle.gen_values.specs.Fields.{Fields, ValueAt, ValueThere, value-at, behind-value, behind-type, type-in}
+use Rattle.gen_values.specs.Fields.{Fields, ValueAt, OperandAt, operand-at, value-at, behind-value, behind-type, type-in}
 use Rattle.gen_values.specs.Push.{bare-puts}
 use Rattle.gen_values.specs.Widths.{bin-puts}
 
@@ -59,15 +59,15 @@ module _ {m : ℕ} {fs : List Field} {p : Meanings (Field.plain Item.type ∷ Fi
   pub behind-first : Fields m fs (p .1 .1) (drop (n + 1) (entries ks ws))
   behind-first = behind-value ks ws n behind
 
-  pub first-there : (work : List ℕ) → 8 * m + 64 ≤ length work → ValueThere ks ws n work
-  first-there work r = record { names = m; value = p .1 .0; here = first-value; room = omega (arith, r) }
+  pub first-there : (work : List ℕ) → 8 * m + 64 ≤ length work → OperandAt ks ws n work
+  first-there work r = operand-at first-value (omega (arith, r))
 
 module _ {m : ℕ} {p : Meanings twoValues} (ks ws : List ℕ) (f : Fields m twoValues p (entries ks ws)) {n : ℕ} (e : n ≡ tyLen m (entries ks ws)) where
   pub second-value : ValueAt m ks ws (n + 1) (p .1 .1 .0)
   second-value = value-at ks ws (n + 1) (behind-first ks ws f e)
 
-  pub second-there : (work : List ℕ) → 8 * m + 64 ≤ length work → ValueThere ks ws (n + 1) work
-  second-there work r = record { names = m; value = p .1 .1 .0; here = second-value; room = omega (arith, r) }
+  pub second-there : (work : List ℕ) → 8 * m + 64 ≤ length work → OperandAt ks ws (n + 1) work
+  second-there work r = operand-at second-value (omega (arith, r))
 
 -- ---- the lines
 module _ {s t : Reached} {ks os ks′ os′ : List ℕ} where

@@ -1,24 +1,23 @@
 -- Atomics, `gen_cmpxchg` and `gen_extractvalue` from their parts.
-use Prim.Native.Nat.{ℕ, _+_, _-_, _*_, _<_, _≤_, _%_, _^_}
+use Prim.Native.Nat.{ℕ, _+_, _-_, _*_, _<_, _%_, _^_}
 use mathlib.Core.Path.{_≡_, refl, sym, ap, subst, _∙_}
 use mathlib.Core.Bool.{Bool, true, false, not}
-use mathlib.Core.List.{List, _∷_}
-use mathlib.Core.Option.{Option, none, some}
+use mathlib.Core.List.{List}
+use mathlib.Core.Option.{Option}
 use native.Mathlib.Omega.{arith}
 use borrow.Author.Tests.{eq-eqb, ne-eqb, leb-true, leb-false, lt-ltb, le-ltb}
-use lib.ListN.{length, drop, getD}
+use lib.ListN.{drop, getD}
 use lib.Dec.{eqb, leb, ltb}
 use Rattle.book.specs.Ast.{Ty, Value, ICmpPred}
 use Rattle.book.specs.Entry.{Entry}
 use Rattle.book.specs.Fields.{Field, Meanings}
-use Rattle.book.specs.Kinds.{instKind}
 use Rattle.book.specs.Limits.{ValueLimits}
 use Rattle.book.specs.Map.{lookup}
-use Rattle.book.specs.Result.{Result, ok, err, okOr}
+use Rattle.book.specs.Result.{okOr}
 use Rattle.layout.specs.Layout.{sizeOf}
 use Rattle.assembly.specs.Line.{Line, Work}
 use Rattle.assembly.specs.Number.{kindOf, operandOf, operation, icmpNumber}
-use Rattle.lowering.specs.Gen.{Gen, line, refuse, _>>=_, _>>_, when}
+use Rattle.lowering.specs.Gen.{Gen, line, refuse, _>>_, when}
 use Rattle.lowering.specs.Context.{FnCtx, named, slotOf}
 use Rattle.lowering.specs.Operand.{pushValue, storeDest}
 use Rattle.lowering.specs.Memory.{requireAtomicWidth, genAtomicLoad, genAtomicStore, genCmpxchg, aggSlot, genExtractValue}

@@ -1,14 +1,13 @@
 // Atomics, and the two slots of a `cmpxchg`. The entries are lent from the first field on.
-use gen_fields::push_at;
 use gen_lines::Reached;
 use gen_lines::put;
 use gen_lines::refuse;
 use gen_size::measured_size;
 use gen_values::need;
+use gen_values::push_at;
 use gen_values::store_dest;
 use layout_memo::skip;
 use std::num::wrapping_add_u64;
-ghost use mathlib.Core.Path.{_≡_};
 ghost use mathlib.Core.List.{List, _∷_};
 ghost use Prim.Native.Nat.{ℕ, _+_, _*_, _<_, _≤_};
 ghost use lib.ListN.{length};
@@ -26,7 +25,7 @@ ghost use Rattle.gen_lines.specs.Follow.{Asked};
 ghost use Rattle.gen_values.specs.Values.{valueOf, Reaches, destOf, DestReaches};
 ghost use Rattle.gen_values.specs.Maps.{Locals, Maps, Did};
 ghost use Rattle.gen_values.specs.Fields.{Fields, ValueAt};
-ghost use Rattle.gen_fields.specs.Places.{OperandAt};
+ghost use Rattle.gen_values.specs.Fields.{OperandAt};
 ghost use Rattle.gen_fields.specs.Given.{Given};
 ghost use Rattle.gen_size.specs.Sizes.{Measurable};
 ghost use Rattle.gen_size.specs.Lent.{Lent};

@@ -1,12 +1,12 @@
 -- The arguments of a call, from a place on: counted, and pushed one after the other.
-use Prim.Native.Nat.{ℕ, _+_, _*_, _<_, _≤_, _^_}
+use Prim.Native.Nat.{ℕ, _+_, _<_, _≤_}
 use mathlib.Core.Path.{_≡_, refl, sym, ap, subst, _∙_}
 use mathlib.Core.List.{List, [], _∷_, _++_, append-assoc, append-nil}
 use native.Mathlib.Omega.{arith}
-use lib.ListN.{length, drop, getD, length-append}
+use lib.ListN.{length, drop, getD}
 use Rattle.book.specs.Ast.{TypedVal}
-use Rattle.book.specs.Entry.{Entry, entries}
-use Rattle.book.specs.Fields.{Item, Field, Meanings}
+use Rattle.book.specs.Entry.{entries}
+use Rattle.book.specs.Fields.{Item, Field}
 use Rattle.book_types.specs.Laws.{entries-part}
 use Rattle.layout_memo.specs.Front.{tyLen}
 use Rattle.layout_memo.specs.Calls.{lent}
@@ -18,7 +18,7 @@ use Rattle.gen_lines.specs.Puts.{Puts}
 use Rattle.gen_lines.specs.Follow.{none-puts, more-puts}
 use Rattle.gen_values.specs.Maps.{Locals}
 use Rattle.gen_values.specs.Fields.{Fields, type-in, behind-value}
-use Rattle.gen_fields.specs.Places.{TypedAt, behind, typed-value, typed-at}
+use Rattle.gen_fields.specs.Places.{behind, typed-value}
 use Rattle.gen_fields.specs.Items.{type-kind, first-typed, list-closes}
 
 -- these arguments, and nothing behind them

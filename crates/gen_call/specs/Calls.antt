@@ -1,6 +1,6 @@
 -- Which way a callee is called, and calls from their parts.
 use Prim.Native.Nat.{ℕ, _+_, _*_, _<_, _≤_, _%_, _^_}
-use mathlib.Core.Path.{_≡_, refl, sym, ap, subst, _∙_}
+use mathlib.Core.Path.{_≡_, refl, sym, ap, _∙_}
 use mathlib.Core.Bool.{Bool, true, false, cond, not, _||_}
 use mathlib.Core.Option.{Option, none, some}
 use mathlib.Core.List.{List, [], _∷_, _++_}
@@ -15,11 +15,11 @@ use Rattle.book.specs.Decode.{member}
 use Rattle.book.specs.Encode.{encTy}
 use Rattle.book.specs.Entry.{Entry, entries}
 use Rattle.book.specs.Fields.{Item, Field, Meanings}
-use Rattle.book.specs.Kinds.{tyKind, ValTag, valTag}
+use Rattle.book.specs.Kinds.{ValTag, valTag}
 use Rattle.book.specs.Limits.{ValueLimits}
 use Rattle.assembly.specs.Line.{Line}
 use Rattle.assembly.specs.Number.{kindOf, operandOf}
-use Rattle.lowering.specs.Gen.{Gen, line, skip, refuse, _>>_, when, choose}
+use Rattle.lowering.specs.Gen.{refuse, when, choose}
 use Rattle.lowering.specs.Context.{Codegen, FnCtx}
 use Rattle.lowering.specs.Operand.{pushValue, storeOrPop}
 use Rattle.lowering.specs.Call.{isVoid, pushArgs, callTarget, genPlainCall, genSyscall, genMemcmpCall, callNamed, genCall}

@@ -15,7 +15,7 @@ use Rattle.gen_lines.specs.declared.Reached.{Reached}
 use Rattle.gen_lines.specs.Puts.{Puts, orElse}
 use Rattle.gen_values.specs.Maps.{Locals}
 use Rattle.gen_values.specs.Values.{valueOf, widthBy, Reaches, DestReaches}
-use Rattle.gen_values.specs.Fields.{WidthSays, ValueAt}
+use Rattle.gen_values.specs.Fields.{operand-at, WidthSays, ValueAt}
 use Rattle.gen_edge.specs.Phis.{Phi, Leading, Pairs, PhiAt, pairs-in, pairs-end, pairs-next, leading-in, leading-end, leading-next}
 use Rattle.gen_edge.specs.Copies.{FoundAt, Pushed, copyAt, noted, noted-found, asked-phi, pushed-none, pushed-more, found-none, dest-reaches}
 
@@ -61,8 +61,7 @@ pub record PushAsk (ks ws work : List ℕ) (ty found : ℕ) : Type 0 where
 
 -- ---- pairs
 pub value-reaches : (m : ℕ) {ks ws work : List ℕ} {a : ℕ} {v : Value} → ValueAt m ks ws a v → 8 * m + 64 ≤ length work → Reaches (getD ks a 0) (getD ws a 0) work
-value-reaches m {ks} {ws} {work} {a} {v} q room =
-    record { there = λ e. let l : getD ws a 0 < m = subst (λ (x : Value). ValueLimits m x) (sym (q .is) ∙ e) (q .limits) in omega arith }
+value-reaches m {ks} {ws} {work} q room = operand-at {work = work} q (omega (arith, room)) .reaches
 
 module _ (pred m : ℕ) (ks ws : List ℕ) (place : ℕ) (ps : List Phi) where
   pub pairs-start : Leading m ps (drop place (entries ks ws)) → getD ks place 0 ≡ 75 → {n : ℕ} → n ≡ tyLen m (drop (place + 1) (entries ks ws))

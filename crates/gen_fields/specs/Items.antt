@@ -1,6 +1,6 @@
 -- Fields that may be absent and lists, read item by item: a typed value is a type and the value behind it.
 use Prim.Native.Nat.{ℕ, _+_, _≤_, _<_}
-use mathlib.Core.Path.{_≡_, refl, sym, ap, subst, _∙_}
+use mathlib.Core.Path.{_≡_, ap, _∙_}
 use mathlib.Core.Bool.{true, false}
 use mathlib.Core.Option.{Option, none, some}
 use mathlib.Core.List.{List, [], _∷_, _++_, append-assoc}
@@ -9,10 +9,9 @@ use lib.ListN.{length, drop, getD, length-drop}
 use Rattle.numbers.specs.Align.{align-bounds}
 use Rattle.book.specs.Ast.{Ty, Value, TypedVal, Sizeless, Zero}
 use Rattle.book.specs.Entry.{Entry, entry, entries}
-use Rattle.book.specs.Kinds.{tyKind, valKind}
 use Rattle.book.specs.Fields.{Item, Field, Meanings}
-use Rattle.book.specs.Encode.{encTy, encTyped, encFields, ending, closed, valueEntry}
-use Rattle.gen_values.specs.Fields.{Fields, ValueAt, entry-at, value-at, behind-value}
+use Rattle.book.specs.Encode.{encTy, encFields, ending, valueEntry}
+use Rattle.gen_values.specs.Fields.{Fields, entry-at}
 
 abbrev type : Field
 type = Field.plain Item.type

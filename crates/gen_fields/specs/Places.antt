@@ -1,48 +1,30 @@
 -- Places of values and types among the lent entries: what pushing asks of them, and the laws that read them.
 use Prim.Native.Nat.{ℕ, _+_, _*_, _<_, _≤_}
-use mathlib.Core.Path.{_≡_, refl, sym, ap, subst, _∙_}
+use mathlib.Core.Path.{_≡_, refl, sym, subst, _∙_}
 use mathlib.Core.Bool.{Bool, not}
 use mathlib.Core.List.{List, _∷_, _++_}
 use native.Mathlib.Omega.{arith}
 use lib.ListN.{length, drop, getD}
 use lib.Dec.{eqb}
 use Rattle.book.specs.Ast.{Value}
-use Rattle.book.specs.Entry.{Entry, entry, entries}
+use Rattle.book.specs.Entry.{entry, entries}
 use Rattle.book.specs.Encode.{encFields}
 use Rattle.book.specs.Fields.{Item, Field, Meanings}
 use Rattle.book.specs.Limits.{ValueLimits}
-use Rattle.lowering.specs.Gen.{_>>=_}
 use Rattle.lowering.specs.Context.{FnCtx}
-use Rattle.lowering.specs.Operand.{pushValue, pushTyped, intWidth}
+use Rattle.lowering.specs.Operand.{pushValue, pushTyped}
 use Rattle.layout_memo.specs.Front.{tyLen}
 use Rattle.gen_lines.specs.declared.Reached.{Reached}
 use Rattle.gen_lines.specs.Puts.{Puts, orElse, madeRefused}
 use Rattle.gen_lines.specs.Follow.{asked-puts}
-use Rattle.gen_values.specs.Values.{valueOf, widthBy, Reaches}
-use Rattle.gen_values.specs.Fields.{Fields, ValueAt, entry-at, value-at, behind-type, type-in, asked-width}
+use Rattle.gen_values.specs.Values.{widthBy, Reaches}
+use Rattle.gen_values.specs.Fields.{Fields, ValueAt, OperandAt, operand-at, entry-at, value-at, behind-type, type-in, asked-width}
 
--- a value is there, and a local's work words
-pub record OperandAt (ks ws : List ℕ) (a : ℕ) (work : List ℕ) : Type 0 where
-  pub in-kinds : a < length ks
-  pub in-words : a < length ws
-  pub reaches : Reaches (getD ks a 0) (getD ws a 0) work
-
--- and the entry that begins its type
+-- a value and the entry that begins its type
 pub record TypedAt (ks ws : List ℕ) (ty a : ℕ) (work : List ℕ) : Type 0 where
   pub type-kinds : ty < length ks
   pub type-words : ty < length ws
   pub value : OperandAt ks ws a work
-
-local-below : (m w : ℕ) (v : Value) → ValueLimits m v → v ≡ Value.local w → w < m
-local-below m w v l e = rw e at l
-
-pub operand-at : {m : ℕ} {ks ws : List ℕ} {a : ℕ} {v : Value} {work : List ℕ} → ValueAt m ks ws a v → 8 * m ≤ length work → OperandAt ks ws a work
-operand-at {m} {ks} {ws} {a} {v} q room =
-    record {
-      in-kinds = q .in-kinds;
-      in-words = q .in-words;
-      reaches = record { there = λ e. omega (arith, local-below m (getD ws a 0) v (q .limits) (sym (q .is) ∙ e)) };
-    }
 
 -- a place behind what stands at the front
 pub from-front : {a n : ℕ} → a ≡ n → a ≡ 0 + n

@@ -2,7 +2,7 @@
 use gen_lines::Reached;
 use gen_values::int_width;
 use gen_values::need;
-use gen_values::push_value;
+use gen_values::push_at;
 ghost use mathlib.Core.Path.{_≡_};
 ghost use mathlib.Core.List.{List, _∷_};
 ghost use Prim.Native.Nat.{ℕ, _+_};
@@ -16,25 +16,7 @@ ghost use Rattle.layout_memo.specs.Front.{tyLen};
 ghost use Rattle.gen_lines.specs.Puts.{Puts};
 ghost use Rattle.gen_values.specs.Maps.{Locals};
 ghost use Rattle.gen_values.specs.Fields.{Fields, ValueAt};
-ghost use Rattle.gen_fields.specs.Places.{OperandAt, TypedAt};
-
-// `push_value` of the value at a place.
-pub fn push_at(
-    kinds: &[u64],
-    words: &[u64],
-    at: usize,
-    width: u32,
-    work: &[u64],
-    lines: &mut [u16],
-    operands: &mut [u64],
-    s: Reached,
-) -> Reached
-    requires { ⌜ OperandAt (now kinds) (now words) at (now work) ⌝ }
-    ensures { λ r. ⌜ ((m : ℕ) (c : FnCtx) (v : Value) → ValueAt m (now (kinds .entry)) (now (words .entry)) at v → Locals c m (now (work .entry))
-        → Puts (pushValue c v width) s r (now (lines .entry)) (now (operands .entry)) (now (lines .exit)) (now (operands .exit))) ⌝ }
-{
-    push_value(kinds[at], words[at], width, work, lines, operands, s)
-}
+ghost use Rattle.gen_fields.specs.Places.{TypedAt};
 
 // A value at its type's width: the type starts at the place `ty`, and the value stands behind it, at the place `at`.
 pub fn push_typed(

@@ -15,7 +15,7 @@ use Rattle.layout_memo.specs.Work.{Ready, structsIn}
 use Rattle.lowering.specs.Gep.{Walk as GepWalk, start, took, walk}
 use Rattle.gen_lines.specs.declared.Reached.{Reached}
 use Rattle.gen_lines.specs.Follow.{Asked, asked-ok}
-use Rattle.gen_values.specs.Fields.{Fields, ValueAt, ValueThere, type-in, type-starts, type-is}
+use Rattle.gen_values.specs.Fields.{Fields, ValueAt, OperandAt, operand-at, type-in, type-starts, type-is}
 use Rattle.gen_gep.specs.declared.Way.{Way}
 use Rattle.gen_gep.specs.Indices.{indexList, indexThen, gepFields, indexIn, More, list-more, list-done, list-in, value-behind, list-behind}
 use Rattle.gen_gep.specs.Terms.{TermsAsk, Stays, stays-none, stays-then}
@@ -134,8 +134,8 @@ module _ {m : ℕ} {bk bw work : List ℕ} {at : ℕ} (t : GepAsk m bk bw work a
   walk-asked = record { lent = t; list = indices-at (t .fields) }
 
   module _ {work′ : List ℕ} {whole : Result GepWalk} {s : Reached} {w : Way} (l : Walked m bk bw work work′ whole s w) where
-    pub pointer-there : ValueThere bk bw pointer work′
-    pointer-there = record { names = m; value = _; here = pointer-at (t .fields); room = omega (arith, t .room, l .stays .long) }
+    pub pointer-there : OperandAt bk bw pointer work′
+    pointer-there = operand-at (pointer-at (t .fields)) (omega (arith, t .room, l .stays .long))
 
     pub terms-asked : TermsAsk m bk bw work′ (w .terms)
     terms-asked = record { kept = l .walk .varTerms; count = l .here .count; few = l .few; terms = l .here .terms; room = omega (arith, t .room, l .stays .long) }

@@ -44,6 +44,12 @@ bodyGen c d InstKind.fence = skip
 abbrev pub Stores : ℕ → Type 0
 Stores kind = (kind ≤ 71) ⊎ ((kind ≡ 74) ⊎ ((kind ≡ 77) ⊎ (kind ≡ 78)))
 
+pub record Unstored (kind : ℕ) : Type 0 where
+  pub high : 71 < kind
+  pub no-gep : kind ≡ 74 → ⊥
+  pub no-freeze : kind ≡ 77 → ⊥
+  pub no-atomic : kind ≡ 78 → ⊥
+
 -- the result is stored behind the value
 pub result : (c : FnCtx) {t u : Reached} {ks os ks′ os′ : List ℕ} (dest : ℕ) (d : Option ℕ) → dest ≡ destWord d → Puts (storeDest c (destOf dest)) t u ks os ks′ os′
     → Puts (storeDest c d) t u ks os ks′ os′
@@ -54,40 +60,58 @@ other-kind : (n : ℕ) {kind : ℕ} → kind ≡ n → (71 < n) → (n ≡ 74 �
 other-kind n e l a b d = ⊎-elim (λ x. omega arith) (⊎-elim (λ x. a (sym e ∙ x)) (⊎-elim (λ x. b (sym e ∙ x)) (λ x. d (sym e ∙ x))))
 
 -- the kinds of operations, conversions and comparisons
-pub bin-low : (o : BinOp) → instKind (InstTag.bin o) < 60
-bin-low BinOp.add = omega arith
-bin-low BinOp.sub = omega arith
-bin-low BinOp.mul = omega arith
-bin-low BinOp.udiv = omega arith
-bin-low BinOp.sdiv = omega arith
-bin-low BinOp.urem = omega arith
-bin-low BinOp.srem = omega arith
-bin-low BinOp.and = omega arith
-bin-low BinOp.or = omega arith
-bin-low BinOp.xor = omega arith
-bin-low BinOp.shl = omega arith
-bin-low BinOp.lshr = omega arith
-bin-low BinOp.ashr = omega arith
+pub bin-range : (o : BinOp) → (40 ≤ instKind (InstTag.bin o)) × (instKind (InstTag.bin o) < 60)
+bin-range BinOp.add = (omega arith, omega arith)
+bin-range BinOp.sub = (omega arith, omega arith)
+bin-range BinOp.mul = (omega arith, omega arith)
+bin-range BinOp.udiv = (omega arith, omega arith)
+bin-range BinOp.sdiv = (omega arith, omega arith)
+bin-range BinOp.urem = (omega arith, omega arith)
+bin-range BinOp.srem = (omega arith, omega arith)
+bin-range BinOp.and = (omega arith, omega arith)
+bin-range BinOp.or = (omega arith, omega arith)
+bin-range BinOp.xor = (omega arith, omega arith)
+bin-range BinOp.shl = (omega arith, omega arith)
+bin-range BinOp.lshr = (omega arith, omega arith)
+bin-range BinOp.ashr = (omega arith, omega arith)
 
-pub conv-low : (o : ConvOp) → instKind (InstTag.conv o) < 60
-conv-low ConvOp.trunc = omega arith
-conv-low ConvOp.zext = omega arith
-conv-low ConvOp.sext = omega arith
-conv-low ConvOp.ptrToInt = omega arith
-conv-low ConvOp.intToPtr = omega arith
-conv-low ConvOp.bitCast = omega arith
+pub conv-range : (o : ConvOp) → (40 ≤ instKind (InstTag.conv o)) × (instKind (InstTag.conv o) < 60)
+conv-range ConvOp.trunc = (omega arith, omega arith)
+conv-range ConvOp.zext = (omega arith, omega arith)
+conv-range ConvOp.sext = (omega arith, omega arith)
+conv-range ConvOp.ptrToInt = (omega arith, omega arith)
+conv-range ConvOp.intToPtr = (omega arith, omega arith)
+conv-range ConvOp.bitCast = (omega arith, omega arith)
 
-pub icmp-low : (o : ICmpPred) → instKind (InstTag.icmp o) < 70
-icmp-low ICmpPred.eq = omega arith
-icmp-low ICmpPred.ne = omega arith
-icmp-low ICmpPred.ugt = omega arith
-icmp-low ICmpPred.uge = omega arith
-icmp-low ICmpPred.ult = omega arith
-icmp-low ICmpPred.ule = omega arith
-icmp-low ICmpPred.sgt = omega arith
-icmp-low ICmpPred.sge = omega arith
-icmp-low ICmpPred.slt = omega arith
-icmp-low ICmpPred.sle = omega arith
+pub icmp-range : (o : ICmpPred) → (40 ≤ instKind (InstTag.icmp o)) × (instKind (InstTag.icmp o) < 70)
+icmp-range ICmpPred.eq = (omega arith, omega arith)
+icmp-range ICmpPred.ne = (omega arith, omega arith)
+icmp-range ICmpPred.ugt = (omega arith, omega arith)
+icmp-range ICmpPred.uge = (omega arith, omega arith)
+icmp-range ICmpPred.ult = (omega arith, omega arith)
+icmp-range ICmpPred.ule = (omega arith, omega arith)
+icmp-range ICmpPred.sgt = (omega arith, omega arith)
+icmp-range ICmpPred.sge = (omega arith, omega arith)
+icmp-range ICmpPred.slt = (omega arith, omega arith)
+icmp-range ICmpPred.sle = (omega arith, omega arith)
+
+pub kind-from : (k : InstKind) → 40 ≤ instKind (instTagOf k)
+kind-from (InstKind.bin op ty l r) = bin-range op .0
+kind-from (InstKind.conv op a v b) = conv-range op .0
+kind-from (InstKind.icmp p ty l r) = icmp-range p .0
+kind-from (InstKind.select t ty l r) = omega arith
+kind-from (InstKind.load t p a) = omega arith
+kind-from (InstKind.store t v p a) = omega arith
+kind-from (InstKind.alloca t n a) = omega arith
+kind-from (InstKind.getElementPtr t p is) = omega arith
+kind-from (InstKind.phi t vs) = omega arith
+kind-from (InstKind.call t f vs) = omega arith
+kind-from (InstKind.freeze t v) = omega arith
+kind-from (InstKind.atomicLoad t p) = omega arith
+kind-from (InstKind.atomicStore t v p) = omega arith
+kind-from (InstKind.cmpxchg t p x v) = omega arith
+kind-from (InstKind.extractValue v i) = omega arith
+kind-from InstKind.fence = omega arith
 
 module _ (c : FnCtx) (d : Option ℕ) where
   pub stored-puts : {kind : ℕ} (k : InstKind) {s t u : Reached} {k₀ o₀ k₁ o₁ k₂ o₂ : List ℕ} → kind ≡ instKind (instTagOf k) → Stores kind
@@ -110,22 +134,22 @@ module _ (c : FnCtx) (d : Option ℕ) where
   stored-puts (InstKind.extractValue x i) e b p q = absurd (other-kind 81 e (omega arith) (λ z. omega arith) (λ z. omega arith) (λ z. omega arith) b)
   stored-puts InstKind.fence e b p q = absurd (other-kind 82 e (omega arith) (λ z. omega arith) (λ z. omega arith) (λ z. omega arith) b)
 
-  pub unstored-puts : {kind : ℕ} (k : InstKind) {s t : Reached} {ks os ks′ os′ : List ℕ} → kind ≡ instKind (instTagOf k) → 71 < kind → (kind ≡ 74 → ⊥) → (kind ≡ 77 → ⊥) → (kind ≡ 78 → ⊥)
+  pub unstored-puts : {kind : ℕ} (k : InstKind) {s t : Reached} {ks os ks′ os′ : List ℕ} → kind ≡ instKind (instTagOf k) → Unstored kind
       → Puts (bodyGen c d k) s t ks os ks′ os′ → Puts (genKind c d k) s t ks os ks′ os′
   unfolding genKind bodyGen
-  unstored-puts (InstKind.bin op ty l r) e l′ x y z p = absurd (omega (arith, bin-low op))
-  unstored-puts (InstKind.conv op from v to) e l x y z p = absurd (omega (arith, conv-low op))
-  unstored-puts (InstKind.icmp o ty l r) e l′ x y z p = absurd (omega (arith, icmp-low o))
-  unstored-puts (InstKind.select t ty l r) e l′ x y z p = absurd (omega arith)
-  unstored-puts (InstKind.load t v a) e l x y z p = absurd (omega arith)
-  unstored-puts (InstKind.store t v w a) e l x y z p = p
-  unstored-puts (InstKind.alloca t n a) e l x y z p = p
-  unstored-puts (InstKind.getElementPtr t v is) e l x y z p = absurd (x e)
-  unstored-puts (InstKind.phi t vs) e l x y z p = p
-  unstored-puts (InstKind.call t f vs) e l x y z p = p
-  unstored-puts (InstKind.freeze t v) e l x y z p = absurd (y e)
-  unstored-puts (InstKind.atomicLoad t v) e l x y z p = absurd (z e)
-  unstored-puts (InstKind.atomicStore t v w) e l x y z p = p
-  unstored-puts (InstKind.cmpxchg t v w u) e l x y z p = p
-  unstored-puts (InstKind.extractValue v i) e l x y z p = p
-  unstored-puts InstKind.fence e l x y z p = p
+  unstored-puts (InstKind.bin op ty l r) e u p = absurd (omega (arith, u .high, bin-range op .1))
+  unstored-puts (InstKind.conv op from v to) e u p = absurd (omega (arith, u .high, conv-range op .1))
+  unstored-puts (InstKind.icmp o ty l r) e u p = absurd (omega (arith, u .high, icmp-range o .1))
+  unstored-puts (InstKind.select t ty l r) e u p = absurd (omega (arith, u .high))
+  unstored-puts (InstKind.load t v a) e u p = absurd (omega (arith, u .high))
+  unstored-puts (InstKind.store t v w a) e u p = p
+  unstored-puts (InstKind.alloca t n a) e u p = p
+  unstored-puts (InstKind.getElementPtr t v is) e u p = absurd (u .no-gep e)
+  unstored-puts (InstKind.phi t vs) e u p = p
+  unstored-puts (InstKind.call t f vs) e u p = p
+  unstored-puts (InstKind.freeze t v) e u p = absurd (u .no-freeze e)
+  unstored-puts (InstKind.atomicLoad t v) e u p = absurd (u .no-atomic e)
+  unstored-puts (InstKind.atomicStore t v w) e u p = p
+  unstored-puts (InstKind.cmpxchg t v w x) e u p = p
+  unstored-puts (InstKind.extractValue v i) e u p = p
+  unstored-puts InstKind.fence e u p = p

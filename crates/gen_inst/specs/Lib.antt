@@ -4,3 +4,4 @@ pub mod Body
 pub mod Values
 pub mod Measured
 pub mod Own
+pub mod Whole

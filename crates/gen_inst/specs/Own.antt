@@ -29,7 +29,7 @@ use Rattle.gen_size.specs.Lent.{Lent}
 use Rattle.gen_fields.specs.Given.{Given}
 use Rattle.gen_alloca.specs.Alloca.{ResultLent}
 use Rattle.gen_gep.specs.Loop.{GepAsk}
-use Rattle.gen_inst.specs.Body.{bodyGen, bin-low, conv-low, icmp-low}
+use Rattle.gen_inst.specs.Body.{bodyGen, bin-range, conv-range, icmp-range}
 use Rattle.gen_inst.specs.View.{told-single}
 use Rattle.gen_inst.specs.Values.{moved}
 use Rattle.gen_inst.specs.Measured.{Measures}
@@ -156,9 +156,9 @@ pub nothing-arm : (c : FnCtx) (d : Option ℕ) {kind m : ℕ} {bs : List Entry} 
 unfolding bodyGen
 nothing-arm c d s ks os (InstKind.phi t vs) e o r maps = record { puts = skip-puts s ks os; maps = maps }
 nothing-arm c d s ks os InstKind.fence e o r maps = record { puts = skip-puts s ks os; maps = maps }
-nothing-arm c d s ks os (InstKind.bin op ty l x) e o r maps = absurd (omega (arith, o .high, bin-low op))
-nothing-arm c d s ks os (InstKind.conv op a v b) e o r maps = absurd (omega (arith, o .high, conv-low op))
-nothing-arm c d s ks os (InstKind.icmp p ty l x) e o r maps = absurd (omega (arith, o .high, icmp-low p))
+nothing-arm c d s ks os (InstKind.bin op ty l x) e o r maps = absurd (omega (arith, o .high, bin-range op .1))
+nothing-arm c d s ks os (InstKind.conv op a v b) e o r maps = absurd (omega (arith, o .high, conv-range op .1))
+nothing-arm c d s ks os (InstKind.icmp p ty l x) e o r maps = absurd (omega (arith, o .high, icmp-range p .1))
 nothing-arm c d s ks os (InstKind.select t ty l x) e o r maps = absurd (omega (arith, o .high))
 nothing-arm c d s ks os (InstKind.load t p a) e o r maps = absurd (omega (arith, o .high))
 nothing-arm c d s ks os (InstKind.store t v p a) e o r maps = absurd (o .other (inr (inl e)))

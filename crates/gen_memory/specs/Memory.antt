@@ -1,8 +1,7 @@
 -- `load`, `store` and `freeze` from their parts.
 use Prim.Native.Nat.{ℕ, _+_, _*_, _≤_}
-use mathlib.Core.Path.{_≡_, refl, sym, ap, subst, _∙_}
-use mathlib.Core.List.{List, _∷_}
-use mathlib.Core.Option.{none, some}
+use mathlib.Core.Path.{_≡_, refl, sym, ap, _∙_}
+use mathlib.Core.List.{List}
 use native.Mathlib.Omega.{arith}
 use borrow.Author.Tests.{ne-eqb}
 use Rattle.book.specs.Ast.{Ty, Value}
@@ -10,7 +9,7 @@ use Rattle.book.specs.Result.{Result, ok, err, okOr}
 use Rattle.layout.specs.Layout.{sizeOf}
 use Rattle.assembly.specs.Line.{Line, Mem}
 use Rattle.assembly.specs.Number.{kindOf, operandOf, memNumber}
-use Rattle.lowering.specs.Gen.{Gen, line, _>>=_, _>>_}
+use Rattle.lowering.specs.Gen.{line, _>>=_, _>>_}
 use Rattle.lowering.specs.Context.{FnCtx}
 use Rattle.lowering.specs.Operand.{intWidth, pushValue, pushTyped}
 use Rattle.lowering.specs.Memory.{memOf, genLoad, genStore}

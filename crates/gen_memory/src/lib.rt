@@ -1,11 +1,11 @@
 // Loads and stores, and `freeze`, which measures its type too. The entries are lent from the type on.
-use gen_fields::push_at;
 use gen_fields::push_typed;
 use gen_lines::Reached;
 use gen_lines::put;
 use gen_lines::refuse;
 use gen_size::measured_size;
 use gen_values::int_width;
+use gen_values::push_at;
 use layout_memo::skip;
 ghost use mathlib.Core.Path.{_≡_};
 ghost use Prim.Native.Nat.{_≤_};

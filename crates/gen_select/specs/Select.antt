@@ -17,7 +17,7 @@ use Rattle.layout_memo.specs.Front.{tyLen}
 use Rattle.gen_lines.specs.declared.Reached.{Reached}
 use Rattle.gen_lines.specs.Puts.{Puts, Lined, madeFresh, line-puts, then-puts}
 use Rattle.gen_lines.specs.Follow.{Asked, asked-puts, fresh-puts}
-use Rattle.gen_values.specs.Fields.{Fields, ValueAt, ValueThere, value-at, behind-value, behind-type}
+use Rattle.gen_values.specs.Fields.{Fields, ValueAt, OperandAt, operand-at, value-at, behind-value, behind-type}
 use Rattle.gen_arith.specs.Arith.{There}
 
 -- a value, a type and two values
@@ -39,8 +39,8 @@ module _ {m : ℕ} {p : Meanings selected} (ks ws : List ℕ) (f : Fields m sele
     false-side = value-at ks ws (1 + n + 1) (behind-value ks ws (1 + n) (behind-type ks ws 1 typed e))
 
 -- a value of the fields is there
-pub there : {m : ℕ} {ks ws : List ℕ} {a : ℕ} {v : Value} (work : List ℕ) → 8 * m + 64 ≤ length work → ValueAt m ks ws a v → ValueThere ks ws a work
-there {m} {ks} {ws} {a} {v} work r h = record { names = m; value = v; here = h; room = omega (arith, r) }
+pub there : {m : ℕ} {ks ws : List ℕ} {a : ℕ} {v : Value} (work : List ℕ) → 8 * m + 64 ≤ length work → ValueAt m ks ws a v → OperandAt ks ws a work
+there work r h = operand-at h (omega (arith, r))
 
 -- ---- the lines
 module _ {s t : Reached} {ks os ks′ os′ : List ℕ} where

@@ -1,13 +1,9 @@
 -- What a generator that measures is lent: its fields at the front, the book's entries and the work words.
-use Prim.Native.Nat.{ℕ, _*_, _≤_}
-use mathlib.Core.Path.{_≡_, _∙_}
+use Prim.Native.Nat.{ℕ}
 use mathlib.Core.List.{List, _∷_}
-use native.Mathlib.Omega.{arith}
-use lib.ListN.{length}
 use Rattle.book.specs.Entry.{Entry, entries}
 use Rattle.book.specs.Fields.{Item, Field, Meanings}
 use Rattle.layout.specs.Layout.{sizeOf, alignOf}
-use Rattle.layout_memo.specs.Front.{tyOf}
 use Rattle.layout_memo.specs.Work.{Ready, After}
 use Rattle.lowering.specs.Gen.{Gen}
 use Rattle.lowering.specs.Context.{FnCtx}

@@ -1,15 +1,14 @@
 -- Measurements as generators ask for them: `size_of` and `align_of`, each with 64 levels.
 use Prim.Native.Nat.{ℕ, _≤_}
-use mathlib.Core.Path.{_≡_, refl, sym, ap, subst, _∙_}
-use mathlib.Core.List.{List, _∷_}
+use mathlib.Core.Path.{_≡_, sym}
+use mathlib.Core.List.{List}
 use native.Mathlib.Omega.{arith}
 use Rattle.book.specs.Ast.{Ty}
 use Rattle.book.specs.Entry.{Entry}
-use Rattle.book.specs.Result.{Result, ok, err}
-use Rattle.book.specs.Fields.{Item, Field, Meanings}
+use Rattle.book.specs.Result.{ok, err}
 use Rattle.layout.specs.Layout.{sizeOf, alignOf}
 use Rattle.layout_memo.specs.Front.{Starts, tyOf}
-use Rattle.layout_memo.specs.Measured.{resultOf, Measures, measures-few}
+use Rattle.layout_memo.specs.Measured.{Measures}
 use Rattle.layout_memo.specs.Work.{Ready, After, Ask, Outcome, structsIn, sizes, aligns, size-small, align-small}
 use Rattle.layout_memo.specs.declared.Measured.{Measured}
 use Rattle.layout_memo.specs.declared.Measured.the-variants as measured
@@ -17,7 +16,7 @@ use Rattle.lowering.specs.Context.{FnCtx}
 use Rattle.gen_lines.specs.declared.Reached.{Reached}
 use Rattle.gen_lines.specs.Puts.{madeRefused}
 use Rattle.gen_lines.specs.Follow.{Asked, asked-ok, asked-err}
-use Rattle.gen_values.specs.Maps.{Maps, maps-after}
+use Rattle.gen_values.specs.Maps.{Maps}
 use Rattle.gen_size.specs.declared.Bytes.{Bytes}
 
 -- a type at the front, and the work words of measuring

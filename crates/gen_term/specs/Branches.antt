@@ -72,5 +72,5 @@ module _ (c : FnCtx) (pred ifTrue : ℕ) (ifFalse : Option ℕ) where
     both-ways-puts v other q push made same few jump first label second =
         same-puts (λ n. rw q)
         (then-puts push (fresh-puts made few (λ n i.
-            then-puts (line-puts (Line.jump Hint.brFalse n) refl (same ∙ i) jump)
-            (then-puts first (then-puts (line-puts (Line.label Hint.brFalse n) refl (same ∙ i) label) second)))))
+        then-puts (line-puts (Line.jump Hint.brFalse n) refl (same ∙ i) jump)
+        (then-puts first (then-puts (line-puts (Line.label Hint.brFalse n) refl (same ∙ i) label) second)))))

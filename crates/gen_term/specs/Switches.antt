@@ -92,7 +92,7 @@ module _ (f : ℕ → List Case → Gen) (m : ℕ) (ks ws : List ℕ) (l : ℕ) 
   module _ {place label : ℕ} {s t : Reached} {ls os ls′ os′ : List ℕ} (w : CaseWalk f m ks ws l cs place label s t ls os ls′ os′) where
     pub walk-more : (getD ks place 0 ≡ 0 → ⊥) → {label′ : ℕ} {u : Reached} {ls″ os″ : List ℕ} → label′ ≡ (label + 1) % 2 ^ 64
         → ((n : ℕ) (k : Case) (more : List Case) → label ≡ n % 2 ^ 64 → getD ws place 0 ≡ k .value → getD ws (place + 1) 0 ≡ k .label
-            → Toward (f n (k ∷ more)) (f (suc n) more) t u ls′ os′ ls″ os″)
+        → Toward (f n (k ∷ more)) (f (suc n) more) t u ls′ os′ ls″ os″)
         → CaseWalk f m ks ws l cs (place + 2) label′ s u ls os ls″ os″
     walk-more z {label′} {u} {ls″} {os″} e one =
         let q = cases-next ks ws place (w .todo) (w .front) z in

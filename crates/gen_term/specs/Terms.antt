@@ -112,35 +112,56 @@ module _ {m : ℕ} (ks ws : List ℕ) where
       let b = entry-at ks ws 2 _ _ (a .4) in
       let d = entry-at ks ws 3 _ _ (b .4) in
       record {
-        in-kinds = d .2; in-words = d .3; plain = λ z. refl; tested = λ z. absurd (z (a .0)); true-is = b .1; true-below = f .keeps .1 .0;
-        one-way = λ z. refl; both-ways = λ z. absurd (z (d .0));
+        in-kinds = d .2;
+        in-words = d .3;
+        plain = λ z. refl;
+        tested = λ z. absurd (z (a .0));
+        true-is = b .1;
+        true-below = f .keeps .1 .0;
+        one-way = λ z. refl;
+        both-ways = λ z. absurd (z (d .0));
       }
   br-at none t (some x) f =
       let a = entry-at ks ws 1 _ _ (f .here) in
       let b = entry-at ks ws 2 _ _ (a .4) in
       let d = entry-at ks ws 3 _ _ (b .4) in
       record {
-        in-kinds = d .2; in-words = d .3; plain = λ z. refl; tested = λ z. absurd (z (a .0)); true-is = b .1; true-below = f .keeps .1 .0;
-        one-way = λ z. absurd (omega (arith, d .0)); both-ways = λ z. (ap some (sym (d .1)), rw (d .1) (f .keeps .1 .1 .0));
+        in-kinds = d .2;
+        in-words = d .3;
+        plain = λ z. refl;
+        tested = λ z. absurd (z (a .0));
+        true-is = b .1;
+        true-below = f .keeps .1 .0;
+        one-way = λ z. absurd (omega (arith, d .0));
+        both-ways = λ z. (ap some (sym (d .1)), rw (d .1) (f .keeps .1 .1 .0));
       }
   br-at (some v) t none f =
       let a = entry-at ks ws 1 _ _ (f .here) in
       let b = entry-at ks ws 2 _ _ (a .4) in
       let d = entry-at ks ws 3 _ _ (b .4) in
       record {
-        in-kinds = d .2; in-words = d .3; plain = λ z. absurd (value-kind v (sym (a .0) ∙ z));
+        in-kinds = d .2;
+        in-words = d .3;
+        plain = λ z. absurd (value-kind v (sym (a .0) ∙ z));
         tested = λ z. (v, refl, record { is = rw (a .0, a .1) (value-is v); limits = f .keeps .0; in-kinds = a .2; in-words = a .3 });
-        true-is = b .1; true-below = f .keeps .1 .0; one-way = λ z. refl; both-ways = λ z. absurd (z (d .0));
+        true-is = b .1;
+        true-below = f .keeps .1 .0;
+        one-way = λ z. refl;
+        both-ways = λ z. absurd (z (d .0));
       }
   br-at (some v) t (some x) f =
       let a = entry-at ks ws 1 _ _ (f .here) in
       let b = entry-at ks ws 2 _ _ (a .4) in
       let d = entry-at ks ws 3 _ _ (b .4) in
       record {
-        in-kinds = d .2; in-words = d .3; plain = λ z. absurd (value-kind v (sym (a .0) ∙ z));
+        in-kinds = d .2;
+        in-words = d .3;
+        plain = λ z. absurd (value-kind v (sym (a .0) ∙ z));
         tested = λ z. (v, refl, record { is = rw (a .0, a .1) (value-is v); limits = f .keeps .0; in-kinds = a .2; in-words = a .3 });
-        true-is = b .1; true-below = f .keeps .1 .0;
-        one-way = λ z. absurd (omega (arith, d .0)); both-ways = λ z. (ap some (sym (d .1)), rw (d .1) (f .keeps .1 .1 .0));
+        true-is = b .1;
+        true-below = f .keeps .1 .0;
+        one-way = λ z. absurd (omega (arith, d .0));
+        both-ways = λ z. (ap some (sym (d .1)), rw (d .1) (f .keeps .1 .1 .0));
       }
 
 -- the value of a condition

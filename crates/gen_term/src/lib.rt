@@ -74,7 +74,14 @@ fn ret_value(
     }
     let at = 1 + skip(&kinds[1..], &words[1..], names);
     push_typed(
-        kinds[1], words[1], kinds[at], words[at], work, lines, operands, s,
+        kinds[1],
+        words[1],
+        kinds[at],
+        words[at],
+        work,
+        lines,
+        operands,
+        s,
     )
 }
 
@@ -126,11 +133,27 @@ fn gen_cond_br(
     let made = fresh(pushed, 1);
     let jumped = put(lines, operands, made, 19, label);
     let gone = edge(
-        pred, words[2], book_kinds, book_words, names, work, lines, operands, jumped,
+        pred,
+        words[2],
+        book_kinds,
+        book_words,
+        names,
+        work,
+        lines,
+        operands,
+        jumped,
     );
     let labelled = put(lines, operands, gone, 15, label);
     edge(
-        pred, words[3], book_kinds, book_words, names, work, lines, operands, labelled,
+        pred,
+        words[3],
+        book_kinds,
+        book_words,
+        names,
+        work,
+        lines,
+        operands,
+        labelled,
     )
 }
 
@@ -155,11 +178,28 @@ fn gen_br(
 {
     if kinds[1] == 21 {
         return edge(
-            pred, words[2], book_kinds, book_words, names, work, lines, operands, s,
+            pred,
+            words[2],
+            book_kinds,
+            book_words,
+            names,
+            work,
+            lines,
+            operands,
+            s,
         );
     }
     gen_cond_br(
-        pred, kinds, words, book_kinds, book_words, names, work, lines, operands, s,
+        pred,
+        kinds,
+        words,
+        book_kinds,
+        book_words,
+        names,
+        work,
+        lines,
+        operands,
+        s,
     )
 }
 
@@ -187,10 +227,28 @@ pub fn gen_term(
     match kind {
         90 => gen_ret(kinds, words, names, work, base, lines, operands, s),
         91 => gen_br(
-            pred, kinds, words, book_kinds, book_words, names, work, lines, operands, s,
+            pred,
+            kinds,
+            words,
+            book_kinds,
+            book_words,
+            names,
+            work,
+            lines,
+            operands,
+            s,
         ),
         92 => gen_switch(
-            pred, kinds, words, book_kinds, book_words, names, work, lines, operands, s,
+            pred,
+            kinds,
+            words,
+            book_kinds,
+            book_words,
+            names,
+            work,
+            lines,
+            operands,
+            s,
         ),
         _ => put(lines, operands, s, 90, 0),
     }

@@ -99,7 +99,15 @@ fn case_tests(
     let mut at: usize = 0;
     while kinds[at] != 0 {
         reached = case_test(
-            kind, word, width, words[at], label, work, lines, operands, reached,
+            kind,
+            word,
+            width,
+            words[at],
+            label,
+            work,
+            lines,
+            operands,
+            reached,
         );
         label = next_label(label);
         at += 2;
@@ -128,7 +136,15 @@ fn case_edge(
 {
     let labelled = put(lines, operands, s, 16, label);
     edge(
-        pred, succ, book_kinds, book_words, names, work, lines, operands, labelled,
+        pred,
+        succ,
+        book_kinds,
+        book_words,
+        names,
+        work,
+        lines,
+        operands,
+        labelled,
     )
 }
 
@@ -156,7 +172,16 @@ fn case_edges(
     let mut at: usize = 0;
     while kinds[at] != 0 {
         reached = case_edge(
-            pred, words[at + 1], label, book_kinds, book_words, names, work, lines, operands, reached,
+            pred,
+            words[at + 1],
+            label,
+            book_kinds,
+            book_words,
+            names,
+            work,
+            lines,
+            operands,
+            reached,
         );
         label = next_label(label);
         at += 2;
@@ -191,12 +216,39 @@ pub fn gen_switch(
     let label = word(wide.counter);
     let made = fresh(wide, count_cases(case_kinds, case_words));
     let tested = case_tests(
-        kinds[at], words[at], width, label, case_kinds, case_words, work, lines, operands, made,
+        kinds[at],
+        words[at],
+        width,
+        label,
+        case_kinds,
+        case_words,
+        work,
+        lines,
+        operands,
+        made,
     );
     let gone = edge(
-        pred, words[at + 1], book_kinds, book_words, names, work, lines, operands, tested,
+        pred,
+        words[at + 1],
+        book_kinds,
+        book_words,
+        names,
+        work,
+        lines,
+        operands,
+        tested,
     );
     case_edges(
-        pred, label, case_kinds, case_words, book_kinds, book_words, names, work, lines, operands, gone,
+        pred,
+        label,
+        case_kinds,
+        case_words,
+        book_kinds,
+        book_words,
+        names,
+        work,
+        lines,
+        operands,
+        gone,
     )
 }

@@ -88,16 +88,22 @@ pub record ValueAt (m : ℕ) (ks ws : List ℕ) (a : ℕ) (v : Value) : Type 0 w
   pub in-kinds : a < length ks
   pub in-words : a < length ws
 
--- a value stands there, and the words of every name
-pub record ValueThere (ks ws : List ℕ) (a : ℕ) (work : List ℕ) : Type 0 where
-  pub names : ℕ
-  pub value : Value
-  pub here : ValueAt names ks ws a value
-  pub room : 8 * names ≤ length work
+-- a value is there, and a local's work words
+pub record OperandAt (ks ws : List ℕ) (a : ℕ) (work : List ℕ) : Type 0 where
+  pub in-kinds : a < length ks
+  pub in-words : a < length ws
+  pub reaches : Reaches (getD ks a 0) (getD ws a 0) work
 
-pub value-reaches : {ks ws : List ℕ} {a : ℕ} {work : List ℕ} → ValueThere ks ws a work → Reaches (getD ks a 0) (getD ws a 0) work
-value-reaches {ks} {ws} {a} {work} t =
-    record { there = λ e. let l : ValueLimits (t .names) (Value.local (getD ws a 0)) = subst (ValueLimits (t .names)) (sym (t .here .is) ∙ e) (t .here .limits) in omega (arith, l, t .room) }
+local-below : (m w : ℕ) (v : Value) → ValueLimits m v → v ≡ Value.local w → w < m
+local-below m w v l e = rw e at l
+
+pub operand-at : {m : ℕ} {ks ws : List ℕ} {a : ℕ} {v : Value} {work : List ℕ} → ValueAt m ks ws a v → 8 * m ≤ length work → OperandAt ks ws a work
+operand-at {m} {ks} {ws} {a} {v} q room =
+    record {
+      in-kinds = q .in-kinds;
+      in-words = q .in-words;
+      reaches = record { there = λ e. omega (arith, local-below m (getD ws a 0) v (q .limits) (sym (q .is) ∙ e)) };
+    }
 
 module _ {m : ℕ} {fs : List Field} where
   module _ {p : Meanings (Field.plain Item.value ∷ fs)} (ks ws : List ℕ) (a : ℕ) (f : Fields m (Field.plain Item.value ∷ fs) p (drop a (entries ks ws))) where

@@ -13,7 +13,7 @@ ghost use Rattle.book.specs.Entry.{entries};
 ghost use Rattle.book.specs.Fields.{Item, Field, Meanings};
 ghost use Rattle.layout_memo.specs.Front.{tyLen};
 ghost use Rattle.gen_lines.specs.Follow.{Asked};
-ghost use Rattle.gen_values.specs.Fields.{Fields, ValueAt, ValueThere};
+ghost use Rattle.gen_values.specs.Fields.{Fields, ValueAt, OperandAt};
 ghost use Rattle.lowering.specs.Context.{FnCtx};
 ghost use Rattle.lowering.specs.Operand.{pushValue, pushInt, storeDest, storeOrPop, emitTruncTo, intWidth, sextBit, emitSext, workOf, workBits};
 ghost use Rattle.lowering.specs.Gen.{when};
@@ -284,7 +284,7 @@ pub fn push_at(
     operands: &mut [u64],
     s: Reached,
 ) -> Reached
-    requires { ⌜ ValueThere (now kinds) (now words) at (now work) ⌝ }
+    requires { ⌜ OperandAt (now kinds) (now words) at (now work) ⌝ }
     ensures { λ r. ⌜ ((m : ℕ) (c : FnCtx) (v : Value) → ValueAt m (now (kinds .entry)) (now (words .entry)) at v → Locals c m (now (work .entry))
         → Puts (pushValue c v width) s r (now (lines .entry)) (now (operands .entry)) (now (lines .exit)) (now (operands .exit))) ⌝ }
 {

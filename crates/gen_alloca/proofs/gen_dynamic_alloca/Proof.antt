@@ -1,6 +1,5 @@
 -- `gen_alloca::gen_dynamic_alloca` meets its contract.
 use native.Mathlib.Omega.{arith}
-use Prim.Native.Nat.{_+_}
 use mathlib.Core.Path.{_∙_}
 use Rattle.gen_lines.specs.Puts.{then-puts}
 use Rattle.gen_fields.specs.Items.{align-at}

@@ -1,6 +1,7 @@
 -- `gen_atomic::gen_atomic_load` meets its contract.
 use Rattle.gen_size.specs.Lent as lent
 use Rattle.gen_fields.specs.Places as places
+use Rattle.gen_values.specs.Fields.{operand-at}
 use Rattle.gen_atomic.specs.Atomic as laws
 use borrow.Author.Needs.{needs}
 use Rattle.gen_atomic.proofs.gen_atomic_load.Statement.{statement}
@@ -21,7 +22,7 @@ push-at-requires c κs =
     let entry = after-require-atomic-width .before .before .before .before .before .before .before .before .before in
     let ks = entry .args .kinds .now in
     let ws = entry .args .words .now in
-    places.operand-at (places.typed-value ks ws 0 (entry .pre .fields) (places.from-front (after-skip .skip .ensures)))
+    operand-at (places.typed-value ks ws 0 (entry .pre .fields) (places.from-front (after-skip .skip .ensures)))
     (rw (after-require-atomic-width .require-atomic-width .kept .1 .1 .1 .1 .0) (entry .pre .ready .room))
 
 put-requires : tie.Need-put-requires

@@ -1,7 +1,7 @@
 -- `gen_atomic::gen_atomic_store` meets its contract.
 use native.Mathlib.Omega.{arith}
 use Prim.Native.Nat.{_+_}
-use Rattle.gen_values.specs.Fields.{value-at, behind-value}
+use Rattle.gen_values.specs.Fields.{operand-at, value-at, behind-value}
 use Rattle.gen_size.specs.Lent as lent
 use Rattle.gen_fields.specs.Places as places
 use Rattle.gen_atomic.specs.Atomic as laws
@@ -33,7 +33,7 @@ push-at-requires c κs =
     let ws = entry .args .words .now in
     let at = after-skip .skip .result in
     let value = places.behind ks ws 0 (entry .pre .fields) (places.from-front (after-skip .skip .ensures)) in
-    places.operand-at (value-at ks ws (at + 1) (behind-value ks ws at value)) (rw (after-require-atomic-width .require-atomic-width .kept .1 .1 .1 .1 .0) (entry .pre .ready .room))
+    operand-at (value-at ks ws (at + 1) (behind-value ks ws at value)) (rw (after-require-atomic-width .require-atomic-width .kept .1 .1 .1 .1 .0) (entry .pre .ready .room))
 
 push-at-requires-2 : tie.Need-push-at-requires-2
 push-at-requires-2 c κs =
@@ -42,7 +42,7 @@ push-at-requires-2 c κs =
     let entry = after-require-atomic-width .before .before .before .before .before .before .before .before .before in
     let ks = entry .args .kinds .now in
     let ws = entry .args .words .now in
-    places.operand-at (places.typed-value ks ws 0 (entry .pre .fields) (places.from-front (after-skip .skip .ensures)))
+    operand-at (places.typed-value ks ws 0 (entry .pre .fields) (places.from-front (after-skip .skip .ensures)))
     (rw (after-require-atomic-width .require-atomic-width .kept .1 .1 .1 .1 .0) (entry .pre .ready .room))
 
 put-requires : tie.Need-put-requires

@@ -2,9 +2,8 @@
 use native.Mathlib.Omega.{arith}
 use Prim.Native.Nat.{_+_}
 use mathlib.Core.Path.{_∙_}
-use lib.ListN.{drop}
 use Rattle.book.specs.Entry.{entries}
-use Rattle.gen_values.specs.Fields.{value-at, behind-value}
+use Rattle.gen_values.specs.Fields.{operand-at, value-at, behind-value}
 use Rattle.gen_fields.specs.Places as places
 use Rattle.gen_fields.specs.Given as given
 use Rattle.gen_atomic.specs.Atomic as laws
@@ -28,7 +27,7 @@ push-at-requires c κs =
     let ws = entry .args .words .now in
     let ptr = places.behind ks ws 0 (entry .pre .fields) (places.from-front (after-skip .skip .ensures)) in
     let at = after-skip .skip .result in
-    places.operand-at (value-at ks ws at ptr) (entry .pre .room)
+    operand-at (value-at ks ws at ptr) (entry .pre .room)
 
 add-push-at : tie.Need-add-push-at
 add-push-at c =
@@ -49,7 +48,7 @@ push-at-requires-2 c κs =
     let ptr = places.behind ks ws 0 (entry .pre .fields) (places.from-front (after-skip .skip .ensures)) in
     let at = after-skip .skip .result in
     let cmp = behind-value ks ws at ptr in
-    places.operand-at (value-at ks ws (at + 1) cmp) (entry .pre .room)
+    operand-at (value-at ks ws (at + 1) cmp) (entry .pre .room)
 
 add-push-at-2 : tie.Need-add-push-at-2
 add-push-at-2 c =
@@ -73,7 +72,7 @@ push-at-requires-3 c κs =
     let ptr = places.behind ks ws 0 (entry .pre .fields) (places.from-front (after-skip .skip .ensures)) in
     let at = after-skip .skip .result in
     let cmp = behind-value ks ws at ptr in
-    places.operand-at (value-at ks ws (at + 2) (laws.third (entries ks ws) at (behind-value ks ws (at + 1) cmp))) (entry .pre .room)
+    operand-at (value-at ks ws (at + 2) (laws.third (entries ks ws) at (behind-value ks ws (at + 1) cmp))) (entry .pre .room)
 
 put-requires : tie.Need-put-requires
 put-requires c κs = search needs
@@ -105,7 +104,7 @@ set-both-requires c κs =
     let ptr = places.behind ks ws 0 (entry .pre .fields) (places.from-front (after-skip .skip .ensures)) in
     let at = after-skip .skip .result in
     let cmp = behind-value ks ws at ptr in
-    places.operand-at (value-at ks ws (at + 1) cmp) (entry .pre .room)
+    operand-at (value-at ks ws (at + 1) cmp) (entry .pre .room)
 
 same-length : tie.Need-same-length
 same-length c =

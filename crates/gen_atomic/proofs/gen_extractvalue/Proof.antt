@@ -1,6 +1,6 @@
 -- `gen_atomic::gen_extractvalue` meets its contract.
 use mathlib.Core.Path.{sym}
-use Rattle.gen_values.specs.Fields.{value-at, behind-value}
+use Rattle.gen_values.specs.Fields.{operand-at, value-at, behind-value}
 use Rattle.gen_fields.specs.Places as places
 use Rattle.gen_fields.specs.Given as given
 use Rattle.gen_atomic.specs.Atomic as laws
@@ -21,7 +21,7 @@ shared-slice-read-agg-slot-2 c =
 agg-slot-requires : tie.Need-agg-slot-requires
 agg-slot-requires c κs =
     let entry = c .before .before .before .before .before .before .before in
-    places.operand-at (value-at (entry .args .kinds .now) (entry .args .words .now) 0 (entry .pre .fields)) (entry .pre .room) .reaches
+    operand-at (value-at (entry .args .kinds .now) (entry .args .words .now) 0 (entry .pre .fields)) (entry .pre .room) .reaches
 
 shared-slice-read-index : tie.Need-shared-slice-read-index
 shared-slice-read-index c =

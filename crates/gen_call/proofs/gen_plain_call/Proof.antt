@@ -1,6 +1,6 @@
 -- `gen_call::gen_plain_call` meets its contract.
 use native.Mathlib.Omega.{arith}
-use Rattle.gen_values.specs.Fields.{value-at, behind-value}
+use Rattle.gen_values.specs.Fields.{operand-at, value-at, behind-value}
 use Rattle.gen_fields.specs.Places as places
 use Rattle.gen_call.specs.Calls as laws
 use borrow.Author.Needs.{needs}
@@ -84,7 +84,7 @@ call-target-requires c κs =
     let ks = entry .args .kinds .now in
     let ws = entry .args .words .now in
     let value = laws.lent-value ks ws (entry .args .callee) (entry .pre) in
-    places.operand-at value (entry .pre .room) .reaches
+    operand-at value (entry .pre .room) .reaches
 
 store-or-pop-requires : tie.Need-store-or-pop-requires
 store-or-pop-requires c κs =

@@ -1,6 +1,6 @@
 -- `gen_call::gen_syscall` meets its contract.
 use native.Mathlib.Omega.{arith}
-use Rattle.gen_values.specs.Fields.{value-at, behind-value}
+use Rattle.gen_values.specs.Fields.{behind-value}
 use Rattle.gen_call.specs.Calls as laws
 use borrow.Author.Needs.{needs}
 use Rattle.gen_call.proofs.gen_syscall.Statement.{statement}

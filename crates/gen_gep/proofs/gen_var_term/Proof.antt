@@ -1,7 +1,7 @@
 -- `gen_gep::gen_var_term` meets its contract: its lines are those of its parts, one after the other.
 use mathlib.Core.Path.{refl, sym, _∙_}
 use native.Mathlib.Omega.{arith}
-use Rattle.gen_values.specs.Fields.{type-in}
+use Rattle.gen_values.specs.Fields.{type-in, operand-at}
 use Rattle.gen_gep.specs.Indices.{value-behind}
 use Rattle.gen_gep.specs.Lines.{term-lines}
 use borrow.Author.Needs.{needs}
@@ -66,7 +66,7 @@ push-at-requires c κs =
     let a = entry .args in
     let h = entry .pre .is in
     let v = value-behind (a .book-kinds .now) (a .book-words .now) (a .index) (h .fields) (after-skip-at .skip-at .ensures) refl in
-    record { names = a .names; value = _; here = v; room = omega (arith, entry .pre .room) }
+    operand-at v (omega (arith, entry .pre .room))
 
 widen-requires : tie.Need-widen-requires
 widen-requires c κs = search needs

@@ -1,5 +1,5 @@
 -- `gen_memory::gen_freeze` meets its contract.
-use Rattle.gen_values.specs.Fields.{type-in, width-is}
+use Rattle.gen_values.specs.Fields.{operand-at, type-in, width-is}
 use Rattle.gen_size.specs.Lent as lent
 use Rattle.gen_fields.specs.Places as places
 use Rattle.gen_values.specs.Maps.{maps-after}
@@ -36,7 +36,7 @@ push-at-requires c κs =
     let entry = after-measured-size .before .before .before .before .before .before .before .before .before in
     let ks = entry .args .kinds .now in
     let ws = entry .args .words .now in
-    places.operand-at (places.typed-value ks ws 0 (entry .pre .fields) (places.from-front (after-skip .skip .ensures))) (after-measured-size .measured-size .ensures .after .ready .room)
+    operand-at (places.typed-value ks ws 0 (entry .pre .fields) (places.from-front (after-skip .skip .ensures))) (after-measured-size .measured-size .ensures .after .ready .room)
 
 same-length : tie.Need-same-length
 same-length c = search needs

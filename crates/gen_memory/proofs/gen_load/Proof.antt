@@ -1,6 +1,7 @@
 -- `gen_memory::gen_load` meets its contract.
 use Rattle.gen_size.specs.Lent as lent
 use Rattle.gen_fields.specs.Places as places
+use Rattle.gen_values.specs.Fields.{operand-at}
 use Rattle.gen_values.specs.Maps.{maps-after}
 use Rattle.gen_memory.specs.Memory as laws
 use borrow.Author.Needs.{needs}
@@ -25,7 +26,7 @@ push-at-requires c κs =
     let entry = after-measured-size .before .before .before .before .before .before .before .before .before in
     let ks = entry .args .kinds .now in
     let ws = entry .args .words .now in
-    places.operand-at (places.typed-value ks ws 0 (entry .pre .fields) (places.from-front (after-skip .skip .ensures))) (after-measured-size .measured-size .ensures .after .ready .room)
+    operand-at (places.typed-value ks ws 0 (entry .pre .fields) (places.from-front (after-skip .skip .ensures))) (after-measured-size .measured-size .ensures .after .ready .room)
 
 add-put : tie.Need-add-put
 add-put c = search needs

@@ -1,8 +1,7 @@
 -- `gen_memory::gen_store` meets its contract.
 use native.Mathlib.Omega.{arith}
 use Prim.Native.Nat.{_+_}
-use mathlib.Core.Path.{_∙_}
-use Rattle.gen_values.specs.Fields.{value-at, behind-value}
+use Rattle.gen_values.specs.Fields.{operand-at, value-at, behind-value}
 use Rattle.gen_size.specs.Lent as lent
 use Rattle.gen_fields.specs.Places as places
 use Rattle.gen_values.specs.Maps.{maps-after}
@@ -38,7 +37,7 @@ push-at-requires c κs =
     let ws = entry .args .words .now in
     let at = after-skip .skip .result in
     let value = places.behind ks ws 0 (entry .pre .fields) (places.from-front (after-skip .skip .ensures)) in
-    places.operand-at (value-at ks ws (at + 1) (behind-value ks ws at value)) (after-measured-size .measured-size .ensures .after .ready .room)
+    operand-at (value-at ks ws (at + 1) (behind-value ks ws at value)) (after-measured-size .measured-size .ensures .after .ready .room)
 
 push-typed-requires : tie.Need-push-typed-requires
 push-typed-requires c κs =

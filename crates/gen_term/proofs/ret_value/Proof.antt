@@ -99,7 +99,7 @@ add-at c =
     let entry = valued .before .before .before .before .before .before .before in
     let a = entry .args in
     let long : after-skip .skip .result ≡ tyLen (a .names) (drop 1 (entries (a .kinds .now) (a .words .now))) = after-skip .skip .ensures
-        ∙ ap (tyLen (a .names)) (entries-part 1 (a .kinds .now) (a .words .now)) in
+    ∙ ap (tyLen (a .names)) (entries-part 1 (a .kinds .now) (a .words .now)) in
     let ret = ret-value (a .kinds .now) (a .words .now) (entry .pre .val) (entry .pre .fields) (valued .if1 .left) in
     let value = value-at (a .kinds .now) (a .words .now) (1 + after-skip .skip .result) (behind-type (a .kinds .now) (a .words .now) 1 (ret .fields) long) in
     omega (arith, value .in-kinds, entry .good)
@@ -128,7 +128,7 @@ mul-push-typed c =
     let entry = valued .before .before .before .before .before .before .before in
     let a = entry .args in
     let long : after-skip .skip .result ≡ tyLen (a .names) (drop 1 (entries (a .kinds .now) (a .words .now))) = after-skip .skip .ensures
-        ∙ ap (tyLen (a .names)) (entries-part 1 (a .kinds .now) (a .words .now)) in
+    ∙ ap (tyLen (a .names)) (entries-part 1 (a .kinds .now) (a .words .now)) in
     let ret = ret-value (a .kinds .now) (a .words .now) (entry .pre .val) (entry .pre .fields) (valued .if1 .left) in
     let value = value-at (a .kinds .now) (a .words .now) (1 + after-skip .skip .result) (behind-type (a .kinds .now) (a .words .now) 1 (ret .fields) long) in
     omega (arith, value .in-kinds, entry .good)
@@ -141,7 +141,7 @@ shared-slice-read-push-typed-3 c =
     let entry = valued .before .before .before .before .before .before .before in
     let a = entry .args in
     let long : after-skip .skip .result ≡ tyLen (a .names) (drop 1 (entries (a .kinds .now) (a .words .now))) = after-skip .skip .ensures
-        ∙ ap (tyLen (a .names)) (entries-part 1 (a .kinds .now) (a .words .now)) in
+    ∙ ap (tyLen (a .names)) (entries-part 1 (a .kinds .now) (a .words .now)) in
     let ret = ret-value (a .kinds .now) (a .words .now) (entry .pre .val) (entry .pre .fields) (valued .if1 .left) in
     let value = value-at (a .kinds .now) (a .words .now) (1 + after-skip .skip .result) (behind-type (a .kinds .now) (a .words .now) 1 (ret .fields) long) in
     value .in-kinds
@@ -154,7 +154,7 @@ mul-push-typed-2 c =
     let entry = valued .before .before .before .before .before .before .before in
     let a = entry .args in
     let long : after-skip .skip .result ≡ tyLen (a .names) (drop 1 (entries (a .kinds .now) (a .words .now))) = after-skip .skip .ensures
-        ∙ ap (tyLen (a .names)) (entries-part 1 (a .kinds .now) (a .words .now)) in
+    ∙ ap (tyLen (a .names)) (entries-part 1 (a .kinds .now) (a .words .now)) in
     let ret = ret-value (a .kinds .now) (a .words .now) (entry .pre .val) (entry .pre .fields) (valued .if1 .left) in
     let value = value-at (a .kinds .now) (a .words .now) (1 + after-skip .skip .result) (behind-type (a .kinds .now) (a .words .now) 1 (ret .fields) long) in
     omega (arith, value .in-words, entry .good)
@@ -167,7 +167,7 @@ shared-slice-read-push-typed-4 c =
     let entry = valued .before .before .before .before .before .before .before in
     let a = entry .args in
     let long : after-skip .skip .result ≡ tyLen (a .names) (drop 1 (entries (a .kinds .now) (a .words .now))) = after-skip .skip .ensures
-        ∙ ap (tyLen (a .names)) (entries-part 1 (a .kinds .now) (a .words .now)) in
+    ∙ ap (tyLen (a .names)) (entries-part 1 (a .kinds .now) (a .words .now)) in
     let ret = ret-value (a .kinds .now) (a .words .now) (entry .pre .val) (entry .pre .fields) (valued .if1 .left) in
     let value = value-at (a .kinds .now) (a .words .now) (1 + after-skip .skip .result) (behind-type (a .kinds .now) (a .words .now) 1 (ret .fields) long) in
     value .in-words
@@ -180,7 +180,7 @@ push-typed-requires c κs =
     let entry = valued .before .before .before .before .before .before .before in
     let a = entry .args in
     let long : after-skip .skip .result ≡ tyLen (a .names) (drop 1 (entries (a .kinds .now) (a .words .now))) = after-skip .skip .ensures
-        ∙ ap (tyLen (a .names)) (entries-part 1 (a .kinds .now) (a .words .now)) in
+    ∙ ap (tyLen (a .names)) (entries-part 1 (a .kinds .now) (a .words .now)) in
     let ret = ret-value (a .kinds .now) (a .words .now) (entry .pre .val) (entry .pre .fields) (valued .if1 .left) in
     let value = value-at (a .kinds .now) (a .words .now) (1 + after-skip .skip .result) (behind-type (a .kinds .now) (a .words .now) 1 (ret .fields) long) in
     value-reaches (a .names) value (entry .pre .room)
@@ -202,7 +202,7 @@ returns-2 c = λ k val fields maps.
     let entry = valued .before .before .before .before .before .before .before in
     let a = entry .args in
     let long : after-skip .skip .result ≡ tyLen (a .names) (drop 1 (entries (a .kinds .now) (a .words .now))) = after-skip .skip .ensures
-        ∙ ap (tyLen (a .names)) (entries-part 1 (a .kinds .now) (a .words .now)) in
+    ∙ ap (tyLen (a .names)) (entries-part 1 (a .kinds .now) (a .words .now)) in
     let ret = ret-value (a .kinds .now) (a .words .now) val fields (valued .if1 .left) in
     let value = value-at (a .kinds .now) (a .words .now) (1 + after-skip .skip .result) (behind-type (a .kinds .now) (a .words .now) 1 (ret .fields) long) in
     laws.value-puts k (ret .typed) (ret .is) (rw (sym (value .is))

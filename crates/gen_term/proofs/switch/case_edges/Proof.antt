@@ -24,7 +24,7 @@ Inv-loop pred first kinds words book-kinds book-words names work lines₀ operan
     ((cs : List Case) → Cases names cs (entries kinds words) → CasesLeft names kinds words at)
     × (length lines ≡ length lines₀) × (length operands ≡ length operands₀)
     × ((c : FnCtx) (l : ℕ) (cs : List Case) → Maps names (entries book-kinds book-words) c work → Cases names cs (entries kinds words) → first ≡ l % 2 ^ 64
-        → CaseWalk (caseEdges c pred) names kinds words l cs at label reached₀ reached lines₀ operands₀ lines operands)
+    → CaseWalk (caseEdges c pred) names kinds words l cs at label reached₀ reached lines₀ operands₀ lines operands)
 
 abbrev μ-loop : tie.MeasureT-loop
 μ-loop pred first kinds words book-kinds book-words names work lines₀ operands₀ reached₀ label₀ at₀ lines operands reached label at =
@@ -34,9 +34,13 @@ abbrev μ-loop : tie.MeasureT-loop
 loop-holds : tie.Need-loop-holds Inv-loop μ-loop
 loop-holds c =
     let entry = c .before .before .before .before .before .before .before in
-    let a = entry .args in
-    (λ cs front. record { todo = cs; front = front }, refl, refl, λ k l cs maps front e.
-        walk-start (caseEdges k (a .pred)) (a .names) (a .kinds .now) (a .words .now) l cs front e (a .s) (a .lines .now) (a .operands .now))
+    let a = entry .args in (
+      λ cs front. record { todo = cs; front = front },
+      refl,
+      refl,
+      λ k l cs maps front e.
+          walk-start (caseEdges k (a .pred)) (a .names) (a .kinds .now) (a .words .now) l cs front e (a .s) (a .lines .now) (a .operands .now),
+    )
 
 -- src/switch.rt:149:11
 mul-if1 : tie.Need-mul-if1 Inv-loop μ-loop
@@ -140,11 +144,14 @@ loop-again c =
     let turn = after-edge .before .before .before .before in
     let loop = turn .before .before in
     let entry = loop .before .before .before .before .before .before .before .before in
-    let a = entry .args in
-    (λ cs front. case-left (a .names) (a .kinds .now) (a .words .now) (loop .loop .inv .0 cs front) (turn .if1 .taken),
-    after-edge .case-edge .kept .1 .1 .1 .1 .1 .1 .1 .0 ∙ loop .loop .inv .1, after-edge .case-edge .kept .1 .1 .1 .1 .1 .1 .1 .1 .0 ∙ loop .loop .inv .2, λ k l cs maps front e.
-        walk-more (caseEdges k (a .pred)) (a .names) (a .kinds .now) (a .words .now) l cs (loop .loop .inv .3 k l cs maps front e) (turn .if1 .taken)
-        (c .next-label .ensures) (λ n case more label value target. after-edge .case-edge .ensures k n case more maps label target))
+    let a = entry .args in (
+      λ cs front. case-left (a .names) (a .kinds .now) (a .words .now) (loop .loop .inv .0 cs front) (turn .if1 .taken),
+      after-edge .case-edge .kept .1 .1 .1 .1 .1 .1 .1 .0 ∙ loop .loop .inv .1,
+      after-edge .case-edge .kept .1 .1 .1 .1 .1 .1 .1 .1 .0 ∙ loop .loop .inv .2,
+      λ k l cs maps front e.
+          walk-more (caseEdges k (a .pred)) (a .names) (a .kinds .now) (a .words .now) l cs (loop .loop .inv .3 k l cs maps front e) (turn .if1 .taken)
+          (c .next-label .ensures) (λ n case more label value target. after-edge .case-edge .ensures k n case more maps label target),
+    )
 
 -- src/switch.rt:128:1
 same-length : tie.Need-same-length Inv-loop μ-loop

@@ -26,7 +26,7 @@ Inv-loop kind word width first kinds words work lines₀ operands₀ reached₀ 
     ((m : ℕ) (cs : List Case) → Cases m cs (entries kinds words) → CasesLeft m kinds words at)
     × (length lines ≡ length lines₀) × (length operands ≡ length operands₀)
     × ((m : ℕ) (c : FnCtx) (l : ℕ) (cs : List Case) → ValueLimits m (valueOf kind word) → Locals c m work → Cases m cs (entries kinds words) → first ≡ l % 2 ^ 64
-        → CaseWalk (caseTests c width (valueOf kind word)) m kinds words l cs at label reached₀ reached lines₀ operands₀ lines operands)
+    → CaseWalk (caseTests c width (valueOf kind word)) m kinds words l cs at label reached₀ reached lines₀ operands₀ lines operands)
 
 abbrev μ-loop : tie.MeasureT-loop
 μ-loop kind word width first kinds words work lines₀ operands₀ reached₀ label₀ at₀ lines operands reached label at =
@@ -36,9 +36,13 @@ abbrev μ-loop : tie.MeasureT-loop
 loop-holds : tie.Need-loop-holds Inv-loop μ-loop
 loop-holds c =
     let entry = c .before .before .before .before .before in
-    let a = entry .args in
-    (λ m cs front. record { todo = cs; front = front }, refl, refl, λ m k l cs limits maps front e.
-        walk-start (caseTests k (a .width) (valueOf (a .kind) (a .word))) m (a .kinds .now) (a .words .now) l cs front e (a .s) (a .lines .now) (a .operands .now))
+    let a = entry .args in (
+      λ m cs front. record { todo = cs; front = front },
+      refl,
+      refl,
+      λ m k l cs limits maps front e.
+          walk-start (caseTests k (a .width) (valueOf (a .kind) (a .word))) m (a .kinds .now) (a .words .now) l cs front e (a .s) (a .lines .now) (a .operands .now),
+    )
 
 -- src/switch.rt:92:11
 mul-if1 : tie.Need-mul-if1 Inv-loop μ-loop
@@ -126,11 +130,14 @@ loop-again c =
     let turn = after-test .before .before .before .before in
     let loop = turn .before .before in
     let entry = loop .before .before .before .before .before .before in
-    let a = entry .args in
-    (λ m cs front. case-left m (a .kinds .now) (a .words .now) (loop .loop .inv .0 m cs front) (turn .if1 .taken),
-    after-test .case-test .kept .1 .1 .1 .1 .1 .1 .0 ∙ loop .loop .inv .1, after-test .case-test .kept .1 .1 .1 .1 .1 .1 .1 .0 ∙ loop .loop .inv .2, λ m k l cs limits maps front e.
-        walk-more (caseTests k (a .width) (valueOf (a .kind) (a .word))) m (a .kinds .now) (a .words .now) l cs (loop .loop .inv .3 m k l cs limits maps front e) (turn .if1 .taken)
-        (c .next-label .ensures) (λ n case more label value target. after-test .case-test .ensures m k n case more limits maps label value))
+    let a = entry .args in (
+      λ m cs front. case-left m (a .kinds .now) (a .words .now) (loop .loop .inv .0 m cs front) (turn .if1 .taken),
+      after-test .case-test .kept .1 .1 .1 .1 .1 .1 .0 ∙ loop .loop .inv .1,
+      after-test .case-test .kept .1 .1 .1 .1 .1 .1 .1 .0 ∙ loop .loop .inv .2,
+      λ m k l cs limits maps front e.
+          walk-more (caseTests k (a .width) (valueOf (a .kind) (a .word))) m (a .kinds .now) (a .words .now) l cs (loop .loop .inv .3 m k l cs limits maps front e) (turn .if1 .taken)
+          (c .next-label .ensures) (λ n case more label value target. after-test .case-test .ensures m k n case more limits maps label value),
+    )
 
 -- src/switch.rt:72:1
 same-length : tie.Need-same-length Inv-loop μ-loop

@@ -74,7 +74,7 @@ add-at c =
     let entry = after-skip .before .before .before .before .before .before .before .before .before .before in
     let a = entry .args in
     let long : after-skip .skip .result ≡ tyLen (a .names) (drop 1 (entries (a .kinds .now) (a .words .now))) = after-skip .skip .ensures
-        ∙ ap (tyLen (a .names)) (entries-part 1 (a .kinds .now) (a .words .now)) in
+    ∙ ap (tyLen (a .names)) (entries-part 1 (a .kinds .now) (a .words .now)) in
     let p = entry .pre in
     let at = switch-at (a .kinds .now) (a .words .now) (p .ty) (p .val) (p .default) (p .cases) (p .fields) long in
     omega (arith, at .in-kinds, at .in-words, entry .good)
@@ -110,7 +110,7 @@ add-case-kinds c =
     let entry = after-skip .before .before .before .before .before .before .before .before .before .before in
     let a = entry .args in
     let long : after-skip .skip .result ≡ tyLen (a .names) (drop 1 (entries (a .kinds .now) (a .words .now))) = after-skip .skip .ensures
-        ∙ ap (tyLen (a .names)) (entries-part 1 (a .kinds .now) (a .words .now)) in
+    ∙ ap (tyLen (a .names)) (entries-part 1 (a .kinds .now) (a .words .now)) in
     let p = entry .pre in
     let at = switch-at (a .kinds .now) (a .words .now) (p .ty) (p .val) (p .default) (p .cases) (p .fields) long in
     omega (arith, at .in-kinds, at .in-words, entry .good)
@@ -122,7 +122,7 @@ mul-case-kinds c =
     let entry = after-skip .before .before .before .before .before .before .before .before .before .before in
     let a = entry .args in
     let long : after-skip .skip .result ≡ tyLen (a .names) (drop 1 (entries (a .kinds .now) (a .words .now))) = after-skip .skip .ensures
-        ∙ ap (tyLen (a .names)) (entries-part 1 (a .kinds .now) (a .words .now)) in
+    ∙ ap (tyLen (a .names)) (entries-part 1 (a .kinds .now) (a .words .now)) in
     let p = entry .pre in
     let at = switch-at (a .kinds .now) (a .words .now) (p .ty) (p .val) (p .default) (p .cases) (p .fields) long in
     omega (arith, at .in-kinds, at .in-words, entry .good)
@@ -134,7 +134,7 @@ sub-case-kinds c =
     let entry = after-skip .before .before .before .before .before .before .before .before .before .before in
     let a = entry .args in
     let long : after-skip .skip .result ≡ tyLen (a .names) (drop 1 (entries (a .kinds .now) (a .words .now))) = after-skip .skip .ensures
-        ∙ ap (tyLen (a .names)) (entries-part 1 (a .kinds .now) (a .words .now)) in
+    ∙ ap (tyLen (a .names)) (entries-part 1 (a .kinds .now) (a .words .now)) in
     let p = entry .pre in
     let at = switch-at (a .kinds .now) (a .words .now) (p .ty) (p .val) (p .default) (p .cases) (p .fields) long in
     omega (arith, at .in-kinds, at .in-words, entry .good)
@@ -146,7 +146,7 @@ part-case-kinds-start c =
     let entry = after-skip .before .before .before .before .before .before .before .before .before .before in
     let a = entry .args in
     let long : after-skip .skip .result ≡ tyLen (a .names) (drop 1 (entries (a .kinds .now) (a .words .now))) = after-skip .skip .ensures
-        ∙ ap (tyLen (a .names)) (entries-part 1 (a .kinds .now) (a .words .now)) in
+    ∙ ap (tyLen (a .names)) (entries-part 1 (a .kinds .now) (a .words .now)) in
     let p = entry .pre in
     let at = switch-at (a .kinds .now) (a .words .now) (p .ty) (p .val) (p .default) (p .cases) (p .fields) long in
     omega (arith, at .in-kinds, at .in-words, entry .good)
@@ -162,7 +162,7 @@ add-case-words c =
     let entry = after-skip .before .before .before .before .before .before .before .before .before .before in
     let a = entry .args in
     let long : after-skip .skip .result ≡ tyLen (a .names) (drop 1 (entries (a .kinds .now) (a .words .now))) = after-skip .skip .ensures
-        ∙ ap (tyLen (a .names)) (entries-part 1 (a .kinds .now) (a .words .now)) in
+    ∙ ap (tyLen (a .names)) (entries-part 1 (a .kinds .now) (a .words .now)) in
     let p = entry .pre in
     let at = switch-at (a .kinds .now) (a .words .now) (p .ty) (p .val) (p .default) (p .cases) (p .fields) long in
     omega (arith, at .in-kinds, at .in-words, entry .good)
@@ -174,7 +174,7 @@ mul-case-words c =
     let entry = after-skip .before .before .before .before .before .before .before .before .before .before in
     let a = entry .args in
     let long : after-skip .skip .result ≡ tyLen (a .names) (drop 1 (entries (a .kinds .now) (a .words .now))) = after-skip .skip .ensures
-        ∙ ap (tyLen (a .names)) (entries-part 1 (a .kinds .now) (a .words .now)) in
+    ∙ ap (tyLen (a .names)) (entries-part 1 (a .kinds .now) (a .words .now)) in
     let p = entry .pre in
     let at = switch-at (a .kinds .now) (a .words .now) (p .ty) (p .val) (p .default) (p .cases) (p .fields) long in
     omega (arith, at .in-kinds, at .in-words, entry .good)
@@ -186,7 +186,7 @@ sub-case-words c =
     let entry = after-skip .before .before .before .before .before .before .before .before .before .before in
     let a = entry .args in
     let long : after-skip .skip .result ≡ tyLen (a .names) (drop 1 (entries (a .kinds .now) (a .words .now))) = after-skip .skip .ensures
-        ∙ ap (tyLen (a .names)) (entries-part 1 (a .kinds .now) (a .words .now)) in
+    ∙ ap (tyLen (a .names)) (entries-part 1 (a .kinds .now) (a .words .now)) in
     let p = entry .pre in
     let at = switch-at (a .kinds .now) (a .words .now) (p .ty) (p .val) (p .default) (p .cases) (p .fields) long in
     omega (arith, at .in-kinds, at .in-words, entry .good)
@@ -198,7 +198,7 @@ part-case-words-start c =
     let entry = after-skip .before .before .before .before .before .before .before .before .before .before in
     let a = entry .args in
     let long : after-skip .skip .result ≡ tyLen (a .names) (drop 1 (entries (a .kinds .now) (a .words .now))) = after-skip .skip .ensures
-        ∙ ap (tyLen (a .names)) (entries-part 1 (a .kinds .now) (a .words .now)) in
+    ∙ ap (tyLen (a .names)) (entries-part 1 (a .kinds .now) (a .words .now)) in
     let p = entry .pre in
     let at = switch-at (a .kinds .now) (a .words .now) (p .ty) (p .val) (p .default) (p .cases) (p .fields) long in
     omega (arith, at .in-kinds, at .in-words, entry .good)
@@ -218,7 +218,7 @@ count-cases-requires c κs =
     let entry = after-skip .before .before .before .before .before .before .before .before .before .before in
     let a = entry .args in
     let long : after-skip .skip .result ≡ tyLen (a .names) (drop 1 (entries (a .kinds .now) (a .words .now))) = after-skip .skip .ensures
-        ∙ ap (tyLen (a .names)) (entries-part 1 (a .kinds .now) (a .words .now)) in
+    ∙ ap (tyLen (a .names)) (entries-part 1 (a .kinds .now) (a .words .now)) in
     let p = entry .pre in
     let at = switch-at (a .kinds .now) (a .words .now) (p .ty) (p .val) (p .default) (p .cases) (p .fields) long in
     record { names = a .names; cases = p .cases; front = at .cases }
@@ -234,7 +234,7 @@ mul-case-tests c =
     let entry = after-skip .before .before .before .before .before .before .before .before .before .before in
     let a = entry .args in
     let long : after-skip .skip .result ≡ tyLen (a .names) (drop 1 (entries (a .kinds .now) (a .words .now))) = after-skip .skip .ensures
-        ∙ ap (tyLen (a .names)) (entries-part 1 (a .kinds .now) (a .words .now)) in
+    ∙ ap (tyLen (a .names)) (entries-part 1 (a .kinds .now) (a .words .now)) in
     let p = entry .pre in
     let at = switch-at (a .kinds .now) (a .words .now) (p .ty) (p .val) (p .default) (p .cases) (p .fields) long in
     omega (arith, at .in-kinds, at .in-words, entry .good)
@@ -246,7 +246,7 @@ shared-slice-read-case-tests c =
     let entry = after-skip .before .before .before .before .before .before .before .before .before .before in
     let a = entry .args in
     let long : after-skip .skip .result ≡ tyLen (a .names) (drop 1 (entries (a .kinds .now) (a .words .now))) = after-skip .skip .ensures
-        ∙ ap (tyLen (a .names)) (entries-part 1 (a .kinds .now) (a .words .now)) in
+    ∙ ap (tyLen (a .names)) (entries-part 1 (a .kinds .now) (a .words .now)) in
     let p = entry .pre in
     let at = switch-at (a .kinds .now) (a .words .now) (p .ty) (p .val) (p .default) (p .cases) (p .fields) long in
     at .value .in-kinds
@@ -258,7 +258,7 @@ mul-case-tests-2 c =
     let entry = after-skip .before .before .before .before .before .before .before .before .before .before in
     let a = entry .args in
     let long : after-skip .skip .result ≡ tyLen (a .names) (drop 1 (entries (a .kinds .now) (a .words .now))) = after-skip .skip .ensures
-        ∙ ap (tyLen (a .names)) (entries-part 1 (a .kinds .now) (a .words .now)) in
+    ∙ ap (tyLen (a .names)) (entries-part 1 (a .kinds .now) (a .words .now)) in
     let p = entry .pre in
     let at = switch-at (a .kinds .now) (a .words .now) (p .ty) (p .val) (p .default) (p .cases) (p .fields) long in
     omega (arith, at .in-kinds, at .in-words, entry .good)
@@ -270,7 +270,7 @@ shared-slice-read-case-tests-2 c =
     let entry = after-skip .before .before .before .before .before .before .before .before .before .before in
     let a = entry .args in
     let long : after-skip .skip .result ≡ tyLen (a .names) (drop 1 (entries (a .kinds .now) (a .words .now))) = after-skip .skip .ensures
-        ∙ ap (tyLen (a .names)) (entries-part 1 (a .kinds .now) (a .words .now)) in
+    ∙ ap (tyLen (a .names)) (entries-part 1 (a .kinds .now) (a .words .now)) in
     let p = entry .pre in
     let at = switch-at (a .kinds .now) (a .words .now) (p .ty) (p .val) (p .default) (p .cases) (p .fields) long in
     at .value .in-words
@@ -282,7 +282,7 @@ case-tests-requires c κs =
     let entry = after-skip .before .before .before .before .before .before .before .before .before .before in
     let a = entry .args in
     let long : after-skip .skip .result ≡ tyLen (a .names) (drop 1 (entries (a .kinds .now) (a .words .now))) = after-skip .skip .ensures
-        ∙ ap (tyLen (a .names)) (entries-part 1 (a .kinds .now) (a .words .now)) in
+    ∙ ap (tyLen (a .names)) (entries-part 1 (a .kinds .now) (a .words .now)) in
     let p = entry .pre in
     let at = switch-at (a .kinds .now) (a .words .now) (p .ty) (p .val) (p .default) (p .cases) (p .fields) long in
     record { lent = record { names = a .names; cases = p .cases; front = at .cases }; value = value-reaches (a .names) (at .value) (p .maps .room) }
@@ -294,7 +294,7 @@ add-edge c =
     let entry = after-skip .before .before .before .before .before .before .before .before .before .before in
     let a = entry .args in
     let long : after-skip .skip .result ≡ tyLen (a .names) (drop 1 (entries (a .kinds .now) (a .words .now))) = after-skip .skip .ensures
-        ∙ ap (tyLen (a .names)) (entries-part 1 (a .kinds .now) (a .words .now)) in
+    ∙ ap (tyLen (a .names)) (entries-part 1 (a .kinds .now) (a .words .now)) in
     let p = entry .pre in
     let at = switch-at (a .kinds .now) (a .words .now) (p .ty) (p .val) (p .default) (p .cases) (p .fields) long in
     omega (arith, at .in-kinds, at .in-words, entry .good)
@@ -306,7 +306,7 @@ mul-edge c =
     let entry = after-skip .before .before .before .before .before .before .before .before .before .before in
     let a = entry .args in
     let long : after-skip .skip .result ≡ tyLen (a .names) (drop 1 (entries (a .kinds .now) (a .words .now))) = after-skip .skip .ensures
-        ∙ ap (tyLen (a .names)) (entries-part 1 (a .kinds .now) (a .words .now)) in
+    ∙ ap (tyLen (a .names)) (entries-part 1 (a .kinds .now) (a .words .now)) in
     let p = entry .pre in
     let at = switch-at (a .kinds .now) (a .words .now) (p .ty) (p .val) (p .default) (p .cases) (p .fields) long in
     omega (arith, at .in-kinds, at .in-words, entry .good)
@@ -318,7 +318,7 @@ shared-slice-read-edge c =
     let entry = after-skip .before .before .before .before .before .before .before .before .before .before in
     let a = entry .args in
     let long : after-skip .skip .result ≡ tyLen (a .names) (drop 1 (entries (a .kinds .now) (a .words .now))) = after-skip .skip .ensures
-        ∙ ap (tyLen (a .names)) (entries-part 1 (a .kinds .now) (a .words .now)) in
+    ∙ ap (tyLen (a .names)) (entries-part 1 (a .kinds .now) (a .words .now)) in
     let p = entry .pre in
     let at = switch-at (a .kinds .now) (a .words .now) (p .ty) (p .val) (p .default) (p .cases) (p .fields) long in
     omega (arith, at .in-words)
@@ -330,7 +330,7 @@ edge-requires c κs =
     let entry = after-skip .before .before .before .before .before .before .before .before .before .before in
     let a = entry .args in
     let long : after-skip .skip .result ≡ tyLen (a .names) (drop 1 (entries (a .kinds .now) (a .words .now))) = after-skip .skip .ensures
-        ∙ ap (tyLen (a .names)) (entries-part 1 (a .kinds .now) (a .words .now)) in
+    ∙ ap (tyLen (a .names)) (entries-part 1 (a .kinds .now) (a .words .now)) in
     let p = entry .pre in
     let at = switch-at (a .kinds .now) (a .words .now) (p .ty) (p .val) (p .default) (p .cases) (p .fields) long in
     record { ctx = p .ctx; maps = p .maps; target = rw (at .default-is) (at .default-below) }
@@ -344,7 +344,7 @@ case-edges-requires c κs =
     let entry = after-skip .before .before .before .before .before .before .before .before .before .before in
     let a = entry .args in
     let long : after-skip .skip .result ≡ tyLen (a .names) (drop 1 (entries (a .kinds .now) (a .words .now))) = after-skip .skip .ensures
-        ∙ ap (tyLen (a .names)) (entries-part 1 (a .kinds .now) (a .words .now)) in
+    ∙ ap (tyLen (a .names)) (entries-part 1 (a .kinds .now) (a .words .now)) in
     let p = entry .pre in
     let at = switch-at (a .kinds .now) (a .words .now) (p .ty) (p .val) (p .default) (p .cases) (p .fields) long in
     record { ctx = p .ctx; maps = p .maps; cases = p .cases; front = at .cases }
@@ -372,7 +372,7 @@ returns c = λ k ty val default cs fields maps.
     let entry = after-skip .before .before .before .before .before .before .before .before .before .before in
     let a = entry .args in
     let long : after-skip .skip .result ≡ tyLen (a .names) (drop 1 (entries (a .kinds .now) (a .words .now))) = after-skip .skip .ensures
-        ∙ ap (tyLen (a .names)) (entries-part 1 (a .kinds .now) (a .words .now)) in
+    ∙ ap (tyLen (a .names)) (entries-part 1 (a .kinds .now) (a .words .now)) in
     let at = switch-at (a .kinds .now) (a .words .now) ty val default cs fields long in
     switch-puts k (a .pred) ty val default cs (width .int-width .result) (counted .count-cases .result) (named .word .result)
     (asked-width (a .kinds .now) (a .words .now) 1 fields (a .s) (width .int-width .ensures) refl (wide .need .ensures))
