@@ -1,0 +1,2 @@
+-- A block's instructions at a place, one after the other, and the lines of blocks.
+pub mod Body

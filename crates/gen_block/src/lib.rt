@@ -1,0 +1,60 @@
+// `gen_function`'s blocks: a block's label, its instructions one after the other, its terminator.
+use gen_inst::gen_inst;
+use gen_lines::Reached;
+use gen_lines::put;
+use gen_term::Base;
+use gen_term::gen_term;
+use gen_walk::next_inst;
+ghost use mathlib.Core.Path.{_≡_};
+ghost use mathlib.Core.List.{List};
+ghost use Prim.Native.Nat.{ℕ};
+ghost use Rattle.book.specs.Ast.{Inst, Terminator, BasicBlock};
+ghost use Rattle.book.specs.Entry.{entries};
+ghost use Rattle.lowering.specs.Gen.{each};
+ghost use Rattle.lowering.specs.Context.{FnCtx};
+ghost use Rattle.lowering.specs.Inst.{genInst};
+ghost use Rattle.gen_values.specs.Maps.{Maps, Did};
+ghost use Rattle.gen_block.specs.Body.{BodyAt, InstsAsk, InstsDone};
+
+// The place of the terminator, and what is reached there.
+pub struct Passed {
+    pub at: usize,
+    pub s: Reached,
+}
+
+// The instructions from a place on, up to the terminator.
+fn gen_insts(
+    book_kinds: &[u64],
+    book_words: &[u64],
+    from: usize,
+    work: &mut [u64],
+    names: u64,
+    base: u64,
+    lines: &mut [u16],
+    operands: &mut [u64],
+    s: Reached,
+) -> Passed
+    requires { ⌜ InstsAsk names (now «book_kinds») (now «book_words») from base (now work) ⌝ }
+    ensures { λ r. ⌜ ((c : FnCtx) (insts : List Inst) (term : Terminator) → BodyAt names (entries (now («book_kinds» .entry)) (now («book_words» .entry))) from insts term
+        → c .bpSlot ≡ base → Maps names (entries (now («book_kinds» .entry)) (now («book_words» .entry))) c (now (work .entry))
+        → InstsDone names (entries (now («book_kinds» .entry)) (now («book_words» .entry))) c insts term (now (work .exit)) s r
+        (now (lines .entry)) (now (operands .entry)) (now (lines .exit)) (now (operands .exit))) ⌝ }
+{
+    let mut at = from;
+    let mut reached = s;
+    while book_kinds[at] < 90 {
+        reached = gen_inst(
+            book_kinds,
+            book_words,
+            at,
+            work,
+            names,
+            base,
+            lines,
+            operands,
+            reached,
+        );
+        at = next_inst(book_kinds, at + 1);
+    }
+    Passed { at, s: reached }
+}
