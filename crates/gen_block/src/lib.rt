@@ -14,7 +14,9 @@ ghost use Rattle.lowering.specs.Gen.{each};
 ghost use Rattle.lowering.specs.Context.{FnCtx};
 ghost use Rattle.lowering.specs.Inst.{genInst};
 ghost use Rattle.gen_values.specs.Maps.{Maps, Did};
+ghost use Rattle.lowering.specs.Function.{genBlock};
 ghost use Rattle.gen_block.specs.Body.{BodyAt, InstsAsk, InstsDone};
+ghost use Rattle.gen_block.specs.Block.{BlockAsk, BlockHere};
 
 // The place of the terminator, and what is reached there.
 pub struct Passed {
@@ -57,4 +59,52 @@ fn gen_insts(
         at = next_inst(book_kinds, at + 1);
     }
     Passed { at, s: reached }
+}
+
+// A block of `gen_function`: its label, its instructions, its terminator.
+pub fn gen_block(
+    book_kinds: &[u64],
+    book_words: &[u64],
+    at: usize,
+    work: &mut [u64],
+    names: u64,
+    base: Base,
+    lines: &mut [u16],
+    operands: &mut [u64],
+    s: Reached,
+) -> Reached
+    requires { ⌜ BlockAsk names (now «book_kinds») (now «book_words») at (base .slot) (now work) ⌝ }
+    ensures { λ r. ⌜ ((c : FnCtx) (b : BasicBlock) → BlockHere names (entries (now («book_kinds» .entry)) (now («book_words» .entry))) at b
+        → (c .bpSlot ≡ base .slot) × (c .hasFrame ≡ base .framed) → Maps names (entries (now («book_kinds» .entry)) (now («book_words» .entry))) c (now (work .entry))
+        → Did (genBlock c b) names (entries (now («book_kinds» .entry)) (now («book_words» .entry))) c (now (work .exit))
+        s r (now (lines .entry)) (now (operands .entry)) (now (lines .exit)) (now (operands .exit))) ⌝ }
+{
+    let name = book_words[at];
+    let labelled = put(lines, operands, s, 2, name);
+    let slot = base.slot;
+    let body = gen_insts(
+        book_kinds,
+        book_words,
+        at + 1,
+        work,
+        names,
+        slot,
+        lines,
+        operands,
+        labelled,
+    );
+    let end = body.at;
+    gen_term(
+        name,
+        &book_kinds[end..],
+        &book_words[end..],
+        book_kinds,
+        book_words,
+        names,
+        work,
+        base,
+        lines,
+        operands,
+        body.s,
+    )
 }
