@@ -78,7 +78,8 @@ put-requires-3 c κs = search needs
 -- src/lib.rt:47:46
 add-push-at : tie.Need-add-push-at
 add-push-at c =
-    let after-skip-at = c .before .before .before .before .before .before .before .before .before .before .before .before .before .before .before .before .before .before .before .before .before .before .before .before .before .before .before .before .before .before .before .before .before .before .before in
+    let after-push-at2 = c .before .before .before .before .before .before .before .before .before .before .before .before .before .before .before .before .before .before in
+    let after-skip-at = after-push-at2 .before .before .before .before .before .before .before .before .before .before .before .before .before .before .before .before .before in
     let entry = after-skip-at .before .before .before .before .before .before .before .before .before .before .before .before in
     let v = true-side (entry .args .kinds .now) (entry .args .words .now) (entry .pre .fields) (after-skip-at .skip-at .ensures) in
     omega (arith, v .in-kinds, entry .good)
@@ -86,7 +87,8 @@ add-push-at c =
 -- src/lib.rt:47:9
 push-at-requires-3 : tie.Need-push-at-requires-3
 push-at-requires-3 c κs =
-    let after-skip-at = c .before .before .before .before .before .before .before .before .before .before .before .before .before .before .before .before .before .before .before .before .before .before .before .before .before .before .before .before .before .before .before .before .before .before .before .before .before in
+    let after-push-at2 = c .before .before .before .before .before .before .before .before .before .before .before .before .before .before .before .before .before .before .before .before in
+    let after-skip-at = after-push-at2 .before .before .before .before .before .before .before .before .before .before .before .before .before .before .before .before .before in
     let entry = after-skip-at .before .before .before .before .before .before .before .before .before .before .before .before in
     there (entry .args .work .now) (entry .pre .room) (false-side (entry .args .kinds .now) (entry .args .words .now) (entry .pre .fields) (after-skip-at .skip-at .ensures))
 
