@@ -1,6 +1,6 @@
 -- "The book": what the lent slices are, for the translator and the printer alike. Where one is none, that is refusal 1 for the book, 2 for the names.
 use Prim.Native.Nat.{ℕ, _*_}
-use mathlib.Core.Bool.{_&&_}
+use mathlib.Core.Bool.{Bool, _&&_}
 use mathlib.Core.Option.{Option, none, some}
 use mathlib.Core.List.{List, [], _∷_}
 use lib.ListN.{length, take, drop}
@@ -20,12 +20,19 @@ unfoldable pub counted : ℕ → Option Book → Option Counted
 counted m none = none
 counted m (some b) = some (record { count = m; book = b })
 
+-- "entry count N (at most 1,048,576), name count (at most 131,072)"
+abbrev pub entriesFit : ℕ → Bool
+entriesFit n = leb n 1048576
+
+abbrev pub namesFit : ℕ → Bool
+namesFit m = leb m 131072
+
 -- "entry count N (at most 1,048,576), name count (at most 131,072), N kinds, N words, nothing after"
 unfoldable pub bookIn : List ℕ → Option Counted
 bookIn [] = none
 bookIn (n ∷ []) = none
 bookIn (n ∷ m ∷ es) =
-    pick (leb n 1048576 && (leb m 131072 && eqb (length es) (2 * n)))
+    pick (entriesFit n && (namesFit m && eqb (length es) (2 * n)))
     (counted m (decode m (entries (take n es) (drop n es))))
     none
 

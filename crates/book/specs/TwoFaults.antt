@@ -2,13 +2,18 @@
 -- book.
 use Prim.Native.Nat.{ℕ, _+_, _^_}
 use mathlib.Core.Path.{_≡_, refl}
+use mathlib.Core.Bool.{true, false}
 use mathlib.Core.List.{List, [], _∷_, _++_, map}
 use Rattle.names.specs.Text.{bytes}
 use Rattle.names.specs.Name.{join}
+use Rattle.book.specs.Input.{entriesFit, namesFit}
 use Rattle.book.specs.Check.{checked, refusalOf}
 use Rattle.book.specs.AtLimits.{Entries, lent, fourNames, insts, inBlock, end, openHere}
 
 -- ---- lengths: the entry count, the name count
+pub counts-hold : (map entriesFit (0 ∷ 1048576 ∷ 1048577 ∷ []) ≡ true ∷ true ∷ false ∷ []) × (map namesFit (0 ∷ 131072 ∷ 131073 ∷ []) ≡ true ∷ true ∷ false ∷ [])
+counts-hold = (refl, refl)
+
 -- of the function alone, with these two counts before its kinds and words; a name count that the names don't match is a 2, one above 131,072 a 1
 unfoldable pub counted : ℕ × ℕ → ℕ
 counted c = refusalOf (checked (c .0 ∷ c .1 ∷ 5 ∷ 10 ∷ 0 ∷ 0 ∷ 1 ∷ 0 ∷ 0 ∷ 0 ∷ []) fourNames 0 1048704)
