@@ -26,8 +26,8 @@ use Rattle.gen_term.specs.Whole.{TermAsk}
 use Rattle.gen_block.specs.declared.Passed.{Passed}
 use Rattle.gen_block.specs.Body.{BodyAt, InstsAsk, InstsDone}
 
-pub record BlockHere (m : ℕ) (bs : List Entry) (at : ℕ) (b : BasicBlock) : Type 0 where
-  pub rest : List Entry
+-- the block stands at the place, with the rest behind it
+pub record BlockHere (m : ℕ) (bs : List Entry) (at : ℕ) (b : BasicBlock) (rest : List Entry) : Type 0 where
   pub here : drop at bs ≡ encBasicBlock b ++ rest
   pub keeps : BlockLimits m b
   pub few : length bs ≤ 2 ^ 20
@@ -37,10 +37,17 @@ pub record BlockAsk (m : ℕ) (bk bw : List ℕ) (at slot : ℕ) (work : List �
   pub maps : Maps m (entries bk bw) ctx work
   pub base : ctx .bpSlot ≡ slot
   pub block : BasicBlock
-  pub front : BlockHere m (entries bk bw) at block
+  pub rest : List Entry
+  pub front : BlockHere m (entries bk bw) at block rest
 
-module _ {m : ℕ} (bk bw : List ℕ) (at : ℕ) {b : BasicBlock} (h : BlockHere m (entries bk bw) at b) where
-  head : drop at (entries bk bw) ≡ entry 7 (b .label) ∷ (ending encInst (encTerm (b .term)) (b .insts) ++ h .rest)
+-- the block is done, and its terminator is at the place reached
+pub record BlockDone (m : ℕ) (bs : List Entry) (c : FnCtx) (b : BasicBlock) (rest : List Entry) (work′ : List ℕ) (s : Reached) (r : Passed)
+    (ks os ks′ os′ : List ℕ) : Type 0 where
+  pub did : Did (genBlock c b) m bs c work′ s (r .s) ks os ks′ os′
+  pub ends : BodyAt m bs (r .at) [] (b .term) rest
+
+module _ {m : ℕ} (bk bw : List ℕ) (at : ℕ) {b : BasicBlock} {rest : List Entry} (h : BlockHere m (entries bk bw) at b rest) where
+  head : drop at (entries bk bw) ≡ entry 7 (b .label) ∷ (ending encInst (encTerm (b .term)) (b .insts) ++ rest)
   unfolding encBasicBlock
   head = h .here
 
@@ -50,29 +57,32 @@ module _ {m : ℕ} (bk bw : List ℕ) (at : ℕ) {b : BasicBlock} (h : BlockHere
   pub block-name : getD bw at 0 ≡ b .label
   block-name = entry-at bk bw at _ _ head .1
 
-  pub body-here : BodyAt m (entries bk bw) (at + 1) (b .insts) (b .term)
+  pub body-here : BodyAt m (entries bk bw) (at + 1) (b .insts) (b .term) rest
   body-here =
-      record { rest = h .rest; here = entry-at bk bw at _ _ head .4; insts-keep = h .keeps .1 .0; term-keeps = h .keeps .1 .1; few = h .few }
+      record { here = entry-at bk bw at _ _ head .4; insts-keep = h .keeps .1 .0; term-keeps = h .keeps .1 .1; few = h .few }
 
 pub insts-ask : {m : ℕ} (bk bw : List ℕ) (at : ℕ) {slot : ℕ} {work : List ℕ} → BlockAsk m bk bw at slot work → InstsAsk m bk bw (at + 1) slot work
 insts-ask bk bw at a =
-    record { ctx = a .ctx; maps = a .maps; slot = a .base; insts = a .block .insts; term = a .block .term; front = body-here bk bw at (a .front) }
+    record { ctx = a .ctx; maps = a .maps; slot = a .base; insts = a .block .insts; term = a .block .term; rest = a .rest; front = body-here bk bw at (a .front) }
 
 -- the terminator at the place reached
-pub term-at : {m : ℕ} (bk bw : List ℕ) {end : ℕ} {t : Terminator} → BodyAt m (entries bk bw) end [] t → TermAt m t (lentFrom bk bw end)
+pub term-at : {m : ℕ} (bk bw : List ℕ) {end : ℕ} {t : Terminator} {rest : List Entry} → BodyAt m (entries bk bw) end [] t rest → TermAt m t (lentFrom bk bw end)
 unfolding ending
-term-at {m} bk bw {end} {t} b =
+term-at {m} bk bw {end} {t} {rest} b =
     subst (TermAt m t) (sym (entries-part end bk bw))
-    (record { rest = b .rest; here = b .here; keeps = b .term-keeps; few = omega (arith, b .few, length-drop end (entries bk bw)) })
+    (record { rest = rest; here = b .here; keeps = b .term-keeps; few = omega (arith, b .few, length-drop end (entries bk bw)) })
 
 -- ---- the lines
-module _ (c : FnCtx) {m : ℕ} {bs : List Entry} {work : List ℕ} (b : BasicBlock) {s t u : Reached} {r : Passed} {k₀ o₀ k₁ o₁ k₂ o₂ k₃ o₃ : List ℕ} where
-  pub block-lines : {name : ℕ} → name ≡ b .label → name < 2 ^ 64 → Lined 2 name s t k₀ o₀ k₁ o₁ → InstsDone m bs c (b .insts) (b .term) work t r k₁ o₁ k₂ o₂
-      → Puts (genTerm c name (b .term)) (r .s) u k₂ o₂ k₃ o₃ → Did (genBlock c b) m bs c work s u k₀ o₀ k₃ o₃
+module _ (c : FnCtx) {m : ℕ} {bs : List Entry} {work : List ℕ} (b : BasicBlock) {rest : List Entry} {s t u : Reached} {r : Passed} {k₀ o₀ k₁ o₁ k₂ o₂ k₃ o₃ : List ℕ} where
+  pub block-lines : {name : ℕ} → name ≡ b .label → name < 2 ^ 64 → Lined 2 name s t k₀ o₀ k₁ o₁ → InstsDone m bs c (b .insts) (b .term) rest work t r k₁ o₁ k₂ o₂
+      → Puts (genTerm c name (b .term)) (r .s) u k₂ o₂ k₃ o₃ → BlockDone m bs c b rest work s (record { at = r .at; s = u }) k₀ o₀ k₃ o₃
   unfolding genBlock kindOf operandOf
   block-lines {name} e few l d p =
       record {
-        puts = then-puts (line-puts (Line.blockLabel (b .label)) refl (subst (λ (n : ℕ). name ≡ n % 2 ^ 64) e (word-same few)) l)
-            (then-puts (d .did .puts) (subst (λ (n : ℕ). Puts (genTerm c n (b .term)) (r .s) u k₂ o₂ k₃ o₃) e p));
-        maps = d .did .maps;
+        did = record {
+          puts = then-puts (line-puts (Line.blockLabel (b .label)) refl (subst (λ (n : ℕ). name ≡ n % 2 ^ 64) e (word-same few)) l)
+              (then-puts (d .did .puts) (subst (λ (n : ℕ). Puts (genTerm c n (b .term)) (r .s) u k₂ o₂ k₃ o₃) e p));
+          maps = d .did .maps;
+        };
+        ends = d .ends;
       }

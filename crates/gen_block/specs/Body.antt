@@ -25,9 +25,8 @@ use Rattle.gen_walk.specs.Walk.{FirstHigh, next-is, low-fields}
 use Rattle.gen_term.specs.Toward.{Toward, toward-none, toward-first, toward-then, toward-skip}
 use Rattle.gen_block.specs.declared.Passed.{Passed}
 
--- these instructions and this terminator stand at the place
-pub record BodyAt (m : ℕ) (bs : List Entry) (at : ℕ) (insts : List Inst) (term : Terminator) : Type 0 where
-  pub rest : List Entry
+-- these instructions and this terminator stand at the place, with the rest behind them
+pub record BodyAt (m : ℕ) (bs : List Entry) (at : ℕ) (insts : List Inst) (term : Terminator) (rest : List Entry) : Type 0 where
   pub here : drop at bs ≡ ending encInst (encTerm term) insts ++ rest
   pub insts-keep : Each (InstLimits m) insts
   pub term-keeps : TermLimits m term
@@ -39,12 +38,14 @@ pub record InstsAsk (m : ℕ) (bk bw : List ℕ) (at base : ℕ) (work : List �
   pub slot : ctx .bpSlot ≡ base
   pub insts : List Inst
   pub term : Terminator
-  pub front : BodyAt m (entries bk bw) at insts term
+  pub rest : List Entry
+  pub front : BodyAt m (entries bk bw) at insts term rest
 
 -- the instructions are done, and the terminator is at the place reached
-pub record InstsDone (m : ℕ) (bs : List Entry) (c : FnCtx) (insts : List Inst) (term : Terminator) (work′ : List ℕ) (s : Reached) (r : Passed) (ks os ks′ os′ : List ℕ) : Type 0 where
+pub record InstsDone (m : ℕ) (bs : List Entry) (c : FnCtx) (insts : List Inst) (term : Terminator) (rest : List Entry) (work′ : List ℕ) (s : Reached) (r : Passed)
+    (ks os ks′ os′ : List ℕ) : Type 0 where
   pub did : Did (each (genInst c) insts) m bs c work′ s (r .s) ks os ks′ os′
-  pub ends : BodyAt m bs (r .at) [] term
+  pub ends : BodyAt m bs (r .at) [] term rest
 
 -- ---- the entry in front
 kind-below : (k : InstKind) → instKind (instTagOf k) < 90
@@ -84,20 +85,20 @@ front-of [] term rest = record { first = _; tail = _; same = refl; high = omega 
 front-of (i ∷ is) term rest = record { first = _; tail = _; same = refl; high = kind-from (i .kind) }
 
 module _ {m : ℕ} (ks ws : List ℕ) (at : ℕ) where
-  pub body-in : {insts : List Inst} {term : Terminator} → BodyAt m (entries ks ws) at insts term → (at < length ks) × (at < length ws)
-  body-in {insts} {term} b = let f = front-of insts term (b .rest) in let q = entry-at ks ws at _ _ (b .here ∙ f .same) in (q .2, q .3)
+  pub body-in : {insts : List Inst} {term : Terminator} {rest : List Entry} → BodyAt m (entries ks ws) at insts term rest → (at < length ks) × (at < length ws)
+  body-in {insts} {term} {rest} b = let f = front-of insts term rest in let q = entry-at ks ws at _ _ (b .here ∙ f .same) in (q .2, q .3)
 
-  pub term-there : {term : Terminator} → BodyAt m (entries ks ws) at [] term → 90 ≤ getD ks at 0
+  pub term-there : {term : Terminator} {rest : List Entry} → BodyAt m (entries ks ws) at [] term rest → 90 ≤ getD ks at 0
   unfolding ending encTerm
   term-there {term} b = let q = entry-at ks ws at _ _ (b .here) in subst (λ (n : ℕ). 90 ≤ n) (sym (q .0)) (term-from term)
 
-  module _ {i : Inst} {more : List Inst} {term : Terminator} (b : BodyAt m (entries ks ws) at (i ∷ more) term) where
-    whole : drop at (entries ks ws) ≡ encInst i ++ (ending encInst (encTerm term) more ++ b .rest)
+  module _ {i : Inst} {more : List Inst} {term : Terminator} {rest : List Entry} (b : BodyAt m (entries ks ws) at (i ∷ more) term rest) where
+    whole : drop at (entries ks ws) ≡ encInst i ++ (ending encInst (encTerm term) more ++ rest)
     unfolding ending
-    whole = b .here ∙ append-assoc (encInst i) (ending encInst (encTerm term) more) (b .rest)
+    whole = b .here ∙ append-assoc (encInst i) (ending encInst (encTerm term) more) (rest)
 
     pub inst-here : InstAt m (entries ks ws) at i
-    inst-here = record { rest = ending encInst (encTerm term) more ++ b .rest; here = whole; keeps = b .insts-keep .0; few = b .few }
+    inst-here = record { rest = ending encInst (encTerm term) more ++ rest; here = whole; keeps = b .insts-keep .0; few = b .few }
 
     pub inst-low : getD ks at 0 < 90
     unfolding ending encInst
@@ -106,18 +107,17 @@ module _ {m : ℕ} (ks ws : List ℕ) (at : ℕ) where
     fields : List Entry
     fields = encFields (instFields (instTagOf (i .kind))) (instArgs (i .kind))
 
-    behind : drop (at + 1) (entries ks ws) ≡ fields ++ (ending encInst (encTerm term) more ++ b .rest)
+    behind : drop (at + 1) (entries ks ws) ≡ fields ++ (ending encInst (encTerm term) more ++ rest)
     unfolding encInst fields
     behind = entry-at ks ws at _ _ whole .4
 
     -- the next one
-    pub inst-next : {r : ℕ} → FirstHigh ks (at + 1) r → BodyAt m (entries ks ws) r more term
+    pub inst-next : {r : ℕ} → FirstHigh ks (at + 1) r → BodyAt m (entries ks ws) r more term rest
     unfolding fields
     inst-next {r} h =
-        let f = front-of more term (b .rest) in
+        let f = front-of more term (rest) in
         let e : r ≡ at + 1 + length fields = next-is ks ws (at + 1) fields (f .first) (f .tail) (behind ∙ ap (λ (es : List Entry). fields ++ es) (f .same)) (low-fields (instFields (instTagOf (i .kind))) (instArgs (i .kind))) h (f .high) in
         record {
-          rest = b .rest;
           here = ap (λ (n : ℕ). drop n (entries ks ws)) e ∙ sym (drop-drop (length fields) (at + 1) (entries ks ws)) ∙ ap (drop (length fields)) behind ∙ drop-append-seam fields _;
           insts-keep = b .insts-keep .1;
           term-keeps = b .term-keeps;
@@ -126,9 +126,10 @@ module _ {m : ℕ} (ks ws : List ℕ) (at : ℕ) where
 
 -- ---- the loop over them
 -- some are done, and the others stand at the place
-pub record Walked (m : ℕ) (bs : List Entry) (c : FnCtx) (insts : List Inst) (term : Terminator) (work : List ℕ) (at : ℕ) (s t : Reached) (ks os ks′ os′ : List ℕ) : Type 0 where
+pub record Walked (m : ℕ) (bs : List Entry) (c : FnCtx) (insts : List Inst) (term : Terminator) (rest : List Entry) (work : List ℕ) (at : ℕ) (s t : Reached)
+    (ks os ks′ os′ : List ℕ) : Type 0 where
   pub todo : List Inst
-  pub front : BodyAt m bs at todo term
+  pub front : BodyAt m bs at todo term rest
   pub toward : Toward (each (genInst c) insts) (each (genInst c) todo) s t ks os ks′ os′
   pub maps : Maps m bs c work
 
@@ -136,8 +137,8 @@ pub record InstsWalk (m : ℕ) (bk bw : List ℕ) (from base : ℕ) (work₀ ks 
   pub long-work : length work ≡ length work₀
   pub long-lines : length ks′ ≡ length ks
   pub long-operands : length os′ ≡ length os
-  pub walked : (c : FnCtx) (insts : List Inst) (term : Terminator) → BodyAt m (entries bk bw) from insts term → c .bpSlot ≡ base → Maps m (entries bk bw) c work₀
-      → Walked m (entries bk bw) c insts term work at s t ks os ks′ os′
+  pub walked : (c : FnCtx) (insts : List Inst) (term : Terminator) (rest : List Entry) → BodyAt m (entries bk bw) from insts term rest → c .bpSlot ≡ base → Maps m (entries bk bw) c work₀
+      → Walked m (entries bk bw) c insts term rest work at s t ks os ks′ os′
 
 pub walk-start : (m : ℕ) (bk bw : List ℕ) (from base : ℕ) (work ks os : List ℕ) (s : Reached) → InstsWalk m bk bw from base work ks os s work ks os from s
 walk-start m bk bw from base work ks os s =
@@ -145,29 +146,30 @@ walk-start m bk bw from base work ks os s =
       long-work = refl;
       long-lines = refl;
       long-operands = refl;
-      walked = λ c insts term b e k. record { todo = insts; front = b; toward = toward-none (each (genInst c) insts) s ks os; maps = k };
+      walked = λ c insts term rest b e k. record { todo = insts; front = b; toward = toward-none (each (genInst c) insts) s ks os; maps = k };
     }
 
 -- the first of those that are left, by the kind at the place
-pub record First (m : ℕ) (bs : List Entry) (at : ℕ) (todo : List Inst) (term : Terminator) : Type 0 where
+pub record First (m : ℕ) (bs : List Entry) (at : ℕ) (todo : List Inst) (term : Terminator) (rest : List Entry) : Type 0 where
   pub inst : Inst
   pub more : List Inst
   pub same : todo ≡ inst ∷ more
-  pub front : BodyAt m bs at (inst ∷ more) term
+  pub front : BodyAt m bs at (inst ∷ more) term rest
 
-pub first-left : {m : ℕ} (ks ws : List ℕ) (at : ℕ) (todo : List Inst) {term : Terminator} → BodyAt m (entries ks ws) at todo term → getD ks at 0 < 90 → First m (entries ks ws) at todo term
+pub first-left : {m : ℕ} (ks ws : List ℕ) (at : ℕ) (todo : List Inst) {term : Terminator} {rest : List Entry} → BodyAt m (entries ks ws) at todo term rest → getD ks at 0 < 90
+    → First m (entries ks ws) at todo term rest
 first-left ks ws at [] b l = absurd (omega (arith, term-there ks ws at b))
 first-left ks ws at (i ∷ more) b l = record { inst = i; more = more; same = refl; front = b }
 
-pub none-left : {m : ℕ} (ks ws : List ℕ) (at : ℕ) (todo : List Inst) {term : Terminator} → BodyAt m (entries ks ws) at todo term → 90 ≤ getD ks at 0 → todo ≡ []
+pub none-left : {m : ℕ} (ks ws : List ℕ) (at : ℕ) (todo : List Inst) {term : Terminator} {rest : List Entry} → BodyAt m (entries ks ws) at todo term rest → 90 ≤ getD ks at 0 → todo ≡ []
 none-left ks ws at [] b l = refl
 none-left ks ws at (i ∷ more) b l = absurd (omega (arith, inst-low ks ws at b))
 
 module _ {m : ℕ} (bk bw : List ℕ) {from base : ℕ} {work₀ ks os : List ℕ} {s : Reached} {work ks′ os′ : List ℕ} {at : ℕ} {t : Reached}
     (w : InstsWalk m bk bw from base work₀ ks os s work ks′ os′ at t) where
   -- what the asked context says
-  asked : (a : InstsAsk m bk bw from base work₀) → Walked m (entries bk bw) (a .ctx) (a .insts) (a .term) work at s t ks os ks′ os′
-  asked a = w .walked (a .ctx) (a .insts) (a .term) (a .front) (a .slot) (a .maps)
+  asked : (a : InstsAsk m bk bw from base work₀) → Walked m (entries bk bw) (a .ctx) (a .insts) (a .term) (a .rest) work at s t ks os ks′ os′
+  asked a = w .walked (a .ctx) (a .insts) (a .term) (a .rest) (a .front) (a .slot) (a .maps)
 
   pub walk-in : InstsAsk m bk bw from base work₀ → at < length bk
   walk-in a = body-in bk bw at (asked a .front) .0
@@ -188,8 +190,8 @@ module _ {m : ℕ} (bk bw : List ℕ) {from base : ℕ} {work₀ ks os : List �
         long-work = lw ∙ w .long-work;
         long-lines = lk ∙ w .long-lines;
         long-operands = lo ∙ w .long-operands;
-        walked = λ c insts term b e k.
-            let v = w .walked c insts term b e k in
+        walked = λ c insts term rest b e k.
+            let v = w .walked c insts term rest b e k in
             let f = first-left bk bw at (v .todo) (v .front) l in
             let d = one c (f .inst) (inst-here bk bw at (f .front)) e (v .maps) in
             record {
@@ -201,16 +203,16 @@ module _ {m : ℕ} (bk bw : List ℕ) {from base : ℕ} {work₀ ks os : List �
             };
       }
 
-  pub walk-done : 90 ≤ getD bk at 0 → (c : FnCtx) (insts : List Inst) (term : Terminator) → BodyAt m (entries bk bw) from insts term → c .bpSlot ≡ base
-      → Maps m (entries bk bw) c work₀ → InstsDone m (entries bk bw) c insts term work s (record { at = at; s = t }) ks os ks′ os′
+  pub walk-done : 90 ≤ getD bk at 0 → (c : FnCtx) (insts : List Inst) (term : Terminator) (rest : List Entry) → BodyAt m (entries bk bw) from insts term rest → c .bpSlot ≡ base
+      → Maps m (entries bk bw) c work₀ → InstsDone m (entries bk bw) c insts term rest work s (record { at = at; s = t }) ks os ks′ os′
   unfolding each
-  walk-done l c insts term b e k =
-      let v = w .walked c insts term b e k in
+  walk-done l c insts term rest b e k =
+      let v = w .walked c insts term rest b e k in
       let z = none-left bk bw at (v .todo) (v .front) l in
       record {
         did = record {
           puts = toward-skip (subst (λ (xs : List Inst). Toward (each (genInst c) insts) (each (genInst c) xs) s t ks os ks′ os′) z (v .toward));
           maps = v .maps;
         };
-        ends = subst (λ (xs : List Inst). BodyAt m (entries bk bw) at xs term) z (v .front);
+        ends = subst (λ (xs : List Inst). BodyAt m (entries bk bw) at xs term rest) z (v .front);
       }

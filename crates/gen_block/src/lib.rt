@@ -9,14 +9,11 @@ ghost use mathlib.Core.Path.{_≡_};
 ghost use mathlib.Core.List.{List};
 ghost use Prim.Native.Nat.{ℕ};
 ghost use Rattle.book.specs.Ast.{Inst, Terminator, BasicBlock};
-ghost use Rattle.book.specs.Entry.{entries};
-ghost use Rattle.lowering.specs.Gen.{each};
+ghost use Rattle.book.specs.Entry.{Entry, entries};
 ghost use Rattle.lowering.specs.Context.{FnCtx};
-ghost use Rattle.lowering.specs.Inst.{genInst};
-ghost use Rattle.gen_values.specs.Maps.{Maps, Did};
-ghost use Rattle.lowering.specs.Function.{genBlock};
+ghost use Rattle.gen_values.specs.Maps.{Maps};
 ghost use Rattle.gen_block.specs.Body.{BodyAt, InstsAsk, InstsDone};
-ghost use Rattle.gen_block.specs.Block.{BlockAsk, BlockHere};
+ghost use Rattle.gen_block.specs.Block.{BlockAsk, BlockHere, BlockDone};
 
 // The place of the terminator, and what is reached there.
 pub struct Passed {
@@ -37,9 +34,10 @@ fn gen_insts(
     s: Reached,
 ) -> Passed
     requires { ⌜ InstsAsk names (now «book_kinds») (now «book_words») from base (now work) ⌝ }
-    ensures { λ r. ⌜ ((c : FnCtx) (insts : List Inst) (term : Terminator) → BodyAt names (entries (now («book_kinds» .entry)) (now («book_words» .entry))) from insts term
+    ensures { λ r. ⌜ ((c : FnCtx) (insts : List Inst) (term : Terminator) (rest : List Entry)
+        → BodyAt names (entries (now («book_kinds» .entry)) (now («book_words» .entry))) from insts term rest
         → c .bpSlot ≡ base → Maps names (entries (now («book_kinds» .entry)) (now («book_words» .entry))) c (now (work .entry))
-        → InstsDone names (entries (now («book_kinds» .entry)) (now («book_words» .entry))) c insts term (now (work .exit)) s r
+        → InstsDone names (entries (now («book_kinds» .entry)) (now («book_words» .entry))) c insts term rest (now (work .exit)) s r
         (now (lines .entry)) (now (operands .entry)) (now (lines .exit)) (now (operands .exit))) ⌝ }
 {
     let mut at = from;
@@ -61,7 +59,7 @@ fn gen_insts(
     Passed { at, s: reached }
 }
 
-// A block of `gen_function`: its label, its instructions, its terminator.
+// A block of `gen_function`: its label, its instructions, its terminator, whose place is answered too.
 pub fn gen_block(
     book_kinds: &[u64],
     book_words: &[u64],
@@ -72,11 +70,11 @@ pub fn gen_block(
     lines: &mut [u16],
     operands: &mut [u64],
     s: Reached,
-) -> Reached
+) -> Passed
     requires { ⌜ BlockAsk names (now «book_kinds») (now «book_words») at (base .slot) (now work) ⌝ }
-    ensures { λ r. ⌜ ((c : FnCtx) (b : BasicBlock) → BlockHere names (entries (now («book_kinds» .entry)) (now («book_words» .entry))) at b
+    ensures { λ r. ⌜ ((c : FnCtx) (b : BasicBlock) (rest : List Entry) → BlockHere names (entries (now («book_kinds» .entry)) (now («book_words» .entry))) at b rest
         → (c .bpSlot ≡ base .slot) × (c .hasFrame ≡ base .framed) → Maps names (entries (now («book_kinds» .entry)) (now («book_words» .entry))) c (now (work .entry))
-        → Did (genBlock c b) names (entries (now («book_kinds» .entry)) (now («book_words» .entry))) c (now (work .exit))
+        → BlockDone names (entries (now («book_kinds» .entry)) (now («book_words» .entry))) c b rest (now (work .exit))
         s r (now (lines .entry)) (now (operands .entry)) (now (lines .exit)) (now (operands .exit))) ⌝ }
 {
     let name = book_words[at];
@@ -94,7 +92,7 @@ pub fn gen_block(
         labelled,
     );
     let end = body.at;
-    gen_term(
+    let ended = gen_term(
         name,
         &book_kinds[end..],
         &book_words[end..],
@@ -106,5 +104,6 @@ pub fn gen_block(
         lines,
         operands,
         body.s,
-    )
+    );
+    Passed { at: end, s: ended }
 }

@@ -48,7 +48,7 @@ mul-gen-term c =
     let after-gen-insts = c .before .before .before .before .before .before in
     let entry = after-gen-insts .before .before .before .before .before .before .before .before .before .before .before .before .before .before .before .before .before in
     let a = insts-ask (entry .args .book-kinds .now) (entry .args .book-words .now) (entry .args .at) (entry .pre) in
-    let d = after-gen-insts .gen-insts .ensures (a .ctx) (a .insts) (a .term) (a .front) (a .slot) (a .maps) in
+    let d = after-gen-insts .gen-insts .ensures (a .ctx) (a .insts) (a .term) (a .rest) (a .front) (a .slot) (a .maps) in
     let q = body-in (entry .args .book-kinds .now) (entry .args .book-words .now) (after-gen-insts .gen-insts .result .at) (d .ends) in
     omega (arith, q .0, q .1, entry .good)
 
@@ -58,7 +58,7 @@ sub-gen-term c =
     let after-gen-insts = c .before .before .before .before .before .before in
     let entry = after-gen-insts .before .before .before .before .before .before .before .before .before .before .before .before .before .before .before .before .before in
     let a = insts-ask (entry .args .book-kinds .now) (entry .args .book-words .now) (entry .args .at) (entry .pre) in
-    let d = after-gen-insts .gen-insts .ensures (a .ctx) (a .insts) (a .term) (a .front) (a .slot) (a .maps) in
+    let d = after-gen-insts .gen-insts .ensures (a .ctx) (a .insts) (a .term) (a .rest) (a .front) (a .slot) (a .maps) in
     let q = body-in (entry .args .book-kinds .now) (entry .args .book-words .now) (after-gen-insts .gen-insts .result .at) (d .ends) in
     omega (arith, q .0, q .1, entry .good)
 
@@ -68,7 +68,7 @@ part-gen-term-start c =
     let after-gen-insts = c .before .before .before .before .before .before in
     let entry = after-gen-insts .before .before .before .before .before .before .before .before .before .before .before .before .before .before .before .before .before in
     let a = insts-ask (entry .args .book-kinds .now) (entry .args .book-words .now) (entry .args .at) (entry .pre) in
-    let d = after-gen-insts .gen-insts .ensures (a .ctx) (a .insts) (a .term) (a .front) (a .slot) (a .maps) in
+    let d = after-gen-insts .gen-insts .ensures (a .ctx) (a .insts) (a .term) (a .rest) (a .front) (a .slot) (a .maps) in
     let q = body-in (entry .args .book-kinds .now) (entry .args .book-words .now) (after-gen-insts .gen-insts .result .at) (d .ends) in
     omega (arith, q .0, q .1, entry .good)
 
@@ -82,7 +82,7 @@ mul-gen-term-2 c =
     let after-gen-insts = c .before .before .before .before .before .before .before in
     let entry = after-gen-insts .before .before .before .before .before .before .before .before .before .before .before .before .before .before .before .before .before in
     let a = insts-ask (entry .args .book-kinds .now) (entry .args .book-words .now) (entry .args .at) (entry .pre) in
-    let d = after-gen-insts .gen-insts .ensures (a .ctx) (a .insts) (a .term) (a .front) (a .slot) (a .maps) in
+    let d = after-gen-insts .gen-insts .ensures (a .ctx) (a .insts) (a .term) (a .rest) (a .front) (a .slot) (a .maps) in
     let q = body-in (entry .args .book-kinds .now) (entry .args .book-words .now) (after-gen-insts .gen-insts .result .at) (d .ends) in
     omega (arith, q .0, q .1, entry .good)
 
@@ -92,7 +92,7 @@ sub-gen-term-2 c =
     let after-gen-insts = c .before .before .before .before .before .before .before in
     let entry = after-gen-insts .before .before .before .before .before .before .before .before .before .before .before .before .before .before .before .before .before in
     let a = insts-ask (entry .args .book-kinds .now) (entry .args .book-words .now) (entry .args .at) (entry .pre) in
-    let d = after-gen-insts .gen-insts .ensures (a .ctx) (a .insts) (a .term) (a .front) (a .slot) (a .maps) in
+    let d = after-gen-insts .gen-insts .ensures (a .ctx) (a .insts) (a .term) (a .rest) (a .front) (a .slot) (a .maps) in
     let q = body-in (entry .args .book-kinds .now) (entry .args .book-words .now) (after-gen-insts .gen-insts .result .at) (d .ends) in
     omega (arith, q .0, q .1, entry .good)
 
@@ -102,7 +102,7 @@ part-gen-term-start-2 c =
     let after-gen-insts = c .before .before .before .before .before .before .before in
     let entry = after-gen-insts .before .before .before .before .before .before .before .before .before .before .before .before .before .before .before .before .before in
     let a = insts-ask (entry .args .book-kinds .now) (entry .args .book-words .now) (entry .args .at) (entry .pre) in
-    let d = after-gen-insts .gen-insts .ensures (a .ctx) (a .insts) (a .term) (a .front) (a .slot) (a .maps) in
+    let d = after-gen-insts .gen-insts .ensures (a .ctx) (a .insts) (a .term) (a .rest) (a .front) (a .slot) (a .maps) in
     let q = body-in (entry .args .book-kinds .now) (entry .args .book-words .now) (after-gen-insts .gen-insts .result .at) (d .ends) in
     omega (arith, q .0, q .1, entry .good)
 
@@ -116,7 +116,7 @@ gen-term-requires c κs =
     let after-gen-insts = c .before .before .before .before .before .before .before .before .before .before .before in
     let entry = after-gen-insts .before .before .before .before .before .before .before .before .before .before .before .before .before .before .before .before .before in
     let a = insts-ask (entry .args .book-kinds .now) (entry .args .book-words .now) (entry .args .at) (entry .pre) in
-    let d = after-gen-insts .gen-insts .ensures (a .ctx) (a .insts) (a .term) (a .front) (a .slot) (a .maps) in
+    let d = after-gen-insts .gen-insts .ensures (a .ctx) (a .insts) (a .term) (a .rest) (a .front) (a .slot) (a .maps) in
     record { ctx = a .ctx; maps = d .did .maps; term = a .term; front = term-at (entry .args .book-kinds .now) (entry .args .book-words .now) (d .ends) }
 
 -- src/lib.rt:65:1
@@ -139,8 +139,8 @@ returns c =
     let after-put = after-gen-insts .before .before .before .before .before .before .before .before in
     let name-known = after-put .before .before .before in
     let entry = name-known .before .before .before .before .before .before in
-    λ k b here base maps.
-    let ends = after-gen-insts .gen-insts .ensures k (b .insts) (b .term) (body-here (entry .args .book-kinds .now) (entry .args .book-words .now) (entry .args .at) here) (base .0) maps in
+    λ k b rest here base maps.
+    let ends = after-gen-insts .gen-insts .ensures k (b .insts) (b .term) rest (body-here (entry .args .book-kinds .now) (entry .args .book-words .now) (entry .args .at) here) (base .0) maps in
     block-lines k b (block-name (entry .args .book-kinds .now) (entry .args .book-words .now) (entry .args .at) here) (omega (arith, name-known .shared-slice-known3 .given (entry .args .at))) (after-put .put .ensures) ends
     (after-gen-term .gen-term .ensures k (b .term) (term-at (entry .args .book-kinds .now) (entry .args .book-words .now) (ends .ends)) (ends .did .maps) base)
 
