@@ -2,7 +2,7 @@
 use Prim.Native.Nat.{ℕ, zero, suc, _+_, _-_, _<_, _≤_}
 use mathlib.Core.Path.{_≡_, refl, sym, ap, subst, _∙_}
 use mathlib.Core.Bool.{Bool, true, false}
-use mathlib.Core.List.{List, [], _∷_, _++_}
+use mathlib.Core.List.{List, [], _∷_, _++_, append-nil}
 use mathlib.Core.Option.{Option, none, some}
 use native.Mathlib.Omega.{arith}
 use borrow.Author.Tests.{ltb-true, ltb-false}
@@ -42,7 +42,7 @@ abbrev pub Low : List Entry → Type 0
 Low [] = Unit {0}
 Low (e ∷ es) = ((e .kind < 40) × (e .kind ≡ 7 → ⊥)) × Low es
 
-low-append : (x y : List Entry) → Low x → Low y → Low (x ++ y)
+pub low-append : (x y : List Entry) → Low x → Low y → Low (x ++ y)
 low-append [] y p q = q
 low-append (e ∷ x) y p q = (p .0, low-append x y (p .1) q)
 
@@ -177,3 +177,25 @@ module _ (ks ws : List ℕ) (a : ℕ) (x : List Entry) (e : Entry) (y : List Ent
           other : (d : Bool) → ltb (a + length x) r ≡ d → r ≡ a + length x
           other true d = absurd (f .other (a + length x) (omega arith) (ltb-true (a + length x) r d) (kind-at (length x) (omega arith) ∙ high-at x e y ∙ h))
           other false d = omega (arith, ltb-false r (a + length x) q, ltb-false (a + length x) r d)
+
+-- where nothing but fields follows, no block is found
+module _ (ks ws : List ℕ) (even : length ks ≡ length ws) (a : ℕ) (x : List Entry) (here : drop a (entries ks ws) ≡ x) (low : Low x) where
+  all-words : length (entries ks ws) ≡ length ks
+  all-words = omega (arith, length-entries ks ws, even)
+
+  pub no-block : {r : ℕ} → FirstBlock ks a r → r ≡ length ks
+  no-block {r} f = at (ltb r (length ks)) refl
+    where
+      kind : r < length ks → getD (kindsOf (x ++ [])) (r - a) 0 ≡ getD ks r 0
+      kind l =
+          let i : a + (r - a) ≡ r = omega (arith, f .from) in
+          ap (λ es. getD (kindsOf es) (r - a) 0) (append-nil x ∙ sym here)
+          ∙ kinds-drop a (entries ks ws) (r - a)
+          ∙ kinds-at ks ws (a + (r - a)) (omega (arith, all-words, f .from))
+          ∙ ap (λ n. getD ks n 0) i
+
+      at : (b : Bool) → ltb r (length ks) ≡ b → r ≡ length ks
+      at true e =
+          let l = ltb-true r (length ks) e in
+          absurd (low-at x low [] (r - a) (omega (arith, all-words, f .from, ap length here, length-drop a (entries ks ws))) .1 (kind l ∙ f .block l))
+      at false e = omega (arith, ltb-false r (length ks) e, f .within)
