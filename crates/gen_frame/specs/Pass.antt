@@ -102,7 +102,7 @@ going-start {m} {es} {bs} {work} a =
     }
 
 -- where the places end
-says-ends : (m : ℕ) (so : Result Places) (work : List ℕ) (f : Frame) → FrameSays m so work f → f .refused ≡ false → f .off ≤ 2147483648
+pub says-ends : (m : ℕ) (so : Result Places) (work : List ℕ) (f : Frame) → FrameSays m so work f → f .refused ≡ false → f .off ≤ 2147483648
 says-ends m (ok p) work f h e = omega (arith, h .off, h .within)
 says-ends m (err n) work f h e = never (h .0) e
 
