@@ -23,21 +23,21 @@ use Rattle.gen_lines.specs.Follow.{when-puts}
 use Rattle.gen_values.specs.Fields.{entry-at}
 use Rattle.gen_values.specs.Push.{word-same}
 use Rattle.gen_values.specs.Maps.{Maps, Did}
+use Rattle.gen_prepare.specs.declared.Prepared.{Prepared}
 use Rattle.gen_function.specs.Blocks.{Listed}
-use Rattle.gen_function.specs.declared.Head.{Head}
 
 -- the function's entry and its blocks stand at their places
-pub record FunctionHere (m : ℕ) (bk bw : List ℕ) (h : Head) (f : Function) : Type 0 where
+pub record FunctionHere (m : ℕ) (bk bw : List ℕ) (h : Prepared) (f : Function) : Type 0 where
   pub here : drop (h .at) (entries bk bw) ≡ encFunction f
   pub blocks : Listed m bk bw (h .blocks) (f .blocks)
 
 -- the head has the context's frame
-pub record Framed (c : FnCtx) (h : Head) : Type 0 where
+pub record Framed (c : FnCtx) (h : Prepared) : Type 0 where
   pub slots : c .bpSlot ≡ h .slots
   pub size : c .frameSize ≡ h .size
   pub framed : c .hasFrame ≡ h .framed
 
-pub record FunctionAsk (m : ℕ) (bk bw : List ℕ) (h : Head) (work : List ℕ) : Type 0 where
+pub record FunctionAsk (m : ℕ) (bk bw : List ℕ) (h : Prepared) (work : List ℕ) : Type 0 where
   pub ctx : FnCtx
   pub maps : Maps m (entries bk bw) ctx work
   pub framed : Framed ctx h
@@ -46,10 +46,10 @@ pub record FunctionAsk (m : ℕ) (bk bw : List ℕ) (h : Head) (work : List ℕ)
   pub few : h .slots ≤ 2097152
 
 -- the slots with the base's
-unfoldable pub slotsOf : Head → ℕ
+unfoldable pub slotsOf : Prepared → ℕ
 slotsOf h = h .slots + cond (h .framed) 1 0
 
-module _ {m : ℕ} (bk bw : List ℕ) (h : Head) {f : Function} (p : FunctionHere m bk bw h f) where
+module _ {m : ℕ} (bk bw : List ℕ) (h : Prepared) {f : Function} (p : FunctionHere m bk bw h f) where
   pub name-in : h .at < length bw
   unfolding encFunction
   name-in = entry-at bk bw (h .at) _ _ (p .here) .3
@@ -95,12 +95,12 @@ module _ (c : FnCtx) {slot size : ℕ} {s t u v w x y : Reached} {k₀ o₀ k₁
       (then-puts (word-line (Line.push (c .frameSize)) refl (sym i) small l₄) (then-puts (line-puts (Line.bin BinOp.add Work.w64) refl refl l₅) (line-puts Line.threadSet refl refl l₆)))))
 
 -- the frame where there is one
-module _ (c : FnCtx) {h : Head} (f : Framed c h) {s t : Reached} {ks os ks′ os′ : List ℕ} where
+module _ (c : FnCtx) {h : Prepared} (f : Framed c h) {s t : Reached} {ks os ks′ os′ : List ℕ} where
   pub frame-entered : h .framed ≡ true → Puts (prologue c) s t ks os ks′ os′ → Puts (when (c .hasFrame) (prologue c)) s t ks os ks′ os′
   unfolding when
   frame-entered e p = subst (λ (b : Bool). Puts (when b (prologue c)) s t ks os ks′ os′) (sym (f .framed ∙ e)) p
 
-pub no-frame : (c : FnCtx) {h : Head} → Framed c h → (s : Reached) (ks os : List ℕ) → h .framed ≡ false → Puts (when (c .hasFrame) (prologue c)) s s ks os ks os
+pub no-frame : (c : FnCtx) {h : Prepared} → Framed c h → (s : Reached) (ks os : List ℕ) → h .framed ≡ false → Puts (when (c .hasFrame) (prologue c)) s s ks os ks os
 unfolding when
 no-frame c f s ks os e = subst (λ (b : Bool). Puts (when b (prologue c)) s s ks os ks os) (sym (f .framed ∙ e)) (skip-puts s ks os)
 

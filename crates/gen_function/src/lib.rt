@@ -2,6 +2,7 @@
 use gen_block::gen_block;
 use gen_lines::Reached;
 use gen_lines::put;
+use gen_prepare::Prepared;
 use gen_term::Base;
 use gen_values::need;
 use gen_walk::next_block;
@@ -19,16 +20,6 @@ ghost use Rattle.gen_lines.specs.Puts.{Puts};
 ghost use Rattle.gen_values.specs.Maps.{Maps, Did};
 ghost use Rattle.gen_function.specs.Blocks.{Listed, BlocksAsk};
 ghost use Rattle.gen_function.specs.Function.{FunctionHere, FunctionAsk, Framed, slotsOf};
-
-// Where a function stands among the book's entries, its entry and its list of blocks, and its frame: the number of slots,
-// behind which its base has one, the bytes of fixed places, and whether there is a frame.
-pub struct Head {
-    pub at: usize,
-    pub blocks: usize,
-    pub slots: u64,
-    pub size: u64,
-    pub framed: bool,
-}
 
 // The blocks of the list at a place.
 fn gen_blocks(
@@ -95,7 +86,7 @@ fn prologue(slot: u64, size: u64, lines: &mut [u16], operands: &mut [u64], s: Re
 }
 
 // The same where there is a frame.
-fn enter_frame(head: Head, lines: &mut [u16], operands: &mut [u64], s: Reached) -> Reached
+fn enter_frame(head: Prepared, lines: &mut [u16], operands: &mut [u64], s: Reached) -> Reached
     ensures { λ r. ⌜ ((c : FnCtx) → Framed c head
         → Puts (when (c .hasFrame) (prologueOf c)) s r (now (lines .entry)) (now (operands .entry)) (now (lines .exit)) (now (operands .exit))) ⌝ }
 {
@@ -107,7 +98,7 @@ fn enter_frame(head: Head, lines: &mut [u16], operands: &mut [u64], s: Reached) 
 }
 
 // The slots of the function and of its frame's base.
-fn total_slots(head: Head) -> u64
+fn total_slots(head: Prepared) -> u64
     requires { ⌜ head .slots ≤ 2097152 ⌝ }
     ensures { λ r. ⌜ r ≡ slotsOf head ⌝ }
 {
@@ -122,7 +113,7 @@ fn total_slots(head: Head) -> u64
 pub fn gen_function(
     book_kinds: &[u64],
     book_words: &[u64],
-    head: Head,
+    head: Prepared,
     work: &mut [u64],
     names: u64,
     lines: &mut [u16],
