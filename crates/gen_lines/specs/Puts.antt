@@ -158,7 +158,7 @@ sets-then l i us vs n e few = go (leb (i + n) most) refl
         ∙ sym (sets-out (sets l i us) (i + length us) vs (omega (arith, length-sets l i us)))
         ∙ sym (sets-append l i us vs)
 
-map-length : (f : Line → ℕ) (ls : List Line) → length (map f ls) ≡ length ls
+pub map-length : (f : Line → ℕ) (ls : List Line) → length (map f ls) ≡ length ls
 map-length f [] = refl
 map-length f (l ∷ ls) = ap suc (map-length f ls)
 
