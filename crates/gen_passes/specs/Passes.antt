@@ -1,0 +1,107 @@
+-- A pass that counts and one that writes: together they answer as the definition does.
+use Prim.Native.Nat.{ℕ, _+_, _<_, _≤_, _%_, _^_, min}
+use mathlib.Core.Path.{_≡_, refl, sym, ap, subst, _∙_}
+use mathlib.Core.Bool.{Bool, true, false}
+use mathlib.Core.List.{List, _++_, map}
+use native.Mathlib.Omega.{arith}
+use native.Mathlib.Nat.{mod-eq-of-lt}
+use lib.ListN.{length, drop}
+use lib.Seq.{sets, sets-eq}
+use lib.Dec.{leb}
+use borrow.Author.Tests.{le-leb, lt-leb}
+use Rattle.book.specs.Result.{Result, ok, err, bind, given}
+use Rattle.assembly.specs.Line.{Line}
+use Rattle.assembly.specs.Number.{kindOf}
+use Rattle.lowering.specs.Gen.{Gen, Out}
+use Rattle.lowering.specs.Translate.{over}
+use Rattle.gen_lines.specs.declared.Reached.{Reached}
+use Rattle.gen_lines.specs.Puts.{Puts, Able, After, Wrote, Barred, most, operandWord, map-length}
+use Rattle.gen_passes.specs.declared.Translation.{Translation}
+use Rattle.gen_passes.specs.declared.Translation.the-variants.{Accepted, Refused}
+
+-- what was generated, where it fits in so many lines
+abbrev pub fitted : Result Out → (room : ℕ) → Result Out
+fitted r room = bind r (λ out. given (leb (length (out .lines)) room) 20 out)
+
+-- the lines stand in the slices, the rest is as it was; counter and operands as words
+pub record Accepts (out : Out) (r : Translation) (ks os ks′ os′ : List ℕ) : Type 0 where
+  pub reply : r ≡ Accepted (length (out .lines)) (out .next % 2 ^ 64)
+  pub kinds : ks′ ≡ over (map kindOf (out .lines)) ks
+  pub operands : os′ ≡ over (map operandWord (out .lines)) os
+
+-- nothing is changed
+pub record Refuses (e : ℕ) (r : Translation) (ks os ks′ os′ : List ℕ) : Type 0 where
+  pub reply : r ≡ Refused e
+  pub kinds : ks′ ≡ ks
+  pub operands : os′ ≡ os
+
+abbrev pub Answered : Result Out → Translation → (ks os ks′ os′ : List ℕ) → Type 0
+Answered (ok out) r ks os ks′ os′ = Accepts out r ks os ks′ os′
+Answered (err e) r ks os ks′ os′ = Refuses e r ks os ks′ os′
+
+-- "the shorter line slice counts"
+abbrev pub room : (ks os : List ℕ) → ℕ
+room ks os = min (length ks) (length os)
+
+-- where both passes begin
+abbrev pub start : ℕ → Reached
+start counter = record { at = 0; counter = counter; refused = false }
+
+pub start-able : (counter : ℕ) (ks os : List ℕ) → counter < 2 ^ 64 → length ks ≤ most → length os ≤ most → Able (start counter) ks os counter
+start-able counter ks os small few-ks few-os =
+    record { going = refl; within = omega arith; few-kinds = few-ks; few-operands = few-os; counts = sym (mod-eq-of-lt small) }
+
+-- no answer is refused and not
+pub never : {A : Type 0} {b : Bool} → b ≡ true → b ≡ false → A
+never p q = absurd (let z : _≡_ {A = ℕ} 0 1 = cc in omega arith)
+
+-- stores from the start of a slice that reaches so far
+sets-over : (l vs : List ℕ) → length vs ≤ length l → sets l 0 vs ≡ over vs l
+unfolding over
+sets-over l vs h = let e : 0 + length vs ≡ length vs = omega arith in sets-eq vs l 0 (omega arith) ∙ ap (λ n. vs ++ drop n l) e
+
+-- a pass from the start, over slices of these lengths
+pub record Pass (g : Gen) (counter : ℕ) (t : Reached) (ks os ks′ os′ : List ℕ) : Type 0 where
+  pub puts : Puts g (start counter) t ks os ks′ os′
+  pub small : counter < 2 ^ 64
+  pub few-kinds : length ks < most
+  pub few-operands : length os < most
+
+pass-after : {g : Gen} {counter : ℕ} {t : Reached} {ks os ks′ os′ : List ℕ} → Pass g counter t ks os ks′ os′ → After (g counter) 0 t ks os ks′ os′
+pass-after {g} {counter} {t} {ks} {os} p = p .puts .goes counter (start-able counter ks os (p .small) (omega (arith, p .few-kinds)) (omega (arith, p .few-operands)))
+
+module _ (g : Gen) (counter : ℕ) {t : Reached} {ks₀ os₀ ks₁ os₁ : List ℕ} (counting : Pass g counter t ks₀ os₀ ks₁ os₁) (ks os : List ℕ) (few : length ks < most) where
+  -- the count found a refusal
+  pub pass-refused : t .refused ≡ true → Answered (fitted (g counter) (room ks os)) (Refused (t .counter)) ks os ks os
+  unfolding bind
+  pass-refused e = go (g counter) (pass-after counting)
+    where
+      go : (r : Result Out) → After r 0 t ks₀ os₀ ks₁ os₁ → Answered (fitted r (room ks os)) (Refused (t .counter)) ks os ks os
+      go (ok out) w = never e (w .going)
+      go (err n) b = record { reply = ap Refused (b .number); kinds = refl; operands = refl }
+
+  -- the lines do not fit
+  pub pass-short : t .refused ≡ false → room ks os < t .at → Answered (fitted (g counter) (room ks os)) (Refused 20) ks os ks os
+  unfolding bind given
+  pass-short e l = go (g counter) (pass-after counting)
+    where
+      go : (r : Result Out) → After r 0 t ks₀ os₀ ks₁ os₁ → Answered (fitted r (room ks os)) (Refused 20) ks os ks os
+      go (ok out) w = rw (lt-leb (length (out .lines)) (room ks os) (omega (arith, w .place))) (record { reply = refl; kinds = refl; operands = refl })
+      go (err n) b = never (b .refused) e
+
+  -- they do, and are written
+  pub pass-written : t .refused ≡ false → t .at ≤ room ks os → {u : Reached} {ks′ os′ : List ℕ} → Pass g counter u ks os ks′ os′
+      → Answered (fitted (g counter) (room ks os)) (Accepted (t .at) (t .counter)) ks os ks′ os′
+  unfolding bind given
+  pass-written e l {u} {ks′} {os′} writing = go (g counter) (pass-after counting) (pass-after writing)
+    where
+      go : (r : Result Out) → After r 0 t ks₀ os₀ ks₁ os₁ → After r 0 u ks os ks′ os′ → Answered (fitted r (room ks os)) (Accepted (t .at) (t .counter)) ks os ks′ os′
+      go (ok out) w v =
+          let n : t .at ≡ length (out .lines) = omega (arith, w .place) in
+          rw (le-leb (length (out .lines)) (room ks os) (omega arith))
+          (record {
+            reply = ap (λ x. Accepted x (t .counter)) n ∙ ap (Accepted (length (out .lines))) (w .next);
+            kinds = v .kinds ∙ sets-over ks (map kindOf (out .lines)) (omega (arith, map-length kindOf (out .lines)));
+            operands = v .operands ∙ sets-over os (map operandWord (out .lines)) (omega (arith, map-length operandWord (out .lines)));
+          })
+      go (err x) b v = never (b .refused) e
