@@ -1,0 +1,3 @@
+pub mod Clear
+pub mod Sound
+pub mod Reply

@@ -1,0 +1,172 @@
+-- What the check's answer says of a call: one of the first four refusals, or a sound book with its entries, names and work words.
+use Prim.Native.Nat.{ℕ, _+_, _-_, _*_, _<_, _≤_, _^_, min}
+use mathlib.Core.Path.{_≡_, refl, sym, ap, subst, _∙_}
+use mathlib.Core.Bool.{Bool, true, false, not}
+use mathlib.Core.Option.{Option, none, some}
+use mathlib.Core.List.{List, []}
+use native.Mathlib.Omega.{arith}
+use borrow.Author.Tests.{leb-true}
+use lib.ListN.{length, getD, take, drop, replicate, length-take, length-drop}
+use lib.Dec.{leb}
+use Rattle.names.specs.Name.{namesOf, counts, accepted}
+use Rattle.names.specs.Lines.{accepted-iff}
+use Rattle.book.specs.Ast.{Book}
+use Rattle.book.specs.Entry.{Entry, entries}
+use Rattle.book.specs.Rule.{pick}
+use Rattle.book.specs.Decode.{decode}
+use Rattle.book.specs.Encode.{encode}
+use Rattle.book.specs.AgreeBook.{decode-complete}
+use Rattle.book.specs.AgreeInput.{slice-sound}
+use Rattle.book.specs.Forbidden.{forbidden}
+use Rattle.book.specs.Input.{Counted, bookIn, namesIn}
+use Rattle.book.specs.Result.{Result, ok, err, bind, okOr, given, require, bind-ok, given-ok}
+use Rattle.book.specs.Check.{Sound, workFor, checked, refusalOf}
+use Rattle.book_types.specs.Laws.{length-entries}
+use Rattle.book_check.specs.Whole.{Holds, slice-holds, slice-parts}
+use Rattle.lowering.specs.Gen.{Out}
+use Rattle.lowering.specs.Context.{codegenOf}
+use Rattle.lowering.specs.Function.{genFunction}
+use Rattle.lowering.specs.Printable.{Lent, checked-lent, names-counted}
+use Rattle.lowering.specs.Translate.{generated}
+use Rattle.gen_passes.specs.Passes.{fitted, Answered}
+use Rattle.gen_passes.specs.Generate.{GenerateAsk}
+use Rattle.gen_passes.specs.declared.Translation.{Translation}
+
+-- ---- a refusal has a number that is not 0
+module _ {A B : Type 0} where
+  bind-some : (r : Result A) (f : A → Result B) → (r ≡ err 0 → ⊥) → ((a : A) → f a ≡ err 0 → ⊥) → bind r f ≡ err 0 → ⊥
+  unfolding bind
+  bind-some (ok a) f p q h = q a h
+  bind-some (err e) f p q h = p (let z : e ≡ 0 = cc in ap err z)
+
+module _ {A : Type 0} where
+  okOr-some : (n : ℕ) → 1 ≤ n → (o : Option A) → okOr n o ≡ err 0 → ⊥
+  unfolding okOr
+  okOr-some n l none h = let z : n ≡ 0 = cc in omega arith
+  okOr-some n l (some a) h = let z : _≡_ {A = ℕ} 0 1 = cc in omega arith
+
+  given-some : (b : Bool) (n : ℕ) → 1 ≤ n → (a : A) → given b n a ≡ err 0 → ⊥
+  unfolding given
+  given-some true n l a h = let z : _≡_ {A = ℕ} 0 1 = cc in omega arith
+  given-some false n l a h = let z : n ≡ 0 = cc in omega arith
+
+module _ (book names : List ℕ) (counter work : ℕ) where
+  never-0 : checked book names counter work ≡ err 0 → ⊥
+  unfolding checked require
+  never-0 =
+      bind-some _ _ (okOr-some 1 (omega arith) (bookIn book))
+      (λ b. bind-some _ _ (given-some (leb counter (2 ^ 32)) 1 (omega arith) tt)
+      (λ _. bind-some _ _ (okOr-some 2 (omega arith) (namesIn (b .count) names))
+      (λ ns. bind-some _ _ (given-some (not (forbidden ns (b .book))) 3 (omega arith) tt) (λ _. given-some (leb (workFor (b .count)) work) 4 (omega arith) _))))
+
+  -- a refusal by its number
+  pub refused-by : (n : ℕ) → n ≡ refusalOf (checked book names counter work) → 1 ≤ n → checked book names counter work ≡ err n
+  unfolding refusalOf
+  refused-by n e l = go (checked book names counter work) refl
+    where
+      go : (r : Result Sound) → checked book names counter work ≡ r → checked book names counter work ≡ err n
+      go (ok s) i = absurd (let z : n ≡ 0 = e ∙ ap refusalOf i in omega arith)
+      go (err x) i = let z : x ≡ n = sym (e ∙ ap refusalOf i) in i ∙ ap err z
+
+  -- a sound book
+  pub sound-by : 0 ≡ refusalOf (checked book names counter work) → (s : Sound) × (checked book names counter work ≡ ok s)
+  unfolding refusalOf
+  sound-by e = go (checked book names counter work) refl
+    where
+      go : (r : Result Sound) → checked book names counter work ≡ r → (s : Sound) × (checked book names counter work ≡ ok s)
+      go (ok s) i = (s, i)
+      go (err x) i = let z : x ≡ 0 = sym (e ∙ ap refusalOf i) in absurd (never-0 (i ∙ ap err z))
+
+-- ---- the call of a sound book
+pub record SoundAsk (book names : List ℕ) (counter : ℕ) (work : List ℕ) : Type 0 where
+  pub sound : 0 ≡ refusalOf (checked book names counter (length work))
+  pub blank : (i : ℕ) → getD work i 0 ≡ 0
+
+module _ {book names : List ℕ} {counter : ℕ} {work : List ℕ} (a : SoundAsk book names counter work) where
+  abbrev pub s : Sound
+  s = sound-by book names counter (length work) (a .sound) .0
+
+  is : checked book names counter (length work) ≡ ok s
+  is = sound-by book names counter (length work) (a .sound) .1
+
+  own : Lent book names s
+  own = checked-lent book names counter (length work) s is
+
+  holds : Holds book (own .counted)
+  holds = slice-holds book (own .counted) (own .read)
+
+  -- the parts that the code lends
+  abbrev kinds : List ℕ
+  kinds = take (2 + getD book 0 0 - 2) (drop 2 book)
+
+  abbrev words : List ℕ
+  words = take (length book - (2 + getD book 0 0)) (drop (2 + getD book 0 0) book)
+
+  pub size : length book ≡ 2 + 2 * getD book 0 0
+  size = holds .size
+
+  pub most : getD book 0 0 ≤ 1048576
+  most = holds .most
+
+  count-few : getD book 1 0 ≤ 131072
+  count-few = omega (arith, holds .count, holds .few)
+
+  written : entries kinds words ≡ encode (own .counted .book)
+  written = slice-parts [] book (omega (arith, size)) most count-few size ∙ holds .written
+
+  pub decoded : decode (getD book 1 0) (entries kinds words) ≡ some (s .book)
+  decoded =
+      ap (decode (getD book 1 0)) written
+      ∙ subst (λ (m : ℕ). decode m (encode (own .counted .book)) ≡ some (own .counted .book)) (holds .count) (decode-complete (own .counted .count) (own .counted .book) (holds .limits))
+      ∙ ap some (own .same)
+
+  pub named : namesOf names ≡ some (s .names)
+  unfolding namesIn
+  named = go (counts (own .counted .count) (namesOf names)) (own .spelled)
+    where
+      go : (b : Bool) → pick b (namesOf names) none ≡ some (s .names) → namesOf names ≡ some (s .names)
+      go true e = e
+      go false e = absurd (let z : _≡_ {A = ℕ} 0 1 = cc in omega arith)
+
+  room : 8 * own .counted .count + 64 ≤ length work
+  unfolding checked okOr
+  room =
+      let b = bind-ok (okOr 1 (bookIn book)) _ s is in
+      let c = bind-ok (require (leb counter (2 ^ 32)) 1) _ s (b .2) in
+      let n = bind-ok (okOr 2 (namesIn (b .0 .count) names)) _ s (c .2) in
+      let f = bind-ok (require (not (forbidden (n .0) (b .0 .book))) 3) _ s (n .2) in
+      let w = given-ok (leb (workFor (b .0 .count)) (length work)) 4 _ s (f .2) in
+      let e : b .0 ≡ own .counted = found (bookIn book) (b .1) (own .read) in
+      subst (λ (x : Counted). 8 * x .count + 64 ≤ length work) e (leb-true _ _ (w .0))
+    where
+      found : (o : Option Counted) {x y : Counted} → okOr 1 o ≡ ok x → o ≡ some y → x ≡ y
+      found none p q = absurd (let z : _≡_ {A = ℕ} 0 1 = cc in omega arith)
+      found (some z) p q = cc
+
+  pub generate-ask : GenerateAsk names (getD book 1 0) kinds words work
+  generate-ask =
+      record {
+        ask = record {
+          names = accepted-iff names (getD book 1 0) .1 (s .names, named, names-counted (own .counted .count) names (s .names) (own .spelled) ∙ holds .count);
+          book = record { book = s .book; says = decoded; few = omega (arith, length-entries kinds words, length-take (2 + getD book 0 0 - 2) (drop 2 book), most) };
+          room = omega (arith, room, holds .count);
+          blank = a .blank;
+        };
+        even = omega (
+          arith,
+          size,
+          length-take (2 + getD book 0 0 - 2) (drop 2 book),
+          length-drop 2 book,
+          length-take (length book - (2 + getD book 0 0)) (drop (2 + getD book 0 0) book),
+          length-drop (2 + getD book 0 0) book,
+        );
+      }
+
+  -- what is generated
+  generated-is : (k : ℕ) → generated book names counter (length work) k ≡ fitted (genFunction (codegenOf (s .names) (s .book)) (s .book .function) counter) k
+  unfolding generated bind
+  generated-is k = ap (λ (r : Result Sound). bind r (λ s. fitted (genFunction (codegenOf (s .names) (s .book)) (s .book .function) counter) k)) is
+
+  pub sound-answer : (k : ℕ) (q : Translation) (ks os ks′ os′ : List ℕ) → Answered (fitted (genFunction (codegenOf (s .names) (s .book)) (s .book .function) counter) k) q ks os ks′ os′
+      → Answered (generated book names counter (length work) k) q ks os ks′ os′
+  sound-answer k q ks os ks′ os′ h = subst (λ (g : Result Out). Answered g q ks os ks′ os′) (sym (generated-is k)) h
