@@ -1,0 +1,91 @@
+-- Demand 3 of the code that runs: the lines that an accepted call of `translate::translate` leaves in its slices run as the function does by the manual.
+use Prim.Native.Nat.{ℕ, _<_, _≤_, _^_, min}
+use mathlib.Core.Path.{_≡_, refl, sym, ap, subst, _∙_}
+use mathlib.Core.Bool.{true}
+use mathlib.Core.Option.{Option, some}
+use mathlib.Core.List.{List, map}
+use native.Mathlib.Omega.{arith}
+use borrow.Author.Tests.{leb-true}
+use lib.ListN.{length, take}
+use Rattle.book.specs.Ast.{Book, Function}
+use Rattle.book.specs.Result.{Result, ok, err, bind-ok, given-ok}
+use Rattle.book.specs.Check.{Sound, checked}
+use Rattle.assembly.specs.Line.{Line}
+use Rattle.assembly.specs.Number.{kindOf, operandOf}
+use Rattle.assembly.specs.Printer.{linesOf}
+use Rattle.assembly.specs.Lists.{lines-of-numbers}
+use Rattle.lowering.specs.Gen.{Out}
+use Rattle.lowering.specs.Context.{codegenOf}
+use Rattle.lowering.specs.Function.{genFunction}
+use Rattle.lowering.specs.AllowedFunction.{function-allows}
+use Rattle.lowering.specs.Printable.{checked-lent, take-over}
+use Rattle.lowering.specs.Translate as definition
+use Rattle.lowering.specs.Translate.{Translating, generated, over, replied, translate}
+use Rattle.machine.specs.Memory.{Memory}
+use Rattle.machine.specs.State.{World}
+use Rattle.manual.specs.Term.{Stand}
+use Rattle.manual.specs.Run.{sourceRun, argsFit}
+use Rattle.agreement.specs.Naming.{Naming}
+use Rattle.agreement.specs.Statement.{Agrees}
+use Rattle.agreement.specs.TwoRuns.{two-runs}
+use Rattle.gen_passes.specs.declared.Translation.{Translation}
+use Rattle.gen_passes.specs.declared.Translation.the-variants.{Accepted}
+use Rattle.translate.specs.Reply.{translating}
+
+-- the lines that these kinds and operands are, and their runs: with document 01's naming conditions, for all arguments that fit, every memory, stack pointer
+-- and world, and for every number of blocks that the run by the manual passes without a stop
+pub record Runs (book names : List ℕ) (counter work : ℕ) (kinds operands : List ℕ) : Type 0 where
+  pub sound : Sound
+  pub checks : checked book names counter work ≡ ok sound
+  pub lines : List Line
+  pub read : linesOf (sound .names) (sound .book) kinds operands ≡ some lines
+  pub run : Naming (sound .names) (sound .book .function) lines → (world : World) (args : List ℕ) (memory : Memory) (sp : ℕ)
+      → argsFit (sound .book .function .params) args ≡ true → sp < 2 ^ 64
+      → (n : ℕ) (t : Stand) → sourceRun (sound .names) (sound .book) world args memory sp n ≡ ok t → Agrees (sound .names) (sound .book) lines world args memory sp n t
+
+-- what was generated
+made : (book names : List ℕ) (counter work room : ℕ) (out : Out) → generated book names counter work room ≡ ok out
+    → Runs book names counter work (map kindOf (out .lines)) (map operandOf (out .lines))
+unfolding generated
+made book names counter work room out h =
+    let a = bind-ok (checked book names counter work) _ out h in
+    let c = bind-ok (genFunction (codegenOf (a .0 .names) (a .0 .book)) (a .0 .book .function) counter) _ out (a .2) in
+    let d = given-ok _ _ (c .0) out (c .2) in
+    let l = checked-lent book names counter work (a .0) (a .1) in
+    let f = function-allows (a .0 .names) (a .0 .book) (l .limits) .allows counter (c .0) (c .1) in
+    record {
+      sound = a .0;
+      checks = a .1;
+      lines = out .lines;
+      read = lines-of-numbers (a .0 .names) (a .0 .book) (out .lines) (rw (d .1) at f);
+      run = two-runs book names counter work room (a .0) out (a .1) h;
+    }
+
+count-of : definition.Translation → ℕ
+count-of (definition.Translation.accepted n next) = n
+count-of (definition.Translation.refused e) = 0
+
+is-accepted : definition.Translation → ℕ
+is-accepted (definition.Translation.accepted n next) = 1
+is-accepted (definition.Translation.refused e) = 0
+
+-- every call whose answer is accepted, from the contract of the code alone
+pub call-runs : (book names : List ℕ) (counter : ℕ) (work kinds operands work′ kinds′ operands′ : List ℕ) (many next : ℕ)
+    → translating (Accepted many next) work′ kinds′ operands′ ≡ translate book names counter work kinds operands
+    → Runs book names counter (length work) (take many kinds′) (take many operands′)
+unfolding translate replied count-of is-accepted
+call-runs book names counter work kinds operands work′ kinds′ operands′ many next h = go (generated book names counter (length work) room) refl h
+  where
+    room : ℕ
+    room = min (length kinds) (length operands)
+
+    go : (r : Result Out) → generated book names counter (length work) room ≡ r → translating (Accepted many next) work′ kinds′ operands′ ≡ replied r work kinds operands
+        → Runs book names counter (length work) (take many kinds′) (take many operands′)
+    go (err e) makes k = absurd (let z : _≡_ {A = ℕ} 1 0 = ap (λ (t : Translating). is-accepted (t .reply)) k in omega arith)
+    go (ok out) makes k =
+        let n : many ≡ length (out .lines) = ap (λ (t : Translating). count-of (t .reply)) k in
+        let ks : take many kinds′ ≡ map kindOf (out .lines) =
+        ap (λ (t : Translating). take many (t .kinds)) k ∙ ap (λ (j : ℕ). take j (over (map kindOf (out .lines)) kinds)) n ∙ take-over kindOf (out .lines) kinds in
+        let os : take many operands′ ≡ map operandOf (out .lines) =
+        ap (λ (t : Translating). take many (t .operands)) k ∙ ap (λ (j : ℕ). take j (over (map operandOf (out .lines)) operands)) n ∙ take-over operandOf (out .lines) operands in
+        rw (ks, os) (made book names counter (length work) room out makes)

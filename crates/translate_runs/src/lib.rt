@@ -1,0 +1,1 @@
+// The theorem of the two runs for calls of `translate::translate`.
