@@ -31,6 +31,8 @@ mod rng;
 mod runs;
 mod scratch;
 mod show;
+#[cfg(translating)]
+mod stack;
 mod stats;
 mod table;
 #[cfg(translating)]
@@ -75,6 +77,7 @@ const USAGE: &str = "usage:
                                      books, damaged copies, faulty statements and books at the limits; built in as above
   compare translator shapes          the same of the shapes that `compare bench` times
   compare bench [SEED]               times of the proved translator and printer beside the Rust's; built in as above
+  compare stack                      the stack that the proved check, translator and printer need; built in as above
   compare test                       tests of this program";
 
 /// The published Rust goes down into types by plain recursion.
@@ -142,8 +145,12 @@ fn run(args: &[&str]) -> Result<(), String> {
         ["bench"] => bench::bench(1),
         #[cfg(translating)]
         ["bench", seed] => bench::bench(number(seed)?),
+        #[cfg(translating)]
+        ["stack"] => stack::least(),
+        #[cfg(translating)]
+        ["stack", size] => stack::within(number(size)?),
         #[cfg(not(translating))]
-        ["translator" | "bench", ..] => Err("built without the proved translator: see README.md".to_string()),
+        ["translator" | "bench" | "stack", ..] => Err("built without the proved translator: see README.md".to_string()),
         #[cfg(not(proved))]
         ["checking" | "printing", ..] => Err("built without the static library of the crate `exports`: see README.md".to_string()),
         ["test"] => cases::test(),
