@@ -1,15 +1,40 @@
 // Replays recorded calls of the translator and the printer, each a line of standard input, and writes how many there were of each refusal.
-// A call whose answer is another than the recorded one, or that leaves a slice other than it must, is named.
+// A line whose call has another answer than the recorded one, or leaves a slice other than it must, is named.
 //
-// A line is numbers with a space between, a repeated one as TIMES*NUMBER: the counter, the lengths of the work slice and the two line slices,
-// the refusal or 0, the number of lines, the next counter, the lengths of the book, of its names and of the text; then the book, the bytes
-// of its names, the kinds of the lines, their operands, and the bytes of the text.
+// A line is numbers with a space between, a repeated one as TIMES*NUMBER: those below, and then the book, the bytes of its names, the kinds of
+// the lines, their operands, and the bytes of the text.
 use print::passes::Printed;
 use translate::Translation;
 use translate::translate;
 ghost use Prim.Native.Nat.{_≤_};
 ghost use mathlib.Core.Path.{_≡_};
 ghost use lib.ListN.{length};
+
+// What is lent: the counter, the lengths of the work slice and of the two line slices.
+const COUNTER: usize = 0;
+
+const WORK: usize = 1;
+
+const KINDS: usize = 2;
+
+const OPERANDS: usize = 3;
+
+// What is owed: the refusal or 0, the number of lines, the next counter.
+const REFUSAL: usize = 4;
+
+const LINES: usize = 5;
+
+const NEXT: usize = 6;
+
+// The lengths of the book, of its names and of the text.
+const WORDS: usize = 7;
+
+const BYTES: usize = 8;
+
+const TEXT: usize = 9;
+
+// How many these are.
+const HEAD: u64 = 10;
 
 // What stands in a slice before it is lent.
 const RUBBISH: u64 = 43690;
@@ -126,16 +151,18 @@ fn prints_all(book: &[u64], names: &[u8], kinds: &[u16], operands: &[u64], text:
 fn replied(row: &[u64], reply: Translation) -> bool {
     match reply {
         Translation::Accepted(n, next) => {
-            (number(row, 4) == 0) & (n as u64 == number(row, 5)) & (next == number(row, 6))
+            (number(row, REFUSAL) == 0)
+                & (n as u64 == number(row, LINES))
+                & (next == number(row, NEXT))
         }
-        Translation::Refused(e) => (e != 0) & (e == number(row, 4)),
+        Translation::Refused(e) => (e != 0) & (e == number(row, REFUSAL)),
     }
 }
 
 // Whether the slices hold what they must after the translator's call: no work word, the recorded lines, and behind them what stood there.
 // `lines` is what a row has behind the names: kinds, operands, text.
 fn leaves(row: &[u64], lines: &[u64], work: &[u64], kinds: &[u16], operands: &[u64]) -> bool {
-    let n = number(row, 5);
+    let n = number(row, LINES);
     holds_words(work, front(row, 0), 0)
         & holds_kinds(kinds, front(lines, n))
         & holds_words(operands, front(behind(lines, n), n), RUBBISH)
@@ -150,12 +177,12 @@ fn shows(
     kinds: &[u16],
     operands: &[u64],
 ) -> bool {
-    if number(row, 4) != 0 {
+    if number(row, REFUSAL) != 0 {
         return true;
     }
-    let n = number(row, 5);
+    let n = number(row, LINES);
     let end = least(n as usize, least(kinds.len(), operands.len()));
-    let text = behind(behind(lines, n), n);
+    let text = front(behind(behind(lines, n), n), number(row, TEXT));
     prints_all(book, names, &kinds[0..end], &operands[0..end], text)
 }
 
@@ -169,7 +196,7 @@ fn translates_into(
     kinds: &mut [u16],
     operands: &mut [u64],
 ) -> bool {
-    let reply = translate(book, names, number(row, 0), work, kinds, operands);
+    let reply = translate(book, names, number(row, COUNTER), work, kinds, operands);
     replied(row, reply)
         & leaves(row, lines, work, kinds, operands)
         & shows(row, book, names, lines, kinds, operands)
@@ -180,9 +207,9 @@ fn translates(row: &[u64], book: &[u64], names: &[u8], lines: &[u64]) -> bool {
     let mut work = [RUBBISH; 1024];
     let mut kinds = [43690u16; 512];
     let mut operands = [RUBBISH; 512];
-    let w = least(number(row, 1) as usize, 1024);
-    let k = least(number(row, 2) as usize, 512);
-    let o = least(number(row, 3) as usize, 512);
+    let w = least(number(row, WORK) as usize, 1024);
+    let k = least(number(row, KINDS) as usize, 512);
+    let o = least(number(row, OPERANDS) as usize, 512);
     translates_into(
         row,
         book,
@@ -207,15 +234,15 @@ fn copy_bytes(from: &[u64], to: &mut [u8]) -> usize
 
 // Whether the answers to a row's call are the recorded ones.
 fn replay(row: &[u64]) -> bool {
-    let parts = behind(row, 10);
-    let rest = behind(parts, number(row, 7));
+    let parts = behind(row, HEAD);
+    let rest = behind(parts, number(row, WORDS));
     let mut bytes = [0u8; 1024];
-    let n = copy_bytes(front(rest, number(row, 8)), &mut bytes);
+    let n = copy_bytes(front(rest, number(row, BYTES)), &mut bytes);
     translates(
         row,
-        front(parts, number(row, 7)),
+        front(parts, number(row, WORDS)),
         &bytes[0..n],
-        behind(rest, number(row, 8)),
+        behind(rest, number(row, BYTES)),
     )
 }
 
@@ -228,7 +255,7 @@ fn count(counts: &mut [u64], number: u64) {
 
 // Replays a line.
 fn run_line(row: &[u64], line: u64, counts: &mut [u64]) {
-    count(counts, number(row, 4));
+    count(counts, number(row, REFUSAL));
     if !replay(row) {
         io::write_all(1, b"line ");
         io::print_decimal(1, line);
