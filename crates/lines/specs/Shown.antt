@@ -41,3 +41,8 @@ whole input = cond (leb (length input) 65536) (leb (8 * size input) (length inpu
 unfoldable pub shown : (input work kinds operands text : List ℕ) → Printing
 shown input work kinds operands text =
     cond (whole input) (translated (words (size input) input) (drop (8 * size input) input) work kinds operands text) (refusing 1 text)
+
+-- opens every definition of this file, for an example that computes
+unfoldable pub openShown : Unit {0}
+unfolding words printed translated size whole shown
+openShown = tt
