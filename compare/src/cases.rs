@@ -399,7 +399,6 @@ fn limits() -> Vec<(&'static str, Option<u8>, Slices)> {
 }
 
 /// All books above, with what they are.
-#[cfg(translating)]
 pub fn books() -> Vec<(String, Slices)> {
     let sheets = sheets().into_iter().map(|sheet| (sheet.name, sheet.slices));
     let refused = refused().into_iter().chain(broken()).map(|(name, _, slices)| (name, slices));

@@ -57,7 +57,7 @@ const USAGE: &str = "usage:
   compare vectors SEED COUNT DIR [MOST]
                                      random and damaged books of at most MOST entries with their answers
   compare vectors numbers SEED COUNT FILE [MOST]
-                                     small books of every refusal with their answers and lines, as numbers alone
+                                     the sheets, the limits and small books of every refusal with their answers, as numbers alone
   compare program SEED COUNT COMMAND..
                                      whether a program prints what `compare oracle` does
   compare faulty SEED COUNT          what random statements meet whose parts are right or wrong

@@ -1,5 +1,7 @@
 //! Random and damaged books with their answers, as text that another program can replay. README.md has the formats.
 use crate::book::Lent;
+use crate::cases;
+use crate::check::work_needed;
 use crate::expect::{expected, expected_of, Expected};
 use crate::lines::{self, Lines, Printer};
 use crate::rng::Rng;
@@ -46,6 +48,7 @@ fn case(name: &str, lent: &Lent) -> Result<Vec<u8>, String> {
 // ---- numbers alone
 
 /// What a call is lent beside the book, and what it owes.
+#[derive(Clone)]
 struct Call {
     lent: Lent,
     /// Lengths of the line slices.
@@ -54,52 +57,108 @@ struct Call {
     refusal: u64,
     lines: Lines,
     next: u64,
+    text: String,
 }
 
-/// A case as a row of numbers.
+impl Call {
+    /// The same with other line slices, of which one is too short.
+    fn short(&self, room: [usize; 2]) -> Call {
+        let lent = self.lent.clone();
+        Call { room, refusal: 20, lines: Lines::default(), next: lent.counter, text: String::new(), lent }
+    }
+}
+
+/// A case as a line of numbers; one that comes three times or more in a row as TIMES*NUMBER.
 fn numbers(call: &Call) -> String {
-    let row = |part: &mut dyn Iterator<Item = u64>| part.map(|x| x.to_string()).collect::<Vec<_>>().join(" ");
-    let Call { lent, room, refusal, lines, next } = call;
-    let head = [lent.counter, lent.work as u64, room[0] as u64, room[1] as u64, *refusal, lines.kinds.len() as u64, *next];
-    let (words, bytes) = (&lent.slices.book, &lent.slices.names);
-    let mut book = [words.len() as u64].into_iter().chain(words.iter().copied());
-    let mut names = [bytes.len() as u64].into_iter().chain(bytes.iter().map(|byte| *byte as u64));
-    let (mut kinds, mut operands) = (lines.kinds.iter().map(|kind| *kind as u64), lines.operands.iter().copied());
-    let parts: [&mut dyn Iterator<Item = u64>; 5] = [&mut head.into_iter(), &mut book, &mut names, &mut kinds, &mut operands];
-    parts.map(|part| row(part) + "\n").concat()
+    let Call { lent, room, refusal, lines, next, text } = call;
+    let (words, names) = (&lent.slices.book, &lent.slices.names);
+    let lengths = [words.len(), names.len(), text.len()].map(|length| length as u64);
+    let count = lines.kinds.len() as u64;
+    let mut all = vec![lent.counter, lent.work as u64, room[0] as u64, room[1] as u64, *refusal, count, *next];
+    all.extend(lengths);
+    all.extend(words);
+    all.extend(names.iter().map(|byte| *byte as u64));
+    all.extend(lines.kinds.iter().map(|kind| *kind as u64));
+    all.extend(&lines.operands);
+    all.extend(text.bytes().map(u64::from));
+    let run = |run: &[u64]| match run.len() {
+        1 => run[0].to_string(),
+        2 => format!("{} {}", run[0], run[0]),
+        times => format!("{times}*{}", run[0]),
+    };
+    all.chunk_by(|one, other| one == other).map(run).collect::<Vec<_>>().join(" ") + "\n"
 }
 
-/// The call for a book, its line slices exactly full, longer, or too short; none where the answer is open.
-fn call(lent: Lent, rng: &mut Rng) -> Result<Option<Call>, String> {
-    let (lines, next, refusal) = match expected_of(&lent)? {
+/// The call for a book with line slices that are exactly full; none where the answer is open.
+fn owed(lent: Lent) -> Result<Option<Call>, String> {
+    let (lines, next, refusal, text) = match expected_of(&lent)? {
         (Expected::Accepted(accepted), Some(book)) => {
             let printer = Printer::of_book(&book);
             let lines = lines::read(&lent, &printer, &accepted)?;
             if printer.text(&lines.kinds, &lines.operands) != Some(accepted.text()) {
                 return Err("the lines read back print another text".to_string());
             }
-            (lines, accepted.next, 0)
+            (lines, accepted.next, 0, accepted.text())
         }
-        (Expected::Refused(number), _) => (Lines::default(), lent.counter, number as u64),
+        (Expected::Refused(number), _) => (Lines::default(), lent.counter, number as u64, String::new()),
         _ => return Ok(None),
     };
-    let count = lines.kinds.len();
-    if refusal == 0 && rng.chance(150) {
+    let room = [lines.kinds.len(); 2];
+    Ok(Some(Call { lent, room, refusal, lines, next, text }))
+}
+
+/// The same with line slices that are exactly full, longer, or too short.
+fn call(lent: Lent, rng: &mut Rng) -> Result<Option<Call>, String> {
+    let Some(mut call) = owed(lent)? else { return Ok(None) };
+    let count = call.room[0];
+    if call.refusal == 0 && rng.chance(150) {
         let room = *rng.pick(&[[count - 1, count], [count, count - 1], [0, 0], [count / 2, count + 1]]);
-        return Ok(Some(Call { next: lent.counter, lent, room, refusal: 20, lines: Lines::default() }));
+        return Ok(Some(call.short(room)));
     }
-    let room = if rng.chance(500) { [count, count] } else { [count + rng.below(4), count + rng.below(4)] };
-    Ok(Some(Call { lent, room, refusal, lines, next }))
+    if !rng.chance(500) {
+        call.room = [count + rng.below(4), count + rng.below(4)];
+    }
+    Ok(Some(call))
+}
+
+/// The sheets, refusals and limits of `cases.rs`, but for books of more than 66,000 entries or 1,000 bytes of names: each with line
+/// slices that are exactly full, and one of them a line short; the first at the largest counter, at one more, and with a work slice that is a
+/// word short.
+fn fixed() -> Result<Vec<Call>, String> {
+    let mut calls = vec![];
+    for (what, slices) in cases::books() {
+        if slices.book.len() > 132_002 || slices.names.len() > 1000 {
+            continue;
+        }
+        let work = work_needed(slices.names.iter().filter(|byte| **byte == b'\n').count());
+        let lent = Lent { slices, counter: 0, work };
+        let mut lents = vec![lent.clone()];
+        if calls.is_empty() {
+            lents.extend([1 << 32, (1 << 32) + 1].map(|counter| Lent { counter, ..lent.clone() }));
+            lents.push(Lent { work: work - 1, ..lent });
+        }
+        for lent in lents {
+            let call = owed(lent).map_err(|error| format!("{what}: {error}"))?.ok_or(format!("{what}: no answer"))?;
+            let count = call.room[0];
+            if call.refusal == 0 {
+                calls.extend([[count - 1, count], [count, count - 1]].map(|room| call.short(room)));
+            }
+            calls.push(call);
+        }
+    }
+    Ok(calls)
 }
 
 /// Books that are looked at for each that is written.
 const LOOKED_AT: u64 = 2000;
 
-/// Writes COUNT small books: of each refusal the first that come, a fortieth of all, and for the rest accepted ones.
+/// Writes the books that are always the same and COUNT small ones: of each refusal the first that come, a fortieth of all, and for the rest
+/// accepted ones.
 pub fn write_numbers(seed: u64, count: u64, file: &str, most: u64) -> Result<(), String> {
     let share = (count / 40).max(1);
     let mut written = [0u64; 21];
     let mut rows = vec![];
+    let fixed = fixed()?;
     for index in 0..count * LOOKED_AT {
         let mut rng = Rng::new(seed ^ 0x5eed, index);
         let lent = match index % 3 {
@@ -124,10 +183,13 @@ pub fn write_numbers(seed: u64, count: u64, file: &str, most: u64) -> Result<(),
             break;
         }
     }
-    let text = format!("{}\n{}", rows.len(), rows.concat());
+    let text = fixed.iter().map(numbers).chain(rows).collect::<String>();
     std::fs::write(file, &text).map_err(|error| format!("{file}: {error}"))?;
+    for call in &fixed {
+        written[call.refusal as usize] += 1;
+    }
     let met = written.iter().enumerate().filter(|(_, count)| **count > 0);
     let counts: Vec<String> = met.map(|(number, count)| format!("{number}: {count}")).collect();
-    println!("{} cases, {} bytes; by refusal, 0 for accepted: {}", rows.len(), text.len(), counts.join(", "));
+    println!("{} cases, {} bytes; by refusal, 0 for accepted: {}", written.iter().sum::<u64>(), text.len(), counts.join(", "));
     Ok(())
 }

@@ -1,2 +1,3 @@
 -- What the boundary's answers say.
 pub mod Printed
+pub mod Translated

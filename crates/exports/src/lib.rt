@@ -1,10 +1,12 @@
 // The boundary for C and Rust: each function lends its slices on and gives document 01's numbers.
 use book_check::Verdict;
 use print::passes::Printed;
+use gen_passes::Translation;
 ghost use mathlib.Core.Path.{_≡_};
 ghost use Rattle.book.specs.Check.{checked, refusalOf};
 ghost use Rattle.book_check.specs.Verdict.{numberOf};
 ghost use Rattle.assembly.specs.Printer.{print, printedNumber, printedBytes};
+ghost use Rattle.lowering.specs.Translate.{translate, translationNumber, translationLines, translationCounter};
 
 // Document 01's number of an answer.
 fn number(verdict: Verdict) -> u64
@@ -26,6 +28,40 @@ pub extern "C" fn mivolanjy_check(book: &[u64], names: &[u8], counter: u64, work
     ensures { λ r. ⌜ r ≡ refusalOf (checked (now (book .entry)) (now (names .entry)) counter work) ⌝ }
 {
     number(book_check::check(book, names, counter, work))
+}
+
+// Translates the lent book into lines. The answer is the refusal's number, 0 where there is none; `lines` is the number of lines, and the
+// next counter is the one that was lent where the book is refused.
+#[no_mangle]
+pub extern "C" fn mivolanjy_translate(
+    book: &[u64],
+    names: &[u8],
+    counter: u64,
+    work: &mut [u64],
+    kinds: &mut [u16],
+    operands: &mut [u64],
+    lines: &mut u64,
+    next: &mut u64,
+) -> u64
+    ensures { λ r. ⌜ r ≡ translationNumber (translate (now (book .entry)) (now (names .entry)) counter (now (work .entry)) (now (kinds .entry)) (now (operands .entry)) .reply) ⌝ }
+    ensures { λ r. ⌜ now (lines .exit) ≡ translationLines (translate (now (book .entry)) (now (names .entry)) counter (now (work .entry)) (now (kinds .entry)) (now (operands .entry)) .reply) ⌝ }
+    ensures { λ r. ⌜ now (next .exit) ≡ translationCounter counter (translate (now (book .entry)) (now (names .entry)) counter (now (work .entry)) (now (kinds .entry)) (now (operands .entry)) .reply) ⌝ }
+    ensures { λ r. ⌜ now (work .exit) ≡ translate (now (book .entry)) (now (names .entry)) counter (now (work .entry)) (now (kinds .entry)) (now (operands .entry)) .work ⌝ }
+    ensures { λ r. ⌜ now (kinds .exit) ≡ translate (now (book .entry)) (now (names .entry)) counter (now (work .entry)) (now (kinds .entry)) (now (operands .entry)) .kinds ⌝ }
+    ensures { λ r. ⌜ now (operands .exit) ≡ translate (now (book .entry)) (now (names .entry)) counter (now (work .entry)) (now (kinds .entry)) (now (operands .entry)) .operands ⌝ }
+{
+    match translate::translate(book, names, counter, work, kinds, operands) {
+        Translation::Accepted(n, after) => {
+            *lines = n as u64;
+            *next = after;
+            0
+        }
+        Translation::Refused(e) => {
+            *lines = 0;
+            *next = counter;
+            e
+        }
+    }
 }
 
 // Prints the lines of the lent book into the text. The answer is the refusal's number, 0 where there is none; the count is that of the
