@@ -12,7 +12,7 @@ use Rattle.lowering.specs.Gen.{lines, line, skip, after, _>>_, each}
 use Rattle.lowering.specs.Context.{FnCtx}
 use Rattle.lowering.specs.Edge.{Copy, setCopy}
 use Rattle.gen_lines.specs.declared.Reached.{Reached}
-use Rattle.gen_lines.specs.Puts.{Puts, most, further, operandWord, same-puts}
+use Rattle.gen_lines.specs.Puts.{Puts, most, further, operandWord, still, same-puts}
 
 -- a store in front of a run of stores
 sets-set : (l : List ℕ) (i j v : ℕ) (vs : List ℕ) → i < j → set (sets l j vs) i v ≡ sets (set l i v) j vs
@@ -90,11 +90,11 @@ module _ (c : FnCtx) (cps : List Copy) (xs : List ℕ) (same : map (λ (cp : Cop
       (record {
         long-kinds = b .long-kinds;
         long-operands = b .long-operands;
-        stays = λ r. record { refused = refused ∙ r; number = counter };
+        stays = λ r. record { refused = still refused ∙ r; number = counter };
         goes = λ n a.
             let z : s .at + 0 ≡ s .at = omega arith in
             record {
-              going = refused ∙ a .going;
+              going = still refused ∙ a .going;
               place = place ∙ ap (further (s .at)) (sym slots-length);
               next = counter ∙ a .counts;
               kinds = b .kinds (a .within) ∙ rw (z, ← slots-kinds);

@@ -20,7 +20,7 @@ use Rattle.lowering.specs.Context.{FnCtx, named, slotOf}
 use Rattle.lowering.specs.Operand.{intWidth, pushValue, pushTyped}
 use Rattle.lowering.specs.Edge.{Copy, incomingFrom, copyOf, copyStep, copies, pushCopy}
 use Rattle.gen_lines.specs.declared.Reached.{Reached}
-use Rattle.gen_lines.specs.Puts.{Puts, Barred, orElse, madeRefused, then-puts}
+use Rattle.gen_lines.specs.Puts.{Puts, Barred, isRefused, orElse, madeRefused, then-puts}
 use Rattle.gen_lines.specs.Follow.{Asked, Answered, asked-puts, asked-ok, asked-err, none-puts, more-puts}
 use Rattle.gen_values.specs.Maps.{Locals, numbered}
 use Rattle.gen_values.specs.Push.{some-of, none-of}
@@ -37,10 +37,10 @@ module _ {A B : Type 0} {r : Result A} (g : A → Result B) {s t u : Reached} {x
       later : {e : ℕ} → Barred e t → Barred e u
       later b = let d = q .stays (b .refused) in record { refused = d .refused; number = d .number ∙ b .number }
 
-      go : (r : Result A) → Answered r s t x → s .refused ≡ false → Answered (bind r g) s u y
+      go : (r : Result A) → Answered r s t x → isRefused s ≡ false → Answered (bind r g) s u y
       go (err e) b h = later b
       go (ok a) (i, j) h =
-          let w : Answered (g x) t u y = q .goes (ap (λ (v : Reached). v .refused) i ∙ h) in
+          let w : Answered (g x) t u y = q .goes (ap isRefused i ∙ h) in
           subst (λ (z : A). Answered (g z) s u y) j (subst (λ (v : Reached). Answered (g x) v u y) i w)
 
 -- a test that `need` makes
@@ -50,10 +50,10 @@ module _ {A : Type 0} {r : Result A} (e : ℕ) (s : Reached) {t : Reached} (x : 
   asked-need false p q h = subst (λ (v : Result A). Asked v s t x) (sym (q refl)) (asked-err e s x h)
 
 -- what came behind a refusal is refused, so nothing was refused before where nothing is
-pub asked-going : {A : Type 0} {r : Result A} {s t : Reached} {x : A} → Asked r s t x → t .refused ≡ false → s .refused ≡ false
-asked-going {A} {r} {s} {t} {x} q f = at (s .refused) refl
+pub asked-going : {A : Type 0} {r : Result A} {s t : Reached} {x : A} → Asked r s t x → isRefused t ≡ false → isRefused s ≡ false
+asked-going {A} {r} {s} {t} {x} q f = at (isRefused s) refl
   where
-    at : (b : Bool) → s .refused ≡ b → b ≡ false
+    at : (b : Bool) → isRefused s ≡ b → b ≡ false
     at false h = refl
     at true h = let d = q .stays h in sym (d .refused) ∙ f
 
@@ -236,15 +236,15 @@ module _ (c : FnCtx) (pred m : ℕ) (ks ws work : List ℕ) (maps : Locals c m w
       (asked-then (λ val. ok (record { slot = slotNumber work (p .dest); val = val; ty = p .ty })) (asked-found m pred ks ws (p .incoming) found f n refl q) (asked-ok t _))
 
 -- a phi without the predecessor is refused
-made-refused : (v : Reached) (e : ℕ) (b : Bool) → v .refused ≡ b → orElse b v (record { at = v .at; counter = e; refused = true }) .refused ≡ true
+made-refused : (v : Reached) (e : ℕ) (b : Bool) → isRefused v ≡ b → isRefused (orElse b v (record { at = v .at; counter = e; refused = 1 })) ≡ true
 made-refused v e true h = h
 made-refused v e false h = refl
 
-pub noted-found : (dest found : ℕ) (work : List ℕ) (s : Reached) {t : Reached} → t ≡ noted dest found work s → t .refused ≡ false → found ≡ 0 → ⊥
+pub noted-found : (dest found : ℕ) (work : List ℕ) (s : Reached) {t : Reached} → t ≡ noted dest found work s → isRefused t ≡ false → found ≡ 0 → ⊥
 noted-found dest found work s {t} h f z =
     let n : Reached = orElse (not (eqb (slotWord dest work) 0)) s (madeRefused s 5) in
     let q : t ≡ madeRefused n 18 = h ∙ rw (eq-eqb found 0 z) in
-    let y : true ≡ false = sym (made-refused n 18 (n .refused) refl) ∙ sym (ap (λ (v : Reached). v .refused) q) ∙ f in
+    let y : true ≡ false = sym (made-refused n 18 (isRefused n) refl) ∙ sym (ap isRefused q) ∙ f in
     let x : _≡_ {A = ℕ} 0 1 = cc in
     omega arith
 
@@ -266,7 +266,7 @@ pub record Pushed (c : FnCtx) (pred : ℕ) (work : List ℕ) (ps : List Phi) (s 
   pub cps : List Copy
   pub slots : map (λ (cp : Copy). cp .slot) cps ≡ map (λ (p : Phi). slotNumber work (p .dest)) ps
   pub asked : Asked (copiesOf c pred ps) s n cps
-  pub puts : n .refused ≡ false → Puts (each (pushCopy c) cps) s t ks os ks′ os′
+  pub puts : isRefused n ≡ false → Puts (each (pushCopy c) cps) s t ks os ks′ os′
   pub long-kinds : length ks′ ≡ length ks
   pub long-operands : length os′ ≡ length os
 
@@ -277,7 +277,7 @@ module _ (c : FnCtx) (pred : ℕ) (work : List ℕ) where
 
   module _ (ps : List Phi) (p : Phi) (cp : Copy) {s n t n′ t′ : Reached} {ks os ks′ os′ ks″ os″ : List ℕ} where
     pub pushed-more : Pushed c pred work ps s n t ks os ks′ os′ → cp .slot ≡ slotNumber work (p .dest) → Asked (copyOf c pred (p .dest) (p .ty) (p .incoming)) n n′ cp
-        → (n′ .refused ≡ false → Puts (pushCopy c cp) t t′ ks′ os′ ks″ os″) → length ks″ ≡ length ks′ → length os″ ≡ length os′
+        → (isRefused n′ ≡ false → Puts (pushCopy c cp) t t′ ks′ os′ ks″ os″) → length ks″ ≡ length ks′ → length os″ ≡ length os′
         → Pushed c pred work (ps ++ (p ∷ [])) s n′ t′ ks os ks″ os″
     pushed-more b e a q lk lo =
         record {
@@ -294,11 +294,11 @@ module _ (c : FnCtx) (pred : ℕ) (work : List ℕ) where
 
   -- behind them all: what was noted comes first
   module _ (ps : List Phi) {s n t r u : Reached} {ks os ks′ os′ ks″ os″ : List ℕ} (b : Pushed c pred work ps s n t ks os ks′ os′) where
-    pub pushed-end : (f : List Copy → Gen) → r ≡ orElse (n .refused) n t → Puts (f (b .cps)) r u ks′ os′ ks″ os″
+    pub pushed-end : (f : List Copy → Gen) → r ≡ orElse (isRefused n) n t → Puts (f (b .cps)) r u ks′ os′ ks″ os″
         → Puts (copiesOf c pred ps >>= (λ cps. each (pushCopy c) cps >> f cps)) s u ks os ks″ os″
-    pushed-end f e p = asked-puts (λ cps. each (pushCopy c) cps >> f cps) (b .asked) (at (n .refused) refl)
+    pushed-end f e p = asked-puts (λ cps. each (pushCopy c) cps >> f cps) (b .asked) (at (isRefused n) refl)
       where
-        refused : n .refused ≡ true → Puts (each (pushCopy c) (b .cps) >> f (b .cps)) n u ks os ks″ os″
+        refused : isRefused n ≡ true → Puts (each (pushCopy c) (b .cps) >> f (b .cps)) n u ks os ks″ os″
         refused h =
             let q : Puts (f (b .cps)) n u ks′ os′ ks″ os″ = subst (λ (v : Reached). Puts (f (b .cps)) v u ks′ os′ ks″ os″) (e ∙ rw h) p in
             record {
@@ -308,12 +308,12 @@ module _ (c : FnCtx) (pred : ℕ) (work : List ℕ) where
               goes = λ k a. absurd (let z : true ≡ false = sym h ∙ a .going in let x : _≡_ {A = ℕ} 0 1 = cc in omega arith);
             }
 
-        going : n .refused ≡ false → (o : Result (List Copy)) → Answered o s n (b .cps) → Puts (each (pushCopy c) (b .cps) >> f (b .cps)) n u ks os ks″ os″
+        going : isRefused n ≡ false → (o : Result (List Copy)) → Answered o s n (b .cps) → Puts (each (pushCopy c) (b .cps) >> f (b .cps)) n u ks os ks″ os″
         going h (err x) d = absurd (let z : true ≡ false = sym (d .refused) ∙ h in let x : _≡_ {A = ℕ} 0 1 = cc in omega arith)
         going h (ok xs) d =
             let q : Puts (f (b .cps)) t u ks′ os′ ks″ os″ = subst (λ (v : Reached). Puts (f (b .cps)) v u ks′ os′ ks″ os″) (e ∙ rw h) p in
             subst (λ (v : Reached). Puts (each (pushCopy c) (b .cps) >> f (b .cps)) v u ks os ks″ os″) (sym (d .0)) (then-puts (b .puts h) q)
 
-        at : (x : Bool) → n .refused ≡ x → Puts (each (pushCopy c) (b .cps) >> f (b .cps)) n u ks os ks″ os″
+        at : (x : Bool) → isRefused n ≡ x → Puts (each (pushCopy c) (b .cps) >> f (b .cps)) n u ks os ks″ os″
         at true h = refused h
         at false h = going h (copiesOf c pred ps) (b .asked .goes (asked-going (b .asked) h))

@@ -12,7 +12,7 @@ use Rattle.lowering.specs.Operand.{intWidth, pushTyped}
 use Rattle.lowering.specs.Edge.{pushCopy}
 use Rattle.layout_memo.specs.Front.{tyLen}
 use Rattle.gen_lines.specs.declared.Reached.{Reached}
-use Rattle.gen_lines.specs.Puts.{Puts, orElse}
+use Rattle.gen_lines.specs.Puts.{Puts, isRefused, orElse}
 use Rattle.gen_values.specs.Maps.{Locals}
 use Rattle.gen_values.specs.Values.{valueOf, widthBy, Reaches, DestReaches}
 use Rattle.gen_values.specs.Fields.{operand-at, WidthSays, ValueAt}
@@ -49,7 +49,7 @@ pub record PairWalk (pred m : ℕ) (ks ws : List ℕ) (place : ℕ) (ps : List P
 pub record Passed (c : FnCtx) (pred : ℕ) (work : List ℕ) (ps : List Phi) (count : ℕ) (s r : Reached) (ls os ls′ os′ : List ℕ) : Type 0 where
   pub noted : Reached
   pub reached : Reached
-  pub last : r ≡ orElse (noted .refused) noted reached
+  pub last : r ≡ orElse (isRefused noted) noted reached
   pub counted : count ≡ length ps
   pub pushed : Pushed c pred work ps s noted reached ls os ls′ os′
 
@@ -146,7 +146,7 @@ module _ (c : FnCtx) (pred m : ℕ) (ks ws work : List ℕ) (ps : List Phi) wher
           }
 
     -- behind them all
-    pub walk-end : (getD ks place 0 ≡ 75 → ⊥) → {r : Reached} → r ≡ orElse (n .refused) n t → Passed c pred work ps count s r ls os ls′ os′
+    pub walk-end : (getD ks place 0 ≡ 75 → ⊥) → {r : Reached} → r ≡ orElse (isRefused n) n t → Passed c pred work ps count s r ls os ls′ os′
     walk-end z {r} e =
         let d : w .done ≡ ps = sym (append-nil (w .done)) ∙ ap (λ q. w .done ++ q) (sym (leading-end ks ws place (w .todo) (w .front) z)) ∙ w .same in
         record {

@@ -20,7 +20,7 @@ ghost use Rattle.lowering.specs.Context.{FnCtx};
 ghost use Rattle.lowering.specs.Gen.{each};
 ghost use Rattle.lowering.specs.Operand.{intWidth, pushTyped};
 ghost use Rattle.lowering.specs.Edge.{Copy, setCopy, emitEdgeCopies, edge as edgeOf};
-ghost use Rattle.gen_lines.specs.Puts.{Puts, further, orElse};
+ghost use Rattle.gen_lines.specs.Puts.{Puts, further, isRefused, orElse};
 ghost use Rattle.gen_values.specs.Values.{valueOf, widthBy, Reaches, DestReaches};
 ghost use Rattle.gen_values.specs.Fields.{WidthSays};
 ghost use Rattle.gen_values.specs.Maps.{Locals, Maps};
@@ -109,9 +109,9 @@ fn push_found(
 
 // What was noted, or else what was reached.
 fn noted_first(noted: Reached, reached: Reached) -> Reached
-    ensures { λ r. ⌜ r ≡ orElse (noted .refused) noted reached ⌝ }
+    ensures { λ r. ⌜ r ≡ orElse (isRefused noted) noted reached ⌝ }
 {
-    if noted.refused { noted } else { reached }
+    if noted.refused != 0 { noted } else { reached }
 }
 
 // The values of the leading phis, in order.
@@ -193,7 +193,7 @@ fn put_at(lines: &mut [u16], operands: &mut [u64], place: usize, slot: u64)
         Reached {
             at: place,
             counter: 0,
-            refused: false,
+            refused: 0,
         },
         11,
         slot,

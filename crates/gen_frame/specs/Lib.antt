@@ -5,6 +5,6 @@ pub mod Placed
 pub mod Allocas
 pub mod Taken
 pub mod Steps
-pub mod Parts
+pub mod Scan
 pub mod Pass
 pub mod Contexts

@@ -2,14 +2,15 @@
 use Prim.Native.Nat.{ℕ, _+_, _*_, _<_, _≤_, _^_}
 use mathlib.Core.Path.{_≡_, refl, sym, ap, subst, _∙_}
 use mathlib.Core.Bool.{Bool, true, false}
-use mathlib.Core.Logic.{inl}
-use mathlib.Core.List.{List, [], _∷_, _++_}
+use mathlib.Core.List.{List, [], _∷_, _++_, append-nil}
 use native.Mathlib.Omega.{arith}
-use borrow.Author.Tests.{eqb-true, eqb-false, leb-true, leb-false}
-use lib.ListN.{length, getD, drop, length-drop}
-use lib.Seq.{drop-drop}
-use lib.Dec.{eqb, leb}
-use Rattle.book.specs.Entry.{Entry, entries}
+use native.Mathlib.Nat.{add-zero}
+use native.Mathlib.Numerals.{add-one}
+use borrow.Author.Tests.{ltb-true, ltb-false}
+use lib.ListN.{length, getD, drop, length-drop, drop-of-length-le}
+use lib.Seq.{drop-cons, getD-drop}
+use lib.Dec.{ltb}
+use Rattle.book.specs.Entry.{Entry, entry, entries}
 use Rattle.book.specs.Ast.{Inst, BasicBlock}
 use Rattle.book.specs.Encode.{closed, encBasicBlock}
 use Rattle.book.specs.Limits.{Each, BlockLimits}
@@ -18,7 +19,7 @@ use Rattle.book.specs.Read.{got, many}
 use Rattle.book.specs.Result.{Result, ok, err, bind}
 use Rattle.book.specs.Shape.{shape, allInsts}
 use Rattle.book.specs.AgreeBook.{agrees-blocks}
-use Rattle.book_types.specs.Laws.{entries-part, within-kinds, within-words}
+use Rattle.book_types.specs.Laws.{entries-drop, entries-part, within-kinds, within-words}
 use Rattle.layout.specs.Frame.{Places, noFrame, frameStep, framePass}
 use Rattle.layout_memo.specs.Front.{kindOf, kind-at}
 use Rattle.layout_memo.specs.Work.{Ready, structsIn}
@@ -26,8 +27,8 @@ use Rattle.layout_memo.specs.Calls.{lent}
 use Rattle.lowering.specs.Context.{Slots, noSlots, slotStep, slotMap}
 use Rattle.gen_frame.specs.Frames.{never, SlotsHold, Overflows, FrameSays, FrameKept, kept-none, kept-then, overflows-kept}
 use Rattle.gen_frame.specs.Taken.{InstAt}
-use Rattle.gen_frame.specs.Steps.{Stepped}
-use Rattle.gen_frame.specs.Parts.{Left, Part, PartLen, PartAsk, PartDone, left-there, left-done, left-part, term-pos, inst-pos}
+use Rattle.gen_frame.specs.Steps.{StepAsk, Stepped, step-idle}
+use Rattle.gen_frame.specs.Scan.{First, Scan, scan-blocks}
 use Rattle.gen_frame.specs.declared.Frame.{Frame}
 
 -- the blocks of a function stand at the front, with the entry that closes them
@@ -44,10 +45,11 @@ same-blocks {m} {b} {c} {es} x y =
     let q : many _ es ≡ got c _ = ap (many _) (y .here) ∙ agrees-blocks m .complete c (y .rest) (y .keeps) in
     cc
 
--- words 1 and 3 are 0; bs are the book's entries
+-- nothing stands behind the blocks; words 1 and 3 are 0; bs are the book's entries
 pub record FrameAsk (m : ℕ) (es bs : List Entry) (work : List ℕ) : Type 0 where
   pub blocks : List BasicBlock
   pub at : BlocksAt m blocks es
+  pub ends : at .rest ≡ []
   pub ready : Ready m bs work
   pub slots : (x : ℕ) → x < m → getD work (8 * x + 1) 0 ≡ 0
   pub places : (x : ℕ) → x < m → getD work (8 * x + 3) 0 ≡ 0
@@ -72,13 +74,14 @@ pub record Going (m : ℕ) (es bs : List Entry) (work₀ work : List ℕ) (at : 
   pub blocks : List BasicBlock
   pub own : BlocksAt m blocks es
   pub left : List Inst
-  pub place : Left m left (drop at es)
+  pub place : Scan m left (drop at es)
   pub so : Result Places
   pub rest : framePass (structsIn m bs) (allInsts blocks) noFrame ≡ bind so (framePass (structsIn m bs) left)
   pub says : FrameSays m so work f
   pub slots : f .refused ≡ false → (names : List (List ℕ)) → Overflows names m work₀ → SlotsSo m names (allInsts blocks) left work f
   pub ready : Ready m bs work
   pub kept : FrameKept m work₀ work
+  pub there : at ≤ length es
   pub few : f .slots ≤ 2 * at
 
 abbrev pub first : Frame
@@ -91,15 +94,21 @@ going-start {m} {es} {bs} {work} a =
       blocks = a .blocks;
       own = a .at;
       left = allInsts (a .blocks);
-      place = inl (record { blocks = a .blocks; rest = a .at .rest; here = a .at .here; keeps = a .at .keeps; insts = refl; few = a .at .few });
+      place = subst (Scan m (allInsts (a .blocks))) (sym (a .at .here ∙ ap (λ (x : List Entry). closed encBasicBlock (a .blocks) ++ x) (a .ends) ∙ append-nil (closed encBasicBlock (a .blocks))))
+          (scan-blocks m (a .blocks) (a .at .keeps));
       so = ok noFrame;
       rest = refl;
       says = record { going = refl; off = refl; within = omega arith; dynamic = refl; words = a .places };
       slots = λ e names o. record { so = noSlots; rest = refl; holds = record { count = refl; words = a .slots } };
       ready = a .ready;
       kept = kept-none;
+      there = omega arith;
       few = omega arith;
     }
+
+-- a place before the end of the entries
+pub inside : (ks ws : List ℕ) {at end : ℕ} → end ≡ length (entries ks ws) → at < end → (at < length (entries ks ws)) × (at + 1 ≤ length ks) × (at + 1 ≤ length ws)
+inside ks ws {at} e l = (omega arith, within-kinds (at + 1) ks ws (omega arith), within-words (at + 1) ks ws (omega arith))
 
 -- where the places end
 pub says-ends : (m : ℕ) (so : Result Places) (work : List ℕ) (f : Frame) → FrameSays m so work f → f .refused ≡ false → f .off ≤ 2147483648
@@ -110,27 +119,15 @@ module _ {m : ℕ} (ks ws : List ℕ) {bs : List Entry} {work₀ work : List ℕ
   abbrev here : List Entry
   here = drop at (entries ks ws)
 
-  pub going-there : at + 1 ≤ length (entries ks ws)
-  going-there = omega (arith, left-there (g .place), length-drop at (entries ks ws))
-
-  pub going-kinds : at + 1 ≤ length ks
-  going-kinds = within-kinds (at + 1) ks ws going-there
-
-  pub going-words : at + 1 ≤ length ws
-  going-words = within-words (at + 1) ks ws going-there
-
-  pub kind-here : kindOf here ≡ getD ks at 0
-  kind-here = kind-at ks ws at (omega (arith, going-there))
-
-  -- no part is left
-  pub going-done : getD ks at 0 ≡ 0 → FrameDone m (entries ks ws) bs work₀ work f
+  -- no entry is left
+  pub going-done : length (entries ks ws) ≤ at → FrameDone m (entries ks ws) bs work₀ work f
   unfolding framePass slotMap bind
   going-done z =
-      let e : g .left ≡ [] = left-done (g .place) (kind-here ∙ z) in
+      let e : g .left ≡ [] = subst (Scan m (g .left)) (drop-of-length-le (entries ks ws) z) (g .place) in
       record {
         ready = g .ready;
         kept = g .kept;
-        few = omega (arith, g .few, going-there);
+        few = omega (arith, g .few, g .there);
         places = λ blocks b.
             subst (λ (r : Result Places). FrameSays m r work f)
             (sym (ap (λ x. framePass (structsIn m bs) (allInsts x) noFrame) (same-blocks b (g .own)) ∙ g .rest ∙ ap (λ x. bind (g .so) (framePass (structsIn m bs) x)) e ∙ whole (g .so))) (g .says);
@@ -143,46 +140,43 @@ module _ {m : ℕ} (ks ws : List ℕ) {bs : List Entry} {work₀ work : List ℕ
       whole (ok p) = refl
       whole (err n) = refl
 
-  module _ (more : getD ks at 0 ≡ 0 → ⊥) where
-    open-here : kindOf here ≡ 0 → ⊥
-    open-here e = more (sym kind-here ∙ e)
+  module _ (more : at < length (entries ks ws)) where
+    -- the entry at the place, and what stands behind it
+    abbrev front : Entry
+    front = getD (entries ks ws) at (entry 0 0)
 
-    part : Part m (g .left) here
-    part = left-part (g .place) open-here
+    abbrev back : List Entry
+    back = drop (at + 1) (entries ks ws)
 
-    pub going-ask : PartAsk m f (lent ks ws at) bs work
-    going-ask =
-        subst (λ (es : List Entry). PartAsk m f es bs work) (sym (entries-part at ks ws))
-        (record {
-          insts = g .left;
-          left = g .place;
-          more = open-here;
-          ready = g .ready;
-          few = omega (arith, g .few, g .own .few, going-there);
-          ends = says-ends m (g .so) work f (g .says);
-        })
+    here-is : here ≡ front ∷ back
+    here-is = rw (add-one, drop-cons (entries ks ws) at (entry 0 0) more) refl
 
-    pub part-here : 1 ≤ length (lent ks ws at)
-    part-here = subst (λ (es : List Entry). 1 ≤ length es) (sym (entries-part at ks ws)) (left-there (g .place))
+    kind-is : front .kind ≡ getD ks at 0
+    unfolding kindOf
+    kind-is = sym (ap kindOf here-is) ∙ kind-at ks ws at more
+
+    scanned : Scan m (g .left) (front ∷ back)
+    scanned = subst (Scan m (g .left)) here-is (g .place)
 
     -- nothing was done
-    skipped : {n : ℕ} → 1 ≤ n → Left m (g .left) (drop n here) → Going m (entries ks ws) bs work₀ work (at + n) f
-    skipped {n} l p =
+    skipped : Scan m (g .left) back → Going m (entries ks ws) bs work₀ work (at + 1) f
+    skipped p =
         record {
           blocks = g .blocks;
           own = g .own;
           left = g .left;
-          place = subst (Left m (g .left)) (drop-drop n at (entries ks ws)) p;
+          place = p;
           so = g .so;
           rest = g .rest;
           says = g .says;
           slots = g .slots;
           ready = g .ready;
           kept = g .kept;
+          there = omega arith;
           few = omega (arith, g .few);
         }
 
-    -- an instruction
+    -- a step was done
     module _ {work′ : List ℕ} {r : Frame} (i : Inst) (next : List Inst) (split : g .left ≡ i ∷ next) (own : InstAt m i here) (s : Stepped m here bs work work′ f r) where
       abbrev step : Places → Result Places
       step = frameStep (structsIn m bs) (i .dest) (shape (i .kind))
@@ -197,15 +191,15 @@ module _ {m : ℕ} (ks ws : List ℕ) {bs : List Entry} {work₀ work : List ℕ
       not-before (ok p) h k e = h .going
       not-before (err n) h k e = never (k .0) e
 
-      done : {n : ℕ} → 1 ≤ n → Left m next (drop n here) → Going m (entries ks ws) bs work₀ work′ (at + n) r
+      done : Scan m next back → Going m (entries ks ws) bs work₀ work′ (at + 1) r
       unfolding slotMap
-      done {n} l p =
+      done p =
           let says = s .places i own (g .so) (g .says) in
           record {
             blocks = g .blocks;
             own = g .own;
             left = next;
-            place = subst (Left m next) (drop-drop n at (entries ks ws)) p;
+            place = p;
             so = bind (g .so) step;
             rest = g .rest ∙ ap (λ x. bind (g .so) (framePass (structsIn m bs) x)) split ∙ behind (g .so);
             says = says;
@@ -218,36 +212,50 @@ module _ {m : ℕ} (ks ws : List ℕ) {bs : List Entry} {work₀ work : List ℕ
                 };
             ready = s .ready;
             kept = kept-then (g .kept) (s .kept);
+            there = omega arith;
             few = omega (arith, g .few, s .few);
           }
 
-    -- the next part
-    pub going-next : {work′ : List ℕ} {r : Frame} {n : ℕ} → PartDone m (lent ks ws at) bs work work′ f r → PartLen m (lent ks ws at) n
-        → Going m (entries ks ws) bs work₀ work′ (at + n) r × (1 ≤ n)
-    going-next {work′} {r} {n} d l = go (eqb (kindOf here) 7) refl
+    -- an instruction
+    module _ (low : 40 ≤ getD ks at 0) (high : getD ks at 0 < 90) where
+      first-here : First (λ (others : List Inst). Scan m others back) m (g .left) (front ∷ back)
+      first-here = scanned .2 (omega (arith, kind-is)) (omega (arith, kind-is))
+
+      inst-here : InstAt m (first-here .own) here
+      inst-here =
+          record { rest = first-here .rest; here = here-is ∙ first-here .here; keeps = first-here .keeps; few = omega (arith, g .own .few, length-drop at (entries ks ws)) }
+
+      pub going-ask : StepAsk m f (lent ks ws at) bs work
+      going-ask =
+          subst (λ (es : List Entry). StepAsk m f es bs work) (sym (entries-part at ks ws))
+          (record {
+            inst = first-here .own;
+            at = inst-here;
+            ready = g .ready;
+            few = omega (arith, g .few, g .own .few);
+            ends = says-ends m (g .so) work f (g .says);
+          })
+
+      pub going-inst : {work′ : List ℕ} {r : Frame} → Stepped m (lent ks ws at) bs work work′ f r → Going m (entries ks ws) bs work₀ work′ (at + 1) r
+      going-inst {work′} {r} s =
+          done (first-here .own) (first-here .others) (first-here .split) inst-here
+          (subst (λ (es : List Entry). Stepped m es bs work work′ f r) (entries-part at ks ws) s) (first-here .behind)
+
+    -- any other entry
+    pub going-idle : (40 ≤ getD ks at 0 → getD ks at 0 < 90 → (getD ws at 0 ≡ 0) × (getD ks at 0 ≡ 73 → ⊥)) → Going m (entries ks ws) bs work₀ work (at + 1) f
+    going-idle idle = low (ltb (getD ks at 0) 40) refl
       where
-        dn : PartDone m here bs work work′ f r
-        dn = subst (λ (es : List Entry). PartDone m es bs work work′ f r) (entries-part at ks ws) d
+        high : 40 ≤ getD ks at 0 → (b : Bool) → ltb (getD ks at 0) 90 ≡ b → Going m (entries ks ws) bs work₀ work (at + 1) f
+        high l true e =
+            let h = ltb-true (getD ks at 0) 90 e in
+            let w = idle l h in
+            let k : getD (drop at ks) 0 0 ≡ getD ks at 0 = rw (getD-drop, add-zero) refl in
+            let v : getD (drop at ws) 0 0 ≡ getD ws at 0 = rw (getD-drop, add-zero) refl in
+            done (first-here l h .own) (first-here l h .others) (first-here l h .split) (inst-here l h)
+            (subst (λ (es : List Entry). Stepped m es bs work work f f) (entries-drop at ks ws)
+            (step-idle (drop at ks) (drop at ws) work f (g .ready) (v ∙ w .0) (λ q. w .1 (sym k ∙ q)))) (first-here l h .behind)
+        high l false e = skipped (scanned .1 (omega (arith, kind-is, ltb-false (getD ks at 0) 90 e)))
 
-        ln : PartLen m here n
-        ln = subst (λ (es : List Entry). PartLen m es n) (entries-part at ks ws) l
-
-        still : {k : ℕ} → n ≡ k → 1 ≤ k → Left m (g .left) (drop k here) → (work′ ≡ work) × (r ≡ f) → Going m (entries ks ws) bs work₀ work′ (at + n) r × (1 ≤ n)
-        still e p h q = rw (e, q .0, q .1) (skipped p h, p)
-
-        later : (kindOf here ≡ 7 → ⊥) → (b : Bool) → leb 90 (kindOf here) ≡ b → Going m (entries ks ws) bs work₀ work′ (at + n) r × (1 ≤ n)
-        later z true e =
-            let k = leb-true 90 (kindOf here) e in
-            let t = part .ends k in
-            still (ln .ends k (t .end) _ (t .read)) (term-pos (t .end)) (t .left) (dn .ends k)
-        later z false e =
-            let k = leb-false 90 (kindOf here) e in
-            let t = part .does z k in
-            let c = ln .does z k (t .own) _ (t .read) in
-            rw c (done (t .own) (t .next) (t .split) (t .at) (dn .does z k) (inst-pos (t .own)) (t .left), inst-pos (t .own))
-
-        go : (b : Bool) → eqb (kindOf here) 7 ≡ b → Going m (entries ks ws) bs work₀ work′ (at + n) r × (1 ≤ n)
-        go true e =
-            let k = eqb-true (kindOf here) 7 e in
-            still (ln .label k) (omega arith) (part .label k) (dn .label k)
-        go false e = later (eqb-false (kindOf here) 7 e) (leb 90 (kindOf here)) refl
+        low : (b : Bool) → ltb (getD ks at 0) 40 ≡ b → Going m (entries ks ws) bs work₀ work (at + 1) f
+        low true e = skipped (scanned .0 (omega (arith, kind-is, ltb-true (getD ks at 0) 40 e)))
+        low false e = high (ltb-false (getD ks at 0) 40 e) (ltb (getD ks at 0) 90) refl

@@ -1,7 +1,7 @@
 -- One instruction of the frame pass: its slots, and its place where it is an alloca.
 use Prim.Native.Nat.{ℕ, _+_, _*_, _≤_, _^_}
 use mathlib.Core.Path.{_≡_, refl, sym, ap, subst, _∙_}
-use mathlib.Core.Bool.{true, false}
+use mathlib.Core.Bool.{Bool, true, false}
 use mathlib.Core.List.{List}
 use mathlib.Core.Option.{Option, none, some}
 use native.Mathlib.Omega.{arith}
@@ -22,7 +22,7 @@ use Rattle.gen_values.specs.Values.{destOf, dest-is}
 use Rattle.gen_values.specs.Fields.{Fields}
 use Rattle.gen_frame.specs.Frames.{never, SlotsHold, Overflows, FrameSays, FrameKept, kept-none, kept-then, kept-places}
 use Rattle.gen_frame.specs.Allocas.{allocaFields, AllocaAsk, AllocaDone}
-use Rattle.gen_frame.specs.Taken.{InstAt, inst-front, same-tag, TakeAsk, Taken}
+use Rattle.gen_frame.specs.Taken.{InstAt, inst-front, same-tag, TakeAsk, Taken, take-none}
 use Rattle.gen_frame.specs.declared.Frame.{Frame}
 
 pub record StepAsk (m : ℕ) (f : Frame) (es bs : List Entry) (work : List ℕ) : Type 0 where
@@ -153,3 +153,11 @@ module _ {m : ℕ} (ks ws : List ℕ) {bs : List Entry} (work : List ℕ) (f : F
               let c = alloca-front ks ws a e in
               let d : destOf (getD ws 0 0) ≡ i .dest = ap destOf (inst-front ks ws a .dest) ∙ dest-is (i .dest) in
               rw (← d, c .is) (done (c .args) (c .fields) .says p (t .places p h))
+
+  -- no result that has a name, and no alloca
+  pub step-idle : Ready m bs work → getD ws 0 0 ≡ 0 → (getD ks 0 0 ≡ 73 → ⊥) → Stepped m (entries ks ws) bs work work f f
+  step-idle ready w z = at (f .refused) refl
+    where
+      at : (b : Bool) → f .refused ≡ b → Stepped m (entries ks ws) bs work work f f
+      at true e = step-refused ready e
+      at false e = step-plain e (take-none ks ws work f w) ready z

@@ -5,15 +5,10 @@ mod slots;
 
 use crate::places::alloca;
 use crate::slots::take_slots;
-use book_insts::inst_len;
-use book_insts::term_len;
-use book_types::Found;
-ghost use mathlib.Core.Path.{_≡_};
-ghost use Prim.Native.Nat.{_≤_};
-ghost use lib.ListN.{length};
+use book_types::shorter;
 ghost use Rattle.book.specs.Entry.{entries};
 ghost use Rattle.gen_frame.specs.Steps.{StepAsk, Stepped};
-ghost use Rattle.gen_frame.specs.Parts.{foundCount, PartLen, PartAsk, PartDone};
+ghost use Rattle.gen_frame.specs.Scan.{Acts};
 ghost use Rattle.gen_frame.specs.Pass.{FrameAsk, FrameDone};
 
 // The slots taken so far, where the fixed places end, and whether a varying one is among the places; or that a place was
@@ -58,56 +53,24 @@ fn frame_inst(
     )
 }
 
-// The number of entries of what was found.
-fn found_len(found: Found) -> usize
-    ensures { λ r. ⌜ r ≡ foundCount found ⌝ }
+// Whether an entry is that of an instruction that takes slots or a place: one whose result has a name, or an alloca.
+fn acts(kind: u64, word: u64) -> bool
+    ensures { λ r. ⌜ Acts kind word r ⌝ }
 {
-    match found {
-        Found::Entries(n, _) => n,
-        Found::Bad => 0,
+    if kind < 40 {
+        return false;
     }
+    if 90 <= kind {
+        return false;
+    }
+    if kind == 73 {
+        return true;
+    }
+    word != 0
 }
 
-// The entries of the part of a block at the front: its own entry, an instruction or the terminator.
-fn part_len(kinds: &[u64], words: &[u64], names: u64) -> usize
-    requires { ⌜ 1 ≤ length (entries (now kinds) (now words)) ⌝ }
-    ensures { λ r. ⌜ PartLen names (entries (now (kinds .entry)) (now (words .entry))) r ⌝ }
-{
-    let kind = kinds[0];
-    if kind == 7 {
-        return 1;
-    }
-    if kind < 90 {
-        return found_len(inst_len(kinds, words, names));
-    }
-    found_len(term_len(kinds, words, names))
-}
-
-// The part of a block at the front: an instruction takes slots and places, nothing else does.
-fn frame_part(
-    kinds: &[u64],
-    words: &[u64],
-    book_kinds: &[u64],
-    book_words: &[u64],
-    work: &mut [u64],
-    names: u64,
-    f: Frame,
-) -> Frame
-    requires { ⌜ PartAsk names f (entries (now kinds) (now words)) (entries (now «book_kinds») (now «book_words»)) (now work) ⌝ }
-    ensures { λ r. ⌜ PartDone names (entries (now (kinds .entry)) (now (words .entry))) (entries (now («book_kinds» .entry)) (now («book_words» .entry)))
-        (now (work .entry)) (now (work .exit)) f r ⌝ }
-{
-    let kind = kinds[0];
-    if kind == 7 {
-        return f;
-    }
-    if kind < 90 {
-        return frame_inst(kinds, words, book_kinds, book_words, work, names, f);
-    }
-    f
-}
-
-// All blocks, the first at the front, up to the entry that closes them.
+// All blocks, the first at the front and nothing behind the entry that closes them: an entry of kind 40 to 89 is an
+// instruction, and no other is.
 pub fn frame_pass(
     kinds: &[u64],
     words: &[u64],
@@ -120,6 +83,7 @@ pub fn frame_pass(
     ensures { λ r. ⌜ FrameDone names (entries (now (kinds .entry)) (now (words .entry))) (entries (now («book_kinds» .entry)) (now («book_words» .entry)))
         (now (work .entry)) (now (work .exit)) r ⌝ }
 {
+    let end = shorter(kinds, words);
     let mut at: usize = 0;
     let mut f = Frame {
         slots: 0,
@@ -127,17 +91,19 @@ pub fn frame_pass(
         dynamic: false,
         refused: false,
     };
-    while kinds[at] != 0 {
-        f = frame_part(
-            &kinds[at..],
-            &words[at..],
-            book_kinds,
-            book_words,
-            work,
-            names,
-            f,
-        );
-        at = at + part_len(&kinds[at..], &words[at..], names);
+    while at < end {
+        if acts(kinds[at], words[at]) {
+            f = frame_inst(
+                &kinds[at..],
+                &words[at..],
+                book_kinds,
+                book_words,
+                work,
+                names,
+                f,
+            );
+        }
+        at = at + 1;
     }
     f
 }

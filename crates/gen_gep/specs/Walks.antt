@@ -20,7 +20,7 @@ use Rattle.layout_step.specs.declared.Step.{Step}
 use Rattle.lowering.specs.Operand.{intWidth}
 use Rattle.lowering.specs.Gep.{VarTerm, Walk as GepWalk, varTerm, start, took, firstStep, walkRest, walk}
 use Rattle.gen_lines.specs.declared.Reached.{Reached}
-use Rattle.gen_lines.specs.Puts.{Barred, madeRefused}
+use Rattle.gen_lines.specs.Puts.{Barred, isRefused, madeRefused}
 use Rattle.gen_lines.specs.Follow.{Asked, Answered, asked-ok, asked-err}
 use Rattle.gen_values.specs.Values.{widthBy}
 use Rattle.gen_values.specs.Fields.{Fields, WidthSays, ValueAt, type-in, width-is}
@@ -66,10 +66,10 @@ module _ {A B : Type 0} {r : Result A} (f : A → Result B) {s t u : Reached} {x
       later : {e : ℕ} → Barred e t → Barred e u
       later b = let d = p .stays (b .refused) in record { refused = d .refused; number = d .number ∙ b .number }
 
-      go : (r : Result A) → Answered r s t x → s .refused ≡ false → Answered (bind r f) s u y
+      go : (r : Result A) → Answered r s t x → isRefused s ≡ false → Answered (bind r f) s u y
       go (err e) b h = later b
       go (ok a) (i, j) h =
-          let w : Answered (f x) t u y = p .goes (ap (λ (v : Reached). v .refused) i ∙ h) in
+          let w : Answered (f x) t u y = p .goes (ap isRefused i ∙ h) in
           subst (λ (z : A). Answered (f z) s u y) j (subst (λ (v : Reached). Answered (f x) v u y) i w)
 
 -- the width that the entry in front tells

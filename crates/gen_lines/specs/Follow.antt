@@ -10,7 +10,7 @@ use Rattle.book.specs.Result.{Result, ok, err, bind}
 use Rattle.assembly.specs.Line.{Line}
 use Rattle.lowering.specs.Gen.{Gen, Out, lines, skip, after, _>>=_, _>>_, when, choose, fresh, reserve, each}
 use Rattle.gen_lines.specs.declared.Reached.{Reached}
-use Rattle.gen_lines.specs.Puts.{Puts, After, Able, Barred, Wrote, orElse, madeRefused, madeFresh, skip-puts, then-puts, same-puts}
+use Rattle.gen_lines.specs.Puts.{Puts, After, Able, Barred, Wrote, isRefused, orElse, madeRefused, madeFresh, skip-puts, then-puts, same-puts}
 
 -- ---- what is asked for: the code has x, or it refused as r does
 abbrev pub Answered : {A : Type 0} → Result A → (s t : Reached) → A → Type 0
@@ -18,8 +18,8 @@ Answered (ok a) s t x = (t ≡ s) × (x ≡ a)
 Answered (err e) s t x = Barred e t
 
 pub record Asked {A : Type 0} (r : Result A) (s t : Reached) (x : A) : Type 0 where
-  pub stays : s .refused ≡ true → Barred (s .counter) t
-  pub goes : s .refused ≡ false → Answered r s t x
+  pub stays : isRefused s ≡ true → Barred (s .counter) t
+  pub goes : isRefused s ≡ false → Answered r s t x
 
 module _ {A : Type 0} {r : Result A} (f : A → Gen) {s t u : Reached} {x : A} {ks os ks′ os′ : List ℕ} where
   pub asked-puts : Asked r s t x → Puts (f x) t u ks os ks′ os′ → Puts (r >>= f) s u ks os ks′ os′
@@ -49,9 +49,9 @@ asked-ok s x = record { stays = λ r. record { refused = r; number = refl }; goe
 pub asked-err : {A : Type 0} (e : ℕ) (s : Reached) {t : Reached} (x : A) → t ≡ madeRefused s e → Asked (err e) s t x
 asked-err e s {t} x h =
     record {
-      stays = λ r. let q : t ≡ s = h ∙ rw r in record { refused = ap (λ (v : Reached). v .refused) q ∙ r; number = ap (λ (v : Reached). v .counter) q };
-      goes = λ r. let q : t ≡ record { at = s .at; counter = e; refused = true } = h ∙ rw r in
-          record { refused = ap (λ (v : Reached). v .refused) q; number = ap (λ (v : Reached). v .counter) q };
+      stays = λ r. let q : t ≡ s = h ∙ rw r in record { refused = ap isRefused q ∙ r; number = ap (λ (v : Reached). v .counter) q };
+      goes = λ r. let q : t ≡ record { at = s .at; counter = e; refused = 1 } = h ∙ rw r in
+          record { refused = ap isRefused q; number = ap (λ (v : Reached). v .counter) q };
     }
 
 -- ---- tests
@@ -79,13 +79,13 @@ module _ {f : ℕ → Gen} (k : ℕ) {s t u : Reached} {ks os ks′ os′ : List
         long-operands = own .long-operands;
         stays = λ r.
             let q : t ≡ s = h ∙ rw r in
-            let d = own .stays (ap (λ (v : Reached). v .refused) q ∙ r) in
+            let d = own .stays (ap isRefused q ∙ r) in
             record { refused = d .refused; number = d .number ∙ ap (λ (v : Reached). v .counter) q };
         goes = λ n a.
-            let q : t ≡ record { at = s .at; counter = (s .counter + k) % 2 ^ 64; refused = false } = h ∙ rw (a .going) in
+            let q : t ≡ record { at = s .at; counter = (s .counter + k) % 2 ^ 64; refused = 0 } = h ∙ rw (a .going) in
             let c : t .counter ≡ (n + k) % 2 ^ 64 = ap (λ (v : Reached). v .counter) q ∙ rw (a .counts) (omega arith) in
             let b : Able t ks os (n + k) = record {
-              going = ap (λ (v : Reached). v .refused) q;
+              going = ap isRefused q;
               within = rw q (a .within);
               few-kinds = a .few-kinds;
               few-operands = a .few-operands;

@@ -2,14 +2,14 @@
 -- reach; a counter is a word, so the definition's counter is meant modulo 2^64, and so are the operands.
 use Prim.Native.Nat.{ℕ, suc, _+_, _≤_, _%_, _^_, min}
 use mathlib.Core.Path.{_≡_, refl, sym, ap, subst, _∙_}
-use mathlib.Core.Bool.{Bool, true, false}
+use mathlib.Core.Bool.{Bool, true, false, not}
 use mathlib.Core.List.{List, [], _∷_, _++_, map}
 use native.Mathlib.Omega.{arith}
 use native.Mathlib.Nat.{add-zero}
 use borrow.Author.Tests.{leb-true, leb-false}
 use lib.ListN.{length, set, length-append, length-set}
 use lib.Seq.{sets, length-sets, set-out}
-use lib.Dec.{leb}
+use lib.Dec.{leb, eqb}
 use Rattle.book.specs.Result.{Result, ok, err, bind}
 use Rattle.assembly.specs.Line.{Line}
 use Rattle.assembly.specs.Number.{kindOf, operandOf}
@@ -32,17 +32,21 @@ pub record Lined (kind operand : ℕ) (s t : Reached) (ks os ks′ os′ : List 
   pub kinds : ks′ ≡ set ks (s .at) kind
   pub operands : os′ ≡ set os (s .at) operand
 
+-- a generator refused
+abbrev pub isRefused : Reached → Bool
+isRefused s = not (eqb (s .refused) 0)
+
 abbrev pub orElse : {A : Type 0} → Bool → A → A → A
 orElse true a b = a
 orElse false a b = b
 
 -- behind a refusal, unless one came before
 abbrev pub madeRefused : Reached → ℕ → Reached
-madeRefused s e = orElse (s .refused) s (record { at = s .at; counter = e; refused = true })
+madeRefused s e = orElse (isRefused s) s (record { at = s .at; counter = e; refused = 1 })
 
 -- behind k labels
 abbrev pub madeFresh : Reached → ℕ → Reached
-madeFresh s k = orElse (s .refused) s (record { at = s .at; counter = (s .counter + k) % 2 ^ 64; refused = false })
+madeFresh s k = orElse (isRefused s) s (record { at = s .at; counter = (s .counter + k) % 2 ^ 64; refused = 0 })
 
 -- ---- what a generator leaves
 -- an operand as a word
@@ -51,7 +55,7 @@ operandWord l = operandOf l % 2 ^ 64
 
 -- these lines were put from a place on
 pub record Wrote (out : Out) (at : ℕ) (t : Reached) (ks os ks′ os′ : List ℕ) : Type 0 where
-  pub going : t .refused ≡ false
+  pub going : isRefused t ≡ false
   pub place : t .at ≡ further at (length (out .lines))
   pub next : t .counter ≡ out .next % 2 ^ 64
   pub kinds : ks′ ≡ sets ks at (map kindOf (out .lines))
@@ -59,7 +63,7 @@ pub record Wrote (out : Out) (at : ℕ) (t : Reached) (ks os ks′ os′ : List 
 
 -- refused with this number
 pub record Barred (e : ℕ) (t : Reached) : Type 0 where
-  pub refused : t .refused ≡ true
+  pub refused : isRefused t ≡ true
   pub number : t .counter ≡ e
 
 abbrev pub After : Result Out → (at : ℕ) → Reached → (ks os ks′ os′ : List ℕ) → Type 0
@@ -68,7 +72,7 @@ After (err e) at t ks os ks′ os′ = Barred e t
 
 -- nothing is refused so far, and the definition's counter is n
 pub record Able (s : Reached) (ks os : List ℕ) (n : ℕ) : Type 0 where
-  pub going : s .refused ≡ false
+  pub going : isRefused s ≡ false
   pub within : s .at ≤ most
   pub few-kinds : length ks ≤ most
   pub few-operands : length os ≤ most
@@ -78,8 +82,12 @@ pub record Able (s : Reached) (ks os : List ℕ) (n : ℕ) : Type 0 where
 pub record Puts (g : Gen) (s t : Reached) (ks os ks′ os′ : List ℕ) : Type 0 where
   pub long-kinds : length ks′ ≡ length ks
   pub long-operands : length os′ ≡ length os
-  pub stays : s .refused ≡ true → Barred (s .counter) t
+  pub stays : isRefused s ≡ true → Barred (s .counter) t
   pub goes : (n : ℕ) → Able s ks os n → After (g n) (s .at) t ks os ks′ os′
+
+-- the word is the same
+pub still : {x y : ℕ} → x ≡ y → not (eqb x 0) ≡ not (eqb y 0)
+still = ap (λ (x : ℕ). not (eqb x 0))
 
 -- ---- one line
 pub line-puts : {k x : ℕ} {s t : Reached} {ks os ks′ os′ : List ℕ} (l : Line) → k ≡ kindOf l → x ≡ operandWord l → Lined k x s t ks os ks′ os′
@@ -89,9 +97,9 @@ line-puts {k} {x} {s} {t} {ks} {os} l ek ex h =
     record {
       long-kinds = ap length (h .kinds) ∙ length-set ks (s .at) k;
       long-operands = ap length (h .operands) ∙ length-set os (s .at) x;
-      stays = λ r. record { refused = h .refused ∙ r; number = h .counter };
+      stays = λ r. record { refused = still (h .refused) ∙ r; number = h .counter };
       goes = λ n a. record {
-        going = h .refused ∙ a .going;
+        going = still (h .refused) ∙ a .going;
         place = h .place;
         next = h .counter ∙ a .counts;
         kinds = h .kinds ∙ ap (set ks (s .at)) ek;
@@ -117,13 +125,13 @@ refuse-puts e s {t} ks os h =
     record {
       long-kinds = refl;
       long-operands = refl;
-      stays = λ r. let q : t ≡ s = h ∙ rw r in record { refused = ap (λ (x : Reached). x .refused) q ∙ r; number = ap (λ (x : Reached). x .counter) q };
+      stays = λ r. let q : t ≡ s = h ∙ rw r in record { refused = ap isRefused q ∙ r; number = ap (λ (x : Reached). x .counter) q };
       goes = λ n a. barred (a .going);
     }
   where
-    barred : s .refused ≡ false → Barred e t
-    barred r = let q : t ≡ record { at = s .at; counter = e; refused = true } = h ∙ rw r in
-        record { refused = ap (λ (x : Reached). x .refused) q; number = ap (λ (x : Reached). x .counter) q }
+    barred : isRefused s ≡ false → Barred e t
+    barred r = let q : t ≡ record { at = s .at; counter = e; refused = 1 } = h ∙ rw r in
+        record { refused = ap isRefused q; number = ap (λ (x : Reached). x .counter) q }
 
 -- ---- the same generator
 pub same-puts : {g h : Gen} {s t : Reached} {ks os ks′ os′ : List ℕ} → ((n : ℕ) → g n ≡ h n) → Puts g s t ks os ks′ os′ → Puts h s t ks os ks′ os′

@@ -7,10 +7,12 @@ ghost use lib.ListN.{set};
 ghost use Rattle.gen_lines.specs.Puts.{further as furtherFrom, Lined, madeFresh, madeRefused};
 
 // The place behind the last line and the label counter; or that a generator refused, and its number in place of the counter.
+// `refused` is 0 where none did. It is a word because a flag would leave padding: the struct is handed on by value, and
+// copying padding reads across what was stored just before, which waits for the store.
 pub struct Reached {
     pub at: usize,
     pub counter: u64,
-    pub refused: bool,
+    pub refused: u64,
 }
 
 // The place behind one line more. Counting ends at 2^62, which no line slice reaches.
@@ -60,13 +62,13 @@ pub fn put(lines: &mut [u16], operands: &mut [u64], s: Reached, kind: u16, opera
 pub fn refuse(s: Reached, number: u64) -> Reached
     ensures { λ r. ⌜ r ≡ madeRefused s number ⌝ }
 {
-    if s.refused {
+    if s.refused != 0 {
         s
     } else {
         Reached {
             at: s.at,
             counter: number,
-            refused: true,
+            refused: 1,
         }
     }
 }
@@ -75,13 +77,13 @@ pub fn refuse(s: Reached, number: u64) -> Reached
 pub fn fresh(s: Reached, labels: u64) -> Reached
     ensures { λ r. ⌜ r ≡ madeFresh s labels ⌝ }
 {
-    if s.refused {
+    if s.refused != 0 {
         s
     } else {
         Reached {
             at: s.at,
             counter: wrapping_add_u64(s.counter, labels),
-            refused: false,
+            refused: 0,
         }
     }
 }

@@ -1,6 +1,6 @@
 -- One pass after the other: what each asks of the ones before it, and what they leave together.
 use Prim.Native.Nat.{ℕ, _+_, _*_, _<_, _≤_}
-use mathlib.Core.Path.{_≡_, refl, sym, ap, subst, _∙_}
+use mathlib.Core.Path.{_≡_, refl, sym, ap, _∙_}
 use mathlib.Core.Bool.{Bool, true, false, cond}
 use mathlib.Core.Option.{some}
 use mathlib.Core.List.{List, [], append-nil}
@@ -80,14 +80,18 @@ module _ {bs : List ℕ} {m : ℕ} (ks ws : List ℕ) {work : List ℕ} (k : Pre
 
         blocks-at : (b : Book) → decode m es ≡ some b → BlocksAt m (b .function .blocks) (lent ks ws p)
         blocks-at b e =
-            subst (BlocksAt m (b .function .blocks)) (sym (entries-part p ks ws))
-            (book-blocks (record { book = b; says = e; few = k .book .few }) p [] (passed.book-first w b e ∙ sym (append-nil _)))
+            let first = passed.book-first w b e ∙ sym (append-nil _) in
+            let own = book-blocks (record { book = b; says = e; few = k .book .few }) p [] first in
+            let part = entries-part p ks ws in
+            record { rest = []; here = part ∙ first; keeps = own .keeps; few = omega (arith, ap length part, own .few) }
 
         pub frame-ask : FrameAsk m (lent ks ws p) es work₃
+        unfolding blocks-at
         frame-ask =
             record {
               blocks = k .book .book .function .blocks;
               at = blocks-at (k .book .book) (k .book .says);
+              ends = refl;
               ready = ready;
               slots = λ x l. w .same (8 * x + 1) (λ y _ e. omega arith) (λ y _ e. omega arith) ∙ still-blank (8 * x + 1) (λ y _ e. omega arith) (λ y _ e. omega arith);
               places = λ x l. w .same (8 * x + 3) (λ y _ e. omega arith) (λ y _ e. omega arith) ∙ still-blank (8 * x + 3) (λ y _ e. omega arith) (λ y _ e. omega arith);

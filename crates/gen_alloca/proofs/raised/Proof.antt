@@ -22,7 +22,12 @@ sub-push-int-2 : tie.Need-sub-push-int-2
 sub-push-int-2 c = search needs
 
 sub-push-int-3 : tie.Need-sub-push-int-3
-sub-push-int-3 c = search needs
+sub-push-int-3 c =
+    let after-put2 = c .before .before .before .before in
+    let after-push-int = after-put2 .before .before .before .before .before .before .before in
+    let after-put = after-push-int .before .before .before .before .before .before .before in
+    let entry = after-put .before .before .before .before .before in
+    omega (arith, entry .fits .align)
 
 push-int-requires-2 : tie.Need-push-int-requires-2
 push-int-requires-2 c κs = search needs

@@ -1,5 +1,6 @@
 -- `gen_lines::fresh` meets its contract.
 use borrow.Author.Needs.{needs}
+use borrow.Author.Tests.{ne-eqb}
 use Rattle.gen_lines.proofs.fresh.Statement.{statement}
 use Rattle.gen_lines.proofs.fresh.Tie as tie
 use Rattle.gen_lines.proofs.fresh.Reads as reads
@@ -12,7 +13,7 @@ wrapping-add-u64-requires c κs = search needs
 
 -- src/lib.rt:64:1
 returns : tie.Need-returns
-returns c = search needs
+returns c = rw (ne-eqb _ 0 (c .if1 .taken))
 
 -- src/lib.rt:64:1
 returns-2 : tie.Need-returns-2

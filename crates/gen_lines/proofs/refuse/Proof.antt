@@ -1,5 +1,6 @@
 -- `gen_lines::refuse` meets its contract.
 use borrow.Author.Needs.{needs}
+use borrow.Author.Tests.{ne-eqb}
 use Rattle.gen_lines.proofs.refuse.Statement.{statement}
 use Rattle.gen_lines.proofs.refuse.Tie as tie
 use Rattle.gen_lines.proofs.refuse.Reads as reads
@@ -7,7 +8,7 @@ use Rattle.gen_lines.proofs.refuse.Lts as lts
 
 -- src/lib.rt:49:1
 returns : tie.Need-returns
-returns c = search needs
+returns c = rw (ne-eqb _ 0 (c .if1 .taken))
 
 -- src/lib.rt:49:1
 returns-2 : tie.Need-returns-2
