@@ -45,8 +45,10 @@ unfolding folded allNew withReserved
 marks-taken marked barred rest [] = refl
 marks-taken marked barred rest (k ∷ ms) = go (isNew marked (markName k)) (marks-taken (setBitAt marked (markName k)) (nowBarred k barred) rest ms)
   where
-    go : (b : Bool) → goes (folded markedBy (setBitAt marked (markName k), nowBarred k barred) ms) (λ t. rest (t .1)) ≡ pick (allNew (setBitAt marked (markName k)) (map markName ms)) (rest (withReserved (nowBarred k barred) ms)) none
-        → goes (goes (when b (setBitAt marked (markName k), nowBarred k barred)) (λ t. folded markedBy t ms)) (λ t. rest (t .1)) ≡ pick (b && allNew (setBitAt marked (markName k)) (map markName ms)) (rest (withReserved (nowBarred k barred) ms)) none
+    go : (b : Bool)
+        → goes (folded markedBy (setBitAt marked (markName k), nowBarred k barred) ms) (λ t. rest (t .1)) ≡ pick (allNew (setBitAt marked (markName k)) (map markName ms)) (rest (withReserved (nowBarred k barred) ms)) none
+        → goes (goes (when b (setBitAt marked (markName k), nowBarred k barred)) (λ t. folded markedBy t ms)) (λ t. rest (t .1))
+        ≡ pick (b && allNew (setBitAt marked (markName k)) (map markName ms)) (rest (withReserved (nowBarred k barred) ms)) none
     go true ih = ih
     go false ih = refl
 
@@ -95,11 +97,15 @@ pub parts-answer : (m words : ℕ) → m ≤ 64 * words → m ≤ 131072 → (ba
     → marksFound (replicate words 0) barred (got (b .marks, (b .structs, b .function)) n) ≡ answered n (when (onceEach b) (forbiddenFunction (barredBy (bitAt barred) (b .marks)) (b .function)))
 unfolding onceEach
 parts-answer m words fits few barred e b n k =
+    let below = marks-below m words fits (b .marks) (k .0) in
+    let marksOnce = distinct (map markName (b .marks)) in
+    let structsOnce = distinct (map (λ s. s .name) (b .structs)) in
+    let found = forbiddenFunction (bitAt (withReserved barred (b .marks))) (b .function) in
     ap (answered n)
     (marks-taken (replicate words 0) barred (λ r. structsEnded (replicate words 0, r) (b .structs, b .function)) (b .marks)
-    ∙ rw (structs-once m 2048 (omega arith) (b .structs) (forbiddenFunction (bitAt (withReserved barred (b .marks))) (b .function)) (k .1 .0), new-distinct words (map markName (b .marks)) (marks-below m words fits (b .marks) (k .0)))
-    (go (distinct (map markName (b .marks))) (distinct (map (λ s. s .name) (b .structs))) (forbiddenFunction (bitAt (withReserved barred (b .marks))) (b .function)))
-    ∙ ap (λ t. when (distinct (map markName (b .marks)) && distinct (map (λ s. s .name) (b .structs))) (forbiddenFunction t (b .function))) (fun-ext λ x. reserved-bits words barred (b .marks) e (marks-below m words fits (b .marks) (k .0)) x))
+    ∙ rw (structs-once m 2048 (omega arith) (b .structs) found (k .1 .0), new-distinct words (map markName (b .marks)) below)
+    (go marksOnce structsOnce found)
+    ∙ ap (λ t. when (marksOnce && structsOnce) (forbiddenFunction t (b .function))) (fun-ext λ x. reserved-bits words barred (b .marks) e below x))
   where
     go : (p q x : Bool) → pick p (when q x) none ≡ when (p && q) x
     go true q x = refl
@@ -131,7 +137,8 @@ module _ (m : ℕ) (few : m ≤ 2048) (es : List Entry) where
         sized : (words : ℕ) → length (markedRange (replicate words 0) from to) ≡ words
         sized words = length-range (replicate words 0) from to ∙ length-replicate {A = ℕ} words 0
 
-        go : (r : Read (List Mark × (List StructType × Function))) → parts m es ≡ r → marksFound (replicate 32 0) (markedRange (replicate 32 0) from to) r ≡ marksFound (replicate 2048 0) (markedRange (replicate 2048 0) from to) r
+        go : (r : Read (List Mark × (List StructType × Function))) → parts m es ≡ r
+            → marksFound (replicate 32 0) (markedRange (replicate 32 0) from to) r ≡ marksFound (replicate 2048 0) (markedRange (replicate 2048 0) from to) r
         go (got p n) e =
             let k = agrees-book m .sound es (bookOf p) n (ap (λ r. andThen r (λ a n. got (bookOf a) n)) e) .keeps in
             parts-answer m 32 (omega arith) (omega arith) (markedRange (replicate 32 0) from to) (sized 32) (bookOf p) n k

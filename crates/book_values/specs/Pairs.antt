@@ -1,18 +1,18 @@
 -- Items of two entries, told by both; and the words that values may have, by their kinds.
-use Prim.Native.Nat.{ℕ, _+_, _≤_, _<_}
+use Prim.Native.Nat.{ℕ, _≤_, _<_}
 use mathlib.Core.Path.{_≡_, refl, ap, sym, _∙_}
 use mathlib.Core.Bool.{Bool, true, false, _&&_, _||_}
 use mathlib.Core.List.{List}
 use native.Mathlib.Nat.{add-zero}
 use native.Mathlib.Omega.{arith}
-use borrow.Author.Tests.{ne-eqb, le-leb, lt-leb, lt-ltb, le-ltb, leb-true, leb-false, ltb-true, ltb-false}
+use borrow.Author.Tests.{ne-eqb, leb-true, leb-false, ltb-true, ltb-false}
 use lib.ListN.{length, getD, drop, length-drop}
 use lib.Seq.{getD-drop}
 use lib.Dec.{eqb, leb, ltb}
 use Rattle.book.specs.Entry.{Entry, entries}
 use Rattle.book.specs.Rule.{find}
 use Rattle.book.specs.Kinds.{valTag, valTags, valKind}
-use Rattle.book.specs.Read.{Read, Reader, got, andThen, both}
+use Rattle.book.specs.Read.{Reader, both}
 use Rattle.book.specs.Decode.{type, item}
 use Rattle.book.specs.Forbidden.{otherItem}
 use Rattle.names.specs.Tests as tests

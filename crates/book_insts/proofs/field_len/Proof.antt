@@ -77,7 +77,9 @@ returns : tie.Need-returns
 unfolding field item digitFields
 returns c =
     let a = c .before .before .before .before .before .args in
-    items.atom-is (a .names) atom.Value (entries (a .kinds .now) (a .words .now)) _ _ (c .before .first-entry .ensures) (c .atom-len .ensures) ∙ ap (λ d. foundOf (otherField (fieldOf d)) (field (a .names) (fieldOf d) (entries (a .kinds .now) (a .words .now)))) (sym (c .before .before .match .keys1))
+    items.atom-is (a .names) atom.Value (entries (a .kinds .now) (a .words .now)) _ _ (c .before .first-entry .ensures) (c .atom-len .ensures) ∙ ap
+    (λ d. foundOf (otherField (fieldOf d)) (field (a .names) (fieldOf d) (entries (a .kinds .now) (a .words .now))))
+    (sym (c .before .before .match .keys1))
 
 returns-2 : tie.Need-returns-2
 unfolding field digitFields
@@ -155,7 +157,9 @@ returns-12 : tie.Need-returns-12
 unfolding field item digitFields
 returns-12 c =
     let a = c .before .before .before .before .before .args in
-    passes.plain-is (type (a .names) (entries (a .kinds .now) (a .words .now))) _ _ (c .before .type-len .ensures) (c .plain .ensures) ∙ ap (λ x. foundOf (otherField x) (field (a .names) x (entries (a .kinds .now) (a .words .now)))) (sym (laws.other-digit _ (c .before .before .match .rest)))
+    passes.plain-is (type (a .names) (entries (a .kinds .now) (a .words .now))) _ _ (c .before .type-len .ensures) (c .plain .ensures) ∙ ap
+    (λ x. foundOf (otherField x) (field (a .names) x (entries (a .kinds .now) (a .words .now))))
+    (sym (laws.other-digit _ (c .before .before .match .rest)))
 
 pub field-len-spec : {M : Type 1} → statement M
 field-len-spec =
