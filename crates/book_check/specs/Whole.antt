@@ -1,38 +1,38 @@
 -- The whole check: laws from its parts to the definition.
 use Prim.Native.Nat.{ℕ, _+_, _-_, _*_, _≤_, _<_}
-use mathlib.Core.Path.{_≡_, refl, ap, sym, _∙_, subst, subst⁻¹, fun-ext}
-use mathlib.Core.Bool.{Bool, true, false, _&&_, _||_}
+use mathlib.Core.Path.{_≡_, refl, ap, sym, _∙_, subst, subst⁻¹}
+use mathlib.Core.Bool.{Bool, true, false, _&&_}
 use mathlib.Core.Option.{Option, none, some}
-use mathlib.Core.List.{List, [], _∷_, map}
+use mathlib.Core.List.{List, [], _∷_}
 use native.Mathlib.Nat.{le-of-eq}
 use native.Mathlib.Omega.{arith}
-use borrow.Author.Tests.{eqb-true, eqb-false, eq-eqb, ne-eqb, le-leb, lt-leb}
+use borrow.Author.Tests.{eq-eqb, ne-eqb, le-leb, lt-leb}
 use lib.ListN.{length, getD, drop, take, replicate, length-append, length-drop, length-replicate}
 use lib.Seq.{take-all, drop-drop, take-at, drop-at}
 use lib.Dec.{eqb, leb}
-use Rattle.numbers.specs.Bits.{bitAt, setBitAt, length-set-bit}
+use Rattle.numbers.specs.Bits.{bitAt}
 use Rattle.book.specs.Entry.{Entry, entries, kindsOf, wordsOf}
 use Rattle.book.specs.Ast.{Mark, StructType, Function, Book}
 use Rattle.book.specs.Rule.{pick, when}
 use Rattle.book.specs.Read.{Read, got, bad, mapped, andThen}
-use Rattle.book.specs.Decode.{parts, member, distinct, markName, bookOf, onceEach, whole, decode}
+use Rattle.book.specs.Decode.{parts, bookOf, onceEach, whole, decode}
 use Rattle.book.specs.Encode.{encode}
-use Rattle.book.specs.Limits.{Each, StructLimits, Limits}
-use Rattle.book.specs.Forbidden.{reservedBy, forbiddenFunction}
+use Rattle.book.specs.Limits.{Limits}
+use Rattle.book.specs.Forbidden.{forbiddenFunction}
 use Rattle.book.specs.AgreeBook.{PartsLimits, agrees-book}
 use Rattle.book.specs.AgreeInput.{slice, slice-sound, entries-back, length-kinds, length-words}
 use Rattle.book.specs.Input.{Counted, counted, bookIn}
 use Rattle.book_marks.specs.Range.{markedRange, length-range}
-use Rattle.book_marks.specs.Once.{isNew, allNew, AllBelow, new-distinct, bit-set}
 use Rattle.book_types.specs.declared.Found.{Found}
 use Rattle.book_types.specs.declared.Found.the-variants as found
-use Rattle.book_parts.specs.Reading.{goes, answered, folded, structTaken, nowBarred, markedBy, structsEnded, partsFound}
+use Rattle.book_parts.specs.Reading.{answered, partsFound}
+use Rattle.book_parts.specs.Maps.{barredBy, parts-answer}
 use Rattle.book_check.specs.declared.Reading.{Reading}
 use Rattle.book_check.specs.declared.Reading.the-variants as reading
 
 -- ---- a book, and whether something in it is forbidden where the names of a map may not be called
 abbrev pub barredWith : List ℕ → Book → ℕ → Bool
-barredWith barred b x = member x (reservedBy (b .marks)) || bitAt barred x
+barredWith barred b = barredBy (bitAt barred) (b .marks)
 
 abbrev pub readingOf : List ℕ → Option Book → Reading
 readingOf barred none = reading.Bad
@@ -64,80 +64,7 @@ book-there barred none = refl
 book-there barred (some c) = refl
 
 -- ---- what the pass finds, by the definition
--- structs are taken exactly where their names are new, one after the other
-structs-taken : (named : List ℕ) (x : Bool) (ss : List StructType)
-    → goes (folded structTaken named ss) (λ t. some x) ≡ when (allNew named (map (λ s. s .name) ss)) x
-unfolding folded allNew
-structs-taken named x [] = refl
-structs-taken named x (s ∷ ss) = go (isNew named (s .name)) (structs-taken (setBitAt named (s .name)) x ss)
-  where
-    go : (b : Bool) → goes (folded structTaken (setBitAt named (s .name)) ss) (λ t. some x) ≡ when (allNew (setBitAt named (s .name)) (map (λ s. s .name) ss)) x
-        → goes (goes (when b (setBitAt named (s .name))) (λ t. folded structTaken t ss)) (λ t. some x) ≡ when (b && allNew (setBitAt named (s .name)) (map (λ s. s .name) ss)) x
-    go true ih = ih
-    go false ih = refl
-
--- the names that may not be called, with the reserved ones
-withReserved : List ℕ → List Mark → List ℕ
-withReserved barred [] = barred
-withReserved barred (k ∷ ms) = withReserved (nowBarred k barred) ms
-
-marks-taken : (marked barred : List ℕ) (rest : List ℕ → Option Bool) (ms : List Mark)
-    → goes (folded markedBy (marked, barred) ms) (λ t. rest (t .1)) ≡ pick (allNew marked (map markName ms)) (rest (withReserved barred ms)) none
-unfolding folded allNew withReserved
-marks-taken marked barred rest [] = refl
-marks-taken marked barred rest (k ∷ ms) = go (isNew marked (markName k)) (marks-taken (setBitAt marked (markName k)) (nowBarred k barred) rest ms)
-  where
-    go : (b : Bool) → goes (folded markedBy (setBitAt marked (markName k), nowBarred k barred) ms) (λ t. rest (t .1)) ≡ pick (allNew (setBitAt marked (markName k)) (map markName ms)) (rest (withReserved (nowBarred k barred) ms)) none
-        → goes (goes (when b (setBitAt marked (markName k), nowBarred k barred)) (λ t. folded markedBy t ms)) (λ t. rest (t .1)) ≡ pick (b && allNew (setBitAt marked (markName k)) (map markName ms)) (rest (withReserved (nowBarred k barred) ms)) none
-    go true ih = ih
-    go false ih = refl
-
--- their bits
-same : (a b : ℕ) → eqb a b ≡ eqb b a
-same a b = by (eqb a b) refl
-  where
-    by : (t : Bool) → eqb a b ≡ t → t ≡ eqb b a
-    by true e = sym (eq-eqb b a (sym (eqb-true a b e)))
-    by false e = sym (ne-eqb b a (λ z. eqb-false a b e (sym z)))
-
-or-swap : (a b c : Bool) → (a || (b || c)) ≡ ((b || a) || c)
-or-swap true true c = refl
-or-swap true false c = refl
-or-swap false true c = refl
-or-swap false false c = refl
-
-reserved-bits : (n : ℕ) (barred : List ℕ) (ms : List Mark) → length barred ≡ n → AllBelow n (map markName ms) → (x : ℕ) → bitAt (withReserved barred ms) x ≡ (member x (reservedBy ms) || bitAt barred x)
-unfolding withReserved reservedBy member
-reserved-bits n barred [] e h x = refl
-reserved-bits n barred (Mark.defined y ∷ ms) e h x = reserved-bits n barred ms e (h .1) x
-reserved-bits n barred (Mark.reserved y ∷ ms) e h x =
-    reserved-bits n (setBitAt barred y) ms (length-set-bit barred y ∙ e) (h .1) x
-    ∙ rw (bit-set barred y x (rw e (h .0)), same y x) (or-swap (member x (reservedBy ms)) (eqb x y) (bitAt barred x))
-
 module _ (m : ℕ) (few : m ≤ 131072) where
-  marks-below : (ms : List Mark) → Each (λ k. markName k < m) ms → AllBelow 2048 (map markName ms)
-  marks-below [] k = tt
-  marks-below (x ∷ ms) k = (omega (arith, k .0), marks-below ms (k .1))
-
-  structs-below : (ss : List StructType) → Each (StructLimits m) ss → AllBelow 2048 (map (λ s. s .name) ss)
-  structs-below [] k = tt
-  structs-below (s ∷ ss) k = (omega (arith, k .0 .0), structs-below ss (k .1))
-
-  -- a book's marks and structs are taken exactly where each name is there once
-  parts-answer : (barred : List ℕ) → length barred ≡ 2048 → (b : Book) (n : ℕ) → PartsLimits m b
-      → partsFound barred (got (b .marks, (b .structs, b .function)) n) ≡ answered n (when (onceEach b) (forbiddenFunction (barredWith barred b) (b .function)))
-  unfolding onceEach
-  parts-answer barred e b n k =
-      ap (answered n)
-      (marks-taken (replicate 2048 0) barred (λ r. structsEnded (replicate 2048 0, r) (b .structs, b .function)) (b .marks)
-      ∙ rw (structs-taken (replicate 2048 0) (forbiddenFunction (bitAt (withReserved barred (b .marks))) (b .function)) (b .structs), new-distinct 2048 (map markName (b .marks)) (marks-below (b .marks) (k .0)), new-distinct 2048 (map (λ s. s .name) (b .structs)) (structs-below (b .structs) (k .1 .0)))
-      (go (distinct (map markName (b .marks))) (distinct (map (λ s. s .name) (b .structs))) (forbiddenFunction (bitAt (withReserved barred (b .marks))) (b .function)))
-      ∙ ap (λ t. when (distinct (map markName (b .marks)) && distinct (map (λ s. s .name) (b .structs))) (forbiddenFunction t (b .function))) (fun-ext λ x. reserved-bits 2048 barred (b .marks) e (marks-below (b .marks) (k .0)) x))
-    where
-      go : (p q x : Bool) → pick p (when q x) none ≡ when (p && q) x
-      go true q x = refl
-      go false q x = refl
-
   module _ (barred : List ℕ) (size : length barred ≡ 2048) (es : List Entry) (f : Found) (ef : f ≡ partsFound barred (parts m es)) where
     -- what was read, as a book
     book-read : (b : Book) (n : ℕ) → mapped bookOf (parts m) es ≡ got b n → f ≡ answered n (when (onceEach b) (forbiddenFunction (barredWith barred b) (b .function)))
@@ -152,7 +79,10 @@ module _ (m : ℕ) (few : m ≤ 131072) where
             let eb : got (bookOf p) k ≡ got b n = sym (ap (λ r. andThen r (λ a n. got (bookOf a) n)) h) ∙ e in
             let fb : bookOf p ≡ b = cc in
             let fk : k ≡ n = cc in
-            ef ∙ ap (partsFound barred) h ∙ parts-answer barred size (bookOf p) k (subst (PartsLimits m) (sym fb) keeps) ∙ ap (λ c. answered k (when (onceEach c) (forbiddenFunction (barredWith barred c) (c .function)))) fb ∙ ap (λ i. answered i (when (onceEach b) (forbiddenFunction (barredWith barred b) (b .function)))) fk
+            ef ∙ ap (partsFound barred) h
+            ∙ parts-answer m 2048 (omega arith) few barred size (bookOf p) k (subst (PartsLimits m) (sym fb) keeps)
+            ∙ ap (λ c. answered k (when (onceEach c) (forbiddenFunction (barredWith barred c) (c .function)))) fb
+            ∙ ap (λ i. answered i (when (onceEach b) (forbiddenFunction (barredWith barred b) (b .function)))) fk
         go bad h = absurd (let z : bad ≡ got b n = sym (ap (λ r. andThen r (λ a n. got (bookOf a) n)) h) ∙ e in let y : _≡_ {A = ℕ} 0 1 = cc in omega arith)
 
     none-read : mapped bookOf (parts m) es ≡ bad → partsFound barred (parts m es) ≡ found.Bad

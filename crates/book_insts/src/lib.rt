@@ -3,8 +3,12 @@ use book_types::Found;
 use book_types::Front;
 use book_types::first_entry;
 use book_types::join_found;
+use book_types::plain;
 use book_types::shorter;
+use book_types::types::type_len;
+use book_values::Atom;
 use book_values::Item;
+use book_values::atom_len;
 use book_values::item_len;
 use book_values::list_len;
 use book_values::optional_len;
@@ -143,12 +147,13 @@ pub fn term_fields(group: TermGroup) -> Shape
     }
 }
 
-// The field of a digit; a digit that is none of these stands for a type.
+// The field of a digit; a digit that is none of these stands for a type. Types and values, which most fields are, are read without a
+// call of `item_len`.
 pub fn field_len(kinds: &[u64], words: &[u64], names: u64, digit: u64) -> Found
     ensures { λ r. ⌜ r ≡ foundOf (otherField (fieldOf digit)) (fieldReader names (fieldOf digit) (entries (now (kinds .entry)) (now (words .entry)))) ⌝ }
 {
     match digit {
-        2 => item_len(kinds, words, names, Item::Value),
+        2 => atom_len(first_entry(kinds, words), names, Atom::Value),
         3 => item_len(kinds, words, names, Item::Block),
         4 => item_len(kinds, words, names, Item::Index),
         5 => optional_len(kinds, words, names, Item::Align),
@@ -159,7 +164,7 @@ pub fn field_len(kinds: &[u64], words: &[u64], names: u64, digit: u64) -> Found
         10 => list_len(kinds, words, names, Item::Incoming, shorter(kinds, words)),
         11 => list_len(kinds, words, names, Item::Typed, shorter(kinds, words)),
         12 => list_len(kinds, words, names, Item::Case, shorter(kinds, words)),
-        _ => item_len(kinds, words, names, Item::Type),
+        _ => plain(type_len(kinds, words, names, 64)),
     }
 }
 

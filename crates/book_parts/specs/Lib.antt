@@ -1,3 +1,4 @@
 pub mod Reading
 pub mod Folds
 pub mod Parts
+pub mod Maps

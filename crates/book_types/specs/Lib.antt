@@ -6,3 +6,4 @@ pub mod Tables
 pub mod Laws
 pub mod TypeLaws
 pub mod Passes
+pub mod Leaf

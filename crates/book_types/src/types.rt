@@ -15,6 +15,7 @@ ghost use Rattle.book.specs.Read.{closing, isClosing, many};
 ghost use Rattle.book.specs.Decode.{typeTo};
 ghost use Rattle.book_types.specs.Length.{lenOf, stepOf};
 ghost use Rattle.book_types.specs.Groups.{typeGroupOf, leafIf, structIf, groupHead, typeHeadOf};
+ghost use Rattle.book_types.specs.Leaf.{leafOk};
 
 // What the kind of a type's entry begins.
 pub enum TypeGroup {
@@ -94,8 +95,38 @@ pub fn type_head(entry: Front, names: u64) -> TypeHead
     }
 }
 
-// The type at the front, of at most `level` levels.
+// Whether an entry is a type by itself.
+pub fn leaf(kind: u64, word: u64, names: u64) -> bool
+    ensures { λ r. ⌜ r ≡ leafOk names kind word ⌝ }
+{
+    if kind == 11 {
+        return numbers::width::width_ok(word);
+    }
+    if kind == 15 {
+        return word < names;
+    }
+    ((kind == 10) | (kind == 12) | ((18 <= kind) & (kind <= 20))) & (word == 0)
+}
+
+// The type at the front, of at most `level` levels. Most types are an entry, which is told here; this part is small, so that it is
+// compiled into its callers.
 pub fn type_len(kinds: &[u64], words: &[u64], names: u64, level: u32) -> Length
+    ensures { λ r. ⌜ r ≡ lenOf (typeTo names level (entries (now (kinds .entry)) (now (words .entry)))) ⌝ }
+{
+    if level != 0 {
+        if kinds.len() != 0 {
+            if words.len() != 0 {
+                if leaf(kinds[0], words[0], names) {
+                    return Length::Entries(1);
+                }
+            }
+        }
+    }
+    type_deep(kinds, words, names, level)
+}
+
+// The same by what the entry in front begins.
+fn type_deep(kinds: &[u64], words: &[u64], names: u64, level: u32) -> Length
     ensures { λ r. ⌜ r ≡ lenOf (typeTo names level (entries (now (kinds .entry)) (now (words .entry)))) ⌝ }
 {
     if level == 0 {
@@ -103,7 +134,7 @@ pub fn type_len(kinds: &[u64], words: &[u64], names: u64, level: u32) -> Length
     }
     match type_head(first_entry(kinds, words), names) {
         TypeHead::Leaf => Length::Entries(1),
-        TypeHead::Array => then_len(1, type_len(&kinds[1..], &words[1..], names, level - 1)),
+        TypeHead::Array => then_len(1, type_deep(&kinds[1..], &words[1..], names, level - 1)),
         TypeHead::Struct => then_len(1, types_len(&kinds[1..], &words[1..], names, level - 1)),
         TypeHead::Bad => Length::Bad,
     }
@@ -115,7 +146,7 @@ fn type_step(kinds: &[u64], words: &[u64], names: u64, level: u32) -> Step
 {
     match list_head(first_entry(kinds, words)) {
         ListHead::Closing => Step::Done(1),
-        ListHead::Item => next_step(type_len(kinds, words, names, level)),
+        ListHead::Item => next_step(type_deep(kinds, words, names, level)),
         ListHead::Bad => Step::Bad,
     }
 }

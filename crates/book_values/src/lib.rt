@@ -10,6 +10,7 @@ use book_types::join_found;
 use book_types::list_head;
 use book_types::next_pass;
 use book_types::plain;
+use book_types::types::leaf;
 use book_types::types::type_len;
 ghost use mathlib.Core.Path.{_≡_};
 ghost use Rattle.book.specs.Entry.{entries};
@@ -20,6 +21,7 @@ ghost use Rattle.book.specs.Forbidden.{any, anyThere, otherItem};
 ghost use Rattle.book_types.specs.Found.{foundOf, passOf, never, pairTest};
 ghost use Rattle.book_values.specs.declared.Atom.the-variants.{Block as AtomBlock, Param as AtomParam};
 ghost use Rattle.book_values.specs.Items.{valueGroupOf, valueOk, wordFront, indexFits, atomOk, atomFront, atomReader, atomTest, itemOf};
+ghost use Rattle.book_values.specs.Pairs.{twoOk};
 
 // The group of a value's kind: null, undef, poison and zeroinitializer are zeros.
 pub enum ValueGroup {
@@ -49,17 +51,14 @@ pub fn value_group(kind: u64) -> ValueGroup
     }
 }
 
-fn value_ok(group: ValueGroup, word: u64, names: u64) -> bool
-    ensures { λ r. ⌜ r ≡ valueOk names word group ⌝ }
+// Whether a value of the kind may have the word.
+fn value_fits(kind: u64, word: u64, names: u64) -> bool
+    ensures { λ r. ⌜ r ≡ valueOk names word (valueGroupOf (valTag kind)) ⌝ }
 {
-    match group {
-        ValueGroup::Local => word < names,
-        ValueGroup::Global => word < names,
-        ValueGroup::Int => true,
-        ValueGroup::Zero => word == 0,
-        ValueGroup::Other => word == 0,
-        ValueGroup::Bad => false,
+    if kind < 32 {
+        return (30 <= kind) & (word < names);
     }
+    (kind == 32) | ((kind < 38) & (word == 0))
 }
 
 // An entry of one kind, its word below a limit: the name of a block, a function or a struct.
@@ -99,8 +98,8 @@ fn atom_ok(kind: u64, word: u64, names: u64, atom: Atom) -> bool
     ensures { λ r. ⌜ r ≡ atomOk names kind word atom ⌝ }
 {
     match atom {
-        Atom::Value => value_ok(value_group(kind), word, names),
-        Atom::GepValue => value_ok(value_group(kind), word, names) & index_fits(kind, word),
+        Atom::Value => value_fits(kind, word, names),
+        Atom::GepValue => value_fits(kind, word, names) & index_fits(kind, word),
         Atom::Block => (kind == 23) & (word < names),
         Atom::Index => (kind == 22) & (word < 0x1_0000_0000),
         Atom::Align => (kind == 22) & numbers::align::is_align(word),
@@ -210,13 +209,49 @@ pub fn optional_len(kinds: &[u64], words: &[u64], names: u64, item: Item) -> Fou
     }
 }
 
+// Whether two entries are the item. Types of more entries are not looked at here.
+fn two_entries(kind: u64, word: u64, kind2: u64, word2: u64, names: u64, item: Item) -> bool
+    ensures { λ r. ⌜ r ≡ twoOk names kind word kind2 word2 item ⌝ }
+{
+    match item {
+        Item::Typed => leaf(kind, word, names) & atom_ok(kind2, word2, names, Atom::Value),
+        Item::GepIndex => leaf(kind, word, names) & atom_ok(kind2, word2, names, Atom::GepValue),
+        Item::Incoming => {
+            atom_ok(kind, word, names, Atom::Value) & atom_ok(kind2, word2, names, Atom::Block)
+        }
+        Item::Case => {
+            atom_ok(kind, word, names, Atom::Case) & atom_ok(kind2, word2, names, Atom::Block)
+        }
+        Item::Param => atom_ok(kind, word, names, Atom::Param) & leaf(kind2, word2, names),
+        Item::Type => false,
+        Item::Value => false,
+        Item::Block => false,
+        Item::Index => false,
+        Item::Align => false,
+    }
+}
+
+// An item of a list. Most are two entries, which are told without a call.
+fn listed_len(kinds: &[u64], words: &[u64], names: u64, item: Item) -> Found
+    ensures { λ r. ⌜ r ≡ foundOf (otherItem (itemOf item)) (itemReader names (itemOf item) (entries (now (kinds .entry)) (now (words .entry)))) ⌝ }
+{
+    if 1 < kinds.len() {
+        if 1 < words.len() {
+            if two_entries(kinds[0], words[0], kinds[1], words[1], names, item) {
+                return Found::Entries(2, (kinds[0] == 37) | (kinds[1] == 37));
+            }
+        }
+    }
+    item_len(kinds, words, names, item)
+}
+
 // What comes next in a list of items.
 fn item_step(kinds: &[u64], words: &[u64], names: u64, item: Item) -> Pass
     ensures { λ r. ⌜ r ≡ passOf (otherItem (itemOf item)) never isClosing (itemReader names (itemOf item)) closing (entries (now (kinds .entry)) (now (words .entry))) ⌝ }
 {
     match list_head(first_entry(kinds, words)) {
         ListHead::Closing => Pass::Done(1, false),
-        ListHead::Item => next_pass(item_len(kinds, words, names, item)),
+        ListHead::Item => next_pass(listed_len(kinds, words, names, item)),
         ListHead::Bad => Pass::Bad,
     }
 }

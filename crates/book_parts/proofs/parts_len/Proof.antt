@@ -1,41 +1,50 @@
--- `parts_len` meets its contract: no name is marked at first, and those of the range may not be called.
-use mathlib.Core.Path.{_∙_, ap}
+-- `book_parts::parts_len` meets its contract: no name is marked at first, and short maps find the same of few names.
+use mathlib.Core.Path.{_∙_}
 use Rattle.book.specs.Entry.{entries}
-use Rattle.book.specs.Decode.{parts}
-use Rattle.book_parts.specs.Reading.{partsFound}
+use Rattle.book_parts.specs.Maps.{parts-few}
 use borrow.Author.Needs.{needs}
 use Rattle.book_parts.proofs.parts_len.Statement.{statement}
 use Rattle.book_parts.proofs.parts_len.Tie as tie
-use Rattle.book_marks.proofs.mark_range.Reads as mark-range-reads
-use Rattle.book_parts.proofs.marks_len.Reads as marks-len-reads
+use Rattle.book_parts.proofs.ranged_len.Reads as ranged-len-reads
 
-slice-aggregate-mark-range : tie.Need-slice-aggregate-mark-range
-slice-aggregate-mark-range c = search needs
+slice-aggregate-ranged-len : tie.Need-slice-aggregate-ranged-len
+slice-aggregate-ranged-len c = search needs
 
-mark-range-requires : tie.Need-mark-range-requires
-mark-range-requires c κs = search needs
+slice-aggregate-ranged-len-2 : tie.Need-slice-aggregate-ranged-len-2
+slice-aggregate-ranged-len-2 c = search needs
 
-slice-aggregate-marks-len : tie.Need-slice-aggregate-marks-len
-slice-aggregate-marks-len c = search needs
-
-slice-aggregate-marks-len-2 : tie.Need-slice-aggregate-marks-len-2
-slice-aggregate-marks-len-2 c = search needs
-
-marks-len-requires : tie.Need-marks-len-requires
-marks-len-requires c κs = search needs
+ranged-len-requires : tie.Need-ranged-len-requires
+ranged-len-requires c κs = search needs
 
 returns : tie.Need-returns
 returns c =
-    let a = c .before .before .before .before .before .before .before .before .before .before .args in
-    c .before .before .marks-len .ensures ∙ ap (λ b. partsFound b (parts (a .names) (entries (a .kinds .now) (a .words .now)))) (c .before .before .before .before .before .before .mark-range .ensures)
+    let after-ranged = c .before .before in
+    let then2 = after-ranged .before .before .before in
+    let then1 = then2 .before in
+    let a = then1 .before .before .before .args in
+    after-ranged .ranged-len .ensures ∙ parts-few (a .names) (then1 .if1 .taken) (entries (a .kinds .now) (a .words .now)) (a .from) (a .to) (then2 .if2 .taken)
+
+slice-aggregate-ranged-len-3 : tie.Need-slice-aggregate-ranged-len-3
+slice-aggregate-ranged-len-3 c = search needs
+
+slice-aggregate-ranged-len-4 : tie.Need-slice-aggregate-ranged-len-4
+slice-aggregate-ranged-len-4 c = search needs
+
+ranged-len-requires-2 : tie.Need-ranged-len-requires-2
+ranged-len-requires-2 c κs = search needs
+
+returns-2 : tie.Need-returns-2
+returns-2 c = search needs
 
 pub parts-len-spec : {M : Type 1} → statement M
 parts-len-spec =
     tie.close
     (tie.spec
-    slice-aggregate-mark-range
-    mark-range-requires
-    slice-aggregate-marks-len
-    slice-aggregate-marks-len-2
-    marks-len-requires
-    returns)
+    slice-aggregate-ranged-len
+    slice-aggregate-ranged-len-2
+    ranged-len-requires
+    returns
+    slice-aggregate-ranged-len-3
+    slice-aggregate-ranged-len-4
+    ranged-len-requires-2
+    returns-2)

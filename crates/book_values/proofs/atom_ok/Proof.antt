@@ -1,33 +1,26 @@
 -- `book_values::atom_ok` meets its contract: each arm is the definition's.
 use mathlib.Core.Path.{refl, _∙_, sym, ap}
 use lib.Dec.{eqb}
-use Rattle.book_values.specs.Items.{valueOk, atomOk}
+use Rattle.book_values.specs.Items.{atomOk}
 use Rattle.book_values.specs.ItemLaws as items
 use borrow.Author.Needs.{needs}
 use Rattle.book_values.proofs.atom_ok.Statement.{statement}
 use Rattle.book_values.proofs.atom_ok.Tie as tie
 use Rattle.numbers.proofs.align.is_align.Reads as is-align-reads
 use Rattle.book_values.proofs.index_fits.Reads as index-fits-reads
-use Rattle.book_values.proofs.value_group.Reads as value-group-reads
-use Rattle.book_values.proofs.value_ok.Reads as value-ok-reads
+use Rattle.book_values.proofs.value_fits.Reads as value-fits-reads
 
 enum-told : tie.Need-enum-told
 enum-told c = search needs
 
-value-group-requires : tie.Need-value-group-requires
-value-group-requires c κs = search needs
-
-value-ok-requires : tie.Need-value-ok-requires
-value-ok-requires c κs = search needs
+value-fits-requires : tie.Need-value-fits-requires
+value-fits-requires c κs = search needs
 
 enum-told-2 : tie.Need-enum-told-2
 enum-told-2 c = search needs
 
-value-group-requires-2 : tie.Need-value-group-requires-2
-value-group-requires-2 c κs = search needs
-
-value-ok-requires-2 : tie.Need-value-ok-requires-2
-value-ok-requires-2 c κs = search needs
+value-fits-requires-2 : tie.Need-value-fits-requires-2
+value-fits-requires-2 c κs = search needs
 
 index-fits-requires : tie.Need-index-fits-requires
 index-fits-requires c κs = search needs
@@ -51,13 +44,10 @@ enum-told-7 : tie.Need-enum-told-7
 enum-told-7 c = search needs
 
 returns : tie.Need-returns
-returns c = c .value-ok .ensures ∙ ap (valueOk _ _) (c .before .value-group .ensures) ∙ ap (atomOk _ _ _) (sym (c .before .before .enum-told .given .1))
+returns c = c .value-fits .ensures ∙ ap (atomOk _ _ _) (sym (c .before .enum-told .given .1))
 
 returns-2 : tie.Need-returns-2
-returns-2 c =
-    let after-enum-told2 = c .before .before .before in
-    items.both-are _ _ _ _ (c .before .value-ok2 .ensures ∙ ap (valueOk _ _) (c .before .before .value-group2 .ensures)) (c .index-fits .ensures) ∙ ap
-    (atomOk _ _ _) (sym (after-enum-told2 .enum-told2 .given .1))
+returns-2 c = items.both-are _ _ _ _ (c .before .value-fits2 .ensures) (c .index-fits .ensures) ∙ ap (atomOk _ _ _) (sym (c .before .before .enum-told2 .given .1))
 
 returns-3 : tie.Need-returns-3
 returns-3 c = ap (atomOk _ _ _) (sym (c .enum-told3 .given .1))
@@ -82,11 +72,9 @@ atom-ok-spec =
     tie.close
     (tie.spec
     enum-told
-    value-group-requires
-    value-ok-requires
+    value-fits-requires
     enum-told-2
-    value-group-requires-2
-    value-ok-requires-2
+    value-fits-requires-2
     index-fits-requires
     enum-told-3
     enum-told-4

@@ -7,7 +7,7 @@ use borrow.Author.Needs.{needs}
 use Rattle.book_values.proofs.item_step.Statement.{statement}
 use Rattle.book_values.proofs.item_step.Tie as tie
 use Rattle.book_types.proofs.first_entry.Reads as first-entry-reads
-use Rattle.book_values.proofs.item_len.Reads as item-len-reads
+use Rattle.book_values.proofs.listed_len.Reads as listed-len-reads
 use Rattle.book_types.proofs.list_head.Reads as list-head-reads
 use Rattle.book_types.proofs.next_pass.Reads as next-pass-reads
 
@@ -23,8 +23,8 @@ enum-told c = search needs
 enum-told-2 : tie.Need-enum-told-2
 enum-told-2 c = search needs
 
-item-len-requires : tie.Need-item-len-requires
-item-len-requires c κs = search needs
+listed-len-requires : tie.Need-listed-len-requires
+listed-len-requires c κs = search needs
 
 next-pass-requires : tie.Need-next-pass-requires
 next-pass-requires c κs = search needs
@@ -48,7 +48,7 @@ returns-2 c =
     let a = entry .args in
     passes.item-arm (otherItem (itemOf (a .item))) (item (a .names) (itemOf (a .item))) (a .kinds .now) (a .words .now) _ _
     (after-first-entry .first-entry .ensures) (after-list-head .list-head .ensures) (c .before .before .enum-told2 .given .1) _ _
-    (c .before .item-len .ensures) (c .next-pass .ensures)
+    (c .before .listed-len .ensures) (c .next-pass .ensures)
 
 returns-3 : tie.Need-returns-3
 returns-3 c =
@@ -66,7 +66,7 @@ item-step-spec =
     list-head-requires
     enum-told
     enum-told-2
-    item-len-requires
+    listed-len-requires
     next-pass-requires
     enum-told-3
     returns

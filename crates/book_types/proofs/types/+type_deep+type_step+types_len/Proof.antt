@@ -13,26 +13,26 @@ use Rattle.book_types.specs.Laws as laws
 use Rattle.book_types.specs.TypeLaws as types
 use borrow.Fn.Kinds.{In}
 use borrow.Fn.PlainCycle.{Measures, is, falls, and}
-use Rattle.book_types.proofs.types.type_len.Reads as type-len
-use Rattle.book_types.proofs.types.type_len.Kinds as type-len-kinds
-use Rattle.book_types.proofs.types.+type_len+type_step+types_len.Lts-type_len as type-len-lts
+use Rattle.book_types.proofs.types.type_deep.Reads as type-deep
+use Rattle.book_types.proofs.types.type_deep.Kinds as type-deep-kinds
+use Rattle.book_types.proofs.types.+type_deep+type_step+types_len.Lts-type_deep as type-deep-lts
 use Rattle.book_types.proofs.types.type_step.Reads as type-step
 use Rattle.book_types.proofs.types.type_step.Kinds as type-step-kinds
-use Rattle.book_types.proofs.types.+type_len+type_step+types_len.Lts-type_step as type-step-lts
+use Rattle.book_types.proofs.types.+type_deep+type_step+types_len.Lts-type_step as type-step-lts
 use Rattle.book_types.proofs.types.types_len.Reads as types-len
 use Rattle.book_types.proofs.types.types_len.Kinds as types-len-kinds
-use Rattle.book_types.proofs.types.+type_len+type_step+types_len.Lts-types_len as types-len-lts
+use Rattle.book_types.proofs.types.+type_deep+type_step+types_len.Lts-types_len as types-len-lts
 use Rattle.book_types.proofs.first_entry.Reads as first-entry-reads
 use Rattle.book_types.proofs.list_head.Reads as list-head-reads
 use Rattle.book_types.proofs.next_step.Reads as next-step-reads
 use Rattle.book_types.proofs.shorter.Reads as shorter-reads
 use Rattle.book_types.proofs.then_len.Reads as then-len-reads
 use Rattle.book_types.proofs.types.type_head.Reads as type-head-reads
-use Rattle.book_types.proofs.types.+type_len+type_step+types_len.{statement}
-use Rattle.book_types.proofs.types.+type_len+type_step+types_len.Tie.{close}
+use Rattle.book_types.proofs.types.+type_deep+type_step+types_len.{statement}
+use Rattle.book_types.proofs.types.+type_deep+type_step+types_len.Tie.{close}
 
-abbrev μ-type-len : Measures 2 type-len-kinds.ps ℕ
-μ-type-len κs a = 3 * a .1 .1 .1 .0
+abbrev μ-type-deep : Measures 2 type-deep-kinds.ps ℕ
+μ-type-deep κs a = 3 * a .1 .1 .1 .0
 
 abbrev μ-type-step : Measures 2 type-step-kinds.ps ℕ
 μ-type-step κs a = 3 * a .1 .1 .1 .0 + 1
@@ -40,12 +40,12 @@ abbrev μ-type-step : Measures 2 type-step-kinds.ps ℕ
 abbrev μ-types-len : Measures 2 types-len-kinds.ps ℕ
 μ-types-len κs a = 3 * a .1 .1 .1 .0 + 2
 
-abbrev type-len-at : ℕ → In 2 type-len-kinds.ps
-type-len-at t = and 2 type-len-kinds.ps (is 2 type-len-kinds.ps μ-type-len t) type-len.Pre
+abbrev type-deep-at : ℕ → In 2 type-deep-kinds.ps
+type-deep-at t = and 2 type-deep-kinds.ps (is 2 type-deep-kinds.ps μ-type-deep t) type-deep.Pre
 
-abbrev type-len-below : ℕ → In 2 type-len-kinds.ps
-type-len-below t =
-    and 2 type-len-kinds.ps (falls 2 type-len-kinds.ps _<_ μ-type-len t) type-len.Pre
+abbrev type-deep-below : ℕ → In 2 type-deep-kinds.ps
+type-deep-below t =
+    and 2 type-deep-kinds.ps (falls 2 type-deep-kinds.ps _<_ μ-type-deep t) type-deep.Pre
 
 abbrev type-step-at : ℕ → In 2 type-step-kinds.ps
 type-step-at t = and 2 type-step-kinds.ps (is 2 type-step-kinds.ps μ-type-step t) type-step.Pre
@@ -62,94 +62,94 @@ types-len-below t =
     and 2 types-len-kinds.ps (falls 2 types-len-kinds.ps _<_ μ-types-len t) types-len.Pre
 
 -- src/types.rt:106:9
-type-len-returns : (t : ℕ) → type-len-lts.Need-returns (
+type-deep-returns : (t : ℕ) → type-deep-lts.Need-returns (
   first-entry-reads.Asked,
   first-entry-reads.Learnt,
   type-head-reads.Asked,
   type-head-reads.Learnt,
-  type-len-below t,
-  type-len.Post,
+  type-deep-below t,
+  type-deep.Post,
   then-len-reads.Asked,
   then-len-reads.Learnt,
   types-len-below t,
   types-len.Post,
-) (type-len-at t) type-len.Post
-type-len-returns t c = sym (types.type-zero _ _ _ (c .if1 .taken))
+) (type-deep-at t) type-deep.Post
+type-deep-returns t c = sym (types.type-zero _ _ _ (c .if1 .taken))
 
 -- src/types.rt:108:21
-type-len-first-entry-requires : (t : ℕ) → type-len-lts.Need-first-entry-requires (
+type-deep-first-entry-requires : (t : ℕ) → type-deep-lts.Need-first-entry-requires (
   first-entry-reads.Asked,
   first-entry-reads.Learnt,
   type-head-reads.Asked,
   type-head-reads.Learnt,
-  type-len-below t,
-  type-len.Post,
+  type-deep-below t,
+  type-deep.Post,
   then-len-reads.Asked,
   then-len-reads.Learnt,
   types-len-below t,
   types-len.Post,
-) (type-len-at t) type-len.Post
-type-len-first-entry-requires t c κs = search needs
+) (type-deep-at t) type-deep.Post
+type-deep-first-entry-requires t c κs = search needs
 
 -- src/types.rt:108:11
-type-len-type-head-requires : (t : ℕ) → type-len-lts.Need-type-head-requires (
+type-deep-type-head-requires : (t : ℕ) → type-deep-lts.Need-type-head-requires (
   first-entry-reads.Asked,
   first-entry-reads.Learnt,
   type-head-reads.Asked,
   type-head-reads.Learnt,
-  type-len-below t,
-  type-len.Post,
+  type-deep-below t,
+  type-deep.Post,
   then-len-reads.Asked,
   then-len-reads.Learnt,
   types-len-below t,
   types-len.Post,
-) (type-len-at t) type-len.Post
-type-len-type-head-requires t c κs = search needs
+) (type-deep-at t) type-deep.Post
+type-deep-type-head-requires t c κs = search needs
 
 -- src/types.rt:109:27
-type-len-enum-told : (t : ℕ) → type-len-lts.Need-enum-told (
+type-deep-enum-told : (t : ℕ) → type-deep-lts.Need-enum-told (
   first-entry-reads.Asked,
   first-entry-reads.Learnt,
   type-head-reads.Asked,
   type-head-reads.Learnt,
-  type-len-below t,
-  type-len.Post,
+  type-deep-below t,
+  type-deep.Post,
   then-len-reads.Asked,
   then-len-reads.Learnt,
   types-len-below t,
   types-len.Post,
-) (type-len-at t) type-len.Post
-type-len-enum-told t c = search needs
+) (type-deep-at t) type-deep.Post
+type-deep-enum-told t c = search needs
 
 -- src/types.rt:110:46
-type-len-enum-told-2 : (t : ℕ) → type-len-lts.Need-enum-told-2 (
+type-deep-enum-told-2 : (t : ℕ) → type-deep-lts.Need-enum-told-2 (
   first-entry-reads.Asked,
   first-entry-reads.Learnt,
   type-head-reads.Asked,
   type-head-reads.Learnt,
-  type-len-below t,
-  type-len.Post,
+  type-deep-below t,
+  type-deep.Post,
   then-len-reads.Asked,
   then-len-reads.Learnt,
   types-len-below t,
   types-len.Post,
-) (type-len-at t) type-len.Post
-type-len-enum-told-2 t c = search needs
+) (type-deep-at t) type-deep.Post
+type-deep-enum-told-2 t c = search needs
 
 -- src/types.rt:110:46
-type-len-sub-type-len : (t : ℕ) → type-len-lts.Need-sub-type-len (
+type-deep-sub-type-deep : (t : ℕ) → type-deep-lts.Need-sub-type-deep (
   first-entry-reads.Asked,
   first-entry-reads.Learnt,
   type-head-reads.Asked,
   type-head-reads.Learnt,
-  type-len-below t,
-  type-len.Post,
+  type-deep-below t,
+  type-deep.Post,
   then-len-reads.Asked,
   then-len-reads.Learnt,
   types-len-below t,
   types-len.Post,
-) (type-len-at t) type-len.Post
-type-len-sub-type-len t c =
+) (type-deep-at t) type-deep.Post
+type-deep-sub-type-deep t c =
     let after-first-entry = c .before .before .before in
     let entry = after-first-entry .before .before .before .before in
     let a = entry .args in
@@ -158,19 +158,19 @@ type-len-sub-type-len t c =
     (c .before .before .type-head .ensures) (types.not-array _ (c .enum-told2 .given .1)))
 
 -- src/types.rt:110:46
-type-len-part-type-len-start : (t : ℕ) → type-len-lts.Need-part-type-len-start (
+type-deep-part-type-deep-start : (t : ℕ) → type-deep-lts.Need-part-type-deep-start (
   first-entry-reads.Asked,
   first-entry-reads.Learnt,
   type-head-reads.Asked,
   type-head-reads.Learnt,
-  type-len-below t,
-  type-len.Post,
+  type-deep-below t,
+  type-deep.Post,
   then-len-reads.Asked,
   then-len-reads.Learnt,
   types-len-below t,
   types-len.Post,
-) (type-len-at t) type-len.Post
-type-len-part-type-len-start t c =
+) (type-deep-at t) type-deep.Post
+type-deep-part-type-deep-start t c =
     let after-first-entry = c .before .before .before in
     let entry = after-first-entry .before .before .before .before in
     let a = entry .args in
@@ -179,34 +179,34 @@ type-len-part-type-len-start t c =
     (c .before .before .type-head .ensures) (types.not-array _ (c .enum-told2 .given .1)))
 
 -- src/types.rt:110:46
-type-len-part-type-len-end : (t : ℕ) → type-len-lts.Need-part-type-len-end (
+type-deep-part-type-deep-end : (t : ℕ) → type-deep-lts.Need-part-type-deep-end (
   first-entry-reads.Asked,
   first-entry-reads.Learnt,
   type-head-reads.Asked,
   type-head-reads.Learnt,
-  type-len-below t,
-  type-len.Post,
+  type-deep-below t,
+  type-deep.Post,
   then-len-reads.Asked,
   then-len-reads.Learnt,
   types-len-below t,
   types-len.Post,
-) (type-len-at t) type-len.Post
-type-len-part-type-len-end t c = search needs
+) (type-deep-at t) type-deep.Post
+type-deep-part-type-deep-end t c = search needs
 
 -- src/types.rt:110:59
-type-len-sub-type-len-2 : (t : ℕ) → type-len-lts.Need-sub-type-len-2 (
+type-deep-sub-type-deep-2 : (t : ℕ) → type-deep-lts.Need-sub-type-deep-2 (
   first-entry-reads.Asked,
   first-entry-reads.Learnt,
   type-head-reads.Asked,
   type-head-reads.Learnt,
-  type-len-below t,
-  type-len.Post,
+  type-deep-below t,
+  type-deep.Post,
   then-len-reads.Asked,
   then-len-reads.Learnt,
   types-len-below t,
   types-len.Post,
-) (type-len-at t) type-len.Post
-type-len-sub-type-len-2 t c =
+) (type-deep-at t) type-deep.Post
+type-deep-sub-type-deep-2 t c =
     let after-type-head = c .before .before .before in
     let after-first-entry = after-type-head .before in
     let entry = after-first-entry .before .before .before .before in
@@ -216,19 +216,19 @@ type-len-sub-type-len-2 t c =
     (after-type-head .type-head .ensures) (types.not-array _ (c .before .enum-told2 .given .1)))
 
 -- src/types.rt:110:59
-type-len-part-type-len-start-2 : (t : ℕ) → type-len-lts.Need-part-type-len-start-2 (
+type-deep-part-type-deep-start-2 : (t : ℕ) → type-deep-lts.Need-part-type-deep-start-2 (
   first-entry-reads.Asked,
   first-entry-reads.Learnt,
   type-head-reads.Asked,
   type-head-reads.Learnt,
-  type-len-below t,
-  type-len.Post,
+  type-deep-below t,
+  type-deep.Post,
   then-len-reads.Asked,
   then-len-reads.Learnt,
   types-len-below t,
   types-len.Post,
-) (type-len-at t) type-len.Post
-type-len-part-type-len-start-2 t c =
+) (type-deep-at t) type-deep.Post
+type-deep-part-type-deep-start-2 t c =
     let after-type-head = c .before .before .before in
     let after-first-entry = after-type-head .before in
     let entry = after-first-entry .before .before .before .before in
@@ -238,64 +238,64 @@ type-len-part-type-len-start-2 t c =
     (after-type-head .type-head .ensures) (types.not-array _ (c .before .enum-told2 .given .1)))
 
 -- src/types.rt:110:59
-type-len-part-type-len-end-2 : (t : ℕ) → type-len-lts.Need-part-type-len-end-2 (
+type-deep-part-type-deep-end-2 : (t : ℕ) → type-deep-lts.Need-part-type-deep-end-2 (
   first-entry-reads.Asked,
   first-entry-reads.Learnt,
   type-head-reads.Asked,
   type-head-reads.Learnt,
-  type-len-below t,
-  type-len.Post,
+  type-deep-below t,
+  type-deep.Post,
   then-len-reads.Asked,
   then-len-reads.Learnt,
   types-len-below t,
   types-len.Post,
-) (type-len-at t) type-len.Post
-type-len-part-type-len-end-2 t c = search needs
+) (type-deep-at t) type-deep.Post
+type-deep-part-type-deep-end-2 t c = search needs
 
 -- src/types.rt:110:79
-type-len-sub-type-len-3 : (t : ℕ) → type-len-lts.Need-sub-type-len-3 (
+type-deep-sub-type-deep-3 : (t : ℕ) → type-deep-lts.Need-sub-type-deep-3 (
   first-entry-reads.Asked,
   first-entry-reads.Learnt,
   type-head-reads.Asked,
   type-head-reads.Learnt,
-  type-len-below t,
-  type-len.Post,
+  type-deep-below t,
+  type-deep.Post,
   then-len-reads.Asked,
   then-len-reads.Learnt,
   types-len-below t,
   types-len.Post,
-) (type-len-at t) type-len.Post
-type-len-sub-type-len-3 t c = search needs
+) (type-deep-at t) type-deep.Post
+type-deep-sub-type-deep-3 t c = search needs
 
 -- src/types.rt:110:37
-type-len-type-len-requires : (t : ℕ) → type-len-lts.Need-type-len-requires (
+type-deep-type-deep-requires : (t : ℕ) → type-deep-lts.Need-type-deep-requires (
   first-entry-reads.Asked,
   first-entry-reads.Learnt,
   type-head-reads.Asked,
   type-head-reads.Learnt,
-  type-len-below t,
-  type-len.Post,
+  type-deep-below t,
+  type-deep.Post,
   then-len-reads.Asked,
   then-len-reads.Learnt,
   types-len-below t,
   types-len.Post,
-) (type-len-at t) type-len.Post
-type-len-type-len-requires t c κs = search needs
+) (type-deep-at t) type-deep.Post
+type-deep-type-deep-requires t c κs = search needs
 
 -- src/types.rt:110:28
-type-len-then-len-requires : (t : ℕ) → type-len-lts.Need-then-len-requires (
+type-deep-then-len-requires : (t : ℕ) → type-deep-lts.Need-then-len-requires (
   first-entry-reads.Asked,
   first-entry-reads.Learnt,
   type-head-reads.Asked,
   type-head-reads.Learnt,
-  type-len-below t,
-  type-len.Post,
+  type-deep-below t,
+  type-deep.Post,
   then-len-reads.Asked,
   then-len-reads.Learnt,
   types-len-below t,
   types-len.Post,
-) (type-len-at t) type-len.Post
-type-len-then-len-requires t c κs =
+) (type-deep-at t) type-deep.Post
+type-deep-then-len-requires t c κs =
     let after-enum-told2 = c .before .before .before in
     let after-type-head = after-enum-told2 .before .before in
     let after-first-entry = after-type-head .before in
@@ -304,37 +304,37 @@ type-len-then-len-requires t c κs =
     types.behind-room (agrees-typeTo _ _) (a .kinds .now) (a .words .now) _ (omega arith)
     (laws.within-kinds 1 _ _
     (types.head-there (a .names) (a .level) (a .kinds .now) (a .words .now) _ _ (after-first-entry .first-entry .ensures)
-    (after-type-head .type-head .ensures) (types.not-array _ (after-enum-told2 .enum-told2 .given .1)))) (c .type-len .ensures)
+    (after-type-head .type-head .ensures) (types.not-array _ (after-enum-told2 .enum-told2 .given .1)))) (c .type-deep .ensures)
 
 -- src/types.rt:111:48
-type-len-enum-told-3 : (t : ℕ) → type-len-lts.Need-enum-told-3 (
+type-deep-enum-told-3 : (t : ℕ) → type-deep-lts.Need-enum-told-3 (
   first-entry-reads.Asked,
   first-entry-reads.Learnt,
   type-head-reads.Asked,
   type-head-reads.Learnt,
-  type-len-below t,
-  type-len.Post,
+  type-deep-below t,
+  type-deep.Post,
   then-len-reads.Asked,
   then-len-reads.Learnt,
   types-len-below t,
   types-len.Post,
-) (type-len-at t) type-len.Post
-type-len-enum-told-3 t c = search needs
+) (type-deep-at t) type-deep.Post
+type-deep-enum-told-3 t c = search needs
 
 -- src/types.rt:111:48
-type-len-sub-types-len : (t : ℕ) → type-len-lts.Need-sub-types-len (
+type-deep-sub-types-len : (t : ℕ) → type-deep-lts.Need-sub-types-len (
   first-entry-reads.Asked,
   first-entry-reads.Learnt,
   type-head-reads.Asked,
   type-head-reads.Learnt,
-  type-len-below t,
-  type-len.Post,
+  type-deep-below t,
+  type-deep.Post,
   then-len-reads.Asked,
   then-len-reads.Learnt,
   types-len-below t,
   types-len.Post,
-) (type-len-at t) type-len.Post
-type-len-sub-types-len t c =
+) (type-deep-at t) type-deep.Post
+type-deep-sub-types-len t c =
     let after-first-entry = c .before .before .before in
     let entry = after-first-entry .before .before .before .before in
     let a = entry .args in
@@ -343,19 +343,19 @@ type-len-sub-types-len t c =
     (c .before .before .type-head .ensures) (types.not-struct _ (c .enum-told3 .given .1)))
 
 -- src/types.rt:111:48
-type-len-part-types-len-start : (t : ℕ) → type-len-lts.Need-part-types-len-start (
+type-deep-part-types-len-start : (t : ℕ) → type-deep-lts.Need-part-types-len-start (
   first-entry-reads.Asked,
   first-entry-reads.Learnt,
   type-head-reads.Asked,
   type-head-reads.Learnt,
-  type-len-below t,
-  type-len.Post,
+  type-deep-below t,
+  type-deep.Post,
   then-len-reads.Asked,
   then-len-reads.Learnt,
   types-len-below t,
   types-len.Post,
-) (type-len-at t) type-len.Post
-type-len-part-types-len-start t c =
+) (type-deep-at t) type-deep.Post
+type-deep-part-types-len-start t c =
     let after-first-entry = c .before .before .before in
     let entry = after-first-entry .before .before .before .before in
     let a = entry .args in
@@ -364,34 +364,34 @@ type-len-part-types-len-start t c =
     (c .before .before .type-head .ensures) (types.not-struct _ (c .enum-told3 .given .1)))
 
 -- src/types.rt:111:48
-type-len-part-types-len-end : (t : ℕ) → type-len-lts.Need-part-types-len-end (
+type-deep-part-types-len-end : (t : ℕ) → type-deep-lts.Need-part-types-len-end (
   first-entry-reads.Asked,
   first-entry-reads.Learnt,
   type-head-reads.Asked,
   type-head-reads.Learnt,
-  type-len-below t,
-  type-len.Post,
+  type-deep-below t,
+  type-deep.Post,
   then-len-reads.Asked,
   then-len-reads.Learnt,
   types-len-below t,
   types-len.Post,
-) (type-len-at t) type-len.Post
-type-len-part-types-len-end t c = search needs
+) (type-deep-at t) type-deep.Post
+type-deep-part-types-len-end t c = search needs
 
 -- src/types.rt:111:61
-type-len-sub-types-len-2 : (t : ℕ) → type-len-lts.Need-sub-types-len-2 (
+type-deep-sub-types-len-2 : (t : ℕ) → type-deep-lts.Need-sub-types-len-2 (
   first-entry-reads.Asked,
   first-entry-reads.Learnt,
   type-head-reads.Asked,
   type-head-reads.Learnt,
-  type-len-below t,
-  type-len.Post,
+  type-deep-below t,
+  type-deep.Post,
   then-len-reads.Asked,
   then-len-reads.Learnt,
   types-len-below t,
   types-len.Post,
-) (type-len-at t) type-len.Post
-type-len-sub-types-len-2 t c =
+) (type-deep-at t) type-deep.Post
+type-deep-sub-types-len-2 t c =
     let after-type-head = c .before .before .before in
     let after-first-entry = after-type-head .before in
     let entry = after-first-entry .before .before .before .before in
@@ -401,19 +401,19 @@ type-len-sub-types-len-2 t c =
     (after-type-head .type-head .ensures) (types.not-struct _ (c .before .enum-told3 .given .1)))
 
 -- src/types.rt:111:61
-type-len-part-types-len-start-2 : (t : ℕ) → type-len-lts.Need-part-types-len-start-2 (
+type-deep-part-types-len-start-2 : (t : ℕ) → type-deep-lts.Need-part-types-len-start-2 (
   first-entry-reads.Asked,
   first-entry-reads.Learnt,
   type-head-reads.Asked,
   type-head-reads.Learnt,
-  type-len-below t,
-  type-len.Post,
+  type-deep-below t,
+  type-deep.Post,
   then-len-reads.Asked,
   then-len-reads.Learnt,
   types-len-below t,
   types-len.Post,
-) (type-len-at t) type-len.Post
-type-len-part-types-len-start-2 t c =
+) (type-deep-at t) type-deep.Post
+type-deep-part-types-len-start-2 t c =
     let after-type-head = c .before .before .before in
     let after-first-entry = after-type-head .before in
     let entry = after-first-entry .before .before .before .before in
@@ -423,64 +423,64 @@ type-len-part-types-len-start-2 t c =
     (after-type-head .type-head .ensures) (types.not-struct _ (c .before .enum-told3 .given .1)))
 
 -- src/types.rt:111:61
-type-len-part-types-len-end-2 : (t : ℕ) → type-len-lts.Need-part-types-len-end-2 (
+type-deep-part-types-len-end-2 : (t : ℕ) → type-deep-lts.Need-part-types-len-end-2 (
   first-entry-reads.Asked,
   first-entry-reads.Learnt,
   type-head-reads.Asked,
   type-head-reads.Learnt,
-  type-len-below t,
-  type-len.Post,
+  type-deep-below t,
+  type-deep.Post,
   then-len-reads.Asked,
   then-len-reads.Learnt,
   types-len-below t,
   types-len.Post,
-) (type-len-at t) type-len.Post
-type-len-part-types-len-end-2 t c = search needs
+) (type-deep-at t) type-deep.Post
+type-deep-part-types-len-end-2 t c = search needs
 
 -- src/types.rt:111:81
-type-len-sub-types-len-3 : (t : ℕ) → type-len-lts.Need-sub-types-len-3 (
+type-deep-sub-types-len-3 : (t : ℕ) → type-deep-lts.Need-sub-types-len-3 (
   first-entry-reads.Asked,
   first-entry-reads.Learnt,
   type-head-reads.Asked,
   type-head-reads.Learnt,
-  type-len-below t,
-  type-len.Post,
+  type-deep-below t,
+  type-deep.Post,
   then-len-reads.Asked,
   then-len-reads.Learnt,
   types-len-below t,
   types-len.Post,
-) (type-len-at t) type-len.Post
-type-len-sub-types-len-3 t c = search needs
+) (type-deep-at t) type-deep.Post
+type-deep-sub-types-len-3 t c = search needs
 
 -- src/types.rt:111:38
-type-len-types-len-requires : (t : ℕ) → type-len-lts.Need-types-len-requires (
+type-deep-types-len-requires : (t : ℕ) → type-deep-lts.Need-types-len-requires (
   first-entry-reads.Asked,
   first-entry-reads.Learnt,
   type-head-reads.Asked,
   type-head-reads.Learnt,
-  type-len-below t,
-  type-len.Post,
+  type-deep-below t,
+  type-deep.Post,
   then-len-reads.Asked,
   then-len-reads.Learnt,
   types-len-below t,
   types-len.Post,
-) (type-len-at t) type-len.Post
-type-len-types-len-requires t c κs = search needs
+) (type-deep-at t) type-deep.Post
+type-deep-types-len-requires t c κs = search needs
 
 -- src/types.rt:111:29
-type-len-then-len-requires-2 : (t : ℕ) → type-len-lts.Need-then-len-requires-2 (
+type-deep-then-len-requires-2 : (t : ℕ) → type-deep-lts.Need-then-len-requires-2 (
   first-entry-reads.Asked,
   first-entry-reads.Learnt,
   type-head-reads.Asked,
   type-head-reads.Learnt,
-  type-len-below t,
-  type-len.Post,
+  type-deep-below t,
+  type-deep.Post,
   then-len-reads.Asked,
   then-len-reads.Learnt,
   types-len-below t,
   types-len.Post,
-) (type-len-at t) type-len.Post
-type-len-then-len-requires-2 t c κs =
+) (type-deep-at t) type-deep.Post
+type-deep-then-len-requires-2 t c κs =
     let after-enum-told3 = c .before .before .before in
     let after-type-head = after-enum-told3 .before .before in
     let after-first-entry = after-type-head .before in
@@ -492,34 +492,34 @@ type-len-then-len-requires-2 t c κs =
     (after-type-head .type-head .ensures) (types.not-struct _ (after-enum-told3 .enum-told3 .given .1)))) (c .types-len .ensures)
 
 -- src/types.rt:112:26
-type-len-enum-told-4 : (t : ℕ) → type-len-lts.Need-enum-told-4 (
+type-deep-enum-told-4 : (t : ℕ) → type-deep-lts.Need-enum-told-4 (
   first-entry-reads.Asked,
   first-entry-reads.Learnt,
   type-head-reads.Asked,
   type-head-reads.Learnt,
-  type-len-below t,
-  type-len.Post,
+  type-deep-below t,
+  type-deep.Post,
   then-len-reads.Asked,
   then-len-reads.Learnt,
   types-len-below t,
   types-len.Post,
-) (type-len-at t) type-len.Post
-type-len-enum-told-4 t c = search needs
+) (type-deep-at t) type-deep.Post
+type-deep-enum-told-4 t c = search needs
 
 -- src/types.rt:102:1
-type-len-returns-2 : (t : ℕ) → type-len-lts.Need-returns-2 (
+type-deep-returns-2 : (t : ℕ) → type-deep-lts.Need-returns-2 (
   first-entry-reads.Asked,
   first-entry-reads.Learnt,
   type-head-reads.Asked,
   type-head-reads.Learnt,
-  type-len-below t,
-  type-len.Post,
+  type-deep-below t,
+  type-deep.Post,
   then-len-reads.Asked,
   then-len-reads.Learnt,
   types-len-below t,
   types-len.Post,
-) (type-len-at t) type-len.Post
-type-len-returns-2 t c =
+) (type-deep-at t) type-deep.Post
+type-deep-returns-2 t c =
     let after-first-entry = c .before .before .before in
     let else1 = after-first-entry .before in
     let entry = else1 .before .before .before in
@@ -528,19 +528,19 @@ type-len-returns-2 t c =
     (c .before .before .type-head .ensures) (else1 .if1 .left) (c .enum-told .given .1)
 
 -- src/types.rt:102:1
-type-len-returns-3 : (t : ℕ) → type-len-lts.Need-returns-3 (
+type-deep-returns-3 : (t : ℕ) → type-deep-lts.Need-returns-3 (
   first-entry-reads.Asked,
   first-entry-reads.Learnt,
   type-head-reads.Asked,
   type-head-reads.Learnt,
-  type-len-below t,
-  type-len.Post,
+  type-deep-below t,
+  type-deep.Post,
   then-len-reads.Asked,
   then-len-reads.Learnt,
   types-len-below t,
   types-len.Post,
-) (type-len-at t) type-len.Post
-type-len-returns-3 t c =
+) (type-deep-at t) type-deep.Post
+type-deep-returns-3 t c =
     let after-enum-told2 = c .before .before .before .before in
     let after-type-head = after-enum-told2 .before .before in
     let after-first-entry = after-type-head .before in
@@ -548,23 +548,23 @@ type-len-returns-3 t c =
     let entry = else1 .before .before .before in
     let a = entry .args in
     types.array-arm (a .names) (a .level) (a .kinds .now) (a .words .now) _ _ (after-first-entry .first-entry .ensures)
-    (after-type-head .type-head .ensures) (else1 .if1 .left) (after-enum-told2 .enum-told2 .given .1) _ _ (c .before .type-len .ensures)
+    (after-type-head .type-head .ensures) (else1 .if1 .left) (after-enum-told2 .enum-told2 .given .1) _ _ (c .before .type-deep .ensures)
     (c .then-len .ensures)
 
 -- src/types.rt:102:1
-type-len-returns-4 : (t : ℕ) → type-len-lts.Need-returns-4 (
+type-deep-returns-4 : (t : ℕ) → type-deep-lts.Need-returns-4 (
   first-entry-reads.Asked,
   first-entry-reads.Learnt,
   type-head-reads.Asked,
   type-head-reads.Learnt,
-  type-len-below t,
-  type-len.Post,
+  type-deep-below t,
+  type-deep.Post,
   then-len-reads.Asked,
   then-len-reads.Learnt,
   types-len-below t,
   types-len.Post,
-) (type-len-at t) type-len.Post
-type-len-returns-4 t c =
+) (type-deep-at t) type-deep.Post
+type-deep-returns-4 t c =
     let after-enum-told3 = c .before .before .before .before in
     let after-type-head = after-enum-told3 .before .before in
     let after-first-entry = after-type-head .before in
@@ -576,19 +576,19 @@ type-len-returns-4 t c =
     (c .then-len2 .ensures)
 
 -- src/types.rt:102:1
-type-len-returns-5 : (t : ℕ) → type-len-lts.Need-returns-5 (
+type-deep-returns-5 : (t : ℕ) → type-deep-lts.Need-returns-5 (
   first-entry-reads.Asked,
   first-entry-reads.Learnt,
   type-head-reads.Asked,
   type-head-reads.Learnt,
-  type-len-below t,
-  type-len.Post,
+  type-deep-below t,
+  type-deep.Post,
   then-len-reads.Asked,
   then-len-reads.Learnt,
   types-len-below t,
   types-len.Post,
-) (type-len-at t) type-len.Post
-type-len-returns-5 t c =
+) (type-deep-at t) type-deep.Post
+type-deep-returns-5 t c =
     let after-first-entry = c .before .before .before in
     let else1 = after-first-entry .before in
     let entry = else1 .before .before .before in
@@ -602,8 +602,8 @@ type-step-first-entry-requires : (t : ℕ) → type-step-lts.Need-first-entry-re
   first-entry-reads.Learnt,
   list-head-reads.Asked,
   list-head-reads.Learnt,
-  type-len-below t,
-  type-len.Post,
+  type-deep-below t,
+  type-deep.Post,
   next-step-reads.Asked,
   next-step-reads.Learnt,
 ) (type-step-at t) type-step.Post
@@ -615,8 +615,8 @@ type-step-list-head-requires : (t : ℕ) → type-step-lts.Need-list-head-requir
   first-entry-reads.Learnt,
   list-head-reads.Asked,
   list-head-reads.Learnt,
-  type-len-below t,
-  type-len.Post,
+  type-deep-below t,
+  type-deep.Post,
   next-step-reads.Asked,
   next-step-reads.Learnt,
 ) (type-step-at t) type-step.Post
@@ -628,8 +628,8 @@ type-step-enum-told : (t : ℕ) → type-step-lts.Need-enum-told (
   first-entry-reads.Learnt,
   list-head-reads.Asked,
   list-head-reads.Learnt,
-  type-len-below t,
-  type-len.Post,
+  type-deep-below t,
+  type-deep.Post,
   next-step-reads.Asked,
   next-step-reads.Learnt,
 ) (type-step-at t) type-step.Post
@@ -641,25 +641,25 @@ type-step-enum-told-2 : (t : ℕ) → type-step-lts.Need-enum-told-2 (
   first-entry-reads.Learnt,
   list-head-reads.Asked,
   list-head-reads.Learnt,
-  type-len-below t,
-  type-len.Post,
+  type-deep-below t,
+  type-deep.Post,
   next-step-reads.Asked,
   next-step-reads.Learnt,
 ) (type-step-at t) type-step.Post
 type-step-enum-told-2 t c = search needs
 
 -- src/types.rt:122:37
-type-step-type-len-requires : (t : ℕ) → type-step-lts.Need-type-len-requires (
+type-step-type-deep-requires : (t : ℕ) → type-step-lts.Need-type-deep-requires (
   first-entry-reads.Asked,
   first-entry-reads.Learnt,
   list-head-reads.Asked,
   list-head-reads.Learnt,
-  type-len-below t,
-  type-len.Post,
+  type-deep-below t,
+  type-deep.Post,
   next-step-reads.Asked,
   next-step-reads.Learnt,
 ) (type-step-at t) type-step.Post
-type-step-type-len-requires t c κs = search needs
+type-step-type-deep-requires t c κs = search needs
 
 -- src/types.rt:122:27
 type-step-next-step-requires : (t : ℕ) → type-step-lts.Need-next-step-requires (
@@ -667,8 +667,8 @@ type-step-next-step-requires : (t : ℕ) → type-step-lts.Need-next-step-requir
   first-entry-reads.Learnt,
   list-head-reads.Asked,
   list-head-reads.Learnt,
-  type-len-below t,
-  type-len.Post,
+  type-deep-below t,
+  type-deep.Post,
   next-step-reads.Asked,
   next-step-reads.Learnt,
 ) (type-step-at t) type-step.Post
@@ -680,8 +680,8 @@ type-step-enum-told-3 : (t : ℕ) → type-step-lts.Need-enum-told-3 (
   first-entry-reads.Learnt,
   list-head-reads.Asked,
   list-head-reads.Learnt,
-  type-len-below t,
-  type-len.Post,
+  type-deep-below t,
+  type-deep.Post,
   next-step-reads.Asked,
   next-step-reads.Learnt,
 ) (type-step-at t) type-step.Post
@@ -693,8 +693,8 @@ type-step-returns : (t : ℕ) → type-step-lts.Need-returns (
   first-entry-reads.Learnt,
   list-head-reads.Asked,
   list-head-reads.Learnt,
-  type-len-below t,
-  type-len.Post,
+  type-deep-below t,
+  type-deep.Post,
   next-step-reads.Asked,
   next-step-reads.Learnt,
 ) (type-step-at t) type-step.Post
@@ -711,8 +711,8 @@ type-step-returns-2 : (t : ℕ) → type-step-lts.Need-returns-2 (
   first-entry-reads.Learnt,
   list-head-reads.Asked,
   list-head-reads.Learnt,
-  type-len-below t,
-  type-len.Post,
+  type-deep-below t,
+  type-deep.Post,
   next-step-reads.Asked,
   next-step-reads.Learnt,
 ) (type-step-at t) type-step.Post
@@ -722,7 +722,7 @@ type-step-returns-2 t c =
     let entry = after-first-entry .before .before .before in
     let a = entry .args in
     types.item-arm (typeTo (a .names) (a .level)) (a .kinds .now) (a .words .now) _ _ (after-first-entry .first-entry .ensures)
-    (after-list-head .list-head .ensures) (c .before .before .enum-told2 .given .1) _ _ (c .before .type-len .ensures) (c .next-step .ensures)
+    (after-list-head .list-head .ensures) (c .before .before .enum-told2 .given .1) _ _ (c .before .type-deep .ensures) (c .next-step .ensures)
 
 -- src/types.rt:117:1
 type-step-returns-3 : (t : ℕ) → type-step-lts.Need-returns-3 (
@@ -730,8 +730,8 @@ type-step-returns-3 : (t : ℕ) → type-step-lts.Need-returns-3 (
   first-entry-reads.Learnt,
   list-head-reads.Asked,
   list-head-reads.Learnt,
-  type-len-below t,
-  type-len.Post,
+  type-deep-below t,
+  type-deep.Post,
   next-step-reads.Asked,
   next-step-reads.Learnt,
 ) (type-step-at t) type-step.Post
@@ -996,58 +996,58 @@ types-len-loop-again t c =
     (a .words .now) _ _ (at-loop .loop .inv) _ (after-type-step .type-step .ensures) (agrees-typeTo _ _) agrees-closing _
     (c .before .before .n2 .given .1) (c .if1 .left)
 
-pub +type-len+type-step+types-len-spec : {M : Type 1} → statement M
-+type-len+type-step+types-len-spec =
-    close μ-type-len μ-type-step μ-types-len (λ t. type-len-lts.spec (
+pub +type-deep+type-step+types-len-spec : {M : Type 1} → statement M
++type-deep+type-step+types-len-spec =
+    close μ-type-deep μ-type-step μ-types-len (λ t. type-deep-lts.spec (
       first-entry-reads.Asked,
       first-entry-reads.Learnt,
       type-head-reads.Asked,
       type-head-reads.Learnt,
-      type-len-below t,
-      type-len.Post,
+      type-deep-below t,
+      type-deep.Post,
       then-len-reads.Asked,
       then-len-reads.Learnt,
       types-len-below t,
       types-len.Post,
     )
-    (type-len-at t)
-    type-len.Post
-    (type-len-returns t)
-    (type-len-first-entry-requires t)
-    (type-len-type-head-requires t)
-    (type-len-enum-told t)
-    (type-len-enum-told-2 t)
-    (type-len-sub-type-len t)
-    (type-len-part-type-len-start t)
-    (type-len-part-type-len-end t)
-    (type-len-sub-type-len-2 t)
-    (type-len-part-type-len-start-2 t)
-    (type-len-part-type-len-end-2 t)
-    (type-len-sub-type-len-3 t)
-    (type-len-type-len-requires t)
-    (type-len-then-len-requires t)
-    (type-len-enum-told-3 t)
-    (type-len-sub-types-len t)
-    (type-len-part-types-len-start t)
-    (type-len-part-types-len-end t)
-    (type-len-sub-types-len-2 t)
-    (type-len-part-types-len-start-2 t)
-    (type-len-part-types-len-end-2 t)
-    (type-len-sub-types-len-3 t)
-    (type-len-types-len-requires t)
-    (type-len-then-len-requires-2 t)
-    (type-len-enum-told-4 t)
-    (type-len-returns-2 t)
-    (type-len-returns-3 t)
-    (type-len-returns-4 t)
-    (type-len-returns-5 t))
+    (type-deep-at t)
+    type-deep.Post
+    (type-deep-returns t)
+    (type-deep-first-entry-requires t)
+    (type-deep-type-head-requires t)
+    (type-deep-enum-told t)
+    (type-deep-enum-told-2 t)
+    (type-deep-sub-type-deep t)
+    (type-deep-part-type-deep-start t)
+    (type-deep-part-type-deep-end t)
+    (type-deep-sub-type-deep-2 t)
+    (type-deep-part-type-deep-start-2 t)
+    (type-deep-part-type-deep-end-2 t)
+    (type-deep-sub-type-deep-3 t)
+    (type-deep-type-deep-requires t)
+    (type-deep-then-len-requires t)
+    (type-deep-enum-told-3 t)
+    (type-deep-sub-types-len t)
+    (type-deep-part-types-len-start t)
+    (type-deep-part-types-len-end t)
+    (type-deep-sub-types-len-2 t)
+    (type-deep-part-types-len-start-2 t)
+    (type-deep-part-types-len-end-2 t)
+    (type-deep-sub-types-len-3 t)
+    (type-deep-types-len-requires t)
+    (type-deep-then-len-requires-2 t)
+    (type-deep-enum-told-4 t)
+    (type-deep-returns-2 t)
+    (type-deep-returns-3 t)
+    (type-deep-returns-4 t)
+    (type-deep-returns-5 t))
     (λ t. type-step-lts.spec (
       first-entry-reads.Asked,
       first-entry-reads.Learnt,
       list-head-reads.Asked,
       list-head-reads.Learnt,
-      type-len-below t,
-      type-len.Post,
+      type-deep-below t,
+      type-deep.Post,
       next-step-reads.Asked,
       next-step-reads.Learnt,
     )
@@ -1057,7 +1057,7 @@ pub +type-len+type-step+types-len-spec : {M : Type 1} → statement M
     (type-step-list-head-requires t)
     (type-step-enum-told t)
     (type-step-enum-told-2 t)
-    (type-step-type-len-requires t)
+    (type-step-type-deep-requires t)
     (type-step-next-step-requires t)
     (type-step-enum-told-3 t)
     (type-step-returns t)

@@ -1,0 +1,147 @@
+-- What the pass over marks and named structs finds, by the definition; and that maps of fewer words find the same, where they have a bit
+-- for each name.
+use Prim.Native.Nat.{ℕ, _*_, _≤_, _<_}
+use mathlib.Core.Path.{_≡_, refl, ap, sym, _∙_, fun-ext}
+use mathlib.Core.Bool.{Bool, true, false, _&&_, _||_}
+use mathlib.Core.Option.{Option, none, some}
+use mathlib.Core.List.{List, [], _∷_, map}
+use native.Mathlib.Omega.{arith}
+use borrow.Author.Tests.{eqb-true, eqb-false, eq-eqb, ne-eqb}
+use lib.ListN.{length, replicate, length-replicate}
+use lib.Dec.{eqb}
+use Rattle.numbers.specs.Bits.{bitAt, setBitAt, length-set-bit, bit-none}
+use Rattle.book.specs.Entry.{Entry}
+use Rattle.book.specs.Ast.{Mark, StructType, Function, Book}
+use Rattle.book.specs.Rule.{pick, when}
+use Rattle.book.specs.Read.{Read, got, bad, mapped, andThen}
+use Rattle.book.specs.Decode.{parts, structsAndFunction, member, distinct, markName, bookOf, onceEach}
+use Rattle.book.specs.Limits.{Each, StructLimits}
+use Rattle.book.specs.Forbidden.{reservedBy, forbiddenFunction}
+use Rattle.book.specs.AgreeBook.{PartsLimits, agrees-structs, agrees-book}
+use Rattle.book_marks.specs.Range.{markedRange, length-range, bit-range}
+use Rattle.book_marks.specs.Once.{isNew, allNew, AllBelow, new-distinct, bit-set}
+use Rattle.book_parts.specs.Reading.{goes, answered, folded, structTaken, namedFound, nowBarred, markedBy, structsEnded, marksFound}
+
+-- structs are taken exactly where their names are new, one after the other
+structs-taken : (named : List ℕ) (x : Bool) (ss : List StructType)
+    → goes (folded structTaken named ss) (λ t. some x) ≡ when (allNew named (map (λ s. s .name) ss)) x
+unfolding folded allNew
+structs-taken named x [] = refl
+structs-taken named x (s ∷ ss) = go (isNew named (s .name)) (structs-taken (setBitAt named (s .name)) x ss)
+  where
+    go : (b : Bool) → goes (folded structTaken (setBitAt named (s .name)) ss) (λ t. some x) ≡ when (allNew (setBitAt named (s .name)) (map (λ s. s .name) ss)) x
+        → goes (goes (when b (setBitAt named (s .name))) (λ t. folded structTaken t ss)) (λ t. some x) ≡ when (b && allNew (setBitAt named (s .name)) (map (λ s. s .name) ss)) x
+    go true ih = ih
+    go false ih = refl
+
+-- the names that may not be called, with the reserved ones
+withReserved : List ℕ → List Mark → List ℕ
+withReserved barred [] = barred
+withReserved barred (k ∷ ms) = withReserved (nowBarred k barred) ms
+
+marks-taken : (marked barred : List ℕ) (rest : List ℕ → Option Bool) (ms : List Mark)
+    → goes (folded markedBy (marked, barred) ms) (λ t. rest (t .1)) ≡ pick (allNew marked (map markName ms)) (rest (withReserved barred ms)) none
+unfolding folded allNew withReserved
+marks-taken marked barred rest [] = refl
+marks-taken marked barred rest (k ∷ ms) = go (isNew marked (markName k)) (marks-taken (setBitAt marked (markName k)) (nowBarred k barred) rest ms)
+  where
+    go : (b : Bool)
+        → goes (folded markedBy (setBitAt marked (markName k), nowBarred k barred) ms) (λ t. rest (t .1)) ≡ pick (allNew (setBitAt marked (markName k)) (map markName ms)) (rest (withReserved (nowBarred k barred) ms)) none
+        → goes (goes (when b (setBitAt marked (markName k), nowBarred k barred)) (λ t. folded markedBy t ms)) (λ t. rest (t .1))
+        ≡ pick (b && allNew (setBitAt marked (markName k)) (map markName ms)) (rest (withReserved (nowBarred k barred) ms)) none
+    go true ih = ih
+    go false ih = refl
+
+-- their bits
+same : (a b : ℕ) → eqb a b ≡ eqb b a
+same a b = by (eqb a b) refl
+  where
+    by : (t : Bool) → eqb a b ≡ t → t ≡ eqb b a
+    by true e = sym (eq-eqb b a (sym (eqb-true a b e)))
+    by false e = sym (ne-eqb b a (λ z. eqb-false a b e (sym z)))
+
+or-swap : (a b c : Bool) → (a || (b || c)) ≡ ((b || a) || c)
+or-swap true true c = refl
+or-swap true false c = refl
+or-swap false true c = refl
+or-swap false false c = refl
+
+reserved-bits : (n : ℕ) (barred : List ℕ) (ms : List Mark) → length barred ≡ n → AllBelow n (map markName ms) → (x : ℕ) → bitAt (withReserved barred ms) x ≡ (member x (reservedBy ms) || bitAt barred x)
+unfolding withReserved reservedBy member
+reserved-bits n barred [] e h x = refl
+reserved-bits n barred (Mark.defined y ∷ ms) e h x = reserved-bits n barred ms e (h .1) x
+reserved-bits n barred (Mark.reserved y ∷ ms) e h x =
+    reserved-bits n (setBitAt barred y) ms (length-set-bit barred y ∙ e) (h .1) x
+    ∙ rw (bit-set barred y x (rw e (h .0)), same y x) (or-swap (member x (reservedBy ms)) (eqb x y) (bitAt barred x))
+
+module _ (m words : ℕ) (few : m ≤ 64 * words) where
+  marks-below : (ms : List Mark) → Each (λ k. markName k < m) ms → AllBelow words (map markName ms)
+  marks-below [] k = tt
+  marks-below (x ∷ ms) k = (omega (arith, k .0), marks-below ms (k .1))
+
+  structs-below : (ss : List StructType) → Each (StructLimits m) ss → AllBelow words (map (λ s. s .name) ss)
+  structs-below [] k = tt
+  structs-below (s ∷ ss) k = (omega (arith, k .0 .0), structs-below ss (k .1))
+
+  -- structs are taken exactly where each name is there once
+  structs-once : (ss : List StructType) (x : Bool) → Each (StructLimits m) ss
+      → goes (folded structTaken (replicate words 0) ss) (λ t. some x) ≡ when (distinct (map (λ s. s .name) ss)) x
+  structs-once ss x k = structs-taken (replicate words 0) x ss ∙ rw (new-distinct words (map (λ s. s .name) ss) (structs-below ss k))
+
+-- the names that may not be called
+abbrev pub barredBy : (ℕ → Bool) → List Mark → ℕ → Bool
+barredBy barred ms x = member x (reservedBy ms) || barred x
+
+-- a book's marks and structs are taken exactly where each name is there once
+pub parts-answer : (m words : ℕ) → m ≤ 64 * words → m ≤ 131072 → (barred : List ℕ) → length barred ≡ words → (b : Book) (n : ℕ) → PartsLimits m b
+    → marksFound (replicate words 0) barred (got (b .marks, (b .structs, b .function)) n) ≡ answered n (when (onceEach b) (forbiddenFunction (barredBy (bitAt barred) (b .marks)) (b .function)))
+unfolding onceEach
+parts-answer m words fits few barred e b n k =
+    let below = marks-below m words fits (b .marks) (k .0) in
+    let marksOnce = distinct (map markName (b .marks)) in
+    let structsOnce = distinct (map (λ s. s .name) (b .structs)) in
+    let found = forbiddenFunction (bitAt (withReserved barred (b .marks))) (b .function) in
+    ap (answered n)
+    (marks-taken (replicate words 0) barred (λ r. structsEnded (replicate words 0, r) (b .structs, b .function)) (b .marks)
+    ∙ rw (structs-once m 2048 (omega arith) (b .structs) found (k .1 .0), new-distinct words (map markName (b .marks)) below)
+    (go marksOnce structsOnce found)
+    ∙ ap (λ t. when (marksOnce && structsOnce) (forbiddenFunction t (b .function))) (fun-ext λ x. reserved-bits words barred (b .marks) e below x))
+  where
+    go : (p q x : Bool) → pick p (when q x) none ≡ when (p && q) x
+    go true q x = refl
+    go false q x = refl
+
+-- ---- maps of fewer words
+module _ (m : ℕ) (few : m ≤ 2048) (es : List Entry) where
+  pub structs-few : (barred : List ℕ) → namedFound barred (replicate 32 0) (structsAndFunction m es) ≡ namedFound barred (replicate 2048 0) (structsAndFunction m es)
+  structs-few barred = go (structsAndFunction m es) refl
+    where
+      go : (r : Read (List StructType × Function)) → structsAndFunction m es ≡ r → namedFound barred (replicate 32 0) r ≡ namedFound barred (replicate 2048 0) r
+      go (got p n) e =
+          let k = agrees-structs m .sound es p n e .keeps in
+          let x = forbiddenFunction (bitAt barred) (p .1) in
+          ap (answered n) (structs-once m 32 (omega arith) (p .0) x (k .0) ∙ sym (structs-once m 2048 (omega arith) (p .0) x (k .0)))
+      go bad e = refl
+
+  module _ (from to : ℕ) (short : to ≤ 2048) where
+    -- the same names are marked
+    range-few : (x : ℕ) → bitAt (markedRange (replicate 32 0) from to) x ≡ bitAt (markedRange (replicate 2048 0) from to) x
+    range-few x =
+        bit-range (replicate 32 0) from to (omega (arith, length-replicate {A = ℕ} 32 0)) x
+        ∙ rw (bit-none 32 x, ← bit-none 2048 x) (sym (bit-range (replicate 2048 0) from to (omega (arith, length-replicate {A = ℕ} 2048 0)) x))
+
+    pub parts-few : marksFound (replicate 32 0) (markedRange (replicate 32 0) from to) (parts m es) ≡ marksFound (replicate 2048 0) (markedRange (replicate 2048 0) from to) (parts m es)
+    unfolding mapped
+    parts-few = go (parts m es) refl
+      where
+        sized : (words : ℕ) → length (markedRange (replicate words 0) from to) ≡ words
+        sized words = length-range (replicate words 0) from to ∙ length-replicate {A = ℕ} words 0
+
+        go : (r : Read (List Mark × (List StructType × Function))) → parts m es ≡ r
+            → marksFound (replicate 32 0) (markedRange (replicate 32 0) from to) r ≡ marksFound (replicate 2048 0) (markedRange (replicate 2048 0) from to) r
+        go (got p n) e =
+            let k = agrees-book m .sound es (bookOf p) n (ap (λ r. andThen r (λ a n. got (bookOf a) n)) e) .keeps in
+            parts-answer m 32 (omega arith) (omega arith) (markedRange (replicate 32 0) from to) (sized 32) (bookOf p) n k
+            ∙ ap (λ t. answered n (when (onceEach (bookOf p)) (forbiddenFunction (barredBy t (p .0)) (p .1 .1)))) (fun-ext range-few)
+            ∙ sym (parts-answer m 2048 (omega arith) (omega arith) (markedRange (replicate 2048 0) from to) (sized 2048) (bookOf p) n k)
+        go bad e = refl
