@@ -2,8 +2,6 @@
 use borrow.Author.Tests.{ne-eqb}
 use Rattle.gen_edge.proofs.noted_first.Statement.{statement}
 use Rattle.gen_edge.proofs.noted_first.Tie as tie
-use Rattle.gen_edge.proofs.noted_first.Reads as reads
-use Rattle.gen_edge.proofs.noted_first.Lts as lts
 
 returns : tie.Need-returns
 returns c = rw (ne-eqb _ 0 (c .if1 .taken))

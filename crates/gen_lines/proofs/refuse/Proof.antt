@@ -1,5 +1,4 @@
 -- `gen_lines::refuse` meets its contract.
-use borrow.Author.Needs.{needs}
 use borrow.Author.Tests.{ne-eqb}
 use Rattle.gen_lines.proofs.refuse.Statement.{statement}
 use Rattle.gen_lines.proofs.refuse.Tie as tie
