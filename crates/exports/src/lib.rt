@@ -1,7 +1,7 @@
 // The boundary for C and Rust: each function lends its slices on and gives document 01's numbers.
 use book_check::Verdict;
-use print::passes::Printed;
 use gen_passes::Translation;
+use print::passes::Printed;
 ghost use mathlib.Core.Path.{_≡_};
 ghost use Rattle.book.specs.Check.{checked, refusalOf};
 ghost use Rattle.book_check.specs.Verdict.{numberOf};

@@ -1,21 +1,22 @@
 -- A pass that counts and one that writes: together they answer as the definition does.
 use Prim.Native.Nat.{ℕ, _+_, _<_, _≤_, _%_, _^_, min}
 use mathlib.Core.Path.{_≡_, refl, sym, ap, subst, _∙_}
-use mathlib.Core.Bool.{Bool, true, false}
+use mathlib.Core.Bool.{Bool, true, false, not}
 use mathlib.Core.List.{List, _++_, map}
 use native.Mathlib.Omega.{arith}
 use native.Mathlib.Nat.{mod-eq-of-lt}
-use lib.ListN.{length, drop}
+use lib.ListN.{length, take, drop}
 use lib.Seq.{sets, sets-eq}
 use lib.Dec.{leb}
-use borrow.Author.Tests.{le-leb, lt-leb}
+use borrow.Author.Tests.{eq-eqb, ne-eqb, le-leb, lt-leb}
 use Rattle.book.specs.Result.{Result, ok, err, bind, given}
 use Rattle.assembly.specs.Line.{Line}
 use Rattle.assembly.specs.Number.{kindOf}
 use Rattle.lowering.specs.Gen.{Gen, Out}
+use Rattle.lowering.specs.Printable.{take-over}
 use Rattle.lowering.specs.Translate.{over}
 use Rattle.gen_lines.specs.declared.Reached.{Reached}
-use Rattle.gen_lines.specs.Puts.{Puts, Able, After, Wrote, Barred, most, operandWord, map-length}
+use Rattle.gen_lines.specs.Puts.{Puts, Able, After, isRefused, most, operandWord, map-length}
 use Rattle.gen_passes.specs.declared.Translation.{Translation}
 use Rattle.gen_passes.specs.declared.Translation.the-variants.{Accepted, Refused}
 
@@ -45,7 +46,7 @@ room ks os = min (length ks) (length os)
 
 -- where both passes begin
 abbrev pub start : ℕ → Reached
-start counter = record { at = 0; counter = counter; refused = false }
+start counter = record { at = 0; counter = counter; refused = 0 }
 
 pub start-able : (counter : ℕ) (ks os : List ℕ) → counter < 2 ^ 64 → length ks ≤ most → length os ≤ most → Able (start counter) ks os counter
 start-able counter ks os small few-ks few-os =
@@ -71,26 +72,52 @@ pass-after : {g : Gen} {counter : ℕ} {t : Reached} {ks os ks′ os′ : List �
 pass-after {g} {counter} {t} {ks} {os} p = p .puts .goes counter (start-able counter ks os (p .small) (omega (arith, p .few-kinds)) (omega (arith, p .few-operands)))
 
 module _ (g : Gen) (counter : ℕ) {t : Reached} {ks₀ os₀ ks₁ os₁ : List ℕ} (counting : Pass g counter t ks₀ os₀ ks₁ os₁) (ks os : List ℕ) (few : length ks < most) where
+  going : t .refused ≡ 0 → isRefused t ≡ false
+  going e = ap not (eq-eqb (t .refused) 0 e)
+
   -- the count found a refusal
-  pub pass-refused : t .refused ≡ true → Answered (fitted (g counter) (room ks os)) (Refused (t .counter)) ks os ks os
+  pub pass-refused : (t .refused ≡ 0 → ⊥) → Answered (fitted (g counter) (room ks os)) (Refused (t .counter)) ks os ks os
   unfolding bind
   pass-refused e = go (g counter) (pass-after counting)
     where
       go : (r : Result Out) → After r 0 t ks₀ os₀ ks₁ os₁ → Answered (fitted r (room ks os)) (Refused (t .counter)) ks os ks os
-      go (ok out) w = never e (w .going)
+      go (ok out) w = never (ap not (ne-eqb (t .refused) 0 e)) (w .going)
       go (err n) b = record { reply = ap Refused (b .number); kinds = refl; operands = refl }
 
   -- the lines do not fit
-  pub pass-short : t .refused ≡ false → room ks os < t .at → Answered (fitted (g counter) (room ks os)) (Refused 20) ks os ks os
+  pub pass-short : t .refused ≡ 0 → room ks os < t .at → Answered (fitted (g counter) (room ks os)) (Refused 20) ks os ks os
   unfolding bind given
   pass-short e l = go (g counter) (pass-after counting)
     where
       go : (r : Result Out) → After r 0 t ks₀ os₀ ks₁ os₁ → Answered (fitted r (room ks os)) (Refused 20) ks os ks os
       go (ok out) w = rw (lt-leb (length (out .lines)) (room ks os) (omega (arith, w .place))) (record { reply = refl; kinds = refl; operands = refl })
-      go (err n) b = never (b .refused) e
+      go (err n) b = never (b .refused) (going e)
 
-  -- they do, and are written
-  pub pass-written : t .refused ≡ false → t .at ≤ room ks os → {u : Reached} {ks′ os′ : List ℕ} → Pass g counter u ks os ks′ os′
+  -- they do, and are copied
+  pub pass-copied : t .refused ≡ 0 → t .at ≤ room ks os → t .at ≤ length ks₀ → length ks₀ ≡ length os₀
+      → (ks′ os′ : List ℕ) → ks′ ≡ over (take (t .at) ks₁) ks → os′ ≡ over (take (t .at) os₁) os → Answered (fitted (g counter) (room ks os)) (Accepted (t .at) (t .counter)) ks os ks′ os′
+  unfolding bind given
+  pass-copied e l own even ks′ os′ ek eo = go (g counter) (pass-after counting)
+    where
+      go : (r : Result Out) → After r 0 t ks₀ os₀ ks₁ os₁ → Answered (fitted r (room ks os)) (Accepted (t .at) (t .counter)) ks os ks′ os′
+      go (ok out) w =
+          let n : t .at ≡ length (out .lines) = omega (arith, w .place) in
+          let k : take (t .at) ks₁ ≡ map kindOf (out .lines) =
+          ap (take (t .at)) (w .kinds ∙ sets-over ks₀ (map kindOf (out .lines)) (omega (arith, map-length kindOf (out .lines))))
+          ∙ ap (λ (j : ℕ). take j (over (map kindOf (out .lines)) ks₀)) n ∙ take-over kindOf (out .lines) ks₀ in
+          let o : take (t .at) os₁ ≡ map operandWord (out .lines) =
+          ap (take (t .at)) (w .operands ∙ sets-over os₀ (map operandWord (out .lines)) (omega (arith, map-length operandWord (out .lines))))
+          ∙ ap (λ (j : ℕ). take j (over (map operandWord (out .lines)) os₀)) n ∙ take-over operandWord (out .lines) os₀ in
+          rw (le-leb (length (out .lines)) (room ks os) (omega arith))
+          (record {
+            reply = ap (λ x. Accepted x (t .counter)) n ∙ ap (Accepted (length (out .lines))) (w .next);
+            kinds = ek ∙ ap (λ (x : List ℕ). over x ks) k;
+            operands = eo ∙ ap (λ (x : List ℕ). over x os) o;
+          })
+      go (err x) b = never (b .refused) (going e)
+
+  -- they do, and are made again
+  pub pass-written : t .refused ≡ 0 → t .at ≤ room ks os → {u : Reached} {ks′ os′ : List ℕ} → Pass g counter u ks os ks′ os′
       → Answered (fitted (g counter) (room ks os)) (Accepted (t .at) (t .counter)) ks os ks′ os′
   unfolding bind given
   pass-written e l {u} {ks′} {os′} writing = go (g counter) (pass-after counting) (pass-after writing)
@@ -104,4 +131,4 @@ module _ (g : Gen) (counter : ℕ) {t : Reached} {ks₀ os₀ ks₁ os₁ : List
             kinds = v .kinds ∙ sets-over ks (map kindOf (out .lines)) (omega (arith, map-length kindOf (out .lines)));
             operands = v .operands ∙ sets-over os (map operandWord (out .lines)) (omega (arith, map-length operandWord (out .lines)));
           })
-      go (err x) b v = never (b .refused) e
+      go (err x) b v = never (b .refused) (going e)

@@ -1,6 +1,6 @@
 // Reads a book and its names from standard input, and writes the text of its lines at counter 0, or the refusal's number.
-use print::passes::Printed;
 use gen_passes::Translation;
+use print::passes::Printed;
 use translate::translate;
 ghost use mathlib.Core.Path.{_≡_};
 ghost use Prim.Native.Nat.{_≤_, _<_, _*_};

@@ -3,8 +3,8 @@
 //
 // A line is numbers with a space between, a repeated one as TIMES*NUMBER: those below, and then the book, the bytes of its names, the kinds of
 // the lines, their operands, and the bytes of the text.
-use print::passes::Printed;
 use gen_passes::Translation;
+use print::passes::Printed;
 use translate::translate;
 ghost use Prim.Native.Nat.{_≤_};
 ghost use mathlib.Core.Path.{_≡_};
