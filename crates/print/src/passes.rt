@@ -3,6 +3,8 @@ use print_forms::check_lines;
 use print_lines::put_lines;
 use print_pen::Pen;
 use print_types::starts::name_of;
+use print_words::word_letters;
+use print_words::word_places;
 ghost use mathlib.Core.Path.{_≡_};
 ghost use mathlib.Core.List.{List};
 ghost use Prim.Native.Nat.{ℕ, _<_};
@@ -42,9 +44,13 @@ fn put_twice(
     requires { ⌜ AllReady (lines (now names)) (now «line_kinds») (now operands) ⌝ }
     ensures { λ r. ⌜ printing r (now (text .exit)) ≡ writing (printedAll (printed (lines (now (names .entry))) (now (function .entry)) (typeBytes (lines (now (names .entry))) (typeTo (length (lines (now (names .entry)))) 64 (entries (now (kinds .entry)) (now (words .entry))))) params) (now («line_kinds» .entry)) (now (operands .entry))) (now (text .entry)) ⌝ }
 {
+    let letters = word_letters();
+    let places = word_places();
     let counted = put_lines(
         text,
         Pen::Counting(0),
+        &letters,
+        &places,
         names,
         starts,
         function,
@@ -59,6 +65,8 @@ fn put_twice(
             put_lines(
                 text,
                 Pen::Writing(0),
+                &letters,
+                &places,
                 names,
                 starts,
                 function,

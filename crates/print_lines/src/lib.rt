@@ -20,6 +20,7 @@ ghost use Rattle.names.specs.Name.{lines};
 ghost use Rattle.book.specs.Entry.{entries};
 ghost use Rattle.book.specs.Decode.{typeTo};
 ghost use Rattle.print_pen.specs.Pen.{reached, Put};
+ghost use Rattle.print_words.specs.Words.{Tables};
 ghost use Rattle.print_types.specs.Starts.{Starts};
 ghost use Rattle.print_types.specs.Types.{typeBytes, Typed};
 ghost use Rattle.print_forms.specs.Forms.{formOf};
@@ -60,18 +61,21 @@ fn put_operand(
 fn put_parts(
     text: &mut [u8],
     pen: Pen,
+    letters: &[u8],
+    places: &[u16],
     names: &[u8],
     starts: &[usize],
     function: &[u8],
     kind: u16,
     x: u64,
 ) -> Pen
+    requires { ⌜ Tables (now letters) (now places) ⌝ }
     requires { ⌜ Starts (now names) (now starts) ⌝ }
     requires { ⌜ Ready (formOf kind) (lines (now names)) x ⌝ }
     requires { ⌜ kind < 94 ⌝ }
     ensures { λ r. ⌜ Put (partsText (lines (now (names .entry))) (now (function .entry)) kind x) pen (now (text .entry)) (now (text .exit)) r ⌝ }
 {
-    let word = put_word(text, pen, kind);
+    let word = put_word(text, pen, letters, places, kind);
     let operand = put_operand(text, word, names, starts, function, form_of(kind), x);
     put_end(text, operand, kind)
 }
@@ -102,6 +106,8 @@ fn put_comment(
 fn put_line(
     text: &mut [u8],
     pen: Pen,
+    letters: &[u8],
+    places: &[u16],
     names: &[u8],
     starts: &[usize],
     function: &[u8],
@@ -111,6 +117,7 @@ fn put_line(
     kind: u16,
     x: u64,
 ) -> Pen
+    requires { ⌜ Tables (now letters) (now places) ⌝ }
     requires { ⌜ Starts (now names) (now starts) ⌝ }
     requires { ⌜ Typed (length (lines (now names))) 64 (now kinds) (now words) ⌝ }
     requires { ⌜ Ready (formOf kind) (lines (now names)) x ⌝ }
@@ -118,18 +125,20 @@ fn put_line(
     ensures { λ r. ⌜ Put (printed (lines (now (names .entry))) (now (function .entry)) (typeBytes (lines (now (names .entry))) (typeTo (length (lines (now (names .entry)))) 64 (entries (now (kinds .entry)) (now (words .entry))))) params kind x) pen (now (text .entry)) (now (text .exit)) r ⌝ }
 {
     if 21 <= kind {
-        return put_word(text, pen, kind);
+        return put_word(text, pen, letters, places, kind);
     }
     if kind == 0 {
         return put_comment(text, pen, names, starts, function, kinds, words, params);
     }
-    put_parts(text, pen, names, starts, function, kind, x)
+    put_parts(text, pen, letters, places, names, starts, function, kind, x)
 }
 
 // Puts as many lines as both slices hold.
 pub fn put_lines(
     text: &mut [u8],
     pen: Pen,
+    letters: &[u8],
+    places: &[u16],
     names: &[u8],
     starts: &[usize],
     function: &[u8],
@@ -139,6 +148,7 @@ pub fn put_lines(
     line_kinds: &[u16],
     operands: &[u64],
 ) -> Pen
+    requires { ⌜ Tables (now letters) (now places) ⌝ }
     requires { ⌜ Starts (now names) (now starts) ⌝ }
     requires { ⌜ Typed (length (lines (now names))) 64 (now kinds) (now words) ⌝ }
     requires { ⌜ AllReady (lines (now names)) (now «line_kinds») (now operands) ⌝ }
@@ -154,6 +164,8 @@ pub fn put_lines(
         next = put_line(
             text,
             next,
+            letters,
+            places,
             names,
             starts,
             function,

@@ -1,6 +1,7 @@
 -- `put_lines` meets its contract: the lines put so far and those left are all lines. The measure is the number of lines left.
 use borrow.Author.Needs.{needs}
 use Prim.Native.Nat.{_-_}
+use native.Mathlib.Omega.{arith}
 use lib.ListN.{length}
 use Rattle.names.specs.Name.{lines}
 use Rattle.book.specs.Entry.{entries}
@@ -13,14 +14,14 @@ use Rattle.print_lines.proofs.put_lines.Tie as tie
 use Rattle.print_lines.proofs.put_line.Reads as put-line-reads
 
 abbrev Inv-loop : tie.InvT-loop
-Inv-loop text₀ names starts function kinds words params line-kinds operands next₀ i₀ text next i =
+Inv-loop text₀ letters places names starts function kinds words params line-kinds operands next₀ i₀ text next i =
     Putting (printed (lines names) function (typeBytes (lines names) (typeTo (length (lines names)) 64 (entries kinds words))) params) line-kinds operands next₀ text₀ i text next
 
 abbrev μ-loop : tie.MeasureT-loop
-μ-loop text₀ names starts function kinds words params line-kinds operands next₀ i₀ text next i = length line-kinds - i
+μ-loop text₀ letters places names starts function kinds words params line-kinds operands next₀ i₀ text next i = length line-kinds - i
 
 loop-holds : tie.Need-loop-holds Inv-loop μ-loop
-loop-holds c = putting-start _ _ _ _ _ (c .before .before .before .before .before .before .before .before .pre .1 .1 .1)
+loop-holds c = putting-start _ _ _ _ _ (c .before .before .before .before .before .before .before .before .before .before .pre .1 .1 .1 .1)
 
 same-length : tie.Need-same-length Inv-loop μ-loop
 same-length c = search needs
@@ -44,20 +45,25 @@ put-line-requires : tie.Need-put-line-requires Inv-loop μ-loop
 put-line-requires c κs =
     let else1 = c .before .before .before in
     let in-loop = else1 .before in
-    let entry = in-loop .before .before .before .before .before .before .before .before .before .before in (
+    let entry = in-loop .before .before .before .before .before .before .before .before .before .before .before .before in (
       entry .pre .0,
       (
         entry .pre .1 .0,
         (
-          entry .pre .1 .1 .0 .names _ (in-loop .loop-test .taken) (else1 .if1 .left),
-          entry .pre .1 .1 .0 .known _ (in-loop .loop-test .taken)
-              (else1 .if1 .left),
+          entry .pre .1 .1 .0,
+          (
+            entry .pre .1 .1 .1 .0 .names _ (in-loop .loop-test .taken) (else1 .if1 .left),
+            entry .pre .1 .1 .1 .0 .known _ (in-loop .loop-test .taken) (else1 .if1 .left),
+          ),
         ),
       ),
     )
 
 add-i : tie.Need-add-i Inv-loop μ-loop
-add-i c = search needs
+add-i c =
+    let in-loop = c .before .before .before .before .before .before .before in
+    let entry = in-loop .before .before .before .before .before .before .before .before .before .before .before .before in
+    omega (arith, in-loop .loop-test .taken, entry .good)
 
 loop-less : tie.Need-loop-less Inv-loop μ-loop
 loop-less c = search needs
