@@ -1,6 +1,7 @@
 // The two passes over the lines: one counts the bytes, the other stores them if they fit.
 use print_forms::check_lines;
-use print_lines::put_lines;
+use print_lines::count_lines;
+use print_lines::write_lines;
 use print_pen::Pen;
 use print_types::starts::name_of;
 use print_words::word_letters;
@@ -46,9 +47,8 @@ fn put_twice(
 {
     let letters = word_letters();
     let places = word_places();
-    let counted = put_lines(
+    let counted = count_lines(
         text,
-        Pen::Counting(0),
         &letters,
         &places,
         names,
@@ -62,9 +62,9 @@ fn put_twice(
     );
     match counted {
         Pen::Counting(n) => {
-            put_lines(
+            write_lines(
                 text,
-                Pen::Writing(0),
+                n,
                 &letters,
                 &places,
                 names,

@@ -1,16 +1,18 @@
 -- The words of the lines, one for each kind, and the table that the code reads them from.
 use Prim.Native.Nat.{ℕ, _+_, _/_, _%_, _≤_, _<_}
 use Prim.Native.String.{String}
-use mathlib.Core.Path.{_≡_, refl, ap, _∙_}
+use mathlib.Core.Path.{_≡_, refl, sym, ap, _∙_}
 use mathlib.Core.Bool.{Bool, true, _&&_}
 use mathlib.Core.List.{List, [], _∷_, _++_}
 use native.Mathlib.Omega.{arith}
 use borrow.Author.Tests.{leb-true}
 use lib.Dec.{leb}
-use lib.ListN.{length, getD, take, drop}
+use lib.ListN.{length, getD, take, drop, length-drop}
+use lib.Seq.{sets, length-take-le, take-take}
 use Rattle.names.specs.Text.{bytes, same}
 use Rattle.names.specs.Texts.{same-iff}
 use Rattle.names.specs.Tests.{both}
+use Rattle.print_pen.specs.Write.{Wrote, wrote-over}
 use Rattle.print_words.specs.Table.{every, holds}
 
 -- with byte 10 behind it
@@ -136,3 +138,22 @@ module _ {letters places : List ℕ} (t : Tables letters places) where
   word-by k p h e =
       let w = rw (← t .places-are, ← e) at (word-at k h) in
       record { room = omega (arith, w .room, ap length (t .letters-are), letters-long); short = w .short; is = rw (t .letters-are) (w .is) }
+
+-- how many letters the word has
+pub word-size : (places : List ℕ) (k p : ℕ) → places ≡ wordPlaces → k < 94 → p ≡ getD places k 0 → length (word k) ≡ p % 32
+word-size places k p t h e =
+    let w = rw (← t, ← e) at (word-at k h) in
+    ap length (sym (w .is)) ∙ length-take-le (p % 32) (drop (p / 32) wordLetters) (simp length-drop (omega (arith, w .room, w .short, letters-long)))
+
+module _ {letters : List ℕ} {k p : ℕ} (w : Word letters k p) where
+  pub word-long : length (word k) ≡ p % 32
+  word-long = ap length (sym (w .is)) ∙ length-take-le (p % 32) (drop (p / 32) letters) (simp length-drop (omega (arith, w .room, w .short)))
+
+  -- m letters from the word's start on are stored, as many as the word has or more
+  pub word-wrote : (x y : List ℕ) (at end m : ℕ) → y ≡ sets x at (take m (drop (p / 32) letters)) → p % 32 ≤ m → m ≤ 24 → at + m ≤ end → end ≤ length x
+      → Wrote (word k) at end x y (at + p % 32)
+  word-wrote x y at end m e h g f i =
+      let size : length (take m (drop (p / 32) letters)) ≡ m = length-take-le m (drop (p / 32) letters) (simp length-drop (omega (arith, w .room))) in
+      let same : take (length (word k)) (take m (drop (p / 32) letters)) ≡ word k = rw (word-long, take-take (p % 32) m (drop (p / 32) letters) h) (w .is) in
+      rw (e, ← word-long)
+      (wrote-over (word k) (take m (drop (p / 32) letters)) x at end (omega (arith, size, word-long)) same (omega (arith, size)) i)

@@ -1,4 +1,6 @@
 // The pieces of a line: its word, which is the whole line where there is no operand, what names a block or a call, and its end.
+pub mod plain;
+
 use print_pen::Pen;
 use print_pen::put_bytes;
 use print_pen::put_clean;
