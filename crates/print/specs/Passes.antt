@@ -1,5 +1,5 @@
 -- The two passes, and the answer of the call.
-use Prim.Native.Nat.{ℕ, _+_}
+use Prim.Native.Nat.{ℕ, _≤_}
 use mathlib.Core.Path.{_≡_, refl, sym, ap, _∙_}
 use mathlib.Core.Bool.{Bool, true, false, cond, false≢true}
 use mathlib.Core.Option.{Option, none, some}
@@ -19,7 +19,7 @@ use Rattle.assembly.specs.Line.{Line}
 use Rattle.assembly.specs.Text.{typeText, texts}
 use Rattle.assembly.specs.Printer.{Printing, refusing, writing, needed, linesOf}
 use Rattle.assembly.specs.Printer as printer
-use Rattle.print_pen.specs.Pen.{Put, reached, fitting, counted, written}
+use Rattle.print_pen.specs.Pen.{Put, fitting, counted}
 use Rattle.print_types.specs.Starts.{Starts}
 use Rattle.print_types.specs.Types.{typeBytes}
 use Rattle.print_lines.specs.Lines.{printed}
@@ -42,12 +42,6 @@ abbrev pub printing : Printed → List ℕ → Printing
 printing r y = record { reply = replyOf r; text = y }
 
 -- ---- the passes
-pub start-counting : (x : List ℕ) → Counting 0 ≡ reached (length x) 0 (Counting 0)
-start-counting x = rw (le-leb 0 (length x) (omega arith))
-
-pub start-writing : (x : List ℕ) → Writing 0 ≡ reached (length x) 0 (Writing 0)
-start-writing x = rw (le-leb 0 (length x) (omega arith))
-
 module _ {bs x y : List ℕ} {q : Pen} (c : Put bs (Counting 0) x y q) where
   pub passes-full : q ≡ Full → printing (Refused 20) y ≡ writing bs x
   unfolding writing refusing
@@ -64,18 +58,23 @@ module _ {bs x y : List ℕ} {q : Pen} (c : Put bs (Counting 0) x y q) where
       go true f = absurd (let z : _≡_ {A = ℕ} 0 1 = cc in omega arith)
       go false f = absurd (let z : _≡_ {A = ℕ} 0 1 = cc in omega arith)
 
-  pub passes-done : (n : ℕ) (z : List ℕ) (r : Pen) → q ≡ Counting n → Put bs (Writing 0) y z r → printing (Accepted n) z ≡ writing bs x
-  unfolding writing refusing
-  passes-done n z r e w = go (leb (length bs) (length x)) refl (counted c .1)
+  -- what was counted, where it fits
+  pub passes-count : (n : ℕ) → q ≡ Counting n → (n ≡ length bs) × (n ≤ length y)
+  passes-count n e = go (leb (length bs) (length x)) refl (counted c .1)
     where
-      go : (t : Bool) → leb (length bs) (length x) ≡ t → q ≡ fitting t (Counting (length bs))
-          → printing (Accepted n) z ≡ cond t (record { reply = printer.Printed.accepted (length bs); text = bs ++ drop (length bs) x }) (refusing 20 x)
+      go : (t : Bool) → leb (length bs) (length x) ≡ t → q ≡ fitting t (Counting (length bs)) → (n ≡ length bs) × (n ≤ length y)
       go true l f =
           let m : n ≡ length bs = cc in
-          let s : y ≡ x = counted c .0 in
-          let v : z ≡ bs ++ drop (length bs) y = written w (omega (arith, leb-true (length bs) (length x) l, ap length s)) in
-          rw (m, v, s)
+          (m, omega (arith, leb-true (length bs) (length x) l, ap length (counted c .0)))
       go false l f = absurd (let z : _≡_ {A = ℕ} 0 1 = cc in omega arith)
+
+  pub passes-done : (n : ℕ) (z : List ℕ) → q ≡ Counting n → z ≡ bs ++ drop n y → printing (Accepted n) z ≡ writing bs x
+  unfolding writing
+  passes-done n z e w =
+      let m = passes-count n e in
+      let s : y ≡ x = counted c .0 in
+      let l : length bs ≤ length x = omega (arith, m .0, m .1, ap length s) in
+      rw (le-leb (length bs) (length x) l, w, m .0, s)
 
 -- ---- from the function's facts to the definition
 -- the printer's part behind the refusals 1 and 2

@@ -9,7 +9,7 @@ use book_values::Item;
 use book_values::list_len;
 use print_types::starts::note_starts;
 ghost use mathlib.Core.Path.{_≡_};
-ghost use Prim.Native.Nat.{ℕ};
+ghost use Prim.Native.Nat.{ℕ, _*_, _≤_};
 ghost use lib.ListN.{length};
 ghost use Rattle.names.specs.Name.{lines};
 ghost use Rattle.book.specs.Ast.{Book};
@@ -60,7 +60,43 @@ fn function_params(kinds: &[u64], words: &[u64], names: u64) -> u64
     list_params(&kinds[at..], &words[at..], names)
 }
 
+// Prints the lines of the function at the front, with room for the starts of its names.
+fn print_noted(
+    kinds: &[u64],
+    words: &[u64],
+    count: u64,
+    names: &[u8],
+    line_kinds: &[u16],
+    operands: &[u64],
+    text: &mut [u8],
+    starts: &mut [usize],
+) -> Printed
+    requires { ⌜ FunctionThere count (now kinds) (now words) ⌝ }
+    requires { ⌜ Sound (now names) ⌝ }
+    requires { ⌜ count ≡ length (lines (now names)) ⌝ }
+    requires { ⌜ count ≤ 8 * length (now starts) ⌝ }
+    ensures { λ r. ⌜ ((b : Book) (n : ℕ) → functionReader count (entries (now (kinds .entry)) (now (words .entry))) ≡ got (b .function) n
+        → printing r (now (text .exit)) ≡ definition (lines (now (names .entry))) b (now («line_kinds» .entry)) (now (operands .entry)) (now (text .entry))) ⌝ }
+{
+    let function = words[0];
+    let params = function_params(kinds, words, count);
+    note_starts(names, starts);
+    print_known(
+        names,
+        starts,
+        function,
+        count,
+        &kinds[1..],
+        &words[1..],
+        params,
+        line_kinds,
+        operands,
+        text,
+    )
+}
+
 // Prints the lines of the function at the front, where it and the names are sound. A book that has this function is printed so.
+// The starts of up to 2,048 names take 256 words, which are cleared in less time than 16,384.
 pub fn print_sound(
     kinds: &[u64],
     words: &[u64],
@@ -76,20 +112,28 @@ pub fn print_sound(
     ensures { λ r. ⌜ ((b : Book) (n : ℕ) → functionReader count (entries (now (kinds .entry)) (now (words .entry))) ≡ got (b .function) n
         → printing r (now (text .exit)) ≡ definition (lines (now (names .entry))) b (now («line_kinds» .entry)) (now (operands .entry)) (now (text .entry))) ⌝ }
 {
-    let function = words[0];
-    let params = function_params(kinds, words, count);
+    if count <= 2048 {
+        let mut few = [0usize; 256];
+        return print_noted(
+            kinds,
+            words,
+            count,
+            names,
+            line_kinds,
+            operands,
+            text,
+            &mut few,
+        );
+    }
     let mut starts = [0usize; 16384];
-    note_starts(names, &mut starts);
-    print_known(
-        names,
-        &starts,
-        function,
+    print_noted(
+        kinds,
+        words,
         count,
-        &kinds[1..],
-        &words[1..],
-        params,
+        names,
         line_kinds,
         operands,
         text,
+        &mut starts,
     )
 }

@@ -1,8 +1,11 @@
 // The two passes over the lines: one counts the bytes, the other stores them if they fit.
 use print_forms::check_lines;
-use print_lines::put_lines;
+use print_lines::count_lines;
+use print_lines::write_lines;
 use print_pen::Pen;
 use print_types::starts::name_of;
+use print_words::word_letters;
+use print_words::word_places;
 ghost use mathlib.Core.Path.{_≡_};
 ghost use mathlib.Core.List.{List};
 ghost use Prim.Native.Nat.{ℕ, _<_};
@@ -42,9 +45,12 @@ fn put_twice(
     requires { ⌜ AllReady (lines (now names)) (now «line_kinds») (now operands) ⌝ }
     ensures { λ r. ⌜ printing r (now (text .exit)) ≡ writing (printedAll (printed (lines (now (names .entry))) (now (function .entry)) (typeBytes (lines (now (names .entry))) (typeTo (length (lines (now (names .entry)))) 64 (entries (now (kinds .entry)) (now (words .entry))))) params) (now («line_kinds» .entry)) (now (operands .entry))) (now (text .entry)) ⌝ }
 {
-    let counted = put_lines(
+    let letters = word_letters();
+    let places = word_places();
+    let counted = count_lines(
         text,
-        Pen::Counting(0),
+        &letters,
+        &places,
         names,
         starts,
         function,
@@ -56,9 +62,11 @@ fn put_twice(
     );
     match counted {
         Pen::Counting(n) => {
-            put_lines(
+            write_lines(
                 text,
-                Pen::Writing(0),
+                n,
+                &letters,
+                &places,
                 names,
                 starts,
                 function,

@@ -1,12 +1,16 @@
 -- All lines: those of kinds and operands, as many as the shorter of the two lists has.
 use Prim.Native.Nat.{ℕ, _+_, _≤_, _<_}
 use mathlib.Core.Path.{_≡_, refl, sym, ap, _∙_}
-use mathlib.Core.List.{List, [], _∷_, _++_, append-assoc}
+use mathlib.Core.List.{List, [], _∷_, _++_, append-assoc, append-nil}
 use native.Mathlib.Numerals.{add-one}
 use native.Mathlib.Omega.{arith}
-use lib.ListN.{length, getD, drop, length-drop}
+use mathlib.Core.Bool.{Bool, true, false}
+use borrow.Author.Tests.{leb-true, le-leb}
+use lib.Dec.{leb}
+use lib.ListN.{length, getD, take, drop, length-drop, length-append, take-append-drop}
 use lib.Seq.{drop-cons}
-use Rattle.print_pen.specs.Pen.{Put, Text, reached, then-put}
+use Rattle.print_pen.specs.Pen.{Put, Text, reached, fitting, then-put}
+use Rattle.print_pen.specs.Write.{Wrote, pen-wrote, full-more, never-writes}
 use Rattle.print_pen.specs.declared.Pen.{Pen}
 use Rattle.print_pen.specs.declared.Pen.the-variants.{Counting, Writing, Full}
 
@@ -62,13 +66,86 @@ module _ {one : ℕ → ℕ → List ℕ} {ks xs : List ℕ} {p : Pen} {x : List
   ended-put e =
       let f : s .done ≡ printedAll one ks xs = sym (append-nil (s .done)) ∙ ap (λ (l : List ℕ). s .done ++ l) (sym e) ∙ s .split in
       rw f at (s .put)
-    where
-      append-nil : (l : List ℕ) → l ++ [] ≡ l
-      append-nil [] = refl
-      append-nil (a ∷ l) = ap (λ (m : List ℕ). a ∷ m) (append-nil l)
 
   pub putting-kinds : length ks ≤ i → Put (printedAll one ks xs) p x y q
   putting-kinds h = ended-put (no-kind one (drop i ks) (drop i xs) (omega (arith, length-drop i ks)))
 
   pub putting-operands : length xs ≤ i → Put (printedAll one ks xs) p x y q
   putting-operands h = ended-put (no-operand one (drop i ks) (drop i xs) (omega (arith, length-drop i xs)))
+
+  -- where a pen is full nothing more is put
+  pub putting-full : q ≡ Full → Put (printedAll one ks xs) p x y Full
+  putting-full e =
+      let t : Put (s .done) p x y Full = rw e at (s .put) in
+      rw (s .split) at (then-put t (full-more (printedAll one (drop i ks) (drop i xs)) y))
+
+pub count-start : (x : List ℕ) → Counting 0 ≡ reached (length x) 0 (Counting 0)
+count-start x = rw (le-leb 0 (length x) (omega arith))
+
+-- what was counted fits
+pub counted-inside : {one : ℕ → ℕ → List ℕ} {ks xs : List ℕ} {x : List ℕ} {i : ℕ} {y : List ℕ} {n : ℕ} → Putting one ks xs (Counting 0) x i y (Counting n) → n ≤ length x
+counted-inside {one} {ks} {xs} {x} {i} {y} {n} s = go (leb (0 + length (s .done)) (length x)) refl (s .put .says)
+  where
+    go : (t : Bool) → leb (0 + length (s .done)) (length x) ≡ t → Counting n ≡ fitting t (Counting (0 + length (s .done))) → n ≤ length x
+    go true e f = let m : n ≡ 0 + length (s .done) = cc in omega (arith, leb-true (0 + length (s .done)) (length x) e)
+    go false e f = absurd (let z : _≡_ {A = ℕ} 0 1 = cc in omega arith)
+
+-- i lines were written, and the others fit
+pub record Written (one : ℕ → ℕ → List ℕ) (ks xs x : List ℕ) (end i : ℕ) (y : List ℕ) (at : ℕ) : Type 0 where
+  pub long : length y ≡ length x
+  pub rest : at + length (printedAll one (drop i ks) (drop i xs)) ≡ end
+  pub front : take at y ++ printedAll one (drop i ks) (drop i xs) ≡ printedAll one ks xs
+  pub back : drop end y ≡ drop end x
+
+pub written-start : (one : ℕ → ℕ → List ℕ) (ks xs x : List ℕ) (end : ℕ) → end ≡ length (printedAll one ks xs) → Written one ks xs x end 0 x 0
+written-start one ks xs x end e = record { long = refl; rest = omega arith; front = refl; back = refl }
+
+module _ {one : ℕ → ℕ → List ℕ} {ks xs x : List ℕ} {end i : ℕ} {y : List ℕ} {at : ℕ} (s : Written one ks xs x end i y at) where
+  pub written-room : i < length ks → i < length xs → at + length (one (getD ks i 0) (getD xs i 0)) ≤ end
+  written-room h g =
+      omega (
+        arith,
+        s .rest,
+        ap length (all-step one ks xs i h g),
+        length-append (one (getD ks i 0) (getD xs i 0)) (printedAll one (drop (i + 1) ks) (drop (i + 1) xs)),
+      )
+
+  pub written-next : (z : List ℕ) (r : ℕ) → i < length ks → i < length xs → Wrote (one (getD ks i 0) (getD xs i 0)) at end y z r → Written one ks xs x end (i + 1) z r
+  written-next z r h g t =
+      let step = all-step one ks xs i h g in
+      let rest = printedAll one (drop (i + 1) ks) (drop (i + 1) xs) in
+      record {
+        long = t .long ∙ s .long;
+        rest = omega (arith, s .rest, ap length step, length-append (one (getD ks i 0) (getD xs i 0)) rest, t .place);
+        front = ap (λ (l : List ℕ). l ++ rest) (t .front) ∙ append-assoc (take at y) (one (getD ks i 0) (getD xs i 0)) rest ∙ ap (λ (l : List ℕ). take at y ++ l) (sym step) ∙ s .front;
+        back = t .back ∙ s .back;
+      }
+
+  written-end : printedAll one (drop i ks) (drop i xs) ≡ [] → y ≡ printedAll one ks xs ++ drop end x
+  written-end e =
+      let a : at ≡ end = omega (arith, s .rest, ap length e) in
+      let f : take end y ≡ printedAll one ks xs = ap (λ (n : ℕ). take n y) (sym a) ∙ sym (append-nil (take at y)) ∙ ap (λ (l : List ℕ). take at y ++ l) (sym e) ∙ s .front in
+      sym (take-append-drop end y) ∙ ap (λ (l : List ℕ). l ++ drop end y) f ∙ ap (λ (l : List ℕ). printedAll one ks xs ++ l) (s .back)
+
+  pub written-kinds : length ks ≤ i → y ≡ printedAll one ks xs ++ drop end x
+  written-kinds h = written-end (no-kind one (drop i ks) (drop i xs) (omega (arith, length-drop i ks)))
+
+  pub written-operands : length xs ≤ i → y ≡ printedAll one ks xs ++ drop end x
+  written-operands h = written-end (no-operand one (drop i ks) (drop i xs) (omega (arith, length-drop i xs)))
+
+-- ---- a line put with a writing pen, where it fits
+module _ {bs x y : List ℕ} {q : Pen} {at : ℕ} (end r : ℕ) (h : Put bs (Writing at) x y q) (f : at + length bs ≤ end) (g : end ≤ length x) where
+  pub pen-placed : q ≡ Writing r → Wrote bs at end x y r
+  pen-placed e =
+      let w = pen-wrote end h f g in
+      let i : r ≡ at + length bs = cc (w .0, e) in
+      rw i (w .1)
+
+  pub pen-counted : q ≡ Counting r → Wrote bs at end x y at
+  pen-counted e = let w = pen-wrote end h f g .0 in absurd (let z : _≡_ {A = ℕ} 0 1 = cc (w, e) in omega arith)
+
+  pub pen-full : q ≡ Full → Wrote bs at end x y at
+  pen-full e = let w = pen-wrote end h f g .0 in absurd (let z : _≡_ {A = ℕ} 0 1 = cc (w, e) in omega arith)
+
+pub put-never : {bs x y : List ℕ} {q : Pen} {a : ℕ} (b : ℕ) → Put bs (Counting a) x y q → q ≡ Writing b → ⊥
+put-never {bs} {x} {y} {q} {a} b h e = never-writes q (length x) (length bs) a b (h .says) e

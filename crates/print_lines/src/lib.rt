@@ -7,6 +7,8 @@ use print_pen::put_clean;
 use print_pen::put_number;
 use print_types::starts::name_of;
 use print_types::types::put_type;
+use print_words::plain::plain_len;
+use print_words::plain::write_plain;
 use print_words::put_block;
 use print_words::put_call;
 use print_words::put_end;
@@ -14,12 +16,15 @@ use print_words::put_params;
 use print_words::put_syscall;
 use print_words::put_word;
 ghost use mathlib.Core.Path.{_≡_};
-ghost use Prim.Native.Nat.{_<_};
-ghost use lib.ListN.{length};
+ghost use mathlib.Core.List.{_++_};
+ghost use Prim.Native.Nat.{_+_, _<_, _≤_};
+ghost use lib.ListN.{length, drop};
 ghost use Rattle.names.specs.Name.{lines};
 ghost use Rattle.book.specs.Entry.{entries};
 ghost use Rattle.book.specs.Decode.{typeTo};
-ghost use Rattle.print_pen.specs.Pen.{reached, Put};
+ghost use Rattle.print_pen.specs.Pen.{Put};
+ghost use Rattle.print_pen.specs.Write.{Wrote};
+ghost use Rattle.print_words.specs.Words.{Tables};
 ghost use Rattle.print_types.specs.Starts.{Starts};
 ghost use Rattle.print_types.specs.Types.{typeBytes, Typed};
 ghost use Rattle.print_forms.specs.Forms.{formOf};
@@ -60,18 +65,21 @@ fn put_operand(
 fn put_parts(
     text: &mut [u8],
     pen: Pen,
+    letters: &[u8],
+    places: &[u16],
     names: &[u8],
     starts: &[usize],
     function: &[u8],
     kind: u16,
     x: u64,
 ) -> Pen
+    requires { ⌜ Tables (now letters) (now places) ⌝ }
     requires { ⌜ Starts (now names) (now starts) ⌝ }
     requires { ⌜ Ready (formOf kind) (lines (now names)) x ⌝ }
     requires { ⌜ kind < 94 ⌝ }
     ensures { λ r. ⌜ Put (partsText (lines (now (names .entry))) (now (function .entry)) kind x) pen (now (text .entry)) (now (text .exit)) r ⌝ }
 {
-    let word = put_word(text, pen, kind);
+    let word = put_word(text, pen, letters, places, kind);
     let operand = put_operand(text, word, names, starts, function, form_of(kind), x);
     put_end(text, operand, kind)
 }
@@ -102,6 +110,8 @@ fn put_comment(
 fn put_line(
     text: &mut [u8],
     pen: Pen,
+    letters: &[u8],
+    places: &[u16],
     names: &[u8],
     starts: &[usize],
     function: &[u8],
@@ -111,6 +121,7 @@ fn put_line(
     kind: u16,
     x: u64,
 ) -> Pen
+    requires { ⌜ Tables (now letters) (now places) ⌝ }
     requires { ⌜ Starts (now names) (now starts) ⌝ }
     requires { ⌜ Typed (length (lines (now names))) 64 (now kinds) (now words) ⌝ }
     requires { ⌜ Ready (formOf kind) (lines (now names)) x ⌝ }
@@ -118,18 +129,67 @@ fn put_line(
     ensures { λ r. ⌜ Put (printed (lines (now (names .entry))) (now (function .entry)) (typeBytes (lines (now (names .entry))) (typeTo (length (lines (now (names .entry)))) 64 (entries (now (kinds .entry)) (now (words .entry))))) params kind x) pen (now (text .entry)) (now (text .exit)) r ⌝ }
 {
     if 21 <= kind {
-        return put_word(text, pen, kind);
+        return put_word(text, pen, letters, places, kind);
     }
     if kind == 0 {
         return put_comment(text, pen, names, starts, function, kinds, words, params);
     }
-    put_parts(text, pen, names, starts, function, kind, x)
+    put_parts(text, pen, letters, places, names, starts, function, kind, x)
 }
 
-// Puts as many lines as both slices hold.
-pub fn put_lines(
+// Writes a line, where it is known that it fits.
+fn write_line(
     text: &mut [u8],
-    pen: Pen,
+    at: usize,
+    end: usize,
+    letters: &[u8],
+    places: &[u16],
+    names: &[u8],
+    starts: &[usize],
+    function: &[u8],
+    kinds: &[u64],
+    words: &[u64],
+    params: u64,
+    kind: u16,
+    x: u64,
+) -> usize
+    requires { ⌜ Tables (now letters) (now places) ⌝ }
+    requires { ⌜ Starts (now names) (now starts) ⌝ }
+    requires { ⌜ Typed (length (lines (now names))) 64 (now kinds) (now words) ⌝ }
+    requires { ⌜ Ready (formOf kind) (lines (now names)) x ⌝ }
+    requires { ⌜ kind < 94 ⌝ }
+    requires { ⌜ at + length (printed (lines (now names)) (now function) (typeBytes (lines (now names)) (typeTo (length (lines (now names))) 64 (entries (now kinds) (now words)))) params kind x) ≤ end ⌝ }
+    requires { ⌜ end ≤ length (now text) ⌝ }
+    ensures { λ r. ⌜ Wrote (printed (lines (now (names .entry))) (now (function .entry)) (typeBytes (lines (now (names .entry))) (typeTo (length (lines (now (names .entry)))) 64 (entries (now (kinds .entry)) (now (words .entry))))) params kind x) at end (now (text .entry)) (now (text .exit)) r ⌝ }
+{
+    if 7 <= kind {
+        return write_plain(text, at, end, letters, places, kind, x);
+    }
+    match put_line(
+        text,
+        Pen::Writing(at),
+        letters,
+        places,
+        names,
+        starts,
+        function,
+        kinds,
+        words,
+        params,
+        kind,
+        x,
+    ) {
+        Pen::Writing(next) => next,
+        Pen::Counting(_) => at,
+        Pen::Full => at,
+    }
+}
+
+// Counts the bytes of as many lines as both slices hold; full where they do not fit.
+pub fn count_lines(
+    text: &mut [u8],
+    letters: &[u8],
+    places: &[u16],
     names: &[u8],
     starts: &[usize],
     function: &[u8],
@@ -139,21 +199,90 @@ pub fn put_lines(
     line_kinds: &[u16],
     operands: &[u64],
 ) -> Pen
+    requires { ⌜ Tables (now letters) (now places) ⌝ }
     requires { ⌜ Starts (now names) (now starts) ⌝ }
     requires { ⌜ Typed (length (lines (now names))) 64 (now kinds) (now words) ⌝ }
     requires { ⌜ AllReady (lines (now names)) (now «line_kinds») (now operands) ⌝ }
-    requires { ⌜ pen ≡ reached (length (now text)) 0 pen ⌝ }
-    ensures { λ r. ⌜ Put (printedAll (printed (lines (now (names .entry))) (now (function .entry)) (typeBytes (lines (now (names .entry))) (typeTo (length (lines (now (names .entry)))) 64 (entries (now (kinds .entry)) (now (words .entry))))) params) (now («line_kinds» .entry)) (now (operands .entry))) pen (now (text .entry)) (now (text .exit)) r ⌝ }
+    ensures { λ r. ⌜ Put (printedAll (printed (lines (now (names .entry))) (now (function .entry)) (typeBytes (lines (now (names .entry))) (typeTo (length (lines (now (names .entry)))) 64 (entries (now (kinds .entry)) (now (words .entry))))) params) (now («line_kinds» .entry)) (now (operands .entry))) (Pen.Counting 0) (now (text .entry)) (now (text .exit)) r ⌝ }
 {
-    let mut next = pen;
+    let room = text.len();
+    let mut n: usize = 0;
     let mut i: usize = 0;
     while i < line_kinds.len() {
         if operands.len() <= i {
-            return next;
+            return Pen::Counting(n);
         }
-        next = put_line(
+        let kind = line_kinds[i];
+        let x = operands[i];
+        if 7 <= kind {
+            let more = plain_len(places, kind, x);
+            if room - n < more {
+                return Pen::Full;
+            }
+            n += more;
+            i += 1;
+            continue;
+        }
+        match put_line(
             text,
-            next,
+            Pen::Counting(n),
+            letters,
+            places,
+            names,
+            starts,
+            function,
+            kinds,
+            words,
+            params,
+            kind,
+            x,
+        ) {
+            Pen::Counting(next) => {
+                n = next;
+            }
+            Pen::Writing(_) => return Pen::Full,
+            Pen::Full => return Pen::Full,
+        }
+        i += 1;
+    }
+    Pen::Counting(n)
+}
+
+// Writes as many lines as both slices hold, of `end` bytes in all, which fit.
+pub fn write_lines(
+    text: &mut [u8],
+    end: usize,
+    letters: &[u8],
+    places: &[u16],
+    names: &[u8],
+    starts: &[usize],
+    function: &[u8],
+    kinds: &[u64],
+    words: &[u64],
+    params: u64,
+    line_kinds: &[u16],
+    operands: &[u64],
+)
+    requires { ⌜ Tables (now letters) (now places) ⌝ }
+    requires { ⌜ Starts (now names) (now starts) ⌝ }
+    requires { ⌜ Typed (length (lines (now names))) 64 (now kinds) (now words) ⌝ }
+    requires { ⌜ AllReady (lines (now names)) (now «line_kinds») (now operands) ⌝ }
+    requires { ⌜ end ≡ length (printedAll (printed (lines (now names)) (now function) (typeBytes (lines (now names)) (typeTo (length (lines (now names))) 64 (entries (now kinds) (now words)))) params) (now «line_kinds») (now operands)) ⌝ }
+    requires { ⌜ end ≤ length (now text) ⌝ }
+    ensures { λ _. ⌜ now (text .exit) ≡ printedAll (printed (lines (now (names .entry))) (now (function .entry)) (typeBytes (lines (now (names .entry))) (typeTo (length (lines (now (names .entry)))) 64 (entries (now (kinds .entry)) (now (words .entry))))) params) (now («line_kinds» .entry)) (now (operands .entry)) ++ drop end (now (text .entry)) ⌝ }
+{
+    let mut at: usize = 0;
+    let mut i: usize = 0;
+    while i < line_kinds.len() {
+        if operands.len() <= i {
+            return;
+        }
+        at = write_line(
+            text,
+            at,
+            end,
+            letters,
+            places,
             names,
             starts,
             function,
@@ -165,5 +294,4 @@ pub fn put_lines(
         );
         i += 1;
     }
-    next
 }

@@ -49,7 +49,7 @@ fn reach(pen: Pen, room: usize, n: usize) -> Pen
 }
 
 // Stores bytes as they are.
-fn copy(src: &[u8], text: &mut [u8], at: usize)
+pub fn copy(src: &[u8], text: &mut [u8], at: usize)
     requires { ⌜ at + length (now src) ≤ length (now text) ⌝ }
     ensures { λ r. ⌜ now (text .exit) ≡ sets (now (text .entry)) at (now (src .entry)) ⌝ }
 {

@@ -27,7 +27,7 @@ pub record Before (bs : List ℕ) (n : ℕ) (starts : List ℕ) : Type 0 where
 
 pub record Starts (bs starts : List ℕ) : Type 0 where
   pub sound : Sound bs
-  pub room : length starts ≡ 16384
+  pub room : length (lines bs) ≤ 8 * length starts
   pub all : Before bs (length (lines bs)) starts
 
 module _ (bs : List ℕ) (s : Sound bs) where
@@ -125,40 +125,41 @@ stepping-next {bs} {x} {at} {left} s t h l end f =
 pub stepping-end : {bs : List ℕ} {x at left : ℕ} → Stepping bs x at left → left ≤ 0 → at ≡ startOf (lines bs) x
 stepping-end {bs} {x} {at} {left} t h = let e : x - left ≡ x = omega arith in t .there ∙ ap (startOf (lines bs)) e
 
--- the pass over the names, at the start of the name numbered i
-pub record Noting (bs starts : List ℕ) (at i : ℕ) : Type 0 where
+-- the pass over the names, at the start of the name numbered i, with room for so many starts
+pub record Noting (bs : List ℕ) (size : ℕ) (starts : List ℕ) (at i : ℕ) : Type 0 where
   pub few : i ≤ length (lines bs)
-  pub room : length starts ≡ 16384
+  pub wide : length (lines bs) ≤ 8 * size
+  pub room : length starts ≡ size
   pub there : at ≡ startOf (lines bs) i
   pub noted : Before bs i starts
 
-pub noting-start : (bs starts : List ℕ) → length starts ≡ 16384 → Noting bs starts 0 0
+pub noting-start : (bs starts : List ℕ) → length (lines bs) ≤ 8 * length starts → Noting bs (length starts) starts 0 0
 unfolding startOf
-noting-start bs starts r = record { few = omega arith; room = r; there = refl; noted = none-before bs starts }
+noting-start bs starts r = record { few = omega arith; wide = r; room = refl; there = refl; noted = none-before bs starts }
 
-module _ {bs starts : List ℕ} {at i : ℕ} (s : Sound bs) (t : Noting bs starts at i) where
+module _ {bs : List ℕ} {size : ℕ} {starts : List ℕ} {at i : ℕ} (s : Sound bs) (t : Noting bs size starts at i) where
   pub noting-inside : at < length bs → i < length (lines bs)
   noting-inside h = start-inside bs s i (t .few) (rw (t .there) at h)
 
-  next : (starts′ : List ℕ) (end : ℕ) → at < length bs → end ≡ at + length (nameFrom bs at) → length starts′ ≡ 16384 → Before bs (i + 1) starts′ → Noting bs starts′ (end + 1) (i + 1)
+  next : (starts′ : List ℕ) (end : ℕ) → at < length bs → end ≡ at + length (nameFrom bs at) → length starts′ ≡ size → Before bs (i + 1) starts′ → Noting bs size starts′ (end + 1) (i + 1)
   next starts′ end h f r b =
       let l = noting-inside h in
-      record { few = omega arith; room = r; there = start-further bs s i at end l (t .there) f; noted = b }
+      record { few = omega arith; wide = t .wide; room = r; there = start-further bs s i at end l (t .there) f; noted = b }
 
   -- the name was noted, or was between
-  pub noting-note : (end : ℕ) → at < length bs → end ≡ at + length (nameFrom bs at) → i % 8 ≡ 0 → Noting bs (set starts (i / 8) at) (end + 1) (i + 1)
+  pub noting-note : (end : ℕ) → at < length bs → end ≡ at + length (nameFrom bs at) → i % 8 ≡ 0 → Noting bs size (set starts (i / 8) at) (end + 1) (i + 1)
   noting-note end h f z =
       next (set starts (i / 8) at) end h f (length-set starts (i / 8) at ∙ t .room)
-      (before-note (t .noted) at z (t .there) (omega (arith, t .room, noting-inside h, s .few)))
+      (before-note (t .noted) at z (t .there) (omega (arith, t .room, t .wide, noting-inside h)))
 
-  pub noting-skip : (end : ℕ) → at < length bs → end ≡ at + length (nameFrom bs at) → (i % 8 ≡ 0 → ⊥) → Noting bs starts (end + 1) (i + 1)
+  pub noting-skip : (end : ℕ) → at < length bs → end ≡ at + length (nameFrom bs at) → (i % 8 ≡ 0 → ⊥) → Noting bs size starts (end + 1) (i + 1)
   noting-skip end h f z = next starts end h f (t .room) (before-skip (t .noted) z)
 
   pub noting-below : (end : ℕ) → at < length bs → end ≡ at + length (nameFrom bs at) → (at ≤ end) × (end < length bs)
   noting-below end h f = end-below bs s i at end (noting-inside h) (t .there) f
 
   pub noting-end : length bs ≤ at → Starts bs starts
-  noting-end h = record { sound = s; room = t .room; all = rw (start-over bs s i (t .few) (rw (t .there) at h)) at (t .noted) }
+  noting-end h = record { sound = s; room = omega (arith, t .room, t .wide); all = rw (start-over bs s i (t .few) (rw (t .there) at h)) at (t .noted) }
 
 pub stepping-below : {bs : List ℕ} {x at left : ℕ} (s : Sound bs) → Stepping bs x at left → x < length (lines bs) → 0 < left → (end : ℕ)
     → end ≡ at + length (nameFrom bs at) → (at ≤ end) × (end < length bs)

@@ -1,6 +1,6 @@
 // Where a name starts: the starts of every 8th name are kept, and a name is reached from the last of them in 7 steps at most.
 ghost use mathlib.Core.Path.{_≡_};
-ghost use Prim.Native.Nat.{_<_};
+ghost use Prim.Native.Nat.{_*_, _<_, _≤_};
 ghost use lib.ListN.{length};
 ghost use Rattle.names.specs.Name.{lines, startOf, nameAt};
 ghost use Rattle.print_types.specs.Starts.{Sound, Starts};
@@ -8,7 +8,7 @@ ghost use Rattle.print_types.specs.Starts.{Sound, Starts};
 // Notes the starts of the names 0, 8, 16 and so on, in one pass.
 pub fn note_starts(names: &[u8], starts: &mut [usize])
     requires { ⌜ Sound (now names) ⌝ }
-    requires { ⌜ length (now starts) ≡ 16384 ⌝ }
+    requires { ⌜ length (lines (now names)) ≤ 8 * length (now starts) ⌝ }
     ensures { λ r. ⌜ Starts (now (names .entry)) (now (starts .exit)) ⌝ }
 {
     let mut at: usize = 0;

@@ -1,18 +1,18 @@
 -- The words of the lines, one for each kind, and the table that the code reads them from.
-use Prim.Native.Nat.{ℕ, suc, _+_, _-_, _≤_, _<_}
+use Prim.Native.Nat.{ℕ, _+_, _/_, _%_, _≤_, _<_}
 use Prim.Native.String.{String}
-use mathlib.Core.Path.{_≡_, refl}
-use mathlib.Core.Bool.{Bool, true, _&&_, _||_}
+use mathlib.Core.Path.{_≡_, refl, sym, ap, _∙_}
+use mathlib.Core.Bool.{Bool, true, _&&_}
 use mathlib.Core.List.{List, [], _∷_, _++_}
 use native.Mathlib.Omega.{arith}
-use native.Mathlib.Numerals.{add-one}
 use borrow.Author.Tests.{leb-true}
 use lib.Dec.{leb}
-use lib.ListN.{length, getD, take, drop}
+use lib.ListN.{length, getD, take, drop, length-drop}
+use lib.Seq.{sets, length-take-le, take-take}
 use Rattle.names.specs.Text.{bytes, same}
 use Rattle.names.specs.Texts.{same-iff}
-use Rattle.names.specs.Tests.{both, either}
-use mathlib.Core.Logic.{_⊎_, inl, inr}
+use Rattle.names.specs.Tests.{both}
+use Rattle.print_pen.specs.Write.{Wrote, wrote-over}
 use Rattle.print_words.specs.Table.{every, holds}
 
 -- with byte 10 behind it
@@ -41,9 +41,9 @@ wordTable =
 unfoldable pub word : ℕ → List ℕ
 word k = getD wordTable k []
 
--- all words one after the other, and where each starts
-unfoldable pub letters : List ℕ
-letters =
+-- all words one after the other, with 24 letters behind them, and where each stands: the start times 32, and how many letters
+unfoldable pub wordLetters : List ℕ
+wordLetters =
     35 ∷ 32 ∷ 106 ∷ 109 ∷ 112 ∷ 32 ∷ 112 ∷ 117 ∷ 115 ∷ 104 ∷ 32 ∷ 99 ∷ 97 ∷ 108 ∷ 108 ∷ 32 ∷ 115 ∷ 121 ∷ 115 ∷ 99 ∷ 97 ∷ 108 ∷ 108 ∷ 32 ∷ 112
     ∷ 117 ∷ 115 ∷ 104 ∷ 95 ∷ 48 ∷ 110 ∷ 32 ∷ 112 ∷ 117 ∷ 115 ∷ 104 ∷ 32 ∷ 103 ∷ 101 ∷ 116 ∷ 95 ∷ 97 ∷ 114 ∷ 103 ∷ 32 ∷ 103 ∷ 101 ∷ 116 ∷ 95
     ∷ 108 ∷ 111 ∷ 99 ∷ 97 ∷ 108 ∷ 32 ∷ 115 ∷ 101 ∷ 116 ∷ 95 ∷ 108 ∷ 111 ∷ 99 ∷ 97 ∷ 108 ∷ 32 ∷ 99 ∷ 97 ∷ 108 ∷ 108 ∷ 95 ∷ 102 ∷ 112 ∷ 32 ∷ 95
@@ -78,49 +78,82 @@ letters =
     ∷ 114 ∷ 101 ∷ 95 ∷ 117 ∷ 54 ∷ 52 ∷ 59 ∷ 10 ∷ 97 ∷ 116 ∷ 111 ∷ 109 ∷ 105 ∷ 99 ∷ 95 ∷ 99 ∷ 97 ∷ 115 ∷ 95 ∷ 117 ∷ 54 ∷ 52 ∷ 59 ∷ 10 ∷ 115
     ∷ 121 ∷ 115 ∷ 99 ∷ 97 ∷ 108 ∷ 108 ∷ 32 ∷ 109 ∷ 101 ∷ 109 ∷ 99 ∷ 109 ∷ 112 ∷ 59 ∷ 10 ∷ 100 ∷ 117 ∷ 112 ∷ 59 ∷ 10 ∷ 112 ∷ 111 ∷ 112 ∷ 59 ∷ 10
     ∷ 114 ∷ 101 ∷ 116 ∷ 59 ∷ 10 ∷ 112 ∷ 97 ∷ 110 ∷ 105 ∷ 99 ∷ 59 ∷ 10 ∷ 116 ∷ 104 ∷ 114 ∷ 101 ∷ 97 ∷ 100 ∷ 95 ∷ 103 ∷ 101 ∷ 116 ∷ 32 ∷ 48 ∷ 59
-    ∷ 10 ∷ 116 ∷ 104 ∷ 114 ∷ 101 ∷ 97 ∷ 100 ∷ 95 ∷ 115 ∷ 101 ∷ 116 ∷ 32 ∷ 48 ∷ 59 ∷ 10 ∷ 10 ∷ []
+    ∷ 10 ∷ 116 ∷ 104 ∷ 114 ∷ 101 ∷ 97 ∷ 100 ∷ 95 ∷ 115 ∷ 101 ∷ 116 ∷ 32 ∷ 48 ∷ 59 ∷ 10 ∷ 10
+    ∷ 45 ∷ 45 ∷ 45 ∷ 45 ∷ 45 ∷ 45 ∷ 45 ∷ 45 ∷ 45 ∷ 45 ∷ 45 ∷ 45 ∷ 45 ∷ 45 ∷ 45 ∷ 45 ∷ 45 ∷ 45 ∷ 45 ∷ 45 ∷ 45 ∷ 45 ∷ 45 ∷ 45 ∷ []
 
-unfoldable pub wordStarts : List ℕ
-wordStarts =
-    0 ∷ 2 ∷ 2 ∷ 2 ∷ 6 ∷ 11 ∷ 16 ∷ 24 ∷ 32 ∷ 37 ∷ 45 ∷ 55 ∷ 65 ∷ 73 ∷ 85 ∷ 96 ∷ 107 ∷ 117 ∷ 132 ∷ 147 ∷ 161 ∷ 175 ∷ 184 ∷ 193 ∷ 202 ∷ 211 ∷ 220
-    ∷ 229 ∷ 238 ∷ 247 ∷ 255 ∷ 264 ∷ 276 ∷ 288 ∷ 300 ∷ 308 ∷ 316 ∷ 324 ∷ 332 ∷ 340 ∷ 348 ∷ 356 ∷ 364 ∷ 372 ∷ 380 ∷ 389 ∷ 398 ∷ 407 ∷ 416 ∷ 425
-    ∷ 434 ∷ 443 ∷ 452 ∷ 460 ∷ 469 ∷ 481 ∷ 493 ∷ 505 ∷ 513 ∷ 521 ∷ 529 ∷ 537 ∷ 545 ∷ 553 ∷ 561 ∷ 569 ∷ 577 ∷ 585 ∷ 595 ∷ 606 ∷ 617 ∷ 628 ∷ 640
-    ∷ 651 ∷ 663 ∷ 675 ∷ 684 ∷ 694 ∷ 704 ∷ 714 ∷ 724 ∷ 735 ∷ 746 ∷ 757 ∷ 774 ∷ 792 ∷ 808 ∷ 824 ∷ 829 ∷ 834 ∷ 839 ∷ 846 ∷ 860 ∷ 874 ∷ 875 ∷ []
+unfoldable pub wordPlaces : List ℕ
+wordPlaces =
+    2 ∷ 64 ∷ 64 ∷ 68 ∷ 197 ∷ 357 ∷ 520 ∷ 776 ∷ 1029 ∷ 1192 ∷ 1450 ∷ 1770 ∷ 2088 ∷ 2348 ∷ 2731 ∷ 3083 ∷ 3434 ∷ 3759 ∷ 4239 ∷ 4718 ∷ 5166 ∷ 5609 ∷ 5897
+    ∷ 6185 ∷ 6473 ∷ 6761 ∷ 7049 ∷ 7337 ∷ 7625 ∷ 7912 ∷ 8169 ∷ 8460 ∷ 8844 ∷ 9228 ∷ 9608 ∷ 9864 ∷ 10120 ∷ 10376 ∷ 10632 ∷ 10888 ∷ 11144 ∷ 11400 ∷ 11656
+    ∷ 11912 ∷ 12169 ∷ 12457 ∷ 12745 ∷ 13033 ∷ 13321 ∷ 13609 ∷ 13897 ∷ 14185 ∷ 14472 ∷ 14729 ∷ 15020 ∷ 15404 ∷ 15788 ∷ 16168 ∷ 16424 ∷ 16680 ∷ 16936
+    ∷ 17192 ∷ 17448 ∷ 17704 ∷ 17960 ∷ 18216 ∷ 18472 ∷ 18730 ∷ 19051 ∷ 19403 ∷ 19755 ∷ 20108 ∷ 20491 ∷ 20844 ∷ 21228 ∷ 21609 ∷ 21898 ∷ 22218 ∷ 22538
+    ∷ 22858 ∷ 23179 ∷ 23531 ∷ 23883 ∷ 24241 ∷ 24786 ∷ 25360 ∷ 25872 ∷ 26373 ∷ 26533 ∷ 26693 ∷ 26855 ∷ 27086 ∷ 27534 ∷ 27969 ∷ []
 
--- the word of kind k, where it starts at a
+-- the word of kind k, from its place p
 unfoldable fitsAt : ℕ → ℕ → Bool
-fitsAt k a =
-    leb 94 k || (leb a (getD wordStarts (suc k) 0) && (leb (getD wordStarts (suc k) 0) 875 && same (take (getD wordStarts (suc k) 0 - a) (drop a letters)) (word k)))
+fitsAt k p = leb (p / 32 + 24) 899 && (leb (p % 32) 24 && same (take (p % 32) (drop (p / 32) wordLetters)) (word k))
 
-pub record WordAt (k a e : ℕ) : Type 0 where
-  pub order : a ≤ e
-  pub room : e ≤ 875
-  pub is : take (e - a) (drop a letters) ≡ word k
+pub record WordAt (k p : ℕ) : Type 0 where
+  pub room : p / 32 + 24 ≤ 899
+  pub short : p % 32 ≤ 24
+  pub is : take (p % 32) (drop (p / 32) wordLetters) ≡ word k
 
-all-fit : every fitsAt 0 wordStarts ≡ true
-unfolding fitsAt wordStarts letters wordTable word ended bytes same
+all-fit : every fitsAt 0 wordPlaces ≡ true
+unfolding fitsAt wordPlaces wordLetters wordTable word ended bytes same
 all-fit = refl
 
-wide : length wordStarts ≡ 95
-unfolding wordStarts
-wide = refl
+pub letters-long : length wordLetters ≡ 899
+unfolding wordLetters
+letters-long = refl
+
+pub places-long : length wordPlaces ≡ 94
+unfolding wordPlaces
+places-long = refl
 
 -- the table's rule
-pub word-at : (k : ℕ) → k < 94 → WordAt k (getD wordStarts k 0) (getD wordStarts (k + 1) 0)
+word-at : (k : ℕ) → k < 94 → WordAt k (getD wordPlaces k 0)
 unfolding fitsAt
 word-at k h =
-    let n = add-one k in
-    let t = holds fitsAt wordStarts all-fit k (omega (arith, size)) in
-    let p = either (leb 94 k) _ t in
-    go p
-  where
-    size : length wordStarts ≡ 95
-    size = wide
+    let t = holds fitsAt wordPlaces all-fit k (omega (arith, places-long)) in
+    let p = both _ _ t in
+    let q = both _ _ (p .1) in
+    record { room = leb-true _ _ (p .0); short = leb-true _ _ (q .0); is = same-iff _ _ .0 (q .1) }
 
-    go : (leb 94 k ≡ true) ⊎ ((leb (getD wordStarts k 0) (getD wordStarts (suc k) 0) && (leb (getD wordStarts (suc k) 0) 875 && same (take (getD wordStarts (suc k) 0 - getD wordStarts k 0) (drop (getD wordStarts k 0) letters)) (word k))) ≡ true)
-        → WordAt k (getD wordStarts k 0) (getD wordStarts (k + 1) 0)
-    go (inl e) = absurd (omega (arith, leb-true 94 k e))
-    go (inr e) =
-        let p = both _ _ e in
-        let q = both _ _ (p .1) in
-        rw (add-one k) (record { order = leb-true _ _ (p .0); room = leb-true _ _ (q .0); is = same-iff _ _ .0 (q .1) })
+-- the tables that the code makes
+pub record Tables (letters places : List ℕ) : Type 0 where
+  pub letters-are : letters ≡ wordLetters
+  pub places-are : places ≡ wordPlaces
+
+-- the word of a kind by the tables
+pub record Word (letters : List ℕ) (k p : ℕ) : Type 0 where
+  pub room : p / 32 + 24 ≤ length letters
+  pub short : p % 32 ≤ 24
+  pub is : take (p % 32) (drop (p / 32) letters) ≡ word k
+
+module _ {letters places : List ℕ} (t : Tables letters places) where
+  pub kinds-known : length places ≡ 94
+  kinds-known = ap length (t .places-are) ∙ places-long
+
+  pub word-by : (k p : ℕ) → k < 94 → p ≡ getD places k 0 → Word letters k p
+  word-by k p h e =
+      let w = rw (← t .places-are, ← e) at (word-at k h) in
+      record { room = omega (arith, w .room, ap length (t .letters-are), letters-long); short = w .short; is = rw (t .letters-are) (w .is) }
+
+-- how many letters the word has
+pub word-size : (places : List ℕ) (k p : ℕ) → places ≡ wordPlaces → k < 94 → p ≡ getD places k 0 → length (word k) ≡ p % 32
+word-size places k p t h e =
+    let w = rw (← t, ← e) at (word-at k h) in
+    ap length (sym (w .is)) ∙ length-take-le (p % 32) (drop (p / 32) wordLetters) (simp length-drop (omega (arith, w .room, w .short, letters-long)))
+
+module _ {letters : List ℕ} {k p : ℕ} (w : Word letters k p) where
+  pub word-long : length (word k) ≡ p % 32
+  word-long = ap length (sym (w .is)) ∙ length-take-le (p % 32) (drop (p / 32) letters) (simp length-drop (omega (arith, w .room, w .short)))
+
+  -- m letters from the word's start on are stored, as many as the word has or more
+  pub word-wrote : (x y : List ℕ) (at end m : ℕ) → y ≡ sets x at (take m (drop (p / 32) letters)) → p % 32 ≤ m → m ≤ 24 → at + m ≤ end → end ≤ length x
+      → Wrote (word k) at end x y (at + p % 32)
+  word-wrote x y at end m e h g f i =
+      let size : length (take m (drop (p / 32) letters)) ≡ m = length-take-le m (drop (p / 32) letters) (simp length-drop (omega (arith, w .room))) in
+      let same : take (length (word k)) (take m (drop (p / 32) letters)) ≡ word k = rw (word-long, take-take (p % 32) m (drop (p / 32) letters) h) (w .is) in
+      rw (e, ← word-long)
+      (wrote-over (word k) (take m (drop (p / 32) letters)) x at end (omega (arith, size, word-long)) same (omega (arith, size)) i)

@@ -19,8 +19,8 @@ form-of-requires c κs = search needs
 
 put-operand-requires : tie.Need-put-operand-requires
 put-operand-requires c κs =
-    let entry = c .before .before .before .before .before .before .before .before .before .before in
-    (entry .pre .0, rw (c .form-of .ensures) (entry .pre .1 .0))
+    let entry = c .before .before .before .before .before .before .before .before .before .before .before .before in
+    (entry .pre .1 .0, rw (c .form-of .ensures) (entry .pre .1 .1 .0))
 
 put-end-requires : tie.Need-put-end-requires
 put-end-requires c κs = search needs
@@ -34,7 +34,7 @@ returns c =
     let after-put-operand = c .before .before .before .before .before .before in
     let after-form-of = after-put-operand .before in
     let after-put-word = after-form-of .before .before .before .before in
-    let entry = after-put-word .before .before .before .before .before .before in
+    let entry = after-put-word .before .before .before .before .before .before .before .before in
     then-put (after-put-word .put-word .ensures)
     (then-put
     (put-same

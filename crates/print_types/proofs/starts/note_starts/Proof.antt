@@ -11,7 +11,7 @@ use Rattle.print_types.proofs.starts.note_starts.Tie as tie
 use Rattle.names_spelling.proofs.name_end.Reads as name-end-reads
 
 abbrev Inv-loop : tie.InvT-loop
-Inv-loop names starts₀ at₀ i₀ starts at i = Noting names starts at i
+Inv-loop names starts₀ at₀ i₀ starts at i = Noting names (length starts₀) starts at i
 
 abbrev μ-loop : tie.MeasureT-loop
 μ-loop names starts₀ at₀ i₀ starts at i = length names - at
@@ -26,7 +26,7 @@ slice-write-starts : tie.Need-slice-write-starts Inv-loop μ-loop
 slice-write-starts c =
     let at-loop = c .before .before in
     let entry = at-loop .before .before .before in
-    omega (arith, noting-inside (entry .pre .0) (at-loop .loop .inv) (c .before .loop-test .taken), entry .pre .0 .few, at-loop .loop .inv .room)
+    omega (arith, noting-inside (entry .pre .0) (at-loop .loop .inv) (c .before .loop-test .taken), at-loop .loop .inv .room, at-loop .loop .inv .wide)
 
 name-end-requires : tie.Need-name-end-requires Inv-loop μ-loop
 name-end-requires c κs = search needs
