@@ -106,7 +106,7 @@ fn put_comment(
     put_params(text, name, params)
 }
 
-// Puts a line.
+// Puts a line that names something.
 fn put_line(
     text: &mut [u8],
     pen: Pen,
@@ -125,12 +125,9 @@ fn put_line(
     requires { ⌜ Starts (now names) (now starts) ⌝ }
     requires { ⌜ Typed (length (lines (now names))) 64 (now kinds) (now words) ⌝ }
     requires { ⌜ Ready (formOf kind) (lines (now names)) x ⌝ }
-    requires { ⌜ kind < 94 ⌝ }
+    requires { ⌜ kind < 7 ⌝ }
     ensures { λ r. ⌜ Put (printed (lines (now (names .entry))) (now (function .entry)) (typeBytes (lines (now (names .entry))) (typeTo (length (lines (now (names .entry)))) 64 (entries (now (kinds .entry)) (now (words .entry))))) params kind x) pen (now (text .entry)) (now (text .exit)) r ⌝ }
 {
-    if 21 <= kind {
-        return put_word(text, pen, letters, places, kind);
-    }
     if kind == 0 {
         return put_comment(text, pen, names, starts, function, kinds, words, params);
     }

@@ -62,19 +62,25 @@ same-length-2 c = search needs
 
 returns-2 : tie.Need-returns-2 Inv-loop μ-loop
 returns-2 c =
-    let at-loop = c .before .before .before .before .before .before .before in
+    let else1 = c .before .before .before .before .before in
+    let in-loop = else1 .before in
+    let at-loop = in-loop .before in
     let size = c .before .plain-len .ensures ∙ ap length (plain-printed _ _ _ _ _ _ (c .before .before .if2 .taken)) in
     putting-full
-    (putting-next (at-loop .loop .inv) _ _ (c .before .before .before .before .before .before .loop-test .taken) (c .before .before .before .before .before .if1 .left)
+    (putting-next (at-loop .loop .inv) _ _ (in-loop .loop-test .taken) (else1 .if1 .left)
     (count-full _ _ _ _ size (omega (arith, c .if3 .taken, at-loop .loop .inv .long, counted-inside (at-loop .loop .inv))))) refl
 
 add-n : tie.Need-add-n Inv-loop μ-loop
 add-n c =
-    omega (arith, c .if3 .left, counted-inside (c .before .before .before .before .before .before .before .loop .inv), c .before .before .before .before .before .before .before .before .before .before .before .before .before .before .before .before .before .before .good)
+    let at-loop = c .before .before .before .before .before .before .before in
+    let entry = at-loop .before .before .before .before .before .before .before .before .before .before .before in
+    omega (arith, c .if3 .left, counted-inside (at-loop .loop .inv), entry .good)
 
 add-i : tie.Need-add-i Inv-loop μ-loop
 add-i c =
-    omega (arith, c .before .before .before .before .before .before .loop-test .taken, c .before .before .before .before .before .before .before .before .before .before .before .before .before .before .before .before .before .before .good)
+    let in-loop = c .before .before .before .before .before .before in
+    let entry = in-loop .before .before .before .before .before .before .before .before .before .before .before .before in
+    omega (arith, in-loop .loop-test .taken, entry .good)
 
 loop-less : tie.Need-loop-less Inv-loop μ-loop
 loop-less c =
@@ -82,9 +88,11 @@ loop-less c =
 
 loop-again : tie.Need-loop-again Inv-loop μ-loop
 loop-again c =
-    let at-loop = c .before .before .before .before .before .before .before in
+    let else1 = c .before .before .before .before .before in
+    let in-loop = else1 .before in
+    let at-loop = in-loop .before in
     let size = c .before .plain-len .ensures ∙ ap length (plain-printed _ _ _ _ _ _ (c .before .before .if2 .taken)) in
-    putting-next (at-loop .loop .inv) _ _ (c .before .before .before .before .before .before .loop-test .taken) (c .before .before .before .before .before .if1 .left)
+    putting-next (at-loop .loop .inv) _ _ (in-loop .loop-test .taken) (else1 .if1 .left)
     (count-more _ _ _ _ size (omega (arith, c .if3 .left, at-loop .loop .inv .long, counted-inside (at-loop .loop .inv))))
 
 put-line-requires : tie.Need-put-line-requires Inv-loop μ-loop
@@ -92,7 +100,7 @@ put-line-requires c κs =
     let p = c .before .before .before .before .before .before .before .before .before .before .before .before .before .before .before .before .before .pre in
     let in-loop = c .before .before .before .before .before in
     let there = c .before .before .before .before .if1 .left in
-    (p .0, (p .1 .0, (p .1 .1 .0, (p .1 .1 .1 .names _ (in-loop .loop-test .taken) there, p .1 .1 .1 .known _ (in-loop .loop-test .taken) there))))
+    (p .0, (p .1 .0, (p .1 .1 .0, (p .1 .1 .1 .names _ (in-loop .loop-test .taken) there, c .before .if2 .left))))
 
 enum-known-next : tie.Need-enum-known-next Inv-loop μ-loop
 enum-known-next c = search needs
@@ -115,12 +123,18 @@ same-length-4 c = search needs
 
 returns-4 : tie.Need-returns-4 Inv-loop μ-loop
 returns-4 c =
-    putting-full (putting-next (c .before .before .before .before .before .before .before .before .before .before .before .loop .inv) _ _ (c .before .before .before .before .before .before .before .before .before .before .loop-test .taken) (c .before .before .before .before .before .before .before .before .before .if1 .left) (c .before .before .before .before .put-line .ensures))
+    let else1 = c .before .before .before .before .before .before .before .before .before in
+    let in-loop = else1 .before in
+    let at-loop = in-loop .before in
+    putting-full
+    (putting-next (at-loop .loop .inv) _ _ (in-loop .loop-test .taken) (else1 .if1 .left) (c .before .before .before .before .put-line .ensures))
     (c .enum-told2 .given .1)
 
 add-i-2 : tie.Need-add-i-2 Inv-loop μ-loop
 add-i-2 c =
-    omega (arith, c .before .before .before .before .before .before .before .before .before .before .before .loop-test .taken, c .before .before .before .before .before .before .before .before .before .before .before .before .before .before .before .before .before .before .before .before .before .before .before .good)
+    let in-loop = c .before .before .before .before .before .before .before .before .before .before .before in
+    let entry = in-loop .before .before .before .before .before .before .before .before .before .before .before .before in
+    omega (arith, in-loop .loop-test .taken, entry .good)
 
 loop-less-2 : tie.Need-loop-less-2 Inv-loop μ-loop
 loop-less-2 c =
@@ -128,8 +142,11 @@ loop-less-2 c =
 
 loop-again-2 : tie.Need-loop-again-2 Inv-loop μ-loop
 loop-again-2 c =
+    let else1 = c .before .before .before .before .before .before .before .before .before .before in
+    let in-loop = else1 .before in
+    let at-loop = in-loop .before in
     rw (c .before .next .given .1) at
-    (putting-next (c .before .before .before .before .before .before .before .before .before .before .before .before .loop .inv) _ _ (c .before .before .before .before .before .before .before .before .before .before .before .loop-test .taken) (c .before .before .before .before .before .before .before .before .before .before .if1 .left) (c .before .before .before .before .before .put-line .ensures))
+    (putting-next (at-loop .loop .inv) _ _ (in-loop .loop-test .taken) (else1 .if1 .left) (c .before .before .before .before .before .put-line .ensures))
 
 same-length-5 : tie.Need-same-length-5 Inv-loop μ-loop
 same-length-5 c = search needs

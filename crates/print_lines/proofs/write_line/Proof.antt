@@ -24,7 +24,7 @@ returns c =
 put-line-requires : tie.Need-put-line-requires
 put-line-requires c κs =
     let p = c .before .before .before .before .before .before .before .before .before .before .pre in
-    (p .0, (p .1 .0, (p .1 .1 .0, (p .1 .1 .1 .0, p .1 .1 .1 .1 .0))))
+    (p .0, (p .1 .0, (p .1 .1 .0, (p .1 .1 .1 .0, c .before .if1 .left))))
 
 enum-known-next : tie.Need-enum-known-next
 enum-known-next c = search needs

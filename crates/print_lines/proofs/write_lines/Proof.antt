@@ -63,7 +63,9 @@ write-line-requires c κs =
 
 add-i : tie.Need-add-i Inv-loop μ-loop
 add-i c =
-    omega (arith, c .before .before .before .before .before .before .before .loop-test .taken, c .before .before .before .before .before .before .before .before .before .before .before .before .before .before .before .before .before .before .before .good)
+    let in-loop = c .before .before .before .before .before .before .before in
+    let entry = in-loop .before .before .before .before .before .before .before .before .before .before .before .before in
+    omega (arith, in-loop .loop-test .taken, entry .good)
 
 loop-less : tie.Need-loop-less Inv-loop μ-loop
 loop-less c =
@@ -71,7 +73,10 @@ loop-less c =
 
 loop-again : tie.Need-loop-again Inv-loop μ-loop
 loop-again c =
-    written-next (c .before .before .before .before .before .before .before .before .loop .inv) _ _ (c .before .before .before .before .before .before .before .loop-test .taken) (c .before .before .before .before .before .before .if1 .left) (c .before .before .write-line .ensures)
+    let else1 = c .before .before .before .before .before .before in
+    let in-loop = else1 .before in
+    let at-loop = in-loop .before in
+    written-next (at-loop .loop .inv) _ _ (in-loop .loop-test .taken) (else1 .if1 .left) (c .before .before .write-line .ensures)
 
 same-length-2 : tie.Need-same-length-2 Inv-loop μ-loop
 same-length-2 c = search needs

@@ -54,7 +54,8 @@ same-length c = search needs
 
 returns : tie.Need-returns
 returns c =
-    passes-done (c .before .before .before .before .before .before .before .before .before .before .before .count-lines .ensures) _ _ (c .before .before .before .before .before .before .before .counted .given .1) (c .before .before .write-lines .ensures)
+    let after-counted = c .before .before .before .before .before .before .before in
+    passes-done (after-counted .before .before .before .before .count-lines .ensures) _ _ (after-counted .counted .given .1) (c .before .before .write-lines .ensures)
 
 same-length-2 : tie.Need-same-length-2
 same-length-2 c = search needs

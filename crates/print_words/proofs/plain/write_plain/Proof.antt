@@ -45,16 +45,23 @@ same-length-2 c = search needs
 
 returns-2 : tie.Need-returns-2
 returns-2 c =
-    let entry = c .before .before .before .before .before .before .before .before .before .before .before .before .before .before .before .before in
-    let w = c .before .before .before .before .before .before .before .before .before .before .before .write-word .ensures in
-    let d = c .before .before .before .before .before .before .put-decimal .ensures in
+    let after-number = c .before .before .before .before .before .before in
+    let else1 = after-number .before .before in
+    let after-word = else1 .before .before .before in
+    let entry = after-word .before .before .before .before .before in
+    let w = after-word .write-word .ensures in
+    let d = after-number .put-decimal .ensures in
     let e = c .before .before .write-end .ensures in
-    let size = plain-long (entry .args .kind) (entry .args .x) (c .before .before .before .before .before .before .before .before .if1 .left) in
+    let size = plain-long (entry .args .kind) (entry .args .x) (else1 .if1 .left) in
     let fits = entry .pre .1 .1 .0 in
     let inside = entry .pre .1 .1 .1 in
-    let number = wrote-sets {bs = decimal (entry .args .x)} {x = c .before .before .before .before .before .before .before .before .before .before .before .write-word .last .0} (entry .args .end) (d .0) (d .1) (omega (arith, w .place)) (omega (arith, w .long)) in
-    let last = wrote-sets {bs = ending (entry .args .kind)} {x = c .before .before .before .before .before .before .put-decimal .last .1 .0} (entry .args .end) (e .0) (e .1) (omega (arith, w .place, d .0, end-long (entry .args .kind))) (omega (arith, w .long, number .long)) in
-    wrote-same (plain-number _ _ (c .before .before .before .before .before .before .before .before .if1 .left)) (then-wrote w (then-wrote number last))
+    let number =
+    wrote-sets {bs = decimal (entry .args .x)} {x = after-word .write-word .last .0} (entry .args .end) (d .0) (d .1)
+    (omega (arith, w .place)) (omega (arith, w .long)) in
+    let last =
+    wrote-sets {bs = ending (entry .args .kind)} {x = after-number .put-decimal .last .1 .0} (entry .args .end) (e .0) (e .1)
+    (omega (arith, w .place, d .0, end-long (entry .args .kind))) (omega (arith, w .long, number .long)) in
+    wrote-same (plain-number _ _ (else1 .if1 .left)) (then-wrote w (then-wrote number last))
 
 pub write-plain-spec : {M : Type 1} → statement M
 write-plain-spec =
