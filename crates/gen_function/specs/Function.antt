@@ -105,7 +105,8 @@ unfolding when
 no-frame c f s ks os e = subst (λ (b : Bool). Puts (when b (prologue c)) s s ks os ks os) (sym (f .framed ∙ e)) (skip-puts s ks os)
 
 module _ (c : FnCtx) (f : Function) {total slots : ℕ} {m : ℕ} {bs : List Entry} {work : List ℕ} {s t u v w x y z : Reached} {k₀ o₀ k₁ o₁ k₂ o₂ k₃ o₃ k₄ o₄ k₅ o₅ k₆ o₆ : List ℕ} where
-  pub function-lines : {name : ℕ} → name ≡ f .name → name < 2 ^ 64 → total ≡ slots → Lined 0 name s t k₀ o₀ k₁ o₁ → Lined 1 name t u k₁ o₁ k₂ o₂ → Puts (when (ltb 65535 total) (refuse 8)) u v k₂ o₂ k₂ o₂
+  pub function-lines : {name : ℕ} → name ≡ f .name → name < 2 ^ 64 → total ≡ slots → Lined 0 name s t k₀ o₀ k₁ o₁ → Lined 1 name t u k₁ o₁ k₂ o₂
+      → Puts (when (ltb 65535 total) (refuse 8)) u v k₂ o₂ k₂ o₂
       → Puts (when (ltb 0 total) (line (Line.push0n total))) v w k₂ o₂ k₃ o₃ → Puts (when (c .hasFrame) (prologue c)) w x k₃ o₃ k₄ o₄ → Did (each (genBlock c) (f .blocks)) m bs c work x y k₄ o₄ k₅ o₅
       → Lined 93 0 y z k₅ o₅ k₆ o₆ → Did (genLines c f slots) m bs c work s z k₀ o₀ k₆ o₆
   unfolding genLines kindOf operandOf

@@ -63,7 +63,8 @@ module _ {bs : List ℕ} {m : ℕ} (bk bw : List ℕ) {work : List ℕ} (a : Gen
     prepare-refused e counter k ks os = go frame (d .says ns b en eb)
       where
         go : (p : Result Places) → PreparedAs p (codegenOf ns b) (b .function) m (entries bk bw) work′ r
-            → Answered (fitted (bind p (λ fr. genLines (contextOf (codegenOf ns b) (b .function) fr) (b .function) (totalSlots (codegenOf ns b) (b .function) fr) counter)) k) (Refused (r .size)) ks os ks os
+            → Answered (fitted (bind p (λ fr. genLines (contextOf (codegenOf ns b) (b .function) fr) (b .function) (totalSlots (codegenOf ns b) (b .function) fr) counter)) k)
+            (Refused (r .size)) ks os ks os
         go (ok fr) s = never e (s .going)
         go (err n) (i, j) = record { reply = ap Refused j; kinds = refl; operands = refl }
 

@@ -24,8 +24,8 @@ next-block-requires c κs = let entry = c .before .before .before .before .befor
 loop-holds : tie.Need-loop-holds Inv-loop μ-loop
 loop-holds c =
     let entry = c .before .before .before .before .before .before in
-    walk-start (entry .args .names) (entry .args .book-kinds .now) (entry .args .book-words .now) (entry .args .from) (entry .args .base) (entry .args .work .now) (entry .args .lines .now) (entry .args .operands .now)
-    (entry .args .s) (c .next-block .ensures)
+    walk-start (entry .args .names) (entry .args .book-kinds .now) (entry .args .book-words .now) (entry .args .from) (entry .args .base)
+    (entry .args .work .now) (entry .args .lines .now) (entry .args .operands .now) (entry .args .s) (c .next-block .ensures)
 
 gen-block-requires : tie.Need-gen-block-requires Inv-loop μ-loop
 gen-block-requires c κs =
@@ -39,7 +39,9 @@ add-next-block c =
     let in-loop = after-gen-block .before .before .before .before in
     let at-loop = in-loop .before in
     let entry = at-loop .before .before .before .before .before .before .before in
-    omega (arith, walk-end (entry .args .book-kinds .now) (entry .args .book-words .now) (at-loop .loop .inv) (in-loop .loop-test .taken) (after-gen-block .gen-block .ensures) (entry .pre), entry .good)
+    let there = walk-end (entry .args .book-kinds .now) (entry .args .book-words .now) (at-loop .loop .inv) (in-loop .loop-test .taken)
+    (after-gen-block .gen-block .ensures) (entry .pre) in
+    omega (arith, there, entry .good)
 
 next-block-requires-2 : tie.Need-next-block-requires-2 Inv-loop μ-loop
 next-block-requires-2 c κs =

@@ -42,7 +42,11 @@ enter-frame-requires c κs = search needs
 
 gen-blocks-requires : tie.Need-gen-blocks-requires
 gen-blocks-requires c κs =
-    let entry = c .before .before .before .before .before .before .before .before .before .before .before .before .before .before .before .before .before .before .before .before .before .before .before .before .before .before .before .before .before .before .before .before .before .before .before .before .before .before .before in
+    let after-enter-frame = c .before .before .before .before .before .before .before in
+    let after-push-slots = after-enter-frame .before .before .before .before .before .before .before in
+    let after-put2 = after-push-slots .before .before .before .before .before .before .before .before in
+    let after-put = after-put2 .before .before .before .before .before .before .before in
+    let entry = after-put .before .before .before .before .before .before .before .before .before .before in
     let a = entry .pre in
     record { ctx = a .ctx; maps = a .maps; based = (a .framed .slots, a .framed .framed); blocks = a .fn .blocks; listed = a .here .blocks }
 
@@ -90,7 +94,8 @@ returns c =
     let entry = name-known .before .before .before .before .before .before in
     let total = after-total .total-slots .result in
     λ k f here framed maps.
-    function-lines k f (name-is (entry .args .book-kinds .now) (entry .args .book-words .now) (entry .args .head) here) (omega (arith, name-known .shared-slice-known3 .given (entry .args .head .at))) (after-total .total-slots .ensures)
+    function-lines k f (name-is (entry .args .book-kinds .now) (entry .args .book-words .now) (entry .args .head) here) (omega (arith, name-known .shared-slice-known3 .given (entry .args .head .at)))
+    (after-total .total-slots .ensures)
     (after-put .put .ensures) (after-put2 .put2 .ensures) (slots-limit total _ _ refl (after-need .need .ensures)) (after-push-slots .push-slots .ensures)
     (after-enter-frame .enter-frame .ensures k framed) (after-gen-blocks .gen-blocks .ensures k (f .blocks) (here .blocks) (framed .slots, framed .framed) maps) (after-put3 .put3 .ensures)
 

@@ -21,7 +21,8 @@ returns c =
     let after-prepare = c .before .before .before in
     let entry = after-prepare .before .before .before .before .before .before .before .before in
     λ ns b en eb.
-    prepare-refused (entry .args .book-kinds .now) (entry .args .book-words .now) (entry .pre) (after-prepare .prepare .ensures) ns b en eb (c .if1 .taken) (entry .args .counter) _ (entry .args .lines .now) (entry .args .operands .now)
+    prepare-refused (entry .args .book-kinds .now) (entry .args .book-words .now) (entry .pre) (after-prepare .prepare .ensures) ns b en eb (c .if1 .taken)
+    (entry .args .counter) _ (entry .args .lines .now) (entry .args .operands .now)
 
 passes-requires : tie.Need-passes-requires
 passes-requires c κs =
@@ -48,7 +49,8 @@ returns-2 c =
     λ ns b en eb.
     let x = context (entry .args .book-kinds .now) (entry .args .book-words .now) (entry .pre) d ns b en eb (else1 .if1 .left) in
     passes-answer (entry .args .book-kinds .now) (entry .args .book-words .now) (entry .pre) d ns b en eb (else1 .if1 .left) (entry .args .counter) _ _ _ _ _ _
-    (after-passes .passes .ensures (contextOf (codegenOf ns b) (b .function) (x .places)) (b .function) (here-own (entry .args .book-kinds .now) (entry .args .book-words .now) (entry .pre) d ns b en eb)
+    (after-passes .passes .ensures (contextOf (codegenOf ns b) (b .function) (x .places)) (b .function)
+    (here-own (entry .args .book-kinds .now) (entry .args .book-words .now) (entry .pre) d ns b en eb)
     (context-framed (entry .args .book-kinds .now) (entry .args .book-words .now) (entry .pre) d ns b en eb (else1 .if1 .left)) (x .set .maps))
 
 pub generate-spec : {M : Type 1} → statement M

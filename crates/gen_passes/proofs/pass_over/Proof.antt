@@ -31,8 +31,8 @@ returns c =
     λ k f here framed maps.
     let first = after-gen-function .gen-function .ensures k f here framed maps in
     pass-refused (genLines k f (slotsOf (entry .args .head))) (entry .args .counter)
-    (record { puts = first .puts; small = omega (arith, entry .good); few-kinds = omega (arith, entry .good); few-operands = omega (arith, entry .good) }) (entry .args .lines .now) (entry .args .operands .now)
-    (omega (arith, entry .good)) (c .if1 .taken)
+    (record { puts = first .puts; small = omega (arith, entry .good); few-kinds = omega (arith, entry .good); few-operands = omega (arith, entry .good) })
+    (entry .args .lines .now) (entry .args .operands .now) (omega (arith, entry .good)) (c .if1 .taken)
 
 same-length-4 : tie.Need-same-length-4
 same-length-4 c = search needs
@@ -50,8 +50,8 @@ returns-2 c =
     λ k f here framed maps.
     let first = after-gen-function .gen-function .ensures k f here framed maps in
     pass-short (genLines k f (slotsOf (entry .args .head))) (entry .args .counter)
-    (record { puts = first .puts; small = omega (arith, entry .good); few-kinds = omega (arith, entry .good); few-operands = omega (arith, entry .good) }) (entry .args .lines .now) (entry .args .operands .now)
-    (omega (arith, entry .good)) (c .before .if1 .left) (omega (arith, c .if2 .taken))
+    (record { puts = first .puts; small = omega (arith, entry .good); few-kinds = omega (arith, entry .good); few-operands = omega (arith, entry .good) })
+    (entry .args .lines .now) (entry .args .operands .now) (omega (arith, entry .good)) (c .before .if1 .left) (omega (arith, c .if2 .taken))
 
 same-length-7 : tie.Need-same-length-7
 same-length-7 c = search needs
@@ -69,8 +69,8 @@ returns-3 c =
     λ k f here framed maps.
     let first = after-gen-function .gen-function .ensures k f here framed maps in
     pass-short (genLines k f (slotsOf (entry .args .head))) (entry .args .counter)
-    (record { puts = first .puts; small = omega (arith, entry .good); few-kinds = omega (arith, entry .good); few-operands = omega (arith, entry .good) }) (entry .args .lines .now) (entry .args .operands .now)
-    (omega (arith, entry .good)) (c .before .before .if1 .left) (omega (arith, c .if3 .taken))
+    (record { puts = first .puts; small = omega (arith, entry .good); few-kinds = omega (arith, entry .good); few-operands = omega (arith, entry .good) })
+    (entry .args .lines .now) (entry .args .operands .now) (omega (arith, entry .good)) (c .before .before .if1 .left) (omega (arith, c .if3 .taken))
 
 copy-kinds-requires : tie.Need-copy-kinds-requires
 copy-kinds-requires c κs = search needs
@@ -103,8 +103,9 @@ returns-4 c =
     λ k f here framed maps.
     let first = after-gen-function .gen-function .ensures k f here framed maps in
     pass-copied (genLines k f (slotsOf (entry .args .head))) (entry .args .counter)
-    (record { puts = first .puts; small = omega (arith, entry .good); few-kinds = omega (arith, entry .good); few-operands = omega (arith, entry .good) }) (entry .args .lines .now) (entry .args .operands .now)
-    (omega (arith, entry .good)) (then4 .before .before .before .if1 .left) (omega (arith, then4 .before .if3 .left, then4 .before .before .if2 .left))
+    (record { puts = first .puts; small = omega (arith, entry .good); few-kinds = omega (arith, entry .good); few-operands = omega (arith, entry .good) })
+    (entry .args .lines .now) (entry .args .operands .now) (omega (arith, entry .good))
+    (then4 .before .before .before .if1 .left) (omega (arith, then4 .before .if3 .left, then4 .before .before .if2 .left))
     (omega (arith, then4 .if4 .taken, first .puts .long-kinds)) (entry .pre .1) _ _ (after-copy-kinds .copy-kinds .ensures) (after-copy-operands .copy-operands .ensures)
 
 gen-function-requires-2 : tie.Need-gen-function-requires-2
@@ -140,8 +141,9 @@ returns-5 c =
     let first = after-gen-function .gen-function .ensures k f here framed maps in
     let second = after-gen-function2 .gen-function2 .ensures k f here framed (first .maps) in
     pass-written (genLines k f (slotsOf (entry .args .head))) (entry .args .counter)
-    (record { puts = first .puts; small = omega (arith, entry .good); few-kinds = omega (arith, entry .good); few-operands = omega (arith, entry .good) }) (entry .args .lines .now) (entry .args .operands .now)
-    (omega (arith, entry .good)) (else4 .before .before .before .if1 .left) (omega (arith, else4 .before .if3 .left, else4 .before .before .if2 .left))
+    (record { puts = first .puts; small = omega (arith, entry .good); few-kinds = omega (arith, entry .good); few-operands = omega (arith, entry .good) })
+    (entry .args .lines .now) (entry .args .operands .now) (omega (arith, entry .good))
+    (else4 .before .before .before .if1 .left) (omega (arith, else4 .before .if3 .left, else4 .before .before .if2 .left))
     (record { puts = second .puts; small = omega (arith, entry .good); few-kinds = omega (arith, entry .good); few-operands = omega (arith, entry .good) })
 
 pub pass-over-spec : {M : Type 1} → statement M
