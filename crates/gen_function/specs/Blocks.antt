@@ -10,7 +10,6 @@ use Rattle.book.specs.Entry.{Entry, entry, entries}
 use Rattle.book.specs.Fields.{termFields, termTagOf, termArgs}
 use Rattle.book.specs.Encode.{ending, closed, encInst, encTerm, encFields, encBasicBlock}
 use Rattle.book.specs.Limits.{Each, BlockLimits}
-use Rattle.book_types.specs.Laws.{length-entries}
 use Rattle.lowering.specs.Gen.{each}
 use Rattle.lowering.specs.Fits.{items-within}
 use Rattle.lowering.specs.Context.{FnCtx}

@@ -3,17 +3,15 @@ use Prim.Native.Nat.{ℕ, _+_, _<_, _≤_, _%_, _^_}
 use mathlib.Core.Path.{_≡_, refl, sym, ap, subst, _∙_}
 use mathlib.Core.Bool.{Bool, true, false, cond}
 use mathlib.Core.List.{List}
-use native.Mathlib.Omega.{arith}
 use lib.ListN.{length, drop, getD}
 use lib.Dec.{leb, ltb}
 use borrow.Author.Tests.{ltb-true, ltb-false, lt-ltb, le-ltb, le-leb, lt-leb}
 use Rattle.book.specs.Ast.{BinOp, Function}
-use Rattle.book.specs.Kinds.{instKind}
 use Rattle.book.specs.Entry.{Entry, entries}
 use Rattle.book.specs.Encode.{encFunction}
 use Rattle.assembly.specs.Line.{Line, Work}
 use Rattle.assembly.specs.Number.{kindOf, operandOf, operation, binNumber}
-use Rattle.lowering.specs.Gen.{Gen, line, refuse, skip, when, each, _>>_}
+use Rattle.lowering.specs.Gen.{line, refuse, skip, when, each}
 use Rattle.lowering.specs.Context.{FnCtx}
 use Rattle.lowering.specs.Operand.{add64}
 use Rattle.lowering.specs.Function.{prologue, genBlock, genLines}

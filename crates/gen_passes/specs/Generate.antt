@@ -1,31 +1,30 @@
 -- From the entries of a sound book to its function's lines.
-use Prim.Native.Nat.{ℕ, _+_, _<_, _≤_, _^_, min}
+use Prim.Native.Nat.{ℕ, _+_}
 use mathlib.Core.Path.{_≡_, refl, sym, ap, subst, _∙_}
 use mathlib.Core.Bool.{Bool, true, false, cond}
 use mathlib.Core.Option.{some}
 use mathlib.Core.List.{List}
 use native.Mathlib.Omega.{arith}
-use lib.ListN.{length, drop}
+use lib.ListN.{length}
 use Rattle.names.specs.Name.{namesOf}
 use Rattle.names.specs.Lines.{accepted-iff}
 use Rattle.book.specs.Ast.{Book, Function}
-use Rattle.book.specs.Entry.{Entry, entries}
+use Rattle.book.specs.Entry.{entries}
 use Rattle.book.specs.Decode.{decode}
 use Rattle.book.specs.Result.{Result, ok, err, bind}
 use Rattle.book.specs.Shape.{allInsts}
 use Rattle.book_types.specs.Laws.{length-entries}
 use Rattle.layout.specs.Frame.{Places, framePass, noFrame, framed}
 use Rattle.lowering.specs.Gen.{Out, _>>=_}
-use Rattle.lowering.specs.Context.{FnCtx, Codegen, codegenOf}
-use Rattle.lowering.specs.Function.{genLines, contextOf, totalSlots, slotsOf, genFunction}
+use Rattle.lowering.specs.Context.{codegenOf}
+use Rattle.lowering.specs.Function.{genLines, contextOf, totalSlots, genFunction}
 use Rattle.gen_blocks.specs.Function.{functionIn, function-is}
 use Rattle.gen_prepare.specs.declared.Prepared.{Prepared}
 use Rattle.gen_prepare.specs.Prepare.{PrepareAsk, PrepareDone, PreparedAs, SetUp}
-use Rattle.gen_function.specs.Blocks.{Listed}
 use Rattle.gen_function.specs.Function.{FunctionHere, FunctionAsk, Framed, slotsOf as headSlots}
 use Rattle.gen_passes.specs.Passes.{fitted, Answered, never}
 use Rattle.gen_passes.specs.declared.Translation.{Translation}
-use Rattle.gen_passes.specs.declared.Translation.the-variants.{Accepted, Refused}
+use Rattle.gen_passes.specs.declared.Translation.the-variants.{Refused}
 
 pub record GenerateAsk (bs : List ℕ) (m : ℕ) (bk bw work : List ℕ) : Type 0 where
   pub ask : PrepareAsk bs m (entries bk bw) work

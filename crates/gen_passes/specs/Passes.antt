@@ -1,6 +1,6 @@
 -- A pass that counts and one that writes: together they answer as the definition does.
 use Prim.Native.Nat.{ℕ, _+_, _<_, _≤_, _%_, _^_, min}
-use mathlib.Core.Path.{_≡_, refl, sym, ap, subst, _∙_}
+use mathlib.Core.Path.{_≡_, refl, sym, ap, _∙_}
 use mathlib.Core.Bool.{Bool, true, false, not}
 use mathlib.Core.List.{List, _++_, map}
 use native.Mathlib.Omega.{arith}
@@ -10,7 +10,6 @@ use lib.Seq.{sets, sets-eq}
 use lib.Dec.{leb}
 use borrow.Author.Tests.{eq-eqb, ne-eqb, le-leb, lt-leb}
 use Rattle.book.specs.Result.{Result, ok, err, bind, given}
-use Rattle.assembly.specs.Line.{Line}
 use Rattle.assembly.specs.Number.{kindOf}
 use Rattle.lowering.specs.Gen.{Gen, Out}
 use Rattle.lowering.specs.Printable.{take-over}

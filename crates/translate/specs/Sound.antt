@@ -1,22 +1,20 @@
 -- What the check's answer says of a call: one of the first four refusals, or a sound book with its entries, names and work words.
-use Prim.Native.Nat.{ℕ, _+_, _-_, _*_, _<_, _≤_, _^_, min}
+use Prim.Native.Nat.{ℕ, _+_, _-_, _*_, _≤_, _^_}
 use mathlib.Core.Path.{_≡_, refl, sym, ap, subst, _∙_}
 use mathlib.Core.Bool.{Bool, true, false, not}
 use mathlib.Core.Option.{Option, none, some}
 use mathlib.Core.List.{List, []}
 use native.Mathlib.Omega.{arith}
 use borrow.Author.Tests.{leb-true}
-use lib.ListN.{length, getD, take, drop, replicate, length-take, length-drop}
+use lib.ListN.{length, getD, take, drop, length-take, length-drop}
 use lib.Dec.{leb}
 use Rattle.names.specs.Name.{namesOf, counts, accepted}
 use Rattle.names.specs.Lines.{accepted-iff}
-use Rattle.book.specs.Ast.{Book}
-use Rattle.book.specs.Entry.{Entry, entries}
+use Rattle.book.specs.Entry.{entries}
 use Rattle.book.specs.Rule.{pick}
 use Rattle.book.specs.Decode.{decode}
 use Rattle.book.specs.Encode.{encode}
 use Rattle.book.specs.AgreeBook.{decode-complete}
-use Rattle.book.specs.AgreeInput.{slice-sound}
 use Rattle.book.specs.Forbidden.{forbidden}
 use Rattle.book.specs.Input.{Counted, bookIn, namesIn}
 use Rattle.book.specs.Result.{Result, ok, err, bind, okOr, given, require, bind-ok, given-ok}

@@ -1,13 +1,12 @@
 -- Demand 3 of the code that runs: the lines that an accepted call of `translate::translate` leaves in its slices run as the function does by the manual.
-use Prim.Native.Nat.{ℕ, _<_, _≤_, _^_, min}
-use mathlib.Core.Path.{_≡_, refl, sym, ap, subst, _∙_}
+use Prim.Native.Nat.{ℕ, _<_, _^_, min}
+use mathlib.Core.Path.{_≡_, refl, ap, _∙_}
 use mathlib.Core.Bool.{true}
-use mathlib.Core.Option.{Option, some}
+use mathlib.Core.Option.{some}
 use mathlib.Core.List.{List, map}
 use native.Mathlib.Omega.{arith}
-use borrow.Author.Tests.{leb-true}
 use lib.ListN.{length, take}
-use Rattle.book.specs.Ast.{Book, Function}
+use Rattle.book.specs.Ast.{Function}
 use Rattle.book.specs.Result.{Result, ok, err, bind-ok, given-ok}
 use Rattle.book.specs.Check.{Sound, checked}
 use Rattle.assembly.specs.Line.{Line}
