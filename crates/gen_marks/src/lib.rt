@@ -22,7 +22,7 @@ struct Scanned {
     overflow: bool,
 }
 
-// The name at the place, passed once.
+// The name at the place, passed once. Most bytes come behind the dot, and so behind the byte that ends a name.
 fn scan_name(names: &[u8], at: usize) -> Scanned
     ensures { λ r. ⌜ ScannedAs (now (names .entry)) at (r .end) (r .overflow) ⌝ }
 {
@@ -30,6 +30,10 @@ fn scan_name(names: &[u8], at: usize) -> Scanned
     let mut overflow = false;
     while i < names.len() {
         let b = names[i];
+        if b'.' < b {
+            i += 1;
+            continue;
+        }
         if b == END {
             return Scanned { end: i, overflow };
         }
