@@ -1,6 +1,7 @@
-//! Times of the proved translator and printer beside the published Rust's `gen_function` and std's formatting of the same
+//! Times of the proved translator and printer beside the published Rust's `gen_function` and Rust's formatting of the same
 //! lines, on random accepted books by size; and their times on shapes that a careless translator is slow on.
 use crate::book::{Book, Lent};
+use crate::check::{check, Verdict};
 use crate::clock::best;
 use crate::expect::{expected_of, Expected};
 use crate::lines::{self, Lines, Printer};
@@ -17,10 +18,13 @@ mod hostile;
 
 pub use hostile::shapes;
 
-/// The best of so many passes counts.
-const PASSES: usize = 9;
+/// The best of so many runs counts.
+const RUNS: usize = 9;
 
-/// A book with all that a pass needs, made before.
+/// A run upon one book is so many calls, one behind the other.
+const CALLS: u32 = 20;
+
+/// A book with all that a run needs, made before.
 struct Subject {
     lent: Lent,
     book: Book,
@@ -37,23 +41,51 @@ struct Class {
     copies: usize,
 }
 
-const CLASSES: [Class; 3] = [
+const CLASSES: [Class; 4] = [
     Class { name: "small", entries: 10..80, books: 400, copies: 1 },
     Class { name: "middle", entries: 150..500, books: 200, copies: 1 },
     Class { name: "large", entries: 150..500, books: 12, copies: 60 },
+    Class { name: "any", entries: 0..u64::MAX, books: 1000, copies: 1 },
 ];
 
+/// How the books of a class are met.
+#[derive(Clone, Copy)]
+enum Meeting {
+    /// The best run upon each book, all books added.
+    Again,
+    /// The best pass over all books, each met once in it.
+    Anew,
+}
+
 pub fn bench(seed: u64) -> Result<(), String> {
-    println!("ns an entry; the Rust's gen_function makes the text too; std formats the same lines");
-    println!(
-        "{:<8}{:>6}{:>9}{:>9}{:>8}{:>10}{:>8}{:>8}{:>14}{:>8}{:>16}{:>12}{:>11}",
-        "", "books", "entries", "lines", "check", "translate", "print", "both", "gen_function", "std",
-        "gen/translate", "gen/both", "std/print",
-    );
-    for class in &CLASSES {
-        row(class, &subjects(class, seed)?)?;
+    let classes: Vec<(&Class, Vec<Subject>)> =
+        CLASSES.iter().map(|class| Ok((class, subjects(class, seed)?))).collect::<Result<_, String>>()?;
+    println!("ns an entry; the Rust's gen_function makes the text too; format! and write! make the text of the same lines");
+    for (meeting, how) in [
+        (Meeting::Again, format!("each book by itself: the best of {RUNS} runs of {CALLS} calls")),
+        (Meeting::Anew, format!("each book anew: the best of {RUNS} passes over all of them")),
+    ] {
+        println!("\n{how}");
+        println!(
+            "{:<8}{:>6}{:>9}{:>9}{:>7}{:>10}{:>7}{:>7}{:>13}{:>8}{:>7}{:>15}{:>10}{:>15}{:>14}",
+            "", "books", "entries", "lines", "check", "translate", "print", "both", "gen_function", "format!", "write!",
+            "gen/translate", "gen/both", "format!/print", "write!/print",
+        );
+        for (class, subjects) in &classes {
+            row(class, subjects, meeting)?;
+        }
     }
     hostile::table()
+}
+
+/// The time that the Rust's `gen_function` takes for a sound book, in nanoseconds: the best of three calls, of one if it is long.
+pub fn rust_time(lent: &Lent) -> Result<u128, String> {
+    let Verdict::Sound(book) = check(lent) else { return Err("the book is not sound".to_string()) };
+    let module = oracle::module(&book);
+    let call = || black_box(access::gen_function(&module, &book.function, 0)).is_ok();
+    let (_, first) = best(1, call);
+    let least = if first < Duration::from_secs(1) { best(2, call).1.min(first) } else { first };
+    Ok(least.as_nanos())
 }
 
 /// The first accepted books of a class.
@@ -80,9 +112,12 @@ fn subjects(class: &Class, seed: u64) -> Result<Vec<Subject>, String> {
     Ok(found)
 }
 
-/// The least time of a pass over all subjects.
-fn least(subjects: &[Subject], mut each: impl FnMut(&Subject)) -> Duration {
-    best(PASSES, || subjects.iter().for_each(&mut each)).1
+/// The least time of a call upon all subjects, added.
+fn least<S>(subjects: &[S], meeting: Meeting, mut each: impl FnMut(&S)) -> Duration {
+    match meeting {
+        Meeting::Again => subjects.iter().map(|subject| best(RUNS, || (0..CALLS).for_each(|_| each(subject))).1 / CALLS).sum(),
+        Meeting::Anew => best(RUNS, || subjects.iter().for_each(&mut each)).1,
+    }
 }
 
 /// Slices as long as the longest of the subjects needs.
@@ -104,7 +139,7 @@ impl Slices {
     }
 }
 
-fn row(class: &Class, subjects: &[Subject]) -> Result<(), String> {
+fn row(class: &Class, subjects: &[Subject], meeting: Meeting) -> Result<(), String> {
     let most = |of: fn(&Subject) -> usize| subjects.iter().map(of).max().unwrap_or(0);
     let lines = most(|subject| subject.lines.kinds.len());
     let mut slices = Slices {
@@ -113,18 +148,18 @@ fn row(class: &Class, subjects: &[Subject]) -> Result<(), String> {
         operands: vec![0; lines],
         text: vec![0; most(|subject| subject.text)],
     };
-    let checked = least(subjects, |subject| {
+    let checked = least(subjects, meeting, |subject| {
         black_box(proved::check(&subject.lent));
     });
-    let translated = least(subjects, |subject| {
+    let translated = least(subjects, meeting, |subject| {
         black_box(slices.translate(&subject.lent));
     });
-    let printed = least(subjects, |subject| {
+    let printed = least(subjects, meeting, |subject| {
         let Lines { kinds, operands } = &subject.lines;
         black_box(proved::print(&subject.lent.slices.book, &subject.lent.slices.names, kinds, operands, &mut slices.text));
     });
     let mut wrong = None;
-    let both = least(subjects, |subject| {
+    let both = least(subjects, meeting, |subject| {
         let reply = slices.translate(&subject.lent);
         let printed = slices.print(&subject.lent, reply.lines.min(lines as u64) as usize);
         if reply.refusal != 0 || printed != (0, subject.text as u64) {
@@ -134,24 +169,26 @@ fn row(class: &Class, subjects: &[Subject]) -> Result<(), String> {
     if let Some(wrong) = wrong {
         return Err(wrong);
     }
-    let generated = least(subjects, |subject| {
+    let generated = least(subjects, meeting, |subject| {
         let _ = black_box(access::gen_function(&subject.module, &subject.book.function, 0));
     });
-    let printers: Vec<Printer> = subjects.iter().map(|subject| Printer::of_book(&subject.book)).collect();
-    let mut place = 0;
-    let formatted = least(subjects, |subject| {
-        let Lines { kinds, operands } = &subject.lines;
-        black_box(printers[place % printers.len()].text(kinds, operands));
-        place += 1;
+    let printers: Vec<(Printer, &Lines)> =
+        subjects.iter().map(|subject| (Printer::of_book(&subject.book), &subject.lines)).collect();
+    let formatted = least(&printers, meeting, |(printer, lines)| {
+        black_box(printer.strings(&lines.kinds, &lines.operands));
+    });
+    let written = least(&printers, meeting, |(printer, lines)| {
+        black_box(printer.text(&lines.kinds, &lines.operands));
     });
     let sum = |of: fn(&Subject) -> usize| subjects.iter().map(of).sum::<usize>();
     let (entries, lines) = (sum(|subject| subject.lent.slices.book[0] as usize), sum(|subject| subject.lines.kinds.len()));
     let each = |time: Duration| time.as_nanos() as f64 / entries as f64;
     let ratio = |one: Duration, two: Duration| one.as_secs_f64() / two.as_secs_f64();
     println!(
-        "{:<8}{:>6}{entries:>9}{lines:>9}{:>8.1}{:>10.1}{:>8.1}{:>8.1}{:>14.1}{:>8.1}{:>16.1}{:>12.1}{:>11.1}",
+        "{:<8}{:>6}{entries:>9}{lines:>9}{:>7.1}{:>10.1}{:>7.1}{:>7.1}{:>13.1}{:>8.1}{:>7.1}{:>15.1}{:>10.1}{:>15.1}{:>14.1}",
         class.name, subjects.len(), each(checked), each(translated), each(printed), each(both), each(generated),
-        each(formatted), ratio(generated, translated), ratio(generated, both), ratio(formatted, printed),
+        each(formatted), each(written), ratio(generated, translated), ratio(generated, both), ratio(formatted, printed),
+        ratio(written, printed),
     );
     Ok(())
 }

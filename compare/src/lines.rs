@@ -98,6 +98,40 @@ impl<'a> Printer<'a> {
         Some(())
     }
 
+    /// One line as codegen.rs makes it: a string by itself, each name cleaned where it stands.
+    fn string(&self, line: u16, x: u64) -> Option<String> {
+        let name = |x: u64| self.names.get(usize::try_from(x).ok()?).map(|name| sanitize(name));
+        let own = || sanitize(&self.names[self.function as usize]);
+        let hint = |line: u16| HINTS[(line as usize - 13) % 4];
+        Some(match line {
+            0 => self.comment.clone(),
+            1 => format!("{}:", name(x)?),
+            2 => format!("{}__{}:", own(), name(x)?),
+            3 => format!("jmp {}__{};", own(), name(x)?),
+            4 => format!("push {};", name(x)?),
+            5 => format!("call {}, {};", name(x / 256)?, x % 256),
+            6 => format!("syscall {};", self.names.get(usize::try_from(x).ok()?)?.strip_prefix(SYSCALL)?),
+            7 => format!("push_0n {x};"),
+            8 => format!("push {x};"),
+            9 => format!("get_arg {x};"),
+            10 => format!("get_local {x};"),
+            11 => format!("set_local {x};"),
+            12 => format!("call_fp {x};"),
+            13..=16 => format!("__{}_{x}:", hint(line)),
+            17..=20 => format!("{} __{}_{x};", JUMPS[line as usize - 17], hint(line)),
+            21..=43 => format!("{}32;", BINARY[line as usize - 21]),
+            44..=66 => format!("{}64;", BINARY[line as usize - 44]),
+            67..=92 => format!("{};", PLAIN[line as usize - 67]),
+            93 => String::new(),
+            _ => return None,
+        })
+    }
+
+    /// All lines so, in a list, as `gen_function` leaves them.
+    pub fn strings(&self, kinds: &[u16], operands: &[u64]) -> Option<Vec<String>> {
+        kinds.iter().zip(operands).map(|(&line, &x)| self.string(line, x)).collect()
+    }
+
     /// All lines; none where one of them is no line.
     pub fn text(&self, kinds: &[u16], operands: &[u64]) -> Option<String> {
         let mut out = String::with_capacity(16 * kinds.len());

@@ -77,6 +77,7 @@ const USAGE: &str = "usage:
                                      books, damaged copies, faulty statements and books at the limits; built in as above
   compare translator shapes          the same of the shapes that `compare bench` times
   compare bench [SEED]               times of the proved translator and printer beside the Rust's; built in as above
+  compare time < BOOK                the nanoseconds that the Rust's `gen_function` takes for a book; built in as above
   compare stack                      the stack that the proved check, translator and printer need; built in as above
   compare test                       tests of this program";
 
@@ -146,11 +147,17 @@ fn run(args: &[&str]) -> Result<(), String> {
         #[cfg(translating)]
         ["bench", seed] => bench::bench(number(seed)?),
         #[cfg(translating)]
+        ["time"] => {
+            let slices = Slices::from_file(&read_input()?).ok_or("no book and names")?;
+            println!("{}", bench::rust_time(&Lent { slices, counter: 0, work: usize::MAX })?);
+            Ok(())
+        }
+        #[cfg(translating)]
         ["stack"] => stack::least(),
         #[cfg(translating)]
         ["stack", size] => stack::within(number(size)?),
         #[cfg(not(translating))]
-        ["translator" | "bench" | "stack", ..] => Err("built without the proved translator: see README.md".to_string()),
+        ["translator" | "bench" | "time" | "stack", ..] => Err("built without the proved translator: see README.md".to_string()),
         #[cfg(not(proved))]
         ["checking" | "printing", ..] => Err("built without the static library of the crate `exports`: see README.md".to_string()),
         ["test"] => cases::test(),

@@ -4,6 +4,9 @@ use crate::check::{work_needed, MOST_ENTRIES, MOST_NAMES};
 use crate::clock::best;
 use crate::large::{self, arrays, function, nested, unreachable, Entries, Large};
 use crate::proved;
+use std::io::{Read, Write};
+use std::process::{Command, Stdio};
+use std::time::{Duration, Instant};
 
 const NAMES: usize = MOST_NAMES as usize;
 const ENTRIES: usize = MOST_ENTRIES as usize;
@@ -23,9 +26,15 @@ const BYTES: usize = 16;
 /// The best of so many calls.
 const CALLS: usize = 3;
 
+/// The Rust is waited for so long: on some shapes it would take years.
+const PATIENCE: Duration = Duration::from_secs(10);
+
 pub fn table() -> Result<(), String> {
-    println!("\nns for each entry, name, line and {BYTES} bytes of names or text, the best of {CALLS} calls");
-    println!("{:>9}{:>8}{:>9}{:>8}{:>8}{:>11}{:>8}", "entries", "names", "lines", "answer", "check", "translate", "print");
+    println!("\nns for each entry, name, line and {BYTES} bytes of names or text, the best of {CALLS} calls; then ms of a whole call");
+    println!(
+        "{:>9}{:>8}{:>9}{:>8}{:>8}{:>11}{:>8}{:>14}{:>17}",
+        "entries", "names", "lines", "answer", "check", "translate", "print", "translate ms", "gen_function ms",
+    );
     let sound = large::books().into_iter().filter(|large| large.answer == 0);
     shapes().into_iter().chain(sound).for_each(|large| row(&large));
     Ok(())
@@ -63,9 +72,41 @@ fn row(large: &Large) {
     } else {
         String::new()
     };
+    let whole = translated / 1e6;
     let (checked, translated) = (checked / size as f64, translated / (size + lines) as f64);
     let answer = if reply.refusal == 0 { String::new() } else { reply.refusal.to_string() };
-    println!("{entries:>9}{names:>8}{lines:>9}{answer:>8}{checked:>8.1}{translated:>11.1}{printed:>8}  {}", large.what);
+    let rust = rust_time(&lent.slices).map_or("none".to_string(), |time| format!("{:.1}", time / 1e6));
+    println!(
+        "{entries:>9}{names:>8}{lines:>9}{answer:>8}{checked:>8.1}{translated:>11.1}{printed:>8}{whole:>14.1}{rust:>17}  {}",
+        large.what,
+    );
+}
+
+/// The nanoseconds that the Rust takes for a book, in a process of its own; none where it does not end in time.
+fn rust_time(slices: &Slices) -> Option<f64> {
+    let mut child = Command::new(std::env::current_exe().ok()?)
+        .arg("time")
+        .stdin(Stdio::piped())
+        .stdout(Stdio::piped())
+        .stderr(Stdio::null())
+        .spawn()
+        .ok()?;
+    let (mut input, file) = (child.stdin.take()?, slices.to_file());
+    let feeding = std::thread::spawn(move || input.write_all(&file));
+    let start = Instant::now();
+    let ended = loop {
+        match child.try_wait().ok()? {
+            Some(status) => break status.success(),
+            None if start.elapsed() > PATIENCE => break false,
+            None => std::thread::sleep(Duration::from_millis(5)),
+        }
+    };
+    let _ = child.kill();
+    let _ = child.wait();
+    let _ = feeding.join();
+    let mut text = String::new();
+    child.stdout.take()?.read_to_string(&mut text).ok()?;
+    text.trim().parse().ok().filter(|_| ended)
 }
 
 /// A book with its names given.
@@ -181,6 +222,7 @@ pub fn shapes() -> Vec<Large> {
         switch("a switch of 20,000 cases to a block of 50 phis", 20_000, 50),
         switch("a switch of 50 cases to a block of 20,000 phis", 50, 20_000),
         phis("60,000 phis of one pair", 1, 60_000, false),
+        phis("60,000 phis of 6 pairs", 6, 60_000, false),
         phis("700 phis of 700 pairs", 700, 700, false),
         phis("700 phis of 700 pairs, backwards", 700, 700, true),
         phis("one phi of 20,000 pairs", 20_000, 1, false),
