@@ -80,7 +80,7 @@ module _ (m : ℕ) (few : m ≤ 131072) where
             let fb : bookOf p ≡ b = cc in
             let fk : k ≡ n = cc in
             ef ∙ ap (partsFound barred) h
-            ∙ parts-answer m 2048 (omega arith) few barred size (bookOf p) k (subst (PartsLimits m) (sym fb) keeps)
+            ∙ parts-answer m 2048 (omega arith) barred size (bookOf p) k (subst (PartsLimits m) (sym fb) keeps)
             ∙ ap (λ c. answered k (when (onceEach c) (forbiddenFunction (barredWith barred c) (c .function)))) fb
             ∙ ap (λ i. answered i (when (onceEach b) (forbiddenFunction (barredWith barred b) (b .function)))) fk
         go bad h = absurd (let z : bad ≡ got b n = sym (ap (λ r. andThen r (λ a n. got (bookOf a) n)) h) ∙ e in let y : _≡_ {A = ℕ} 0 1 = cc in omega arith)

@@ -14,13 +14,14 @@ use Rattle.book.specs.Entry.{Entry}
 use Rattle.book.specs.Ast.{Mark, StructType, Function, Book}
 use Rattle.book.specs.Rule.{pick, when}
 use Rattle.book.specs.Read.{Read, got, bad, mapped, andThen}
-use Rattle.book.specs.Decode.{parts, structsAndFunction, member, distinct, markName, bookOf, onceEach}
+use Rattle.book.specs.Decode.{parts, member, distinct, markName, bookOf, onceEach}
 use Rattle.book.specs.Limits.{Each, StructLimits}
 use Rattle.book.specs.Forbidden.{reservedBy, forbiddenFunction}
-use Rattle.book.specs.AgreeBook.{PartsLimits, agrees-structs, agrees-book}
+use Rattle.book.specs.AgreeBook.{PartsLimits, agrees-book}
 use Rattle.book_marks.specs.Range.{markedRange, length-range, bit-range}
 use Rattle.book_marks.specs.Once.{isNew, allNew, AllBelow, new-distinct, bit-set}
-use Rattle.book_parts.specs.Reading.{goes, answered, folded, structTaken, namedFound, nowBarred, markedBy, structsEnded, marksFound}
+use Rattle.book_types.specs.declared.Found.{Found}
+use Rattle.book_parts.specs.Reading.{goes, answered, folded, structTaken, nowBarred, markedBy, structsEnded, marksFound}
 
 -- structs are taken exactly where their names are new, one after the other
 structs-taken : (named : List ℕ) (x : Bool) (ss : List StructType)
@@ -93,17 +94,17 @@ abbrev pub barredBy : (ℕ → Bool) → List Mark → ℕ → Bool
 barredBy barred ms x = member x (reservedBy ms) || barred x
 
 -- a book's marks and structs are taken exactly where each name is there once
-pub parts-answer : (m words : ℕ) → m ≤ 64 * words → m ≤ 131072 → (barred : List ℕ) → length barred ≡ words → (b : Book) (n : ℕ) → PartsLimits m b
-    → marksFound (replicate words 0) barred (got (b .marks, (b .structs, b .function)) n) ≡ answered n (when (onceEach b) (forbiddenFunction (barredBy (bitAt barred) (b .marks)) (b .function)))
+pub parts-answer : (m words : ℕ) → m ≤ 64 * words → (barred : List ℕ) → length barred ≡ words → (b : Book) (n : ℕ) → PartsLimits m b
+    → marksFound (replicate words 0) (replicate words 0) barred (got (b .marks, (b .structs, b .function)) n) ≡ answered n (when (onceEach b) (forbiddenFunction (barredBy (bitAt barred) (b .marks)) (b .function)))
 unfolding onceEach
-parts-answer m words fits few barred e b n k =
+parts-answer m words fits barred e b n k =
     let below = marks-below m words fits (b .marks) (k .0) in
     let marksOnce = distinct (map markName (b .marks)) in
     let structsOnce = distinct (map (λ s. s .name) (b .structs)) in
     let found = forbiddenFunction (bitAt (withReserved barred (b .marks))) (b .function) in
     ap (answered n)
-    (marks-taken (replicate words 0) barred (λ r. structsEnded (replicate words 0, r) (b .structs, b .function)) (b .marks)
-    ∙ rw (structs-once m 2048 (omega arith) (b .structs) found (k .1 .0), new-distinct words (map markName (b .marks)) below)
+    (marks-taken (replicate words 0) barred (λ r. structsEnded (replicate words 0) (replicate words 0, r) (b .structs, b .function)) (b .marks)
+    ∙ rw (structs-once m words fits (b .structs) found (k .1 .0), new-distinct words (map markName (b .marks)) below)
     (go marksOnce structsOnce found)
     ∙ ap (λ t. when (marksOnce && structsOnce) (forbiddenFunction t (b .function))) (fun-ext λ x. reserved-bits words barred (b .marks) e below x))
   where
@@ -111,37 +112,28 @@ parts-answer m words fits few barred e b n k =
     go true q x = refl
     go false q x = refl
 
--- ---- maps of fewer words
-module _ (m : ℕ) (few : m ≤ 2048) (es : List Entry) where
-  pub structs-few : (barred : List ℕ) → namedFound barred (replicate 32 0) (structsAndFunction m es) ≡ namedFound barred (replicate 2048 0) (structsAndFunction m es)
-  structs-few barred = go (structsAndFunction m es) refl
+-- ---- maps of fewer words: what is found with maps of so many
+abbrev wordsFound : (words from to : ℕ) → Read (List Mark × (List StructType × Function)) → Found
+wordsFound words from to = marksFound (replicate words 0) (replicate words 0) (markedRange (replicate words 0) from to)
+
+module _ (m : ℕ) (few : m ≤ 2048) (es : List Entry) (from to : ℕ) (short : to ≤ 2048) where
+  -- the same names are marked
+  range-few : (x : ℕ) → bitAt (markedRange (replicate 32 0) from to) x ≡ bitAt (markedRange (replicate 2048 0) from to) x
+  range-few x =
+      bit-range (replicate 32 0) from to (omega (arith, length-replicate {A = ℕ} 32 0)) x
+      ∙ rw (bit-none 32 x, ← bit-none 2048 x) (sym (bit-range (replicate 2048 0) from to (omega (arith, length-replicate {A = ℕ} 2048 0)) x))
+
+  pub parts-few : wordsFound 32 from to (parts m es) ≡ wordsFound 2048 from to (parts m es)
+  unfolding mapped
+  parts-few = go (parts m es) refl
     where
-      go : (r : Read (List StructType × Function)) → structsAndFunction m es ≡ r → namedFound barred (replicate 32 0) r ≡ namedFound barred (replicate 2048 0) r
+      sized : (words : ℕ) → length (markedRange (replicate words 0) from to) ≡ words
+      sized words = length-range (replicate words 0) from to ∙ length-replicate {A = ℕ} words 0
+
+      go : (r : Read (List Mark × (List StructType × Function))) → parts m es ≡ r → wordsFound 32 from to r ≡ wordsFound 2048 from to r
       go (got p n) e =
-          let k = agrees-structs m .sound es p n e .keeps in
-          let x = forbiddenFunction (bitAt barred) (p .1) in
-          ap (answered n) (structs-once m 32 (omega arith) (p .0) x (k .0) ∙ sym (structs-once m 2048 (omega arith) (p .0) x (k .0)))
+          let k = agrees-book m .sound es (bookOf p) n (ap (λ r. andThen r (λ a n. got (bookOf a) n)) e) .keeps in
+          parts-answer m 32 (omega arith) (markedRange (replicate 32 0) from to) (sized 32) (bookOf p) n k
+          ∙ ap (λ t. answered n (when (onceEach (bookOf p)) (forbiddenFunction (barredBy t (p .0)) (p .1 .1)))) (fun-ext range-few)
+          ∙ sym (parts-answer m 2048 (omega arith) (markedRange (replicate 2048 0) from to) (sized 2048) (bookOf p) n k)
       go bad e = refl
-
-  module _ (from to : ℕ) (short : to ≤ 2048) where
-    -- the same names are marked
-    range-few : (x : ℕ) → bitAt (markedRange (replicate 32 0) from to) x ≡ bitAt (markedRange (replicate 2048 0) from to) x
-    range-few x =
-        bit-range (replicate 32 0) from to (omega (arith, length-replicate {A = ℕ} 32 0)) x
-        ∙ rw (bit-none 32 x, ← bit-none 2048 x) (sym (bit-range (replicate 2048 0) from to (omega (arith, length-replicate {A = ℕ} 2048 0)) x))
-
-    pub parts-few : marksFound (replicate 32 0) (markedRange (replicate 32 0) from to) (parts m es) ≡ marksFound (replicate 2048 0) (markedRange (replicate 2048 0) from to) (parts m es)
-    unfolding mapped
-    parts-few = go (parts m es) refl
-      where
-        sized : (words : ℕ) → length (markedRange (replicate words 0) from to) ≡ words
-        sized words = length-range (replicate words 0) from to ∙ length-replicate {A = ℕ} words 0
-
-        go : (r : Read (List Mark × (List StructType × Function))) → parts m es ≡ r
-            → marksFound (replicate 32 0) (markedRange (replicate 32 0) from to) r ≡ marksFound (replicate 2048 0) (markedRange (replicate 2048 0) from to) r
-        go (got p n) e =
-            let k = agrees-book m .sound es (bookOf p) n (ap (λ r. andThen r (λ a n. got (bookOf a) n)) e) .keeps in
-            parts-answer m 32 (omega arith) (omega arith) (markedRange (replicate 32 0) from to) (sized 32) (bookOf p) n k
-            ∙ ap (λ t. answered n (when (onceEach (bookOf p)) (forbiddenFunction (barredBy t (p .0)) (p .1 .1)))) (fun-ext range-few)
-            ∙ sym (parts-answer m 2048 (omega arith) (omega arith) (markedRange (replicate 2048 0) from to) (sized 2048) (bookOf p) n k)
-        go bad e = refl

@@ -8,7 +8,7 @@ use mathlib.Core.List.{List, [], _∷_, _++_}
 use native.Mathlib.Numerals.{add-one}
 use native.Mathlib.Omega.{arith}
 use borrow.Author.Tests.{eq-eqb, ne-eqb, le-leb, lt-leb, le-ltb, lt-ltb}
-use lib.ListN.{length, getD, drop, take, replicate, length-append, length-drop, length-take, drop-of-length-le}
+use lib.ListN.{length, getD, drop, take, length-append, length-drop, length-take, drop-of-length-le}
 use lib.Dec.{eqb, leb, ltb}
 use Rattle.numbers.specs.Bits.{bitAt, setBitAt}
 use Rattle.book.specs.Entry.{Entry, entry, entries}
@@ -40,7 +40,7 @@ use Rattle.book_types.specs.declared.Found.{Found}
 use Rattle.book_types.specs.declared.Found.the-variants as found
 use Rattle.book_types.specs.declared.Pass.{Pass}
 use Rattle.book_types.specs.declared.Pass.the-variants as pass
-use Rattle.book_parts.specs.Reading.{goes, answered, folded, endFound, structTaken, functionEnded, namedFound, structsFound, markedBy, structsEnded, marksFound, markTaken}
+use Rattle.book_parts.specs.Reading.{goes, answered, folded, endFound, structTaken, functionEnded, namedFound, markedBy, structsEnded, marksFound, markTaken}
 use Rattle.book_parts.specs.Folds.{Fold, fold-end, fold-bad, fold-full, fold-refused, fold-next, pass-done, pass-last, pass-next, pass-item-bad}
 
 no : false ≡ true → ⊥
@@ -225,20 +225,20 @@ module _ (barred named : List ℕ) (m n : ℕ) (ks ws : List ℕ) (a left : ℕ)
           (rw (new-is, f) (ap some (ap (setBitAt now) (sym name-is) ∙ sym (el ∙ ap (λ t. setIf t now (getD ws a 0)) f)))) z named-there
 
 -- ---- marks
-structs-ended : (marked barred : List ℕ) (r : Read (List StructType × Function)) → endFound structsEnded (marked, barred) r ≡ structsFound barred r
-structs-ended marked barred (got p n) = refl
-structs-ended marked barred bad = refl
+structs-ended : (named marked barred : List ℕ) (r : Read (List StructType × Function)) → endFound (structsEnded named) (marked, barred) r ≡ namedFound barred named r
+structs-ended named marked barred (got p n) = refl
+structs-ended named marked barred bad = refl
 
 -- what the code finds behind the marks leaves room for them
-pub structs-room : (barred : List ℕ) (m : ℕ) (ks ws : List ℕ) (a : ℕ) (x : Found) → x ≡ structsFound barred (structsAndFunction m (lentFrom ks ws a)) → a ≤ length ks → length ks < 2 ^ 64 → FoundRoom a x
-structs-room barred m ks ws a x ex f g = subst (FoundRoom a) (sym ex) (go (structsAndFunction m (lentFrom ks ws a)) refl)
+pub structs-room : (named barred : List ℕ) (m : ℕ) (ks ws : List ℕ) (a : ℕ) (x : Found) → x ≡ namedFound barred named (structsAndFunction m (lentFrom ks ws a)) → a ≤ length ks → length ks < 2 ^ 64 → FoundRoom a x
+structs-room named barred m ks ws a x ex f g = subst (FoundRoom a) (sym ex) (go (structsAndFunction m (lentFrom ks ws a)) refl)
   where
     sized : (k : ℕ) (o : Option Bool) → k ≤ length (lentFrom ks ws a) → FoundRoom a (answered k o)
     sized k none h = tt
     sized k (some b) h = omega (arith, length-entries (take (length ks - a) (drop a ks)) (take (length ws - a) (drop a ws)), length-take (length ks - a) (drop a ks))
 
-    go : (r : Read (List StructType × Function)) → structsAndFunction m (lentFrom ks ws a) ≡ r → FoundRoom a (structsFound barred r)
-    go (got p k) e = sized k (goes (folded structTaken (replicate 2048 0) (p .0)) (λ t. functionEnded barred t (p .1))) (len-fits (agrees-structs m) (lentFrom ks ws a) k (ap lenOf e))
+    go : (r : Read (List StructType × Function)) → structsAndFunction m (lentFrom ks ws a) ≡ r → FoundRoom a (namedFound barred named r)
+    go (got p k) e = sized k (goes (folded structTaken named (p .0)) (λ t. functionEnded barred t (p .1))) (len-fits (agrees-structs m) (lentFrom ks ws a) k (ap lenOf e))
     go bad e = tt
 
 module _ (m : ℕ) (marked barred : List ℕ) (k w : ℕ) (es : List Entry) (low : k < 3) where
@@ -291,26 +291,26 @@ module _ (m : ℕ) (marked : List ℕ) (k w : ℕ) where
   mark-first z h l r er t = sym (rw (le-leb 1 k (omega (arith, z)), le-leb k 2 h, lt-ltb w m l, sym er ∙ t))
 
 -- the loop over the marks, at the place a
-module _ (marked barred : List ℕ) (m : ℕ) (ks ws : List ℕ) (a : ℕ) (now : List ℕ × List ℕ)
-    (l : Fold markedBy structsEnded (leb 3) (mark m) (structsAndFunction m) (marked, barred) (length (entries ks ws)) ks ws a (length (entries ks ws) - a) now) where
+module _ (named marked barred : List ℕ) (m : ℕ) (ks ws : List ℕ) (a : ℕ) (now : List ℕ × List ℕ)
+    (l : Fold markedBy (structsEnded named) (leb 3) (mark m) (structsAndFunction m) (marked, barred) (length (entries ks ws)) ks ws a (length (entries ks ws) - a) now) where
   abbrev wholeMarks : Found
-  wholeMarks = marksFound marked barred (parts m (entries ks ws))
+  wholeMarks = marksFound named marked barred (parts m (entries ks ws))
 
   pub marks-over : length (entries ks ws) ≤ a → found.Bad ≡ wholeMarks
   unfolding parts stops
   marks-over h =
       let e : drop a (entries ks ws) ≡ [] = drop-of-length-le (entries ks ws) h in
-      fold-end markedBy structsEnded (leb 3) (mark m) (structsAndFunction m) (marked, barred) (length (entries ks ws)) ks ws a _ now l (rw e) found.Bad _ (sym (ap (λ es. endFound structsEnded now (structsAndFunction m es)) e ∙ ap (endFound structsEnded now) (no-structs m))) refl
+      fold-end markedBy (structsEnded named) (leb 3) (mark m) (structsAndFunction m) (marked, barred) (length (entries ks ws)) ks ws a _ now l (rw e) found.Bad _ (sym (ap (λ es. endFound (structsEnded named) now (structsAndFunction m es)) e ∙ ap (endFound (structsEnded named) now) (no-structs m))) refl
 
   module _ (h : a < length (entries ks ws)) where
     here : drop a (entries ks ws) ≡ entry (getD ks a 0) (getD ws a 0) ∷ drop (a + 1) (entries ks ws)
     here = entry-at ks ws a h
 
-    pub marks-end : 3 ≤ getD ks a 0 → (r x : Found) → r ≡ structsFound (now .1) (structsAndFunction m (lentFrom ks ws a)) → x ≡ joined a false r → x ≡ wholeMarks
+    pub marks-end : 3 ≤ getD ks a 0 → (r x : Found) → r ≡ namedFound (now .1) named (structsAndFunction m (lentFrom ks ws a)) → x ≡ joined a false r → x ≡ wholeMarks
     unfolding parts stops
     marks-end t r x er ex =
-        fold-end markedBy structsEnded (leb 3) (mark m) (structsAndFunction m) (marked, barred) (length (entries ks ws)) ks ws a _ now l (rw here (le-leb 3 (getD ks a 0) t)) r x
-        (er ∙ ap (λ es. structsFound (now .1) (structsAndFunction m es)) (entries-part a ks ws) ∙ sym (structs-ended (now .0) (now .1) (structsAndFunction m (drop a (entries ks ws))))) ex
+        fold-end markedBy (structsEnded named) (leb 3) (mark m) (structsAndFunction m) (marked, barred) (length (entries ks ws)) ks ws a _ now l (rw here (le-leb 3 (getD ks a 0) t)) r x
+        (er ∙ ap (λ es. namedFound (now .1) named (structsAndFunction m es)) (entries-part a ks ws) ∙ sym (structs-ended named (now .0) (now .1) (structsAndFunction m (drop a (entries ks ws))))) ex
 
     module _ (t : getD ks a 0 < 3) (r : Bool) (er : r ≡ markTaken m (now .0) (getD ks a 0) (getD ws a 0)) where
       item-stays : stops (leb 3) (drop a (entries ks ws)) ≡ false
@@ -321,17 +321,17 @@ module _ (marked barred : List ℕ) (m : ℕ) (ks ws : List ℕ) (a : ℕ) (now 
       unfolding parts
       marks-refused f =
           ⊎-elim
-          (λ e. fold-bad markedBy structsEnded (leb 3) (mark m) (structsAndFunction m) (marked, barred) (length (entries ks ws)) ks ws a _ now l item-stays (ap (mark m) here ∙ e))
-          (λ y. fold-refused markedBy structsEnded (leb 3) (mark m) (structsAndFunction m) (marked, barred) (length (entries ks ws)) ks ws a _ now l item-stays (y .0) 1 (ap (mark m) here ∙ y .1 .0) (y .1 .1))
+          (λ e. fold-bad markedBy (structsEnded named) (leb 3) (mark m) (structsAndFunction m) (marked, barred) (length (entries ks ws)) ks ws a _ now l item-stays (ap (mark m) here ∙ e))
+          (λ y. fold-refused markedBy (structsEnded named) (leb 3) (mark m) (structsAndFunction m) (marked, barred) (length (entries ks ws)) ks ws a _ now l item-stays (y .0) 1 (ap (mark m) here ∙ y .1 .0) (y .1 .1))
           (mark-no m (now .0) (now .1) (getD ks a 0) (getD ws a 0) (drop (a + 1) (entries ks ws)) t (sym er ∙ f))
 
       pub marks-next : r ≡ true → (p q : List ℕ) → p ≡ setIf r (now .0) (getD ws a 0) → q ≡ setIf (r && eqb (getD ks a 0) 2) (now .1) (getD ws a 0)
-          → Fold markedBy structsEnded (leb 3) (mark m) (structsAndFunction m) (marked, barred) (length (entries ks ws)) ks ws (a + 1) (length (entries ks ws) - (a + 1)) (p, q)
+          → Fold markedBy (structsEnded named) (leb 3) (mark m) (structsAndFunction m) (marked, barred) (length (entries ks ws)) ks ws (a + 1) (length (entries ks ws) - (a + 1)) (p, q)
       marks-next f p q ep eq =
           let y = mark-yes m (now .0) (now .1) (getD ks a 0) (getD ws a 0) (drop (a + 1) (entries ks ws)) t (sym er ∙ f) in
           let u : _≡_ {A = List ℕ × List ℕ} (setBitAt (now .0) (getD ws a 0), setIf (eqb (getD ks a 0) 2) (now .1) (getD ws a 0)) (p, q) = λ i. (sym (ep ∙ ap (λ b. setIf b (now .0) (getD ws a 0)) f) i, sym (eq ∙ ap (λ b. setIf (b && eqb (getD ks a 0) 2) (now .1) (getD ws a 0)) f) i) in
-          ap-left (fold-next markedBy structsEnded (leb 3) (mark m) (structsAndFunction m) (marked, barred) (length (entries ks ws)) ks ws a _ now l item-stays (y .0) 1 (ap (mark m) here ∙ y .1 .0) (p, q) (y .1 .1 ∙ ap some u) (λ z. omega arith) (omega arith))
+          ap-left (fold-next markedBy (structsEnded named) (leb 3) (mark m) (structsAndFunction m) (marked, barred) (length (entries ks ws)) ks ws a _ now l item-stays (y .0) 1 (ap (mark m) here ∙ y .1 .0) (p, q) (y .1 .1 ∙ ap some u) (λ z. omega arith) (omega arith))
         where
-          ap-left : Fold markedBy structsEnded (leb 3) (mark m) (structsAndFunction m) (marked, barred) (length (entries ks ws)) ks ws (a + 1) (length (entries ks ws) - a - 1) (p, q)
-              → Fold markedBy structsEnded (leb 3) (mark m) (structsAndFunction m) (marked, barred) (length (entries ks ws)) ks ws (a + 1) (length (entries ks ws) - (a + 1)) (p, q)
-          ap-left = subst (λ i. Fold markedBy structsEnded (leb 3) (mark m) (structsAndFunction m) (marked, barred) (length (entries ks ws)) ks ws (a + 1) i (p, q)) (omega arith)
+          ap-left : Fold markedBy (structsEnded named) (leb 3) (mark m) (structsAndFunction m) (marked, barred) (length (entries ks ws)) ks ws (a + 1) (length (entries ks ws) - a - 1) (p, q)
+              → Fold markedBy (structsEnded named) (leb 3) (mark m) (structsAndFunction m) (marked, barred) (length (entries ks ws)) ks ws (a + 1) (length (entries ks ws) - (a + 1)) (p, q)
+          ap-left = subst (λ i. Fold markedBy (structsEnded named) (leb 3) (mark m) (structsAndFunction m) (marked, barred) (length (entries ks ws)) ks ws (a + 1) i (p, q)) (omega arith)

@@ -47,10 +47,6 @@ module _ (barred : List ℕ) where
   abbrev pub namedFound : List ℕ → Read (List StructType × Function) → Found
   namedFound = allFound structTaken functionEnded
 
-  -- maps have a bit for each of 131,072 names
-  abbrev pub structsFound : Read (List StructType × Function) → Found
-  structsFound = namedFound (replicate 2048 0)
-
 -- ---- marks: the state is the map of the marked names, and that of the names that may not be called
 abbrev pub nowBarred : Mark → List ℕ → List ℕ
 nowBarred (Mark.defined x) barred = barred
@@ -59,14 +55,16 @@ nowBarred (Mark.reserved x) barred = setBitAt barred x
 abbrev pub markedBy : List ℕ × List ℕ → Mark → Option (List ℕ × List ℕ)
 markedBy s k = when (isNew (s .0) (markName k)) (setBitAt (s .0) (markName k), nowBarred k (s .1))
 
-abbrev pub structsEnded : List ℕ × List ℕ → List StructType × Function → Option Bool
-structsEnded s r = goes (folded structTaken (replicate 2048 0) (r .0)) (λ t. functionEnded (s .1) t (r .1))
+module _ (named : List ℕ) where
+  abbrev pub structsEnded : List ℕ × List ℕ → List StructType × Function → Option Bool
+  structsEnded s r = goes (folded structTaken named (r .0)) (λ t. functionEnded (s .1) t (r .1))
 
-abbrev pub marksFound : List ℕ → List ℕ → Read (List Mark × (List StructType × Function)) → Found
-marksFound marked barred = allFound markedBy structsEnded (marked, barred)
+  abbrev pub marksFound : List ℕ → List ℕ → Read (List Mark × (List StructType × Function)) → Found
+  marksFound marked barred = allFound markedBy structsEnded (marked, barred)
 
+-- no name is marked at first; maps have a bit for each of 131,072 names
 abbrev pub partsFound : List ℕ → Read (List Mark × (List StructType × Function)) → Found
-partsFound barred = marksFound (replicate 2048 0) barred
+partsFound barred = marksFound (replicate 2048 0) (replicate 2048 0) barred
 
 -- whether the entry is a name's first mark
 abbrev pub markTaken : ℕ → List ℕ → ℕ → ℕ → Bool

@@ -21,6 +21,7 @@ use book_types::types::type_group;
 use book_types::types::type_len;
 use book_values::word_len;
 ghost use mathlib.Core.Path.{_≡_};
+ghost use Prim.Native.Nat.{_<_, _≤_};
 ghost use mathlib.Core.Bool.{_&&_};
 ghost use lib.Dec.{leb, eqb};
 ghost use lib.ListN.{replicate};
@@ -33,7 +34,7 @@ ghost use Rattle.book_marks.specs.Once.{setIf};
 ghost use Rattle.book_marks.specs.Range.{markedRange};
 ghost use Rattle.book_types.specs.Found.{foundOf, passOf, never};
 ghost use Rattle.book_parts.specs.Parts.{isStructGroup};
-ghost use Rattle.book_parts.specs.Reading.{markTaken, namedFound, structsFound, marksFound, partsFound};
+ghost use Rattle.book_parts.specs.Reading.{markTaken, namedFound, marksFound, partsFound};
 
 fn is_struct(group: TypeGroup) -> bool
     ensures { λ r. ⌜ r ≡ isStructGroup group ⌝ }
@@ -119,18 +120,6 @@ fn named_len(kinds: &[u64], words: &[u64], names: u64, barred: &[u64], named: &m
     }
 }
 
-// Named structs, each name once, and the function.
-fn structs_len(kinds: &[u64], words: &[u64], names: u64, barred: &[u64]) -> Found
-    ensures { λ r. ⌜ r ≡ structsFound (now (barred .entry)) (structsAndFunction names (entries (now (kinds .entry)) (now (words .entry)))) ⌝ }
-{
-    if names <= 2048 {
-        let mut few = [0u64; 32];
-        return named_len(kinds, words, names, barred, &mut few);
-    }
-    let mut named = [0u64; 2048];
-    named_len(kinds, words, names, barred, &mut named)
-}
-
 // Whether a name has its first mark here, kind 1 or 2; then it is marked, and barred if it is reserved.
 fn mark(kind: u64, word: u64, names: u64, marked: &mut [u64], barred: &mut [u64]) -> bool
     ensures { λ r. ⌜ r ≡ markTaken names (now (marked .entry)) kind word ⌝ }
@@ -162,8 +151,9 @@ fn marks_len(
     names: u64,
     marked: &mut [u64],
     barred: &mut [u64],
+    named: &mut [u64],
 ) -> Found
-    ensures { λ r. ⌜ r ≡ marksFound (now (marked .entry)) (now (barred .entry)) (parts names (entries (now (kinds .entry)) (now (words .entry)))) ⌝ }
+    ensures { λ r. ⌜ r ≡ marksFound (now (named .entry)) (now (marked .entry)) (now (barred .entry)) (parts names (entries (now (kinds .entry)) (now (words .entry)))) ⌝ }
 {
     let n = shorter(kinds, words);
     let mut at: usize = 0;
@@ -172,7 +162,7 @@ fn marks_len(
             return join_found(
                 at,
                 false,
-                structs_len(&kinds[at..], &words[at..], names, barred),
+                named_len(&kinds[at..], &words[at..], names, barred, named),
             );
         }
         if !mark(kinds[at], words[at], names, marked, barred) {
@@ -192,34 +182,79 @@ fn ranged_len(
     to: u64,
     marked: &mut [u64],
     barred: &mut [u64],
+    named: &mut [u64],
 ) -> Found
-    ensures { λ r. ⌜ r ≡ marksFound (now (marked .entry)) (markedRange (now (barred .entry)) from to) (parts names (entries (now (kinds .entry)) (now (words .entry)))) ⌝ }
+    ensures { λ r. ⌜ r ≡ marksFound (now (named .entry)) (now (marked .entry)) (markedRange (now (barred .entry)) from to) (parts names (entries (now (kinds .entry)) (now (words .entry)))) ⌝ }
 {
     mark_range(barred, from, to);
-    marks_len(kinds, words, names, marked, barred)
+    marks_len(kinds, words, names, marked, barred, named)
+}
+
+// The same from maps of 32 words, which have a bit for each of 2,048 names; they find what longer ones do.
+fn few_len(kinds: &[u64], words: &[u64], names: u64, from: u64, to: u64) -> Found
+    requires { ⌜ (names ≤ 2048) × (to ≤ 2048) ⌝ }
+    ensures { λ r. ⌜ r ≡ partsFound (markedRange (replicate 2048 0) from to) (parts names (entries (now (kinds .entry)) (now (words .entry)))) ⌝ }
+{
+    let mut marked = [0u64; 32];
+    let mut barred = [0u64; 32];
+    let mut named = [0u64; 32];
+    ranged_len(
+        kinds,
+        words,
+        names,
+        from,
+        to,
+        &mut marked,
+        &mut barred,
+        &mut named,
+    )
+}
+
+// The same from maps of 2,048 words, which have a bit for each of 131,072 names.
+fn many_len(kinds: &[u64], words: &[u64], names: u64, from: u64, to: u64) -> Found
+    ensures { λ r. ⌜ r ≡ partsFound (markedRange (replicate 2048 0) from to) (parts names (entries (now (kinds .entry)) (now (words .entry)))) ⌝ }
+{
+    let mut marked = [0u64; 2048];
+    let mut barred = [0u64; 2048];
+    let mut named = [0u64; 2048];
+    ranged_len(
+        kinds,
+        words,
+        names,
+        from,
+        to,
+        &mut marked,
+        &mut barred,
+        &mut named,
+    )
+}
+
+// The same from maps that have a bit for each name. Short maps are cleared in less time; each length stands in a function of its
+// own, and this one calls itself with more room: so none is compiled into its caller, and a book of few names does not pay for the
+// pages of long maps.
+fn maps_len(kinds: &[u64], words: &[u64], names: u64, from: u64, to: u64, room: u64) -> Found
+    requires { ⌜ 0 < room ⌝ }
+    ensures { λ r. ⌜ r ≡ partsFound (markedRange (replicate 2048 0) from to) (parts names (entries (now (kinds .entry)) (now (words .entry)))) ⌝ }
+{
+    if 131071 < room {
+        return many_len(kinds, words, names, from, to);
+    }
+    if room < names {
+        return maps_len(kinds, words, names, from, to, 2 * room);
+    }
+    if room < to {
+        return maps_len(kinds, words, names, from, to, 2 * room);
+    }
+    if 2048 < room {
+        return many_len(kinds, words, names, from, to);
+    }
+    few_len(kinds, words, names, from, to)
 }
 
 // Marks, each name once, named structs and the function. The names from `from` up to and without `to` may not be called, nor may
-// the reserved ones. Maps of 32 words have a bit for each of 2,048 names, and are cleared in less time than those of 2,048 words.
+// the reserved ones.
 pub fn parts_len(kinds: &[u64], words: &[u64], names: u64, from: u64, to: u64) -> Found
     ensures { λ r. ⌜ r ≡ partsFound (markedRange (replicate 2048 0) from to) (parts names (entries (now (kinds .entry)) (now (words .entry)))) ⌝ }
 {
-    if names <= 2048 {
-        if to <= 2048 {
-            let mut few_marked = [0u64; 32];
-            let mut few_barred = [0u64; 32];
-            return ranged_len(
-                kinds,
-                words,
-                names,
-                from,
-                to,
-                &mut few_marked,
-                &mut few_barred,
-            );
-        }
-    }
-    let mut marked = [0u64; 2048];
-    let mut barred = [0u64; 2048];
-    ranged_len(kinds, words, names, from, to, &mut marked, &mut barred)
+    maps_len(kinds, words, names, from, to, 2048)
 }

@@ -146,7 +146,7 @@ fn type_step(kinds: &[u64], words: &[u64], names: u64, level: u32) -> Step
 {
     match list_head(first_entry(kinds, words)) {
         ListHead::Closing => Step::Done(1),
-        ListHead::Item => next_step(type_deep(kinds, words, names, level)),
+        ListHead::Item => next_step(type_len(kinds, words, names, level)),
         ListHead::Bad => Step::Bad,
     }
 }

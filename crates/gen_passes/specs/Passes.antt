@@ -9,13 +9,20 @@ use lib.ListN.{length, take, drop}
 use lib.Seq.{sets, sets-eq}
 use lib.Dec.{leb}
 use borrow.Author.Tests.{eq-eqb, ne-eqb, le-leb, lt-leb}
+use Rattle.book.specs.Ast.{Function}
+use Rattle.book.specs.Entry.{entries}
 use Rattle.book.specs.Result.{Result, ok, err, bind, given}
 use Rattle.assembly.specs.Number.{kindOf}
+use Rattle.lowering.specs.Context.{FnCtx}
+use Rattle.lowering.specs.Function.{genLines}
 use Rattle.lowering.specs.Gen.{Gen, Out}
 use Rattle.lowering.specs.Printable.{take-over}
 use Rattle.lowering.specs.Translate.{over}
 use Rattle.gen_lines.specs.declared.Reached.{Reached}
 use Rattle.gen_lines.specs.Puts.{Puts, Able, After, isRefused, most, operandWord, map-length}
+use Rattle.gen_values.specs.Maps.{Maps}
+use Rattle.gen_prepare.specs.declared.Prepared.{Prepared}
+use Rattle.gen_function.specs.Function.{FunctionHere, Framed, slotsOf}
 use Rattle.gen_passes.specs.declared.Translation.{Translation}
 use Rattle.gen_passes.specs.declared.Translation.the-variants.{Accepted, Refused}
 
@@ -42,6 +49,12 @@ Answered (err e) r ks os ks′ os′ = Refuses e r ks os ks′ os′
 -- "the shorter line slice counts"
 abbrev pub room : (ks os : List ℕ) → ℕ
 room ks os = min (length ks) (length os)
+
+-- the answer is the definition's for every context that the work words hold
+abbrev pub Passed : (m : ℕ) (bk bw : List ℕ) (head : Prepared) (counter : ℕ) (work : List ℕ) (r : Translation) (ks os ks′ os′ : List ℕ) → Type 0
+Passed m bk bw head counter work r ks os ks′ os′ =
+    (c : FnCtx) (f : Function) → FunctionHere m bk bw head f → Framed c head → Maps m (entries bk bw) c work
+    → Answered (fitted (genLines c f (slotsOf head) counter) (room ks os)) r ks os ks′ os′
 
 -- where both passes begin
 abbrev pub start : ℕ → Reached

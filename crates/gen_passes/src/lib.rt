@@ -7,19 +7,18 @@ use gen_prepare::prepare;
 ghost use mathlib.Core.Path.{_≡_};
 ghost use mathlib.Core.List.{List};
 ghost use mathlib.Core.Option.{some};
-ghost use Prim.Native.Nat.{ℕ, min};
+ghost use Prim.Native.Nat.{ℕ, min, _<_};
 ghost use lib.ListN.{length, take};
 ghost use Rattle.names.specs.Name.{namesOf};
-ghost use Rattle.book.specs.Ast.{Book, Function};
+ghost use Rattle.book.specs.Ast.{Book};
 ghost use Rattle.book.specs.Decode.{decode};
 ghost use Rattle.book.specs.Entry.{entries};
-ghost use Rattle.lowering.specs.Context.{FnCtx, codegenOf};
-ghost use Rattle.lowering.specs.Function.{genLines, genFunction};
-ghost use Rattle.gen_values.specs.Maps.{Maps};
-ghost use Rattle.gen_function.specs.Function.{FunctionHere, FunctionAsk, Framed, slotsOf};
+ghost use Rattle.lowering.specs.Context.{codegenOf};
+ghost use Rattle.lowering.specs.Function.{genFunction};
+ghost use Rattle.gen_function.specs.Function.{FunctionAsk};
 ghost use Rattle.lowering.specs.Translate.{over};
 ghost use Rattle.gen_passes.specs.Copies.{CopyAsk};
-ghost use Rattle.gen_passes.specs.Passes.{fitted, Answered};
+ghost use Rattle.gen_passes.specs.Passes.{fitted, Answered, Passed};
 ghost use Rattle.gen_passes.specs.Generate.{GenerateAsk};
 
 // The answer: the number of lines and the next label counter, or document 01's number of a refusal.
@@ -68,10 +67,8 @@ fn pass_over(
 ) -> Translation
     requires { ⌜ FunctionAsk names (now «book_kinds») (now «book_words») head (now work) ⌝ }
     requires { ⌜ length (now «own_lines») ≡ length (now «own_operands») ⌝ }
-    ensures { λ r. ⌜ ((c : FnCtx) (f : Function) → FunctionHere names (now («book_kinds» .entry)) (now («book_words» .entry)) head f
-        → Framed c head → Maps names (entries (now («book_kinds» .entry)) (now («book_words» .entry))) c (now (work .entry))
-        → Answered (fitted (genLines c f (slotsOf head) counter) (min (length (now (lines .entry))) (length (now (operands .entry)))))
-        r (now (lines .entry)) (now (operands .entry)) (now (lines .exit)) (now (operands .exit))) ⌝ }
+    ensures { λ r. ⌜ Passed names (now («book_kinds» .entry)) (now («book_words» .entry)) head counter (now (work .entry))
+        r (now (lines .entry)) (now (operands .entry)) (now (lines .exit)) (now (operands .exit)) ⌝ }
 {
     let start = Reached {
         at: 0,
@@ -116,9 +113,8 @@ fn pass_over(
     Translation::Accepted(many, counted.counter)
 }
 
-// The lines of a function whose work words are filled. The slices of our own are as long as a book of this length is likely
-// to need, since they are cleared at each call.
-fn passes(
+// The lines of a function whose work words are filled, by slices of our own of 256 lines.
+fn few_passes(
     book_kinds: &[u64],
     book_words: &[u64],
     head: Prepared,
@@ -129,45 +125,11 @@ fn passes(
     operands: &mut [u64],
 ) -> Translation
     requires { ⌜ FunctionAsk names (now «book_kinds») (now «book_words») head (now work) ⌝ }
-    ensures { λ r. ⌜ ((c : FnCtx) (f : Function) → FunctionHere names (now («book_kinds» .entry)) (now («book_words» .entry)) head f
-        → Framed c head → Maps names (entries (now («book_kinds» .entry)) (now («book_words» .entry))) c (now (work .entry))
-        → Answered (fitted (genLines c f (slotsOf head) counter) (min (length (now (lines .entry))) (length (now (operands .entry)))))
-        r (now (lines .entry)) (now (operands .entry)) (now (lines .exit)) (now (operands .exit))) ⌝ }
+    ensures { λ r. ⌜ Passed names (now («book_kinds» .entry)) (now («book_words» .entry)) head counter (now (work .entry))
+        r (now (lines .entry)) (now (operands .entry)) (now (lines .exit)) (now (operands .exit)) ⌝ }
 {
-    if book_kinds.len() <= 128 {
-        let mut few_lines = [0u16; 256];
-        let mut few_operands = [0u64; 256];
-        return pass_over(
-            book_kinds,
-            book_words,
-            head,
-            work,
-            names,
-            counter,
-            lines,
-            operands,
-            &mut few_lines,
-            &mut few_operands,
-        );
-    }
-    if book_kinds.len() <= 1024 {
-        let mut some_lines = [0u16; 1024];
-        let mut some_operands = [0u64; 1024];
-        return pass_over(
-            book_kinds,
-            book_words,
-            head,
-            work,
-            names,
-            counter,
-            lines,
-            operands,
-            &mut some_lines,
-            &mut some_operands,
-        );
-    }
-    let mut many_lines = [0u16; 16384];
-    let mut many_operands = [0u64; 16384];
+    let mut own_lines = [0u16; 256];
+    let mut own_operands = [0u64; 256];
     pass_over(
         book_kinds,
         book_words,
@@ -177,8 +139,138 @@ fn passes(
         counter,
         lines,
         operands,
-        &mut many_lines,
-        &mut many_operands,
+        &mut own_lines,
+        &mut own_operands,
+    )
+}
+
+// The same by slices of 1,024 lines.
+fn some_passes(
+    book_kinds: &[u64],
+    book_words: &[u64],
+    head: Prepared,
+    work: &mut [u64],
+    names: u64,
+    counter: u64,
+    lines: &mut [u16],
+    operands: &mut [u64],
+) -> Translation
+    requires { ⌜ FunctionAsk names (now «book_kinds») (now «book_words») head (now work) ⌝ }
+    ensures { λ r. ⌜ Passed names (now («book_kinds» .entry)) (now («book_words» .entry)) head counter (now (work .entry))
+        r (now (lines .entry)) (now (operands .entry)) (now (lines .exit)) (now (operands .exit)) ⌝ }
+{
+    let mut own_lines = [0u16; 1024];
+    let mut own_operands = [0u64; 1024];
+    pass_over(
+        book_kinds,
+        book_words,
+        head,
+        work,
+        names,
+        counter,
+        lines,
+        operands,
+        &mut own_lines,
+        &mut own_operands,
+    )
+}
+
+// The same by slices of 16,384 lines.
+fn many_passes(
+    book_kinds: &[u64],
+    book_words: &[u64],
+    head: Prepared,
+    work: &mut [u64],
+    names: u64,
+    counter: u64,
+    lines: &mut [u16],
+    operands: &mut [u64],
+) -> Translation
+    requires { ⌜ FunctionAsk names (now «book_kinds») (now «book_words») head (now work) ⌝ }
+    ensures { λ r. ⌜ Passed names (now («book_kinds» .entry)) (now («book_words» .entry)) head counter (now (work .entry))
+        r (now (lines .entry)) (now (operands .entry)) (now (lines .exit)) (now (operands .exit)) ⌝ }
+{
+    let mut own_lines = [0u16; 16384];
+    let mut own_operands = [0u64; 16384];
+    pass_over(
+        book_kinds,
+        book_words,
+        head,
+        work,
+        names,
+        counter,
+        lines,
+        operands,
+        &mut own_lines,
+        &mut own_operands,
+    )
+}
+
+// The same by slices that are as long as a book of this length is likely to need, since they are cleared at each call. Each
+// length stands in a function of its own, and this one calls itself with more room: so none is compiled into its caller, and a
+// short book does not pay for the pages of long slices.
+fn passes(
+    book_kinds: &[u64],
+    book_words: &[u64],
+    head: Prepared,
+    work: &mut [u64],
+    names: u64,
+    counter: u64,
+    lines: &mut [u16],
+    operands: &mut [u64],
+    room: usize,
+) -> Translation
+    requires { ⌜ 0 < room ⌝ }
+    requires { ⌜ FunctionAsk names (now «book_kinds») (now «book_words») head (now work) ⌝ }
+    ensures { λ r. ⌜ Passed names (now («book_kinds» .entry)) (now («book_words» .entry)) head counter (now (work .entry))
+        r (now (lines .entry)) (now (operands .entry)) (now (lines .exit)) (now (operands .exit)) ⌝ }
+{
+    if 1024 < room {
+        return many_passes(
+            book_kinds,
+            book_words,
+            head,
+            work,
+            names,
+            counter,
+            lines,
+            operands,
+        );
+    }
+    if room < book_kinds.len() {
+        return passes(
+            book_kinds,
+            book_words,
+            head,
+            work,
+            names,
+            counter,
+            lines,
+            operands,
+            8 * room,
+        );
+    }
+    if room <= 128 {
+        return few_passes(
+            book_kinds,
+            book_words,
+            head,
+            work,
+            names,
+            counter,
+            lines,
+            operands,
+        );
+    }
+    some_passes(
+        book_kinds,
+        book_words,
+        head,
+        work,
+        names,
+        counter,
+        lines,
+        operands,
     )
 }
 
@@ -212,5 +304,6 @@ pub fn generate(
         counter,
         lines,
         operands,
+        128,
     )
 }

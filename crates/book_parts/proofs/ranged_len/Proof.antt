@@ -21,12 +21,16 @@ same-length c = search needs
 same-length-2 : tie.Need-same-length-2
 same-length-2 c = search needs
 
+same-length-3 : tie.Need-same-length-3
+same-length-3 c = search needs
+
 returns : tie.Need-returns
 returns c =
-    let after-marks = c .before .before .before .before in
-    let after-range = after-marks .before .before .before .before .before in
-    let a = after-range .before .before .before .before .before .before .args in
-    after-marks .marks-len .ensures ∙ ap (λ b. marksFound (a .marked .now) b (parts (a .names) (entries (a .kinds .now) (a .words .now)))) (after-range .mark-range .ensures)
+    let after-marks = c .before .before .before .before .before .before in
+    let after-range = after-marks .before .before .before .before .before .before in
+    let a = after-range .before .before .before .before .before .before .before .args in
+    after-marks .marks-len .ensures
+    ∙ ap (λ b. marksFound (a .named .now) (a .marked .now) b (parts (a .names) (entries (a .kinds .now) (a .words .now)))) (after-range .mark-range .ensures)
 
 pub ranged-len-spec : {M : Type 1} → statement M
 ranged-len-spec =
@@ -36,4 +40,5 @@ ranged-len-spec =
     marks-len-requires
     same-length
     same-length-2
+    same-length-3
     returns)

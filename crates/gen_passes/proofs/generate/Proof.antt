@@ -1,4 +1,5 @@
 -- `gen_passes::generate` meets its contract: refused before any line, or as the passes answer.
+use native.Mathlib.Omega.{arith}
 use Rattle.lowering.specs.Context.{codegenOf}
 use Rattle.lowering.specs.Function.{contextOf}
 use Rattle.gen_passes.specs.Generate.{here-own, prepare-refused, context, context-framed, passes-answer, passes-ask}
@@ -28,7 +29,7 @@ passes-requires : tie.Need-passes-requires
 passes-requires c κs =
     let after-prepare = c .before .before .before .before .before .before in
     let entry = after-prepare .before .before .before .before .before .before .before .before in
-    passes-ask (entry .args .book-kinds .now) (entry .args .book-words .now) (entry .pre) (after-prepare .prepare .ensures) (c .before .before .before .if1 .left)
+    (omega arith, passes-ask (entry .args .book-kinds .now) (entry .args .book-words .now) (entry .pre) (after-prepare .prepare .ensures) (c .before .before .before .if1 .left))
 
 same-length-2 : tie.Need-same-length-2
 same-length-2 c = search needs
