@@ -1,7 +1,7 @@
 -- What the generators of this crate are lent, and the laws that put their lines together.
-use Prim.Native.Nat.{ℕ, _+_, _*_, _<_, _≤_}
-use mathlib.Core.Path.{_≡_, refl, sym, ap, subst, _∙_}
-use mathlib.Core.Bool.{Bool, true, false, _&&_, _||_}
+use Prim.Native.Nat.{ℕ, _+_, _*_, _≤_}
+use mathlib.Core.Path.{_≡_, refl, subst}
+use mathlib.Core.Bool.{Bool, _&&_, _||_}
 use mathlib.Core.List.{List, [], _∷_}
 use native.Mathlib.Omega.{arith}
 use lib.ListN.{length, drop}
@@ -11,15 +11,15 @@ use Rattle.book.specs.Entry.{Entry, entries}
 use Rattle.book.specs.Fields.{Item, Field, Meanings}
 use Rattle.assembly.specs.Line.{Line}
 use Rattle.assembly.specs.Number.{kindOf, operandOf, operation, binNumber, icmpNumber}
-use Rattle.lowering.specs.Gen.{Gen, line, _>>=_, _>>_, when}
+use Rattle.lowering.specs.Gen.{line, when}
 use Rattle.lowering.specs.Context.{FnCtx}
 use Rattle.lowering.specs.Operand.{intWidth, workOf, workBits, emitTruncTo, emitSext, pushValue}
 use Rattle.lowering.specs.Arith.{signedLeft, signedRight, signedPred, genBin, genIcmp}
 use Rattle.layout_memo.specs.Front.{tyLen}
 use Rattle.gen_lines.specs.declared.Reached.{Reached}
-use Rattle.gen_lines.specs.Puts.{Puts, Lined, same-puts, then-puts}
+use Rattle.gen_lines.specs.Puts.{Puts, Lined, then-puts}
 use Rattle.gen_lines.specs.Follow.{Asked, asked-puts}
-use Rattle.gen_values.specs.Fields.{Fields, ValueAt, OperandAt, operand-at, value-at, behind-value, behind-type, type-in}
+use Rattle.gen_values.specs.Fields.{Fields, ValueAt, OperandAt, operand-at, value-at, behind-value, behind-type}
 use Rattle.gen_values.specs.Push.{bare-puts}
 use Rattle.gen_values.specs.Widths.{bin-puts}
 

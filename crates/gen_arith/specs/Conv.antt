@@ -1,14 +1,12 @@
 -- Conversions: the lines of each, by its number.
-use Prim.Native.Nat.{ℕ, _+_, _*_, _<_, _≤_}
-use mathlib.Core.Path.{_≡_, refl, sym, ap, subst, _∙_}
-use mathlib.Core.Bool.{Bool, true, false}
-use mathlib.Core.List.{List, [], _∷_}
+use Prim.Native.Nat.{ℕ, _<_, _≤_}
+use mathlib.Core.Path.{_≡_}
+use mathlib.Core.List.{List}
 use native.Mathlib.Omega.{arith}
 use borrow.Author.Tests.{ltb-true, ltb-false}
-use lib.ListN.{length, drop}
 use lib.Dec.{ltb}
 use Rattle.book.specs.Ast.{Ty, Value, ConvOp}
-use Rattle.lowering.specs.Gen.{Gen, skip, _>>=_, _>>_, when}
+use Rattle.lowering.specs.Gen.{Gen, when}
 use Rattle.lowering.specs.Context.{FnCtx}
 use Rattle.lowering.specs.Operand.{intWidth, emitTruncTo, emitSext, pushValue, pushTyped}
 use Rattle.lowering.specs.Arith.{emitConvOp, genWidths, genConv}

@@ -1,19 +1,17 @@
 -- A block at its place: its label, its instructions and its terminator, and its lines.
-use Prim.Native.Nat.{ℕ, _+_, _*_, _<_, _≤_, _%_, _^_}
-use mathlib.Core.Path.{_≡_, refl, sym, ap, subst, _∙_}
+use Prim.Native.Nat.{ℕ, _+_, _<_, _≤_, _%_, _^_}
+use mathlib.Core.Path.{_≡_, refl, sym, subst}
 use mathlib.Core.List.{List, [], _∷_, _++_}
 use native.Mathlib.Omega.{arith}
 use lib.ListN.{length, drop, getD, length-drop}
-use Rattle.book.specs.Ast.{Inst, Terminator, BasicBlock}
+use Rattle.book.specs.Ast.{Terminator, BasicBlock}
 use Rattle.book.specs.Entry.{Entry, entry, entries}
 use Rattle.book.specs.Encode.{ending, encInst, encTerm, encBasicBlock}
 use Rattle.book.specs.Limits.{BlockLimits}
 use Rattle.book_types.specs.Laws.{lentFrom, entries-part}
 use Rattle.assembly.specs.Line.{Line}
 use Rattle.assembly.specs.Number.{kindOf, operandOf}
-use Rattle.lowering.specs.Gen.{each, line, _>>_}
 use Rattle.lowering.specs.Context.{FnCtx}
-use Rattle.lowering.specs.Inst.{genInst}
 use Rattle.lowering.specs.Term.{genTerm}
 use Rattle.lowering.specs.Function.{genBlock}
 use Rattle.gen_lines.specs.declared.Reached.{Reached}
@@ -22,7 +20,6 @@ use Rattle.gen_values.specs.Fields.{entry-at}
 use Rattle.gen_values.specs.Push.{word-same}
 use Rattle.gen_values.specs.Maps.{Maps, Did}
 use Rattle.gen_term.specs.Terms.{TermAt}
-use Rattle.gen_term.specs.Whole.{TermAsk}
 use Rattle.gen_block.specs.declared.Passed.{Passed}
 use Rattle.gen_block.specs.Body.{BodyAt, InstsAsk, InstsDone}
 

@@ -1,21 +1,20 @@
 -- The instructions of a block from a place on, and the terminator behind them.
-use Prim.Native.Nat.{ℕ, _+_, _-_, _*_, _<_, _≤_, _^_}
+use Prim.Native.Nat.{ℕ, _+_, _-_, _<_, _≤_, _^_}
 use mathlib.Core.Path.{_≡_, refl, sym, ap, subst, _∙_}
 use mathlib.Core.List.{List, [], _∷_, _++_, append-assoc}
 use native.Mathlib.Omega.{arith}
-use lib.ListN.{length, drop, getD, length-append}
+use lib.ListN.{length, drop, getD}
 use lib.Seq.{drop-drop, drop-append-seam}
 use Rattle.book.specs.Ast.{InstKind, Inst, Terminator}
-use Rattle.book.specs.Entry.{Entry, entry, entries}
-use Rattle.book.specs.Kinds.{InstTag, TermTag, instKind, termKind}
-use Rattle.book.specs.Fields.{instFields, instTagOf, instArgs, termFields, termTagOf, termArgs}
-use Rattle.book.specs.Encode.{ending, encInst, encTerm, encFields, destWord}
+use Rattle.book.specs.Entry.{Entry, entries}
+use Rattle.book.specs.Kinds.{instKind, termKind}
+use Rattle.book.specs.Fields.{instFields, instTagOf, instArgs, termTagOf}
+use Rattle.book.specs.Encode.{ending, encInst, encTerm, encFields}
 use Rattle.book.specs.Limits.{Each, InstLimits, TermLimits}
-use Rattle.lowering.specs.Gen.{Gen, each, skip}
+use Rattle.lowering.specs.Gen.{each}
 use Rattle.lowering.specs.Context.{FnCtx}
 use Rattle.lowering.specs.Inst.{genInst}
 use Rattle.gen_lines.specs.declared.Reached.{Reached}
-use Rattle.gen_lines.specs.Puts.{Puts}
 use Rattle.gen_values.specs.Fields.{entry-at}
 use Rattle.gen_values.specs.Maps.{Maps, Did}
 use Rattle.gen_inst.specs.View.{InstAt}

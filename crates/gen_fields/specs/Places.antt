@@ -1,23 +1,21 @@
 -- Places of values and types among the lent entries: what pushing asks of them, and the laws that read them.
 use Prim.Native.Nat.{ℕ, _+_, _*_, _<_, _≤_}
-use mathlib.Core.Path.{_≡_, refl, sym, subst, _∙_}
+use mathlib.Core.Path.{_≡_, refl, sym, subst}
 use mathlib.Core.Bool.{Bool, not}
 use mathlib.Core.List.{List, _∷_, _++_}
 use native.Mathlib.Omega.{arith}
 use lib.ListN.{length, drop, getD}
 use lib.Dec.{eqb}
-use Rattle.book.specs.Ast.{Value}
 use Rattle.book.specs.Entry.{entry, entries}
 use Rattle.book.specs.Encode.{encFields}
 use Rattle.book.specs.Fields.{Item, Field, Meanings}
-use Rattle.book.specs.Limits.{ValueLimits}
 use Rattle.lowering.specs.Context.{FnCtx}
 use Rattle.lowering.specs.Operand.{pushValue, pushTyped}
 use Rattle.layout_memo.specs.Front.{tyLen}
 use Rattle.gen_lines.specs.declared.Reached.{Reached}
 use Rattle.gen_lines.specs.Puts.{Puts, orElse, madeRefused}
 use Rattle.gen_lines.specs.Follow.{asked-puts}
-use Rattle.gen_values.specs.Values.{widthBy, Reaches}
+use Rattle.gen_values.specs.Values.{widthBy}
 use Rattle.gen_values.specs.Fields.{Fields, ValueAt, OperandAt, operand-at, entry-at, value-at, behind-type, type-in, asked-width}
 
 -- a value and the entry that begins its type

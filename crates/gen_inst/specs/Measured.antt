@@ -1,6 +1,6 @@
 -- Loads, stores and freezes: the instruction by its kind, and its lines.
-use Prim.Native.Nat.{ℕ, _+_, _-_, _*_, _<_, _≤_}
-use mathlib.Core.Path.{_≡_, refl, sym, ap, subst, _∙_}
+use Prim.Native.Nat.{ℕ, _-_}
+use mathlib.Core.Path.{_≡_, refl, sym, subst}
 use mathlib.Core.Logic.{_⊎_, ⊎-elim}
 use mathlib.Core.List.{List}
 use mathlib.Core.Option.{Option}
@@ -8,7 +8,7 @@ use Rattle.book.specs.Ast.{InstKind}
 use Rattle.book.specs.Entry.{Entry}
 use Rattle.book.specs.Rule.{find}
 use Rattle.book.specs.Kinds.{InstTag, instKind, instTag, instTags}
-use Rattle.book.specs.Fields.{Field, Meanings, instFields, instTagOf, instArgs}
+use Rattle.book.specs.Fields.{Meanings, instFields, instTagOf, instArgs}
 use Rattle.book_insts.specs.declared.InstGroup.the-variants as group
 use Rattle.lowering.specs.Context.{FnCtx}
 use Rattle.lowering.specs.Arith.{genFreeze}

@@ -1,7 +1,7 @@
 -- Allocas, getelementptrs, calls, cmpxchgs and extractvalues, phis and fences: the instruction by its kind, and its lines.
 use Prim.Native.Nat.{ℕ, _+_, _-_, _*_, _<_, _≤_}
 use mathlib.Core.Path.{_≡_, refl, sym, ap, subst, _∙_}
-use mathlib.Core.Logic.{_⊎_, inl, inr, ⊎-elim}
+use mathlib.Core.Logic.{inl, inr}
 use mathlib.Core.List.{List}
 use mathlib.Core.Option.{Option}
 use native.Mathlib.Omega.{arith}
@@ -11,9 +11,9 @@ use Rattle.book.specs.Encode.{destWord}
 use Rattle.book.specs.Entry.{Entry, entries}
 use Rattle.book.specs.Rule.{find}
 use Rattle.book.specs.Kinds.{InstTag, instKind, instTag, instTags}
-use Rattle.book.specs.Fields.{Item, Field, Meanings, instFields, instTagOf, instArgs}
+use Rattle.book.specs.Fields.{Meanings, instFields, instTagOf, instArgs}
 use Rattle.book_insts.specs.declared.InstGroup.the-variants as group
-use Rattle.lowering.specs.Gen.{Gen, skip, _>>_}
+use Rattle.lowering.specs.Gen.{Gen}
 use Rattle.lowering.specs.Context.{FnCtx}
 use Rattle.lowering.specs.Memory.{genAlloca, requireAtomicWidth, genCmpxchg, genExtractValue}
 use Rattle.lowering.specs.Gep.{genGep}
@@ -25,7 +25,6 @@ use Rattle.gen_values.specs.Fields.{Fields, type-starts}
 use Rattle.gen_values.specs.Values.{destOf, dest-is}
 use Rattle.gen_values.specs.Maps.{Maps, Did}
 use Rattle.gen_size.specs.Sizes.{Measurable}
-use Rattle.gen_size.specs.Lent.{Lent}
 use Rattle.gen_fields.specs.Given.{Given}
 use Rattle.gen_alloca.specs.Alloca.{ResultLent}
 use Rattle.gen_gep.specs.Loop.{GepAsk}

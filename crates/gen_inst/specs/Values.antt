@@ -1,26 +1,20 @@
 -- Instructions that put a value into their result's slot and measure nothing: operations, comparisons, conversions, selects.
 use Prim.Native.Nat.{ℕ, _+_, _-_, _*_, _<_, _≤_}
-use mathlib.Core.Path.{_≡_, refl, sym, ap, subst, _∙_}
-use mathlib.Core.List.{List, [], _∷_}
-use mathlib.Core.Option.{Option, none, some}
+use mathlib.Core.Path.{_≡_, sym, subst}
+use mathlib.Core.List.{List}
+use mathlib.Core.Option.{Option}
 use native.Mathlib.Omega.{arith}
 use lib.ListN.{length}
-use Rattle.book.specs.Ast.{Ty, Value, BinOp, ConvOp, ICmpPred, InstKind}
+use Rattle.book.specs.Ast.{BinOp, ConvOp, ICmpPred, InstKind}
 use Rattle.book.specs.Entry.{Entry}
-use Rattle.book.specs.Fields.{Field, Meanings, instFields, instTagOf, instArgs}
-use Rattle.book.specs.Limits.{Maybe, NameLimits}
-use Rattle.book.specs.Encode.{destWord}
+use Rattle.book.specs.Fields.{Meanings, instFields, instTagOf, instArgs}
 use Rattle.book.specs.Kinds.{instKind}
 use Rattle.assembly.specs.Number.{binNumber, icmpNumber}
-use Rattle.lowering.specs.Gen.{Gen, skip, _>>_}
 use Rattle.lowering.specs.Context.{FnCtx}
-use Rattle.lowering.specs.Operand.{storeDest}
 use Rattle.lowering.specs.Arith.{genBin, genIcmp, genConv, genSelect}
-use Rattle.lowering.specs.Inst.{genKind}
 use Rattle.gen_lines.specs.declared.Reached.{Reached}
-use Rattle.gen_lines.specs.Puts.{Puts, then-puts}
+use Rattle.gen_lines.specs.Puts.{Puts}
 use Rattle.gen_values.specs.Fields.{Fields}
-use Rattle.gen_values.specs.Values.{destOf, DestReaches, dest-is}
 use Rattle.gen_arith.specs.Arith.{There, twoValues, converted, convNumber}
 use Rattle.gen_select.specs.Select.{selected}
 use Rattle.gen_inst.specs.Body.{bodyGen}

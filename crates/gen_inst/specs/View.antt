@@ -1,16 +1,16 @@
 -- An instruction at its place among the book's entries: what the entry in front and the group of its kind tell.
 use Prim.Native.Nat.{ℕ, _+_, _-_, _*_, _<_, _≤_, _^_}
 use mathlib.Core.Path.{_≡_, refl, sym, ap, subst, _∙_}
-use mathlib.Core.List.{List, [], _∷_, _++_}
+use mathlib.Core.List.{List, _∷_, _++_}
 use mathlib.Core.Option.{Option, none, some}
 use native.Mathlib.Omega.{arith}
 use lib.ListN.{length, drop, getD, length-drop}
 use Rattle.book.specs.Ast.{Ty, Value, TypedVal, Incoming, BinOp, ConvOp, ICmpPred, InstKind, Inst}
 use Rattle.book.specs.Entry.{Entry, entry, entries}
 use Rattle.book.specs.Rule.{find}
-use Rattle.book.specs.Kinds.{InstTag, instKind, instTag, instTags}
+use Rattle.book.specs.Kinds.{instKind, instTag, instTags}
 use Rattle.book_types.specs.Tables.{in-range}
-use Rattle.book.specs.Fields.{Field, Meanings, instFields, instTagOf, instArgs}
+use Rattle.book.specs.Fields.{instFields, instTagOf, instArgs}
 use Rattle.book.specs.Encode.{encInst, encFields, destWord}
 use Rattle.book.specs.Limits.{InstLimits, Maybe, NameLimits}
 use Rattle.book.specs.AgreeInst.{inst-found}
@@ -19,7 +19,7 @@ use Rattle.book_insts.specs.declared.InstGroup.{InstGroup}
 use Rattle.book_insts.specs.declared.InstGroup.the-variants as group
 use Rattle.assembly.specs.Number.{binNumber, icmpNumber}
 use Rattle.gen_values.specs.Fields.{Fields, entry-at}
-use Rattle.gen_values.specs.Values.{destOf, DestReaches, dest-is}
+use Rattle.gen_values.specs.Values.{DestReaches}
 use Rattle.gen_arith.specs.Arith.{convNumber}
 
 -- the instruction i stands at the place a of the book

@@ -1,28 +1,26 @@
 -- `gen_inst`: what it is lent, the kinds by their ranges, and the body with the result behind it.
 use Prim.Native.Nat.{ℕ, _+_, _*_, _<_, _≤_}
-use mathlib.Core.Path.{_≡_, refl, sym, ap, subst, _∙_}
+use mathlib.Core.Path.{_≡_, refl, sym, subst}
 use mathlib.Core.Bool.{Bool, true, false}
 use mathlib.Core.Logic.{_⊎_, inl, inr, ⊎-elim}
 use mathlib.Core.List.{List}
-use mathlib.Core.Option.{Option}
 use native.Mathlib.Omega.{arith}
 use borrow.Author.Tests.{eqb-true, eqb-false}
-use lib.ListN.{length, drop, getD}
+use lib.ListN.{length, getD}
 use lib.Dec.{eqb}
-use Rattle.book.specs.Ast.{InstKind, Inst}
-use Rattle.book.specs.Encode.{destWord}
+use Rattle.book.specs.Ast.{Inst}
 use Rattle.book.specs.Entry.{Entry, entries}
 use Rattle.book.specs.Kinds.{instKind}
 use Rattle.book.specs.Fields.{instFields, instTagOf, instArgs}
 use Rattle.book_types.specs.Laws.{lentFrom, entries-part}
 use Rattle.lowering.specs.Context.{FnCtx}
 use Rattle.lowering.specs.Operand.{storeDest}
-use Rattle.lowering.specs.Inst.{genKind, genInst}
+use Rattle.lowering.specs.Inst.{genInst}
 use Rattle.layout_memo.specs.Work.{Ready}
 use Rattle.gen_lines.specs.declared.Reached.{Reached}
 use Rattle.gen_lines.specs.Puts.{Puts}
 use Rattle.gen_values.specs.Fields.{Fields}
-use Rattle.gen_values.specs.Maps.{Maps, Did}
+use Rattle.gen_values.specs.Maps.{Did}
 use Rattle.gen_inst.specs.View.{InstAt, kind-is, dest-word, fields-behind, dest-below}
 use Rattle.gen_inst.specs.Body.{bodyGen, Stores, Unstored, stored-puts, unstored-puts}
 use Rattle.gen_inst.specs.Measured.{Measures}

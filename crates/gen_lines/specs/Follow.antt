@@ -1,5 +1,5 @@
 -- How generators follow what is asked for, a test, a label, and each other in a list.
-use Prim.Native.Nat.{ℕ, suc, _+_, _<_, _%_, _^_}
+use Prim.Native.Nat.{ℕ, _+_, _<_, _%_, _^_}
 use mathlib.Core.Path.{_≡_, refl, sym, ap, subst, _∙_}
 use mathlib.Core.Bool.{Bool, true, false}
 use mathlib.Core.List.{List, [], _∷_, _++_, append-assoc, append-nil}
@@ -10,7 +10,7 @@ use Rattle.book.specs.Result.{Result, ok, err, bind}
 use Rattle.assembly.specs.Line.{Line}
 use Rattle.lowering.specs.Gen.{Gen, Out, lines, skip, after, _>>=_, _>>_, when, choose, fresh, reserve, each}
 use Rattle.gen_lines.specs.declared.Reached.{Reached}
-use Rattle.gen_lines.specs.Puts.{Puts, After, Able, Barred, Wrote, isRefused, orElse, madeRefused, madeFresh, skip-puts, then-puts, same-puts}
+use Rattle.gen_lines.specs.Puts.{Puts, After, Able, Barred, isRefused, madeRefused, madeFresh, skip-puts, then-puts, same-puts}
 
 -- ---- what is asked for: the code has x, or it refused as r does
 abbrev pub Answered : {A : Type 0} → Result A → (s t : Reached) → A → Type 0

@@ -13,7 +13,7 @@ use lib.Dec.{leb, eqb}
 use Rattle.book.specs.Result.{Result, ok, err, bind}
 use Rattle.assembly.specs.Line.{Line}
 use Rattle.assembly.specs.Number.{kindOf, operandOf}
-use Rattle.lowering.specs.Gen.{Gen, Out, lines, line, skip, refuse, after, _>>=_, _>>_, when, choose, fresh, reserve}
+use Rattle.lowering.specs.Gen.{Gen, Out, lines, line, skip, refuse, after, _>>_}
 use Rattle.gen_lines.specs.declared.Reached.{Reached}
 
 -- counting ends at 2^62
@@ -78,7 +78,7 @@ pub record Able (s : Reached) (ks os : List ℕ) (n : ℕ) : Type 0 where
   pub few-operands : length os ≤ most
   pub counts : s .counter ≡ n % 2 ^ 64
 
--- the code went from s to t as g says. Left free: what the slices hold where g refuses, which a pass over slices of length 0 has found out
+-- the code went from s to t as g says. Left free: what the slices hold where g refuses; lent slices are passed over only where it does not
 pub record Puts (g : Gen) (s t : Reached) (ks os ks′ os′ : List ℕ) : Type 0 where
   pub long-kinds : length ks′ ≡ length ks
   pub long-operands : length os′ ≡ length os

@@ -1,5 +1,5 @@
-// Where lines are put. One code counts and writes: a pass that is lent line slices of length 0 stores nothing. What a
-// generator reached is handed through, and a refusal goes through unchanged, so that generators follow one another without
+// Where lines are put. One code counts and writes: lines behind the end of the lent slices are counted and not stored. What
+// a generator reached is handed through, and a refusal goes through unchanged, so that generators follow one another without
 // a test between them.
 use std::num::wrapping_add_u64;
 ghost use mathlib.Core.Path.{_≡_};

@@ -1,15 +1,15 @@
 -- What `gen_select` is lent, and the law that puts its lines together.
 use Prim.Native.Nat.{ℕ, _+_, _*_, _<_, _≤_, _%_, _^_}
-use mathlib.Core.Path.{_≡_, refl, sym, ap, subst, _∙_}
+use mathlib.Core.Path.{_≡_, refl, _∙_}
 use mathlib.Core.List.{List, [], _∷_}
 use native.Mathlib.Omega.{arith}
 use lib.ListN.{length, drop}
 use Rattle.book.specs.Ast.{Ty, Value}
-use Rattle.book.specs.Entry.{Entry, entries}
+use Rattle.book.specs.Entry.{entries}
 use Rattle.book.specs.Fields.{Item, Field, Meanings}
 use Rattle.assembly.specs.Line.{Line, Hint}
 use Rattle.assembly.specs.Number.{kindOf, operandOf, hintNumber}
-use Rattle.lowering.specs.Gen.{line, fresh, _>>=_, _>>_}
+use Rattle.lowering.specs.Gen.{line}
 use Rattle.lowering.specs.Context.{FnCtx}
 use Rattle.lowering.specs.Operand.{intWidth, pushValue}
 use Rattle.lowering.specs.Arith.{genSelect}
@@ -18,7 +18,6 @@ use Rattle.gen_lines.specs.declared.Reached.{Reached}
 use Rattle.gen_lines.specs.Puts.{Puts, Lined, madeFresh, line-puts, then-puts}
 use Rattle.gen_lines.specs.Follow.{Asked, asked-puts, fresh-puts}
 use Rattle.gen_values.specs.Fields.{Fields, ValueAt, OperandAt, operand-at, value-at, behind-value, behind-type}
-use Rattle.gen_arith.specs.Arith.{There}
 
 -- a value, a type and two values
 abbrev pub selected : List Field

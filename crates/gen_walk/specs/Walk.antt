@@ -3,13 +3,13 @@ use Prim.Native.Nat.{ℕ, zero, suc, _+_, _-_, _<_, _≤_}
 use mathlib.Core.Path.{_≡_, refl, sym, ap, subst, _∙_}
 use mathlib.Core.Bool.{Bool, true, false}
 use mathlib.Core.List.{List, [], _∷_, _++_, append-nil}
-use mathlib.Core.Option.{Option, none, some}
+use mathlib.Core.Option.{none, some}
 use native.Mathlib.Omega.{arith}
 use borrow.Author.Tests.{ltb-true, ltb-false}
 use lib.Dec.{ltb}
 use lib.ListN.{length, drop, getD, length-append, length-drop}
 use Rattle.book_types.specs.Laws.{length-entries}
-use Rattle.book.specs.Ast.{Ty, Tys, Sizeless, Value, Zero, TypedVal, Incoming, Case, Param}
+use Rattle.book.specs.Ast.{Ty, Tys, Sizeless, Value, Zero, TypedVal}
 use Rattle.book.specs.Entry.{Entry, entry, entries, kindsOf}
 use Rattle.book.specs.Fields.{Item, Field, ItemMeaning, Meaning, Meanings}
 use Rattle.book.specs.Encode.{ending, encTy, encTys, valueEntry, encParam, encItem, encField, encFields, encTyped}

@@ -1,6 +1,5 @@
 -- `gen_block::gen_insts` meets its contract: what was walked is done, and the others stand at the place.
 use Prim.Native.Nat.{_-_}
-use mathlib.Core.Path.{_∙_}
 use native.Mathlib.Omega.{arith}
 use lib.ListN.{length}
 use Rattle.gen_block.specs.Body.{InstsWalk, walk-start, walk-in, walk-inst, walk-more, walk-done}
