@@ -15,7 +15,7 @@ use Rattle.names.specs.Spelling.{isIntrinsic}
 use Rattle.names.specs.Prefix.{firstWith, pastWith}
 use Rattle.names.specs.Lines.{accepted-iff, names-lines}
 use Rattle.names.specs.Ranges.{range-test, range-order}
-use Rattle.names_check.specs.Read.{namesRead}
+use Rattle.names_check.specs.Read.{namesRead, sorted-read, bad-read}
 use Rattle.names_check.specs.declared.Names.{Names}
 use Rattle.names_check.specs.declared.Names.the-variants as names
 use Rattle.book.specs.Ast.{Book}
@@ -189,21 +189,12 @@ module _ (s bs : List ℕ) (counter work count : ℕ) (ec : count ≡ getD s 1 0
   named : nm ≡ namesRead (accepted bs (getD s 1 0)) (firstWith intrinsic (lines bs)) (pastWith intrinsic (lines bs))
   named = en ∙ ap (λ n. namesRead (accepted bs n) (firstWith intrinsic (lines bs)) (pastWith intrinsic (lines bs))) ec
 
-  -- which of the two it is
-  list-is : (u : Bool) (f t from to : ℕ) → namesRead u f t ≡ names.Sorted from to → (u ≡ true) × ((from ≡ f) × (to ≡ t))
-  list-is true f t from to e = (refl, (cc, cc))
-  list-is false f t from to e = absurd (let z : _≡_ {A = ℕ} 0 1 = cc in omega arith)
-
-  none-is : (u : Bool) (f t : ℕ) → namesRead u f t ≡ names.Bad → u ≡ false
-  none-is true f t e = absurd (let z : _≡_ {A = ℕ} 0 1 = cc in omega arith)
-  none-is false f t e = refl
-
   at-count : (r : Reading) (b : Bool) (v : Verdict) → v ≡ verdictOf r b counter count work → v ≡ verdictOf r b counter (getD s 1 0) work
   at-count r b v ev = ev ∙ ap (λ n. verdictOf r b counter n work) ec
 
   pub check-sorted : (from to : ℕ) → nm ≡ names.Sorted from to → (rd : Reading) → rd ≡ readingIn (barredRange from to) (bookIn s) → (v : Verdict) → v ≡ verdictOf rd true counter count work → says s bs counter work (numberOf v)
   check-sorted from to h rd er v ev =
-      let l = list-is (accepted bs (getD s 1 0)) (firstWith intrinsic (lines bs)) (pastWith intrinsic (lines bs)) from to (sym named ∙ h) in
+      let l = sorted-read (accepted bs (getD s 1 0)) (firstWith intrinsic (lines bs)) (pastWith intrinsic (lines bs)) from to (sym named ∙ h) in
       let r : rd ≡ readingIn (barredRange (firstWith intrinsic (lines bs)) (pastWith intrinsic (lines bs))) (bookIn s) = er ∙ ap (λ x. readingIn (barredRange x to) (bookIn s)) (l .1 .0) ∙ ap (λ x. readingIn (barredRange (firstWith intrinsic (lines bs)) x) (bookIn s)) (l .1 .1) in
       ap numberOf (at-count rd true v ev ∙ ap (λ x. verdictOf x true counter (getD s 1 0) work) r)
       ∙ by-book s bs counter work true (firstWith intrinsic (lines bs)) (pastWith intrinsic (lines bs)) (λ c e f. listed s bs counter work c e f (l .0))
@@ -211,4 +202,4 @@ module _ (s bs : List ℕ) (counter work count : ℕ) (ec : count ≡ getD s 1 0
   pub check-bad : nm ≡ names.Bad → (rd : Reading) → rd ≡ readingIn (barredRange 0 0) (bookIn s) → (v : Verdict) → v ≡ verdictOf rd false counter count work → says s bs counter work (numberOf v)
   check-bad h rd er v ev =
       ap numberOf (at-count rd false v ev ∙ ap (λ x. verdictOf x false counter (getD s 1 0) work) er)
-      ∙ by-book s bs counter work false 0 0 (λ c e f. not-listed s bs counter work c e f (none-is (accepted bs (getD s 1 0)) (firstWith intrinsic (lines bs)) (pastWith intrinsic (lines bs)) (sym named ∙ h)))
+      ∙ by-book s bs counter work false 0 0 (λ c e f. not-listed s bs counter work c e f (bad-read (accepted bs (getD s 1 0)) (firstWith intrinsic (lines bs)) (pastWith intrinsic (lines bs)) (sym named ∙ h)))

@@ -1,13 +1,13 @@
 -- Where each name stands in the bytes.
 use Prim.Native.Nat.{ℕ, zero, suc, _+_, _<_, _≤_}
 use mathlib.Core.Path.{_≡_, refl, sym, ap, _∙_}
-use mathlib.Core.Bool.{Bool, true, false}
+use mathlib.Core.Bool.{true}
 use mathlib.Core.List.{List, [], _∷_, _++_}
 use native.Mathlib.Omega.{arith}
 use native.Mathlib.Numerals.{add-one}
 use lib.ListN.{length, getD, take, drop, length-append, length-drop}
 use lib.Seq.{drop-append-add, drop-cons, take-append-seam, getD-append-seam, getD-drop}
-use Rattle.names.specs.Name.{allowed, everyName, join, nameAt, startOf, isEnd, upTo, until, line, nameFrom}
+use Rattle.names.specs.Name.{allowed, everyName, join, nameAt, startOf, nameFrom}
 use Rattle.names.specs.Tests.{both}
 use Rattle.names.specs.Lines.{Names, allowed-bytes, line-of}
 
@@ -74,17 +74,3 @@ next-start bs ns s i l = rw (stands bs ns s i l .from, add-one i) (sym (start-ne
 
 pub last-start : (bs : List ℕ) (ns : List (List ℕ)) → Names bs ns → startOf ns (length ns) ≡ length bs
 last-start bs ns s = start-past ns ∙ ap length (sym (s .joined))
-
-line-short : (bs : List ℕ) → length (line bs) ≤ length bs
-unfolding line until upTo
-line-short [] = omega arith
-line-short (b ∷ bs) = step (isEnd b) (line-short bs)
-  where
-    step : (t : Bool) → length (until isEnd bs) ≤ length bs → length (upTo t b (until isEnd bs)) ≤ suc (length bs)
-    step true ih = omega arith
-    step false ih = omega arith
-
--- what stands from a place on up to the next end lies in the bytes
-pub name-inside : (bs : List ℕ) (at : ℕ) → at ≤ length bs → at + length (nameFrom bs at) ≤ length bs
-unfolding nameFrom
-name-inside bs at h = omega (arith, line-short (drop at bs), length-drop at bs)

@@ -96,13 +96,3 @@ pub fn read_names(names: &[u8], count: u64, prefix: &[u8]) -> Names
         Names::Bad
     }
 }
-
-// Whether the bytes are a list of names, and `count` of them.
-pub fn check_names(names: &[u8], count: u64) -> bool
-    ensures { λ r. ⌜ r ≡ accepted (now (names .entry)) count ⌝ }
-{
-    match read_names(names, count, b"") {
-        Names::Sorted(_, _) => true,
-        Names::Bad => false,
-    }
-}

@@ -1,4 +1,3 @@
 -- What the loops of the code rest on: laws of the definitions at a place of the bytes.
 pub mod Scan
 pub mod Spell
-pub mod Tally

@@ -3,9 +3,8 @@ ghost use mathlib.Core.Path.{_≡_};
 ghost use Prim.Native.Nat.{_+_};
 ghost use lib.ListN.{length};
 ghost use Rattle.names.specs.Text.{within as textWithin, same, starts, contains};
-ghost use Rattle.names.specs.Name.{lines, nameFrom};
+ghost use Rattle.names.specs.Name.{nameFrom};
 ghost use Rattle.names.specs.Spelling.{wordByte, cleanByte};
-ghost use Rattle.names.specs.Prefix.{PrefixRange};
 
 // The byte that ends a name.
 pub const END: u8 = 10;
@@ -80,33 +79,6 @@ pub fn name_contains(names: &[u8], at: usize, text: &[u8]) -> bool
         i += 1;
     }
     text.len() == 0
-}
-
-// The numbers from `from` up to and without `to`.
-pub struct Range {
-    pub from: u64,
-    pub to: u64,
-}
-
-// The numbers of the names that start with the prefix, in one scan that ends behind them.
-pub fn prefix_range(names: &[u8], prefix: &[u8]) -> Range
-    ensures { λ r. ⌜ PrefixRange (now (prefix .entry)) (lines (now (names .entry))) (r .from) (r .to) ⌝ }
-{
-    let mut from: u64 = 0;
-    let mut to: u64 = 0;
-    let mut at: usize = 0;
-    while at < names.len() {
-        if name_starts(names, at, prefix) {
-            to += 1;
-        } else if from == to {
-            from += 1;
-            to += 1;
-        } else {
-            return Range { from, to };
-        }
-        at = name_end(names, at) + 1;
-    }
-    Range { from, to }
 }
 
 // Whether a byte is a digit, an ASCII letter or `_`.

@@ -10,7 +10,6 @@ use lib.Dec.{eqb}
 use lib.ListN.{length, getD, take, drop, length-append, length-drop}
 use lib.Seq.{drop-cons, drop-drop, take-append-seam, drop-length}
 use Rattle.names.specs.Name.{lines}
-use Rattle.print_types.specs.Starts.{sound}
 use Rattle.book.specs.Ast.{Ty, Tys, Sizeless, Param, Function, Book}
 use Rattle.book.specs.Entry.{Entry, entry, entries}
 use Rattle.book.specs.Fields.{Item}

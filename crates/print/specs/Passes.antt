@@ -1,26 +1,28 @@
 -- The two passes, and the answer of the call.
 use Prim.Native.Nat.{ℕ, _≤_}
 use mathlib.Core.Path.{_≡_, refl, sym, ap, _∙_}
-use mathlib.Core.Bool.{Bool, true, false, cond, false≢true}
+use mathlib.Core.Bool.{Bool, true, false, cond, false≢true, _&&_}
 use mathlib.Core.Option.{Option, none, some}
 use mathlib.Core.List.{List, [], _++_}
 use native.Mathlib.Omega.{arith}
 use borrow.Author.Tests.{leb-true, le-leb}
-use lib.Dec.{leb}
+use lib.Dec.{leb, ltb}
 use lib.ListN.{length, drop}
 use Rattle.names.specs.Text.{bytes}
 use Rattle.names.specs.Name.{namesOf, nameAt, lines}
 use Rattle.names.specs.Lines.{names-iff}
+use Rattle.names.specs.Spelling.{isSyscall}
 use Rattle.names.specs.Prefix.{PrefixRange}
 use Rattle.book.specs.Ast.{Ty, Book}
 use Rattle.book.specs.Entry.{entries}
 use Rattle.book.specs.Decode.{typeTo}
 use Rattle.assembly.specs.Line.{Line}
+use Rattle.assembly.specs.Number.{isName}
 use Rattle.assembly.specs.Text.{typeText, texts}
 use Rattle.assembly.specs.Printer.{Printing, refusing, writing, needed, linesOf}
 use Rattle.assembly.specs.Printer as printer
 use Rattle.print_pen.specs.Pen.{Put, fitting, counted}
-use Rattle.print_types.specs.Starts.{Starts}
+use Rattle.print_types.specs.Starts.{Sound}
 use Rattle.print_types.specs.Types.{typeBytes}
 use Rattle.print_lines.specs.Lines.{printed}
 use Rattle.print_forms.specs.All.{AllReady, allowedAll}
@@ -87,22 +89,27 @@ pub record Known (bs ks ws : List ℕ) (function params : ℕ) (b : Book) : Type
   pub type : typeBytes (lines bs) (typeTo (length (lines bs)) 64 (entries ks ws)) ≡ typeText (lines bs) (b .function .retTy)
   pub count : length (b .function .params) ≡ params
 
-names-of : (bs starts : List ℕ) → Starts bs starts → namesOf bs ≡ some (lines bs)
-names-of bs starts s = names-iff bs (lines bs) .1 (s .sound .names)
+-- the names behind their check: m of them, and those from `from` up to and without `to` start `__uvm_`
+pub record Named (bs : List ℕ) (m from to : ℕ) : Type 0 where
+  pub sound : Sound bs
+  pub count : m ≡ length (lines bs)
+  pub calls : PrefixRange (bytes "__uvm_") (lines bs) from to
 
 -- a book that has a function of this name
 abbrev named : ℕ → Book
 named f = record { marks = []; structs = []; function = record { name = f; retTy = Ty.void; params = []; blocks = [] } }
 
-module _ {bs starts : List ℕ} (s : Starts bs starts) (from to : ℕ) (r : PrefixRange (bytes "__uvm_") (lines bs) from to) (m function : ℕ) (c : m ≡ length (lines bs)) (ks xs : List ℕ) where
+module _ {bs : List ℕ} {m from to : ℕ} (d : Named bs m from to) (function : ℕ) (ks xs : List ℕ) where
+  calls-are : (b : Book) (x : ℕ) → (leb from x && ltb x to) ≡ (isName (lines bs) b x && isSyscall (nameAt (lines bs) x))
+  calls-are b = uvm-range bs (lines bs) b from to (names-iff bs (lines bs) .1 (d .sound .names)) (d .calls)
+
   pub lines-ready : (t : Bool) → t ≡ allowedAll m function from to ks xs → t ≡ true → AllReady (lines bs) ks xs
   lines-ready t e h =
-      all-ready (lines bs) (named function) from to (uvm-range bs (lines bs) (named function) from to (names-of bs starts s) r) ks xs
-      (rw c at (sym e ∙ h))
+      all-ready (lines bs) (named function) from to (calls-are (named function)) ks xs (rw (d .count) at (sym e ∙ h))
 
   module _ (b : Book) (n : b .function .name ≡ function) where
     same-check : allowedAll m function from to ks xs ≡ isSome (linesOf (lines bs) b ks xs)
-    same-check = rw (c, ← n) (allowed-lines (lines bs) b from to (uvm-range bs (lines bs) b from to (names-of bs starts s) r) ks xs)
+    same-check = rw (d .count, ← n) (allowed-lines (lines bs) b from to (calls-are b) ks xs)
 
   pub lines-barred : (t : Bool) (kws kks : List ℕ) (params : ℕ) (b : Book) (x : List ℕ) → t ≡ allowedAll m function from to ks xs → t ≡ false → Known bs kks kws function params b
       → printing (Refused 21) x ≡ definition (lines bs) b ks xs x

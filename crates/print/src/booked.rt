@@ -1,16 +1,15 @@
 // A book that is sound: where its function stands, and the printing of its lines.
 use crate::function::print_sound;
 use crate::passes::Printed;
+use names_check::Names;
 ghost use mathlib.Core.Path.{_≡_};
-ghost use lib.ListN.{length};
 ghost use mathlib.Core.Option.{some};
 ghost use Rattle.names.specs.Name.{lines};
 ghost use Rattle.book.specs.Ast.{Book};
 ghost use Rattle.book.specs.Entry.{entries};
 ghost use Rattle.book.specs.Decode.{decode};
 ghost use Rattle.assembly.specs.Printer.{print};
-ghost use Rattle.print_types.specs.Starts.{Sound};
-ghost use Rattle.print.specs.Passes.{printing, definition};
+ghost use Rattle.print.specs.Passes.{printing, Named, definition};
 ghost use Rattle.print.specs.Book.{firstFive, Decoded, Booked};
 
 // The index of the first entry of kind 5, the function's; the number of entries where there is none.
@@ -27,19 +26,20 @@ fn function_place(kinds: &[u64]) -> usize
     i
 }
 
-// Prints the lines of a book from its kinds and words.
+// Prints the lines of a book from its kinds and words. The names from `from` up to and without `to` start `__uvm_`.
 fn print_entries(
     kinds: &[u64],
     words: &[u64],
     count: u64,
+    from: u64,
+    to: u64,
     names: &[u8],
     line_kinds: &[u16],
     operands: &[u64],
     text: &mut [u8],
 ) -> Printed
     requires { ⌜ Decoded count (now kinds) (now words) ⌝ }
-    requires { ⌜ Sound (now names) ⌝ }
-    requires { ⌜ count ≡ length (lines (now names)) ⌝ }
+    requires { ⌜ Named (now names) count from to ⌝ }
     ensures { λ r. ⌜ ((b : Book) → decode count (entries (now (kinds .entry)) (now (words .entry))) ≡ some b
         → printing r (now (text .exit)) ≡ definition (lines (now (names .entry))) b (now («line_kinds» .entry)) (now (operands .entry)) (now (text .entry))) ⌝ }
 {
@@ -48,10 +48,13 @@ fn print_entries(
         &kinds[at..],
         &words[at..],
         count,
+        from,
+        to,
         names,
         line_kinds,
         operands,
         text,
+        256,
     )
 }
 
@@ -67,14 +70,16 @@ pub fn print_booked(
     ensures { λ r. ⌜ printing r (now (text .exit)) ≡ print (now (book .entry)) (now (names .entry)) (now («line_kinds» .entry)) (now (operands .entry)) (now (text .entry)) ⌝ }
 {
     let count = book[1];
-    if !names_check::check_names(names, count) {
+    let Names::Sorted(from, to) = names_check::read_names(names, count, b"__uvm_") else {
         return Printed::Refused(2);
-    }
+    };
     let middle = book[0] as usize + 2;
     print_entries(
         &book[2..middle],
         &book[middle..],
         count,
+        from,
+        to,
         names,
         line_kinds,
         operands,

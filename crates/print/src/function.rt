@@ -7,18 +7,18 @@ use book_types::shorter;
 use book_types::types::type_len;
 use book_values::Item;
 use book_values::list_len;
-use print_types::starts::note_starts;
+use print_types::starts::note_eighths;
+use print_types::starts::note_every;
 ghost use mathlib.Core.Path.{_≡_};
-ghost use Prim.Native.Nat.{ℕ, _*_, _≤_};
-ghost use lib.ListN.{length};
+ghost use Prim.Native.Nat.{ℕ, _<_};
 ghost use Rattle.names.specs.Name.{lines};
 ghost use Rattle.book.specs.Ast.{Book};
 ghost use Rattle.book.specs.Entry.{entries};
 ghost use Rattle.book.specs.Read.{got, many};
 ghost use Rattle.book.specs.Fields.{Item as BookItem};
 ghost use Rattle.book.specs.Decode.{item, function as functionReader};
-ghost use Rattle.print_types.specs.Starts.{Sound};
-ghost use Rattle.print.specs.Passes.{printing, definition};
+ghost use Rattle.print_types.specs.Starts.{Starts};
+ghost use Rattle.print.specs.Passes.{printing, Named, definition};
 ghost use Rattle.print.specs.Function.{sixes, There, FunctionThere, readCount, paramsRead};
 
 // How many entries have kind 6.
@@ -60,32 +60,36 @@ fn function_params(kinds: &[u64], words: &[u64], names: u64) -> u64
     list_params(&kinds[at..], &words[at..], names)
 }
 
-// Prints the lines of the function at the front, with room for the starts of its names.
+// Prints the lines of the function at the front, with the starts of its names. The names from `from` up to and without `to` start `__uvm_`.
 fn print_noted(
     kinds: &[u64],
     words: &[u64],
     count: u64,
+    from: u64,
+    to: u64,
     names: &[u8],
     line_kinds: &[u16],
     operands: &[u64],
     text: &mut [u8],
-    starts: &mut [usize],
+    starts: &[usize],
+    every: bool,
 ) -> Printed
     requires { ⌜ FunctionThere count (now kinds) (now words) ⌝ }
-    requires { ⌜ Sound (now names) ⌝ }
-    requires { ⌜ count ≡ length (lines (now names)) ⌝ }
-    requires { ⌜ count ≤ 8 * length (now starts) ⌝ }
+    requires { ⌜ Named (now names) count from to ⌝ }
+    requires { ⌜ Starts every (now names) (now starts) ⌝ }
     ensures { λ r. ⌜ ((b : Book) (n : ℕ) → functionReader count (entries (now (kinds .entry)) (now (words .entry))) ≡ got (b .function) n
         → printing r (now (text .exit)) ≡ definition (lines (now (names .entry))) b (now («line_kinds» .entry)) (now (operands .entry)) (now (text .entry))) ⌝ }
 {
     let function = words[0];
     let params = function_params(kinds, words, count);
-    note_starts(names, starts);
     print_known(
         names,
         starts,
+        every,
         function,
         count,
+        from,
+        to,
         &kinds[1..],
         &words[1..],
         params,
@@ -95,45 +99,180 @@ fn print_noted(
     )
 }
 
-// Prints the lines of the function at the front, where it and the names are sound. A book that has this function is printed so.
-// The starts of up to 2,048 names take 256 words, which are cleared in less time than 16,384.
-pub fn print_sound(
+// The same with the start of every name, of which there are up to 255.
+fn few_print(
     kinds: &[u64],
     words: &[u64],
     count: u64,
+    from: u64,
+    to: u64,
     names: &[u8],
     line_kinds: &[u16],
     operands: &[u64],
     text: &mut [u8],
 ) -> Printed
     requires { ⌜ FunctionThere count (now kinds) (now words) ⌝ }
-    requires { ⌜ Sound (now names) ⌝ }
-    requires { ⌜ count ≡ length (lines (now names)) ⌝ }
+    requires { ⌜ Named (now names) count from to ⌝ }
+    requires { ⌜ count < 256 ⌝ }
     ensures { λ r. ⌜ ((b : Book) (n : ℕ) → functionReader count (entries (now (kinds .entry)) (now (words .entry))) ≡ got (b .function) n
         → printing r (now (text .exit)) ≡ definition (lines (now (names .entry))) b (now («line_kinds» .entry)) (now (operands .entry)) (now (text .entry))) ⌝ }
 {
-    if count <= 2048 {
-        let mut few = [0usize; 256];
-        return print_noted(
-            kinds,
-            words,
-            count,
-            names,
-            line_kinds,
-            operands,
-            text,
-            &mut few,
-        );
-    }
-    let mut starts = [0usize; 16384];
+    let mut starts = [0usize; 256];
+    note_every(names, &mut starts);
     print_noted(
         kinds,
         words,
         count,
+        from,
+        to,
         names,
         line_kinds,
         operands,
         text,
-        &mut starts,
+        &starts,
+        true,
+    )
+}
+
+// The same with the start of every name, of which there are up to 2,047.
+fn some_print(
+    kinds: &[u64],
+    words: &[u64],
+    count: u64,
+    from: u64,
+    to: u64,
+    names: &[u8],
+    line_kinds: &[u16],
+    operands: &[u64],
+    text: &mut [u8],
+) -> Printed
+    requires { ⌜ FunctionThere count (now kinds) (now words) ⌝ }
+    requires { ⌜ Named (now names) count from to ⌝ }
+    requires { ⌜ count < 2048 ⌝ }
+    ensures { λ r. ⌜ ((b : Book) (n : ℕ) → functionReader count (entries (now (kinds .entry)) (now (words .entry))) ≡ got (b .function) n
+        → printing r (now (text .exit)) ≡ definition (lines (now (names .entry))) b (now («line_kinds» .entry)) (now (operands .entry)) (now (text .entry))) ⌝ }
+{
+    let mut starts = [0usize; 2048];
+    note_every(names, &mut starts);
+    print_noted(
+        kinds,
+        words,
+        count,
+        from,
+        to,
+        names,
+        line_kinds,
+        operands,
+        text,
+        &starts,
+        true,
+    )
+}
+
+// The same with the start of every 8th name.
+fn many_print(
+    kinds: &[u64],
+    words: &[u64],
+    count: u64,
+    from: u64,
+    to: u64,
+    names: &[u8],
+    line_kinds: &[u16],
+    operands: &[u64],
+    text: &mut [u8],
+) -> Printed
+    requires { ⌜ FunctionThere count (now kinds) (now words) ⌝ }
+    requires { ⌜ Named (now names) count from to ⌝ }
+    ensures { λ r. ⌜ ((b : Book) (n : ℕ) → functionReader count (entries (now (kinds .entry)) (now (words .entry))) ≡ got (b .function) n
+        → printing r (now (text .exit)) ≡ definition (lines (now (names .entry))) b (now («line_kinds» .entry)) (now (operands .entry)) (now (text .entry))) ⌝ }
+{
+    let mut starts = [0usize; 16384];
+    note_eighths(names, &mut starts);
+    print_noted(
+        kinds,
+        words,
+        count,
+        from,
+        to,
+        names,
+        line_kinds,
+        operands,
+        text,
+        &starts,
+        false,
+    )
+}
+
+// Prints the lines of the function at the front, where it and the names are sound, with the least room for starts that does, from `room` on.
+// A book that has this function is printed so. A function with a large array touches all of it at each call, and one that is called once
+// becomes a part of its caller, but not of a caller that calls itself: so each room has its function, and this one grows the room by a call.
+pub fn print_sound(
+    kinds: &[u64],
+    words: &[u64],
+    count: u64,
+    from: u64,
+    to: u64,
+    names: &[u8],
+    line_kinds: &[u16],
+    operands: &[u64],
+    text: &mut [u8],
+    room: u64,
+) -> Printed
+    requires { ⌜ FunctionThere count (now kinds) (now words) ⌝ }
+    requires { ⌜ Named (now names) count from to ⌝ }
+    requires { ⌜ 0 < room ⌝ }
+    ensures { λ r. ⌜ ((b : Book) (n : ℕ) → functionReader count (entries (now (kinds .entry)) (now (words .entry))) ≡ got (b .function) n
+        → printing r (now (text .exit)) ≡ definition (lines (now (names .entry))) b (now («line_kinds» .entry)) (now (operands .entry)) (now (text .entry))) ⌝ }
+{
+    if 2048 < room {
+        return many_print(
+            kinds,
+            words,
+            count,
+            from,
+            to,
+            names,
+            line_kinds,
+            operands,
+            text,
+        );
+    }
+    if room <= count {
+        return print_sound(
+            kinds,
+            words,
+            count,
+            from,
+            to,
+            names,
+            line_kinds,
+            operands,
+            text,
+            8 * room,
+        );
+    }
+    if 256 < room {
+        return some_print(
+            kinds,
+            words,
+            count,
+            from,
+            to,
+            names,
+            line_kinds,
+            operands,
+            text,
+        );
+    }
+    few_print(
+        kinds,
+        words,
+        count,
+        from,
+        to,
+        names,
+        line_kinds,
+        operands,
+        text,
     )
 }

@@ -20,7 +20,7 @@ ghost use Rattle.print_types.specs.Types.{typeBytes, Typed};
 ghost use Rattle.print_lines.specs.Lines.{printed};
 ghost use Rattle.print_forms.specs.All.{AllReady};
 ghost use Rattle.print_lines.specs.All.{printedAll};
-ghost use Rattle.print.specs.Passes.{printing, Known, definition};
+ghost use Rattle.print.specs.Passes.{printing, Named, Known, definition};
 
 // The bytes put from index 0 on, or a refusal's number.
 pub enum Printed {
@@ -32,6 +32,7 @@ pub enum Printed {
 fn put_twice(
     names: &[u8],
     starts: &[usize],
+    every: bool,
     function: &[u8],
     kinds: &[u64],
     words: &[u64],
@@ -40,7 +41,7 @@ fn put_twice(
     operands: &[u64],
     text: &mut [u8],
 ) -> Printed
-    requires { ⌜ Starts (now names) (now starts) ⌝ }
+    requires { ⌜ Starts every (now names) (now starts) ⌝ }
     requires { ⌜ Typed (length (lines (now names))) 64 (now kinds) (now words) ⌝ }
     requires { ⌜ AllReady (lines (now names)) (now «line_kinds») (now operands) ⌝ }
     ensures { λ r. ⌜ printing r (now (text .exit)) ≡ writing (printedAll (printed (lines (now (names .entry))) (now (function .entry)) (typeBytes (lines (now (names .entry))) (typeTo (length (lines (now (names .entry)))) 64 (entries (now (kinds .entry)) (now (words .entry))))) params) (now («line_kinds» .entry)) (now (operands .entry))) (now (text .entry)) ⌝ }
@@ -53,6 +54,7 @@ fn put_twice(
         &places,
         names,
         starts,
+        every,
         function,
         kinds,
         words,
@@ -69,6 +71,7 @@ fn put_twice(
                 &places,
                 names,
                 starts,
+                every,
                 function,
                 kinds,
                 words,
@@ -87,8 +90,11 @@ fn put_twice(
 pub fn print_known(
     names: &[u8],
     starts: &[usize],
+    every: bool,
     function: u64,
     count: u64,
+    from: u64,
+    to: u64,
     kinds: &[u64],
     words: &[u64],
     params: u64,
@@ -96,21 +102,21 @@ pub fn print_known(
     operands: &[u64],
     text: &mut [u8],
 ) -> Printed
-    requires { ⌜ Starts (now names) (now starts) ⌝ }
+    requires { ⌜ Starts every (now names) (now starts) ⌝ }
     requires { ⌜ Typed (length (lines (now names))) 64 (now kinds) (now words) ⌝ }
-    requires { ⌜ count ≡ length (lines (now names)) ⌝ }
+    requires { ⌜ Named (now names) count from to ⌝ }
     requires { ⌜ function < count ⌝ }
     ensures { λ r. ⌜ ((b : Book) → Known (now (names .entry)) (now (kinds .entry)) (now (words .entry)) function params b
         → printing r (now (text .exit)) ≡ definition (lines (now (names .entry))) b (now («line_kinds» .entry)) (now (operands .entry)) (now (text .entry))) ⌝ }
 {
-    let calls = names_spelling::prefix_range(names, b"__uvm_");
-    if !check_lines(line_kinds, operands, count, function, calls.from, calls.to) {
+    if !check_lines(line_kinds, operands, count, function, from, to) {
         return Printed::Refused(21);
     }
     put_twice(
         names,
         starts,
-        name_of(names, starts, function),
+        every,
+        name_of(names, starts, every, function),
         kinds,
         words,
         params,

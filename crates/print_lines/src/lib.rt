@@ -38,19 +38,20 @@ fn put_operand(
     pen: Pen,
     names: &[u8],
     starts: &[usize],
+    every: bool,
     function: &[u8],
     form: Form,
     x: u64,
 ) -> Pen
-    requires { ⌜ Starts (now names) (now starts) ⌝ }
+    requires { ⌜ Starts every (now names) (now starts) ⌝ }
     requires { ⌜ Ready form (lines (now names)) x ⌝ }
     ensures { λ r. ⌜ Put (operandText (lines (now (names .entry))) (now (function .entry)) form x) pen (now (text .entry)) (now (text .exit)) r ⌝ }
 {
     match form {
-        Form::Name => put_clean(text, pen, name_of(names, starts, x)),
-        Form::Block => put_block(text, pen, function, name_of(names, starts, x)),
-        Form::Call => put_call(text, pen, name_of(names, starts, x / 256), x % 256),
-        Form::Syscall => put_syscall(text, pen, name_of(names, starts, x)),
+        Form::Name => put_clean(text, pen, name_of(names, starts, every, x)),
+        Form::Block => put_block(text, pen, function, name_of(names, starts, every, x)),
+        Form::Call => put_call(text, pen, name_of(names, starts, every, x / 256), x % 256),
+        Form::Syscall => put_syscall(text, pen, name_of(names, starts, every, x)),
         Form::Count => put_number(text, pen, x),
         Form::Any => put_number(text, pen, x),
         Form::Slot => put_number(text, pen, x),
@@ -69,18 +70,19 @@ fn put_parts(
     places: &[u16],
     names: &[u8],
     starts: &[usize],
+    every: bool,
     function: &[u8],
     kind: u16,
     x: u64,
 ) -> Pen
     requires { ⌜ Tables (now letters) (now places) ⌝ }
-    requires { ⌜ Starts (now names) (now starts) ⌝ }
+    requires { ⌜ Starts every (now names) (now starts) ⌝ }
     requires { ⌜ Ready (formOf kind) (lines (now names)) x ⌝ }
     requires { ⌜ kind < 94 ⌝ }
     ensures { λ r. ⌜ Put (partsText (lines (now (names .entry))) (now (function .entry)) kind x) pen (now (text .entry)) (now (text .exit)) r ⌝ }
 {
     let word = put_word(text, pen, letters, places, kind);
-    let operand = put_operand(text, word, names, starts, function, form_of(kind), x);
+    let operand = put_operand(text, word, names, starts, every, function, form_of(kind), x);
     put_end(text, operand, kind)
 }
 
@@ -90,17 +92,18 @@ fn put_comment(
     pen: Pen,
     names: &[u8],
     starts: &[usize],
+    every: bool,
     function: &[u8],
     kinds: &[u64],
     words: &[u64],
     params: u64,
 ) -> Pen
-    requires { ⌜ Starts (now names) (now starts) ⌝ }
+    requires { ⌜ Starts every (now names) (now starts) ⌝ }
     requires { ⌜ Typed (length (lines (now names))) 64 (now kinds) (now words) ⌝ }
     ensures { λ r. ⌜ Put (comment (now (function .entry)) (typeBytes (lines (now (names .entry))) (typeTo (length (lines (now (names .entry)))) 64 (entries (now (kinds .entry)) (now (words .entry))))) params) pen (now (text .entry)) (now (text .exit)) r ⌝ }
 {
     let sign = put_bytes(text, pen, b"# ");
-    let ty = put_type(text, sign, names, starts, kinds, words, 64);
+    let ty = put_type(text, sign, names, starts, every, kinds, words, 64);
     let at = put_bytes(text, ty, b" @");
     let name = put_bytes(text, at, function);
     put_params(text, name, params)
@@ -114,6 +117,7 @@ fn put_line(
     places: &[u16],
     names: &[u8],
     starts: &[usize],
+    every: bool,
     function: &[u8],
     kinds: &[u64],
     words: &[u64],
@@ -122,16 +126,37 @@ fn put_line(
     x: u64,
 ) -> Pen
     requires { ⌜ Tables (now letters) (now places) ⌝ }
-    requires { ⌜ Starts (now names) (now starts) ⌝ }
+    requires { ⌜ Starts every (now names) (now starts) ⌝ }
     requires { ⌜ Typed (length (lines (now names))) 64 (now kinds) (now words) ⌝ }
     requires { ⌜ Ready (formOf kind) (lines (now names)) x ⌝ }
     requires { ⌜ kind < 7 ⌝ }
     ensures { λ r. ⌜ Put (printed (lines (now (names .entry))) (now (function .entry)) (typeBytes (lines (now (names .entry))) (typeTo (length (lines (now (names .entry)))) 64 (entries (now (kinds .entry)) (now (words .entry))))) params kind x) pen (now (text .entry)) (now (text .exit)) r ⌝ }
 {
     if kind == 0 {
-        return put_comment(text, pen, names, starts, function, kinds, words, params);
+        return put_comment(
+            text,
+            pen,
+            names,
+            starts,
+            every,
+            function,
+            kinds,
+            words,
+            params,
+        );
     }
-    put_parts(text, pen, letters, places, names, starts, function, kind, x)
+    put_parts(
+        text,
+        pen,
+        letters,
+        places,
+        names,
+        starts,
+        every,
+        function,
+        kind,
+        x,
+    )
 }
 
 // Writes a line, where it is known that it fits.
@@ -143,6 +168,7 @@ fn write_line(
     places: &[u16],
     names: &[u8],
     starts: &[usize],
+    every: bool,
     function: &[u8],
     kinds: &[u64],
     words: &[u64],
@@ -151,7 +177,7 @@ fn write_line(
     x: u64,
 ) -> usize
     requires { ⌜ Tables (now letters) (now places) ⌝ }
-    requires { ⌜ Starts (now names) (now starts) ⌝ }
+    requires { ⌜ Starts every (now names) (now starts) ⌝ }
     requires { ⌜ Typed (length (lines (now names))) 64 (now kinds) (now words) ⌝ }
     requires { ⌜ Ready (formOf kind) (lines (now names)) x ⌝ }
     requires { ⌜ kind < 94 ⌝ }
@@ -169,6 +195,7 @@ fn write_line(
         places,
         names,
         starts,
+        every,
         function,
         kinds,
         words,
@@ -189,6 +216,7 @@ pub fn count_lines(
     places: &[u16],
     names: &[u8],
     starts: &[usize],
+    every: bool,
     function: &[u8],
     kinds: &[u64],
     words: &[u64],
@@ -197,7 +225,7 @@ pub fn count_lines(
     operands: &[u64],
 ) -> Pen
     requires { ⌜ Tables (now letters) (now places) ⌝ }
-    requires { ⌜ Starts (now names) (now starts) ⌝ }
+    requires { ⌜ Starts every (now names) (now starts) ⌝ }
     requires { ⌜ Typed (length (lines (now names))) 64 (now kinds) (now words) ⌝ }
     requires { ⌜ AllReady (lines (now names)) (now «line_kinds») (now operands) ⌝ }
     ensures { λ r. ⌜ Put (printedAll (printed (lines (now (names .entry))) (now (function .entry)) (typeBytes (lines (now (names .entry))) (typeTo (length (lines (now (names .entry)))) 64 (entries (now (kinds .entry)) (now (words .entry))))) params) (now («line_kinds» .entry)) (now (operands .entry))) (Pen.Counting 0) (now (text .entry)) (now (text .exit)) r ⌝ }
@@ -227,6 +255,7 @@ pub fn count_lines(
             places,
             names,
             starts,
+            every,
             function,
             kinds,
             words,
@@ -253,6 +282,7 @@ pub fn write_lines(
     places: &[u16],
     names: &[u8],
     starts: &[usize],
+    every: bool,
     function: &[u8],
     kinds: &[u64],
     words: &[u64],
@@ -261,7 +291,7 @@ pub fn write_lines(
     operands: &[u64],
 )
     requires { ⌜ Tables (now letters) (now places) ⌝ }
-    requires { ⌜ Starts (now names) (now starts) ⌝ }
+    requires { ⌜ Starts every (now names) (now starts) ⌝ }
     requires { ⌜ Typed (length (lines (now names))) 64 (now kinds) (now words) ⌝ }
     requires { ⌜ AllReady (lines (now names)) (now «line_kinds») (now operands) ⌝ }
     requires { ⌜ end ≡ length (printedAll (printed (lines (now names)) (now function) (typeBytes (lines (now names)) (typeTo (length (lines (now names))) 64 (entries (now kinds) (now words)))) params) (now «line_kinds») (now operands)) ⌝ }
@@ -282,6 +312,7 @@ pub fn write_lines(
             places,
             names,
             starts,
+            every,
             function,
             kinds,
             words,

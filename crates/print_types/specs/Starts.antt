@@ -1,12 +1,14 @@
--- The starts of every 8th name.
-use Prim.Native.Nat.{ℕ, zero, suc, _+_, _-_, _*_, _/_, _%_, _≤_, _<_}
-use mathlib.Core.Path.{_≡_, refl, sym, ap, _∙_}
-use mathlib.Core.Logic.{_⊎_, inl, inr, ⊎-elim}
+-- The starts of names: of every one, or of every 8th.
+use Prim.Native.Nat.{ℕ, _+_, _-_, _*_, _/_, _%_, _≤_, _<_}
+use mathlib.Core.Path.{_≡_, refl, sym, ap, subst, _∙_}
+use mathlib.Core.Logic.{⊎-elim}
+use mathlib.Core.Bool.{Bool, true, false}
 use mathlib.Core.List.{List}
 use mathlib.Core.Option.{some}
 use native.Mathlib.Omega.{arith}
 use lib.ListN.{length, getD, set, take, drop, length-set}
 use lib.Seq.{getD-set-same, getD-set-other}
+use Rattle.numbers.specs.Tests.{lt-or-le, eq-or-ne}
 use Rattle.names.specs.Name.{lines, namesOf, nameAt, nameFrom, startOf}
 use Rattle.names.specs.Lines.{Names, names-iff, names-lines}
 use Rattle.names.specs.Places.{stands, next-start, last-start}
@@ -21,14 +23,25 @@ sound bs ns e h =
     let l = names-lines bs ns e in
     record { names = rw l (names-iff bs ns .0 e); few = rw l h }
 
--- the starts before the name numbered n
-pub record Before (bs : List ℕ) (n : ℕ) (starts : List ℕ) : Type 0 where
-  pub at : (j : ℕ) → 8 * j < n → getD starts j 0 ≡ startOf (lines bs) (8 * j)
+-- the number of the name whose start stands at index j: every one is kept, or every 8th
+abbrev pub numberAt : Bool → ℕ → ℕ
+numberAt true j = j
+numberAt false j = 8 * j
 
-pub record Starts (bs starts : List ℕ) : Type 0 where
+-- one more than the last number whose start is kept: where every one is, the end of the bytes stands behind the n names' as a start
+abbrev pub past : Bool → ℕ → ℕ
+past true n = n + 1
+past false n = n
+
+-- the starts before the name numbered n
+pub record Before (every : Bool) (bs : List ℕ) (n : ℕ) (starts : List ℕ) : Type 0 where
+  pub at : (j : ℕ) → numberAt every j < n → getD starts j 0 ≡ startOf (lines bs) (numberAt every j)
+
+-- the starts by which a name is found
+pub record Starts (every : Bool) (bs starts : List ℕ) : Type 0 where
   pub sound : Sound bs
-  pub room : length (lines bs) ≤ 8 * length starts
-  pub all : Before bs (length (lines bs)) starts
+  pub room : past every (length (lines bs)) ≤ numberAt every (length starts)
+  pub all : Before every bs (past every (length (lines bs))) starts
 
 module _ (bs : List ℕ) (s : Sound bs) where
   abbrev ns : List (List ℕ)
@@ -39,22 +52,11 @@ module _ (bs : List ℕ) (s : Sound bs) where
 
   -- the pass has come to a name or to the end
   pub start-inside : (i : ℕ) → i ≤ length ns → startOf ns i < length bs → i < length ns
-  start-inside i h l = ⊎-elim (λ b. b) (λ e. absurd (omega (arith, ap (startOf ns) e, last-start bs ns (s .names)))) (less i (length ns) h)
-    where
-      less : (a b : ℕ) → a ≤ b → (a < b) ⊎ (a ≡ b)
-      less zero zero h = inr refl
-      less zero (suc b) h = inl (omega arith)
-      less (suc a) zero h = absurd (omega arith)
-      less (suc a) (suc b) h = ⊎-elim (λ x. inl (omega arith)) (λ x. inr (ap suc x)) (less a b (omega arith))
+  start-inside i h l =
+      ⊎-elim (λ b. b) (λ g. let e : i ≡ length ns = omega arith in absurd (omega (arith, ap (startOf ns) e, last-start bs ns (s .names)))) (lt-or-le i (length ns))
 
   pub start-over : (i : ℕ) → i ≤ length ns → length bs ≤ startOf ns i → i ≡ length ns
-  start-over i h l = ⊎-elim (λ b. absurd (omega (arith, start-below i b))) (λ e. e) (less i (length ns) h)
-    where
-      less : (a b : ℕ) → a ≤ b → (a < b) ⊎ (a ≡ b)
-      less zero zero h = inr refl
-      less zero (suc b) h = inl (omega arith)
-      less (suc a) zero h = absurd (omega arith)
-      less (suc a) (suc b) h = ⊎-elim (λ x. inl (omega arith)) (λ x. inr (ap suc x)) (less a b (omega arith))
+  start-over i h l = ⊎-elim (λ b. absurd (omega (arith, start-below i b))) (λ g. omega arith) (lt-or-le i (length ns))
 
   -- one name further
   pub start-further : (i at end : ℕ) → i < length ns → at ≡ startOf ns i → end ≡ at + length (nameFrom bs at) → end + 1 ≡ startOf ns (i + 1)
@@ -75,43 +77,59 @@ module _ (bs : List ℕ) (s : Sound bs) where
       let k : end - at ≡ length (nameAt ns i) = omega arith in
       rw (k, e) (t .spelled)
 
-pub none-before : (bs starts : List ℕ) → Before bs 0 starts
-none-before bs starts = record { at = λ j h. absurd (omega arith) }
+pub none-before : (every : Bool) (bs starts : List ℕ) → Before every bs 0 starts
+none-before every bs starts = record { at = λ j h. absurd (omega arith) }
 
-module _ {bs starts : List ℕ} {i : ℕ} (b : Before bs i starts) where
-  -- a name between is not noted
-  pub before-skip : (i % 8 ≡ 0 → ⊥) → Before bs (i + 1) starts
-  before-skip h = record { at = λ j l. b .at j (omega (arith, h)) }
+-- an index is in the room where its number is
+index-inside : (every : Bool) (j n size : ℕ) → past every n ≤ numberAt every size → numberAt every j < past every n → j < size
+index-inside true j n size r h = omega arith
+index-inside false j n size r h = omega arith
 
-  pub before-note : (at : ℕ) → i % 8 ≡ 0 → at ≡ startOf (lines bs) i → i / 8 < length starts → Before bs (i + 1) (set starts (i / 8) at)
-  before-note at h e f = record { at = go }
+names-past : (every : Bool) (n : ℕ) → n ≤ past every n
+names-past true n = omega arith
+names-past false n = omega arith
+
+-- a name between is not noted
+pub before-skip : {bs starts : List ℕ} {i : ℕ} → Before false bs i starts → (i % 8 ≡ 0 → ⊥) → Before false bs (i + 1) starts
+before-skip b h = record { at = λ j l. b .at j (omega (arith, h)) }
+
+module _ {every : Bool} {bs starts : List ℕ} {i : ℕ} (b : Before every bs i starts) where
+  pub before-note : (k at : ℕ) → numberAt every k ≡ i → at ≡ startOf (lines bs) i → k < length starts → Before every bs (i + 1) (set starts k at)
+  before-note k at w e f = record { at = go }
     where
-      k : ℕ
-      k = i / 8
+      less : (t : Bool) (j : ℕ) → (j ≡ k → ⊥) → numberAt t k ≡ i → numberAt t j < i + 1 → numberAt t j < i
+      less true j q w l = omega (arith, q)
+      less false j q w l = omega (arith, q)
 
-      whole : 8 * (i / 8) ≡ i
-      whole = omega arith
+      go : (j : ℕ) → numberAt every j < i + 1 → getD (set starts k at) j 0 ≡ startOf (lines bs) (numberAt every j)
+      go j l = ⊎-elim (λ q. rw q (getD-set-same starts k at 0 f ∙ e ∙ sym (ap (startOf (lines bs)) w)))
+          (λ q. getD-set-other starts k j at 0 q ∙ b .at j (less every j q w l))
+          (eq-or-ne j k)
 
-      go : (j : ℕ) → 8 * j < i + 1 → getD (set starts (i / 8) at) j 0 ≡ startOf (lines bs) (8 * j)
-      go j l = ⊎-elim (λ q. rw q (getD-set-same starts (i / 8) at 0 f ∙ e ∙ sym (ap (startOf (lines bs)) whole)))
-          (λ q. getD-set-other starts (i / 8) j at 0 q ∙ b .at j (less q))
-          (decide j (i / 8))
-        where
-          decide : (a b : ℕ) → (a ≡ b) ⊎ (a ≡ b → ⊥)
-          decide zero zero = inl refl
-          decide zero (suc b) = inr (λ z. omega arith)
-          decide (suc a) zero = inr (λ z. omega arith)
-          decide (suc a) (suc b) = ⊎-elim (λ z. inl (ap suc z)) (λ z. inr (λ y. z (omega arith))) (decide a b)
+-- where the start of every name is kept, the name numbered x goes from its own up to the byte before the next
+pub record Between (bs starts : List ℕ) (x : ℕ) : Type 0 where
+  pub room : x + 1 < length starts
+  pub order : getD starts x 0 < getD starts (x + 1) 0
+  pub inside : getD starts (x + 1) 0 ≤ length bs
+  pub spelled : take (getD starts (x + 1) 0 - 1 - getD starts x 0) (drop (getD starts x 0) bs) ≡ nameAt (lines bs) x
 
-          less : (j ≡ i / 8 → ⊥) → 8 * j < i
-          less q = omega (arith, q)
+pub between : {every : Bool} {bs starts : List ℕ} (x : ℕ) → Starts every bs starts → every ≡ true → x < length (lines bs) → Between bs starts x
+between {every} {bs} {starts} x s e h =
+    let kept : Starts true bs starts = rw e at s in
+    let start : getD starts x 0 ≡ startOf (lines bs) x = kept .all .at x (omega arith) in
+    let next : getD starts (x + 1) 0 ≡ startOf (lines bs) (x + 1) = kept .all .at (x + 1) (omega arith) in
+    let name = stands bs (lines bs) (s .sound .names) x h in
+    let further = next-start bs (lines bs) (s .sound .names) x h in
+    let size : length (nameFrom bs (startOf (lines bs) x)) ≡ length (nameAt (lines bs) x) = ap length (name .from) in
+    let part : getD starts (x + 1) 0 - 1 - getD starts x 0 ≡ length (nameAt (lines bs) x) = omega arith in
+    record { room = omega (arith, kept .room); order = omega arith; inside = omega (arith, name .inside); spelled = rw (part, start) (name .spelled) }
 
 -- on the way to the name numbered x, with so many names left
 pub record Stepping (bs : List ℕ) (x at left : ℕ) : Type 0 where
   pub few : left ≤ x
   pub there : at ≡ startOf (lines bs) (x - left)
 
-pub stepping-start : {bs starts : List ℕ} (x : ℕ) → Starts bs starts → x < length (lines bs) → Stepping bs x (getD starts (x / 8) 0) (x % 8)
+pub stepping-start : {bs starts : List ℕ} (x : ℕ) → Starts false bs starts → x < length (lines bs) → Stepping bs x (getD starts (x / 8) 0) (x % 8)
 stepping-start {bs} {starts} x s h =
     let e : 8 * (x / 8) ≡ x - x % 8 = omega arith in
     record { few = omega arith; there = s .all .at (x / 8) (omega arith) ∙ ap (startOf (lines bs)) e }
@@ -126,40 +144,60 @@ pub stepping-end : {bs : List ℕ} {x at left : ℕ} → Stepping bs x at left �
 stepping-end {bs} {x} {at} {left} t h = let e : x - left ≡ x = omega arith in t .there ∙ ap (startOf (lines bs)) e
 
 -- the pass over the names, at the start of the name numbered i, with room for so many starts
-pub record Noting (bs : List ℕ) (size : ℕ) (starts : List ℕ) (at i : ℕ) : Type 0 where
+pub record Noting (every : Bool) (bs : List ℕ) (size : ℕ) (starts : List ℕ) (at i : ℕ) : Type 0 where
   pub few : i ≤ length (lines bs)
-  pub wide : length (lines bs) ≤ 8 * size
+  pub wide : past every (length (lines bs)) ≤ numberAt every size
   pub room : length starts ≡ size
   pub there : at ≡ startOf (lines bs) i
-  pub noted : Before bs i starts
+  pub noted : Before every bs i starts
 
-pub noting-start : (bs starts : List ℕ) → length (lines bs) ≤ 8 * length starts → Noting bs (length starts) starts 0 0
+pub noting-start : (every : Bool) (bs starts : List ℕ) → past every (length (lines bs)) ≤ numberAt every (length starts) → Noting every bs (length starts) starts 0 0
 unfolding startOf
-noting-start bs starts r = record { few = omega arith; wide = r; room = refl; there = refl; noted = none-before bs starts }
+noting-start every bs starts r = record { few = omega arith; wide = r; room = refl; there = refl; noted = none-before every bs starts }
 
-module _ {bs : List ℕ} {size : ℕ} {starts : List ℕ} {at i : ℕ} (s : Sound bs) (t : Noting bs size starts at i) where
-  pub noting-inside : at < length bs → i < length (lines bs)
+module _ {every : Bool} {bs : List ℕ} {size : ℕ} {starts : List ℕ} {at i : ℕ} (s : Sound bs) (t : Noting every bs size starts at i) where
+  noting-inside : at < length bs → i < length (lines bs)
   noting-inside h = start-inside bs s i (t .few) (rw (t .there) at h)
 
-  next : (starts′ : List ℕ) (end : ℕ) → at < length bs → end ≡ at + length (nameFrom bs at) → length starts′ ≡ size → Before bs (i + 1) starts′ → Noting bs size starts′ (end + 1) (i + 1)
+  -- the index at which a name's start is kept
+  pub noting-index : (k : ℕ) → numberAt every k ≡ i → at < length bs → k < length starts
+  noting-index k w h = rw (t .room) (index-inside every k (length (lines bs)) size (t .wide) (omega (arith, noting-inside h, names-past every (length (lines bs)))))
+
+  next : (starts′ : List ℕ) (end : ℕ) → at < length bs → end ≡ at + length (nameFrom bs at) → length starts′ ≡ size → Before every bs (i + 1) starts′
+      → Noting every bs size starts′ (end + 1) (i + 1)
   next starts′ end h f r b =
       let l = noting-inside h in
       record { few = omega arith; wide = t .wide; room = r; there = start-further bs s i at end l (t .there) f; noted = b }
 
-  -- the name was noted, or was between
-  pub noting-note : (end : ℕ) → at < length bs → end ≡ at + length (nameFrom bs at) → i % 8 ≡ 0 → Noting bs size (set starts (i / 8) at) (end + 1) (i + 1)
-  noting-note end h f z =
-      next (set starts (i / 8) at) end h f (length-set starts (i / 8) at ∙ t .room)
-      (before-note (t .noted) at z (t .there) (omega (arith, t .room, t .wide, noting-inside h)))
-
-  pub noting-skip : (end : ℕ) → at < length bs → end ≡ at + length (nameFrom bs at) → (i % 8 ≡ 0 → ⊥) → Noting bs size starts (end + 1) (i + 1)
-  noting-skip end h f z = next starts end h f (t .room) (before-skip (t .noted) z)
+  pub noting-note : (k end : ℕ) → numberAt every k ≡ i → at < length bs → end ≡ at + length (nameFrom bs at) → Noting every bs size (set starts k at) (end + 1) (i + 1)
+  noting-note k end w h f = next (set starts k at) end h f (length-set starts k at ∙ t .room) (before-note (t .noted) k at w (t .there) (noting-index k w h))
 
   pub noting-below : (end : ℕ) → at < length bs → end ≡ at + length (nameFrom bs at) → (at ≤ end) × (end < length bs)
   noting-below end h f = end-below bs s i at end (noting-inside h) (t .there) f
 
-  pub noting-end : length bs ≤ at → Starts bs starts
-  noting-end h = record { sound = s; room = omega (arith, t .room, t .wide); all = rw (start-over bs s i (t .few) (rw (t .there) at h)) at (t .noted) }
+  -- behind the last name
+  noting-over : length bs ≤ at → i ≡ length (lines bs)
+  noting-over h = start-over bs s i (t .few) (rw (t .there) at h)
+
+-- every 8th name: one between, and the end
+module _ {bs : List ℕ} {size : ℕ} {starts : List ℕ} {at i : ℕ} (s : Sound bs) (t : Noting false bs size starts at i) where
+  pub noting-skip : (end : ℕ) → at < length bs → end ≡ at + length (nameFrom bs at) → (i % 8 ≡ 0 → ⊥) → Noting false bs size starts (end + 1) (i + 1)
+  noting-skip end h f z = next s t starts end h f (t .room) (before-skip (t .noted) z)
+
+  pub noting-end : length bs ≤ at → Starts false bs starts
+  noting-end h = record { sound = s; room = omega (arith, t .room, t .wide); all = rw (noting-over s t h) at (t .noted) }
+
+-- every name: the end of the bytes is noted too
+module _ {bs : List ℕ} {size : ℕ} {starts : List ℕ} {at i : ℕ} (s : Sound bs) (t : Noting true bs size starts at i) where
+  pub last-index : length bs ≤ at → i < length starts
+  last-index h = omega (arith, noting-over s t h, t .room, t .wide)
+
+  pub noting-last : length bs ≤ at → Starts true bs (set starts i at)
+  noting-last h = record {
+    sound = s;
+    room = omega (arith, length-set starts i at, t .room, t .wide);
+    all = subst (λ (n : ℕ). Before true bs (n + 1) (set starts i at)) (noting-over s t h) (before-note (t .noted) i at refl (t .there) (last-index h));
+  }
 
 pub stepping-below : {bs : List ℕ} {x at left : ℕ} (s : Sound bs) → Stepping bs x at left → x < length (lines bs) → 0 < left → (end : ℕ)
     → end ≡ at + length (nameFrom bs at) → (at ≤ end) × (end < length bs)

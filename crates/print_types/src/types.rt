@@ -82,11 +82,12 @@ pub fn put_type(
     pen: Pen,
     names: &[u8],
     starts: &[usize],
+    every: bool,
     kinds: &[u64],
     words: &[u64],
     level: u32,
 ) -> Pen
-    requires { ⌜ Starts (now names) (now starts) ⌝ }
+    requires { ⌜ Starts every (now names) (now starts) ⌝ }
     requires { ⌜ Typed (length (lines (now names))) level (now kinds) (now words) ⌝ }
     ensures { λ r. ⌜ Put (typeBytes (lines (now (names .entry))) (typeTo (length (lines (now (names .entry)))) level (entries (now (kinds .entry)) (now (words .entry))))) pen (now (text .entry)) (now (text .exit)) r ⌝ }
 {
@@ -100,6 +101,7 @@ pub fn put_type(
                 head,
                 names,
                 starts,
+                every,
                 &kinds[1..],
                 &words[1..],
                 level - 1,
@@ -109,7 +111,7 @@ pub fn put_type(
         TypeGroup::Void => put_bytes(text, pen, b"void"),
         TypeGroup::Int => put_int(text, pen, word),
         TypeGroup::Ptr => put_bytes(text, pen, b"ptr"),
-        TypeGroup::Named => put_named(text, pen, name_of(names, starts, word)),
+        TypeGroup::Named => put_named(text, pen, name_of(names, starts, every, word)),
         TypeGroup::Struct(_) => put_bytes(text, pen, b"struct"),
         TypeGroup::Sizeless => put_sizeless(text, pen, kind),
         TypeGroup::Other => put_bytes(text, pen, b""),

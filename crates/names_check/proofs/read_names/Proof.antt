@@ -7,7 +7,7 @@ use lib.ListN.{length, take, drop}
 use borrow.Author.Needs.{needs}
 use Rattle.names.specs.Name.{accepted, lines}
 use Rattle.names_check.proofs.Check.{going, going-start, going-over, going-open, going-barred, going-unordered, going-ordered, line-named}
-use Rattle.names_spelling.proofs.Tally.{Passed, lines-past, passed-start, passed-end, passed-hit, passed-skip, passed-stop, passed-behind}
+use Rattle.names_check.proofs.Tally.{Passed, lines-past, passed-start, passed-end, passed-hit, passed-skip, passed-stop, passed-behind}
 use Rattle.names_check.proofs.read_names.Statement.{statement}
 use Rattle.names_check.proofs.read_names.Tie as tie
 

@@ -18,11 +18,11 @@ use Rattle.print_lines.proofs.put_line.Reads as put-line-reads
 use Rattle.print_words.proofs.plain.plain_len.Reads as plain-len-reads
 
 abbrev Inv-loop : tie.InvT-loop
-Inv-loop text₀ letters places names starts function kinds words params line-kinds operands room n₀ i₀ text n i =
+Inv-loop text₀ letters places names starts every function kinds words params line-kinds operands room n₀ i₀ text n i =
     Putting (printed (lines names) function (typeBytes (lines names) (typeTo (length (lines names)) 64 (entries kinds words))) params) line-kinds operands (Counting 0) text₀ i text (Counting n)
 
 abbrev μ-loop : tie.MeasureT-loop
-μ-loop text₀ letters places names starts function kinds words params line-kinds operands room n₀ i₀ text n i =
+μ-loop text₀ letters places names starts every function kinds words params line-kinds operands room n₀ i₀ text n i =
     length line-kinds - i
 
 loop-holds : tie.Need-loop-holds Inv-loop μ-loop

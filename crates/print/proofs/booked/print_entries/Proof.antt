@@ -61,7 +61,7 @@ print-sound-requires c κs =
     let entry = after-function-place .before .before .before .before .before .before .before in (
       function-lent (entry .args .count) (entry .args .kinds .now) (entry .args .words .now) (entry .pre .0) _
           (after-function-place .function-place .ensures),
-      (entry .pre .1 .0, entry .pre .1 .1),
+      (entry .pre .1, omega arith),
     )
 
 same-length : tie.Need-same-length

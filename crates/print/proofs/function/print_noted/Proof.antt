@@ -5,7 +5,6 @@ use Rattle.print.proofs.function.print_noted.Statement.{statement}
 use Rattle.print.proofs.function.print_noted.Tie as tie
 use Rattle.print.proofs.function.function_params.Reads as function-params-reads
 use Rattle.print.proofs.passes.print_known.Reads as print-known-reads
-use Rattle.print_types.proofs.starts.note_starts.Reads as note-starts-reads
 
 shared-slice-read-function : tie.Need-shared-slice-read-function
 shared-slice-read-function c =
@@ -15,17 +14,14 @@ shared-slice-read-function c =
 function-params-requires : tie.Need-function-params-requires
 function-params-requires c κs = search needs
 
-note-starts-requires : tie.Need-note-starts-requires
-note-starts-requires c κs = search needs
-
 sub-print-known : tie.Need-sub-print-known
 sub-print-known c =
-    let entry = c .before .before .before .before .before .before .before .before .before .before .before .before .before .before in
+    let entry = c .before .before .before .before .before .before .before .before .before in
     fn-kinds (entry .args .count) (entry .args .kinds .now) (entry .args .words .now) (entry .pre .0)
 
 part-print-known-start : tie.Need-part-print-known-start
 part-print-known-start c =
-    let entry = c .before .before .before .before .before .before .before .before .before .before .before .before .before .before in
+    let entry = c .before .before .before .before .before .before .before .before .before in
     fn-kinds (entry .args .count) (entry .args .kinds .now) (entry .args .words .now) (entry .pre .0)
 
 part-print-known-end : tie.Need-part-print-known-end
@@ -33,12 +29,12 @@ part-print-known-end c = search needs
 
 sub-print-known-2 : tie.Need-sub-print-known-2
 sub-print-known-2 c =
-    let entry = c .before .before .before .before .before .before .before .before .before .before .before .before .before .before .before in
+    let entry = c .before .before .before .before .before .before .before .before .before .before in
     fn-words (entry .args .count) (entry .args .kinds .now) (entry .args .words .now) (entry .pre .0)
 
 part-print-known-start-2 : tie.Need-part-print-known-start-2
 part-print-known-start-2 c =
-    let entry = c .before .before .before .before .before .before .before .before .before .before .before .before .before .before .before in
+    let entry = c .before .before .before .before .before .before .before .before .before .before in
     fn-words (entry .args .count) (entry .args .kinds .now) (entry .args .words .now) (entry .pre .0)
 
 part-print-known-end-2 : tie.Need-part-print-known-end-2
@@ -46,28 +42,27 @@ part-print-known-end-2 c = search needs
 
 print-known-requires : tie.Need-print-known-requires
 print-known-requires c κs =
-    let after-note-starts = c .before .before .before .before .before .before in
-    let entry = after-note-starts .before .before .before .before .before .before .before .before .before .before .before in (
-      after-note-starts .note-starts .ensures,
+    let after-function-params = c .before .before .before in
+    let entry = after-function-params .before .before .before .before .before .before .before .before .before in
+    let named = entry .pre .1 .0 in (
+      entry .pre .1 .1,
       (
-        rw (entry .pre .1 .1 .0) at (fn-typed (entry .args .count) (entry .args .kinds .now) (entry .args .words .now) (entry .pre .0)),
-        (entry .pre .1 .1 .0, fn-below (entry .args .count) (entry .args .kinds .now) (entry .args .words .now) (entry .pre .0)),
+        rw (named .count) at (fn-typed (entry .args .count) (entry .args .kinds .now) (entry .args .words .now) (entry .pre .0)),
+        (named, fn-below (entry .args .count) (entry .args .kinds .now) (entry .args .words .now) (entry .pre .0)),
       ),
     )
 
 same-length : tie.Need-same-length
 same-length c = search needs
 
-same-length-2 : tie.Need-same-length-2
-same-length-2 c = search needs
-
 returns : tie.Need-returns
 returns c =
-    let after-function-params = c .before .before .before .before .before .before .before .before .before .before .before in
+    let after-print-known = c .before .before in
+    let after-function-params = after-print-known .before .before .before .before in
     let entry = after-function-params .before .before .before .before .before .before .before .before .before in
-    λ b n g. c .before .before .print-known .ensures b
+    λ b n g. after-print-known .print-known .ensures b
     (fn-known (entry .args .count) (entry .args .kinds .now) (entry .args .words .now) (entry .pre .0) (entry .args .names .now)
-    (entry .pre .1 .1 .0) _ (after-function-params .function-params .ensures) b n g)
+    (entry .pre .1 .0 .count) _ (after-function-params .function-params .ensures) b n g)
 
 pub print-noted-spec : {M : Type 1} → statement M
 print-noted-spec =
@@ -75,7 +70,6 @@ print-noted-spec =
     (tie.spec
     shared-slice-read-function
     function-params-requires
-    note-starts-requires
     sub-print-known
     part-print-known-start
     part-print-known-end
@@ -84,5 +78,4 @@ print-noted-spec =
     part-print-known-end-2
     print-known-requires
     same-length
-    same-length-2
     returns)

@@ -26,7 +26,7 @@ use Rattle.print_types.proofs.types.+put_type.{statement}
 use Rattle.print_types.proofs.types.+put_type.Tie.{close}
 
 abbrev μ-put-type : Measures 5 put-type-kinds.ps ℕ
-μ-put-type κs a = a .1 .1 .1 .1 .1 .1 .0
+μ-put-type κs a = a .1 .1 .1 .1 .1 .1 .1 .0
 
 abbrev put-type-at : ℕ → In 5 put-type-kinds.ps
 put-type-at t = and 5 put-type-kinds.ps (is 5 put-type-kinds.ps μ-put-type t) put-type.Pre

@@ -3,22 +3,11 @@ use Prim.Native.Nat.{ℕ, _+_, _<_, _≤_}
 use mathlib.Core.Path.{_≡_, refl, sym}
 use mathlib.Core.Bool.{true, false}
 use mathlib.Core.List.{List, [], _∷_}
-use native.Mathlib.Nat.{add-assoc}
-use native.Mathlib.Numerals.{add-one}
 use native.Mathlib.Omega.{arith}
-use lib.ListN.{length, drop, length-drop, drop-of-length-le}
-use lib.Seq.{drop-drop}
+use lib.ListN.{length, drop, drop-of-length-le}
 use Rattle.names.specs.Text.{starts}
-use Rattle.names.specs.Name.{lines, nameFrom}
+use Rattle.names.specs.Name.{lines}
 use Rattle.names.specs.Prefix.{firstWith, runWith, pastWith, PrefixRange}
-use Rattle.names.specs.Lines.{lines-first}
-
--- the line that goes from `at` to `end`, and the lines behind it
-pub lines-place : (names : List ℕ) (at end : ℕ) → end ≡ at + length (nameFrom names at) → at < length names
-    → lines (drop at names) ≡ nameFrom names at ∷ lines (drop (end + 1) names)
-unfolding nameFrom
-lines-place names at end q l =
-    rw (q, add-assoc, add-one) (rw drop-drop at (lines-first (drop at names) (omega (arith, length-drop at names))))
 
 pub lines-past : (names : List ℕ) (at : ℕ) → length names ≤ at → lines (drop at names) ≡ []
 unfolding lines
@@ -30,26 +19,26 @@ pub data Tally (p : List ℕ) (all : List (List ℕ)) (from to : ℕ) (rest : Li
   counting : from < to → firstWith p all ≡ from → pastWith p all ≡ to + runWith p rest → Tally p all from to rest
 
 module _ (p : List ℕ) (all : List (List ℕ)) where
-  pub tally-start : Tally p all 0 0 all
+  tally-start : Tally p all 0 0 all
   tally-start = seeking refl (omega arith) (omega arith)
 
-  pub tally-end : (from to : ℕ) (rest : List (List ℕ)) → rest ≡ [] → Tally p all from to rest → PrefixRange p all from to
+  tally-end : (from to : ℕ) (rest : List (List ℕ)) → rest ≡ [] → Tally p all from to rest → PrefixRange p all from to
   unfolding firstWith runWith pastWith
   tally-end from to rest q (seeking e f g) = record { first = omega (arith, rw q at f); past = omega (arith, rw q at g) }
   tally-end from to rest q (counting l f g) = record { first = sym f; past = omega (arith, rw q at g) }
 
   module _ (from to : ℕ) (rest ns : List (List ℕ)) (n : List ℕ) (split : rest ≡ n ∷ ns) where
-    pub tally-hit : starts p n ≡ true → Tally p all from to rest → Tally p all from (to + 1) ns
+    tally-hit : starts p n ≡ true → Tally p all from to rest → Tally p all from (to + 1) ns
     unfolding firstWith runWith pastWith
     tally-hit h (seeking e f g) = counting (omega arith) (omega (arith, rw (split, h) at f)) (omega (arith, rw (split, h) at g))
     tally-hit h (counting l f g) = counting (omega arith) f (omega (arith, rw (split, h) at g))
 
-    pub tally-skip : starts p n ≡ false → from ≡ to → Tally p all from to rest → Tally p all (from + 1) (to + 1) ns
+    tally-skip : starts p n ≡ false → from ≡ to → Tally p all from to rest → Tally p all (from + 1) (to + 1) ns
     unfolding firstWith pastWith
     tally-skip h d (seeking e f g) = seeking (omega arith) (omega (arith, rw (split, h) at f)) (omega (arith, rw (split, h) at g))
     tally-skip h d (counting l f g) = absurd (omega arith)
 
-    pub tally-stop : starts p n ≡ false → (from ≡ to → ⊥) → Tally p all from to rest → PrefixRange p all from to
+    tally-stop : starts p n ≡ false → (from ≡ to → ⊥) → Tally p all from to rest → PrefixRange p all from to
     unfolding runWith
     tally-stop h d (seeking e f g) = absurd (d e)
     tally-stop h d (counting l f g) = record { first = sym f; past = omega (arith, rw (split, h) at g) }

@@ -1,0 +1,88 @@
+-- `note_every` meets its contract: the pass stands at the start of each name in turn, and at last at the end of the bytes, which is the measure.
+use native.Mathlib.Omega.{arith}
+use mathlib.Core.Bool.{true}
+use mathlib.Core.Path.{refl}
+use borrow.Author.Needs.{needs}
+use Prim.Native.Nat.{_-_}
+use lib.ListN.{length}
+use Rattle.print_types.specs.Starts.{Noting, noting-start, noting-index, noting-below, noting-note, last-index, noting-last}
+use Rattle.print_types.proofs.starts.note_every.Statement.{statement}
+use Rattle.print_types.proofs.starts.note_every.Tie as tie
+use Rattle.names_spelling.proofs.name_end.Reads as name-end-reads
+
+abbrev Inv-loop : tie.InvT-loop
+Inv-loop names starts₀ at₀ i₀ starts at i = Noting true names (length starts₀) starts at i
+
+abbrev μ-loop : tie.MeasureT-loop
+μ-loop names starts₀ at₀ i₀ starts at i = length names - at
+
+loop-holds : tie.Need-loop-holds Inv-loop μ-loop
+loop-holds c = noting-start true _ _ (omega (arith, c .before .before .pre .1))
+
+mul-starts : tie.Need-mul-starts Inv-loop μ-loop
+mul-starts c = search needs
+
+slice-write-starts : tie.Need-slice-write-starts Inv-loop μ-loop
+slice-write-starts c =
+    let at-loop = c .before in
+    let entry = at-loop .before .before .before in
+    noting-index (entry .pre .0) (at-loop .loop .inv) _ refl (c .loop-test .taken)
+
+name-end-requires : tie.Need-name-end-requires Inv-loop μ-loop
+name-end-requires c κs = search needs
+
+add-at : tie.Need-add-at Inv-loop μ-loop
+add-at c =
+    let in-loop = c .before in
+    let at-loop = in-loop .before in
+    let entry = at-loop .before .before .before in
+    let b = noting-below (entry .pre .0) (at-loop .loop .inv) _ (in-loop .loop-test .taken) (c .name-end .ensures) in
+    omega arith
+
+add-i : tie.Need-add-i Inv-loop μ-loop
+add-i c = search needs
+
+loop-less : tie.Need-loop-less Inv-loop μ-loop
+loop-less c = search needs
+
+loop-again : tie.Need-loop-again Inv-loop μ-loop
+loop-again c =
+    let in-loop = c .before in
+    let at-loop = in-loop .before in
+    let entry = at-loop .before .before .before in
+    noting-note (entry .pre .0) (at-loop .loop .inv) _ _ refl (in-loop .loop-test .taken) (c .name-end .ensures)
+
+mul-starts-2 : tie.Need-mul-starts-2 Inv-loop μ-loop
+mul-starts-2 c = search needs
+
+slice-write-starts-2 : tie.Need-slice-write-starts-2 Inv-loop μ-loop
+slice-write-starts-2 c =
+    let at-loop = c .before in
+    last-index (at-loop .before .before .before .pre .0) (at-loop .loop .inv) (c .loop-test .left)
+
+same-length : tie.Need-same-length Inv-loop μ-loop
+same-length c = search needs
+
+returns : tie.Need-returns Inv-loop μ-loop
+returns c =
+    let at-loop = c .before in
+    noting-last (at-loop .before .before .before .pre .0) (at-loop .loop .inv) (c .loop-test .left)
+
+pub note-every-spec : {M : Type 1} → statement M
+note-every-spec =
+    tie.close
+    (tie.spec
+    Inv-loop
+    μ-loop
+    loop-holds
+    mul-starts
+    slice-write-starts
+    name-end-requires
+    add-at
+    add-i
+    loop-less
+    loop-again
+    mul-starts-2
+    slice-write-starts-2
+    same-length
+    returns)
