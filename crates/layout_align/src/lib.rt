@@ -7,6 +7,9 @@ use layout_memo::larger;
 use layout_memo::memory::recalled;
 use layout_memo::memory::with_align;
 use layout_memo::one_more;
+use layout_memo::scalars::pass_scalars;
+use layout_memo::scalars::reach;
+use layout_memo::scalars::run_from;
 use layout_memo::skip;
 ghost use Rattle.book.specs.Entry.{entries};
 ghost use Rattle.book.specs.Ast.{Ty};
@@ -115,20 +118,25 @@ fn struct_align(
     if packed {
         return Measured::Bytes(1, 0);
     }
-    let mut at: usize = 0;
-    let mut align: u64 = 1;
-    let mut levels: u32 = 0;
+    let stop = reach(kinds.len(), level);
+    let first = pass_scalars(kinds, words, names, true, stop, run_from(0, 0, 1, 0));
+    let mut at = first.at;
+    let mut align = first.align;
+    let mut levels = first.levels;
     while kinds[at] != 0 {
         let ks = &kinds[at..];
         let ws = &words[at..];
         match align_of(ks, ws, book_kinds, book_words, work, names, level) {
             Measured::Refused(e) => return Measured::Refused(e),
             Measured::Bytes(a, h) => {
-                align = larger(align, a);
-                levels = deeper(levels, h);
+                let behind = at + skip(ks, ws, names);
+                let next = run_from(behind, 0, larger(align, a), deeper(levels, h));
+                let run = pass_scalars(kinds, words, names, true, stop, next);
+                at = run.at;
+                align = run.align;
+                levels = run.levels;
             }
         }
-        at = at + skip(ks, ws, names);
     }
     Measured::Bytes(align, levels)
 }

@@ -2,7 +2,8 @@
 use Prim.Native.Nat.{ℕ, zero, suc, _+_, _-_, _*_, _<_, _≤_, _^_}
 use mathlib.Core.Path.{_≡_, refl, sym, ap, _∙_, subst}
 use mathlib.Core.Bool.{Bool, true, false}
-use mathlib.Core.Option.{none, some}
+use mathlib.Core.Option.{some}
+use mathlib.Core.Option as option
 use mathlib.Core.List.{List}
 use native.Mathlib.Omega.{arith}
 use native.Mathlib.Numerals.{sub-one}
@@ -21,6 +22,8 @@ use Rattle.layout_memo.specs.Calls.{lent, ask-part, part-type}
 use Rattle.layout_memo.specs.Fields.{AtFields, at-start, at-nil, at-field, at-next, at-cons}
 use Rattle.layout_size.specs.Sums.{SmallSum, placed-most}
 use Rattle.layout_memo.specs.FieldCalls.{skipped}
+use Rattle.layout_memo.specs.Scalars.{Scalar, ScalarType, Passes, none, more, RunFrom, passes-on, scalar-kind, scalar-type, scalar-next}
+use Rattle.layout_memo.specs.declared.scalars.Run.{Run}
 use Rattle.layout_memo.specs.declared.Measured.{Measured}
 use Rattle.layout_memo.specs.declared.Measured.the-variants.{Bytes, Refused}
 use Rattle.layout_field.specs.declared.Offset.{Offset}
@@ -33,6 +36,13 @@ abbrev pub offsetResult : Offset → Result ℕ
 offsetResult (offset.At n) = ok n
 offsetResult (offset.Refused e) = err e
 
+-- so many fields are to be passed from a place on
+abbrev pub leftFrom : (at left offset : ℕ) → Run
+leftFrom at left offset = record { at = at; left = left; offset = offset; align = 1; levels = 0 }
+
+pub left-on : {ks ws : List ℕ} {packed : Bool} {stop at left offset : ℕ} (next run : Run) → next ≡ leftFrom at left offset → Passes ks ws packed stop next run → at ≤ run .at
+left-on {at = at} {left = left} {offset = offset} next run e p = passes-on (leftFrom at left offset) run (rw e at p)
+
 -- ---- the place of a field
 pub record FieldPlace (m : ℕ) (es : List Entry) (i n : ℕ) : Type 0 where
   pub field : fieldAt (tysOf m es) i ≡ some (tyOf m (drop n es))
@@ -41,7 +51,7 @@ pub record FieldPlace (m : ℕ) (es : List Entry) (i n : ℕ) : Type 0 where
 
 abbrev pub FieldFound : (m : ℕ) (es : List Entry) (i : ℕ) → Place → Type 0
 FieldFound m es i (place.At n) = FieldPlace m es i n
-FieldFound m es i place.Nothing = fieldAt (tysOf m es) i ≡ none
+FieldFound m es i place.Nothing = fieldAt (tysOf m es) i ≡ option.none
 
 field-later : (k : ℕ) → (k ≡ 0 → ⊥) → (t : Ty) (ts : Tys) → fieldAt (Tys.cons t ts) k ≡ fieldAt ts (k - 1)
 unfolding fieldAt
@@ -57,7 +67,7 @@ module _ (m : ℕ) (ks ws : List ℕ) (i : ℕ) where
   find-start s = record { place = at-start m ks ws s; goes = refl }
 
   module _ {a left : ℕ} (l : FindLoop a left) where
-    pub find-none : getD ks a 0 ≡ 0 → fieldAt (tysOf m (entries ks ws)) i ≡ none
+    pub find-none : getD ks a 0 ≡ 0 → fieldAt (tysOf m (entries ks ws)) i ≡ option.none
     unfolding fieldAt
     find-none z = l .goes ∙ rw (at-nil (l .place) z) refl
 
@@ -68,6 +78,23 @@ module _ (m : ℕ) (ks ws : List ℕ) (i : ℕ) where
 
       pub find-next : (left ≡ 0 → ⊥) → (n : ℕ) → n ≡ tyLen m (lent ks ws a) → FindLoop (a + n) (left - 1)
       find-next w n en = rw (skipped m ks ws a (l .place) z n en) (record { place = at-next (l .place) z; goes = l .goes ∙ rw (at-cons (l .place) z) (field-later left w (tyOf m (drop a (entries ks ws))) (tysOf m (drop (a + tyLen m (drop a (entries ks ws))) (entries ks ws)))) })
+
+  -- integers and pointers are passed
+  find-one : (s : Run) (b : ℕ) → Scalar (getD ks (s .at) 0) (getD ws (s .at) 0) b → (b ≡ 0 → ⊥) → (s .left ≡ 0 → ⊥) → FindLoop (s .at) (s .left) → FindLoop (s .at + 1) (s .left - 1)
+  find-one s b c nz w l =
+      let one = scalar-type (l .place) nz c .one in
+      find-next l (scalar-kind (l .place) nz c) w 1 (sym (ap (tyLen m) (entries-part (s .at) ks ws) ∙ one))
+
+  find-passes : {packed : Bool} {stop : ℕ} (r s : Run) → Passes ks ws packed stop r s → FindLoop (r .at) (r .left) → FindLoop (s .at) (s .left)
+  find-passes r s none l = l
+  find-passes r s (more {s = u} b p c nz h n) l = find-one u b c nz n (find-passes r u p l)
+
+  module _ {a left : ℕ} (l : FindLoop a left) (next : Run) (e : next ≡ leftFrom a left 0) where
+    pub find-from : RunFrom m ks ws next
+    find-from = rw e (record { place = l .place; small = omega arith })
+
+    pub find-again : {packed : Bool} {stop : ℕ} (run : Run) → Passes ks ws packed stop next run → FindLoop (run .at) (run .left)
+    find-again run p = find-passes (leftFrom a left 0) run (rw e at p) l
 
 -- ---- the start of a field
 module _ (structs : List StructType) (packed : Bool) where
@@ -223,3 +250,51 @@ module _ (m : ℕ) (ks ws : List ℕ) (bs : List Entry) (work₀ : List ℕ) (pa
                   let st = start-most in
                   rw (skipped m ks ws a (l .place) z len en)
                   (record { place = at-next (l .place) z; goes = l .goes ∙ later w ∙ rw v refl; small = omega (arith, l .small); after = after-then (l .after) (after-then (o .after) (u .after)) })
+
+  -- integers and pointers are passed
+  module _ {work : List ℕ} (s : Run) (b : ℕ) (c : Scalar (getD ks (s .at) 0) (getD ws (s .at) 0) b) (nz : b ≡ 0 → ⊥) (w : s .left ≡ 0 → ⊥) (l : OffsetLoop work (s .at) (s .offset) (s .left)) where
+    known : ScalarType m (drop (s .at) (entries ks ws)) b
+    known = scalar-type (l .place) nz c
+
+    start-known : startOf structs packed (tyOf m (drop (s .at) (entries ks ws))) (s .offset) ≡ ok (placed packed (s .offset) b)
+    unfolding startOf alignIn placed bind alignOf
+    start-known = go packed
+      where
+        aligned : aligns structs (tyOf m (drop (s .at) (entries ks ws))) 64 ≡ ok b
+        aligned = let g = known .aligned structs 64 (λ z. omega arith) in g .known .high 64 (g .within)
+
+        go : (p : Bool) → startOf structs p (tyOf m (drop (s .at) (entries ks ws))) (s .offset) ≡ ok (placed p (s .offset) b)
+        go true = refl
+        go false = rw aligned refl
+
+    size-known : sizes structs (tyOf m (drop (s .at) (entries ks ws))) 64 ≡ ok b
+    size-known = let g = known .sized structs 64 (λ z. omega arith) in g .known .high 64 (g .within)
+
+    offset-one : OffsetLoop work (s .at + 1) (placed packed (s .offset) b + b) (s .left - 1)
+    unfolding bind
+    offset-one =
+        let z = scalar-kind (l .place) nz c in
+        let most = known .most in
+        record {
+          place = scalar-next (l .place) nz c;
+          goes = l .goes ∙ go (s .left) refl;
+          small = omega (arith, l .small, placed-most packed (s .offset) b most);
+          after = l .after;
+        }
+      where
+        go : (k : ℕ) → s .left ≡ k → from (s .at) (s .left) (s .offset) ≡ from (s .at + 1) (s .left - 1) (placed packed (s .offset) b + b)
+        go zero e = absurd (w e)
+        go (suc k) e =
+            let d : s .left - 1 ≡ k = omega arith in
+            from-suc l (scalar-kind (l .place) nz c) k e (ok (placed packed (s .offset) b)) (sym start-known) ∙ rw (size-known, known .one, d) refl
+
+  offset-passes : {work : List ℕ} {stop : ℕ} (r s : Run) → Passes ks ws packed stop r s → OffsetLoop work (r .at) (r .offset) (r .left) → OffsetLoop work (s .at) (s .offset) (s .left)
+  offset-passes r s none l = l
+  offset-passes r s (more {s = u} b p c nz h n) l = offset-one u b c nz n (offset-passes r u p l)
+
+  module _ {work : List ℕ} {a off left : ℕ} (l : OffsetLoop work a off left) (next : Run) (e : next ≡ leftFrom a left off) where
+    pub offset-from : RunFrom m ks ws next
+    offset-from = rw e (record { place = l .place; small = l .small })
+
+    pub offset-again : {stop : ℕ} (run : Run) → Passes ks ws packed stop next run → OffsetLoop work (run .at) (run .offset) (run .left)
+    offset-again run p = offset-passes (leftFrom a left off) run (rw e at p) l

@@ -1,6 +1,8 @@
 // Offsets of fields.
 use layout_align::align_of;
 use layout_memo::Measured;
+use layout_memo::scalars::Run;
+use layout_memo::scalars::pass_scalars;
 use layout_memo::skip;
 use layout_size::placed;
 use layout_size::size_of;
@@ -10,7 +12,7 @@ ghost use Prim.Native.Nat.{_≤_, _^_};
 ghost use Rattle.book.specs.Entry.{entries};
 ghost use Rattle.layout_memo.specs.Front.{StartsFields, tyOf, tysOf};
 ghost use Rattle.layout_memo.specs.Work.{Ask, AskFields, structsIn};
-ghost use Rattle.layout_field.specs.Offsets.{FieldFound, AskStart, StartOutcome, OffsetOutcome, startOf, offsetOf};
+ghost use Rattle.layout_field.specs.Offsets.{leftFrom, FieldFound, AskStart, StartOutcome, OffsetOutcome, startOf, offsetOf};
 
 // Where something starts, or the number of a refusal.
 pub enum Offset {
@@ -24,6 +26,19 @@ pub enum Place {
     Nothing,
 }
 
+// So many fields are to be passed from the place on.
+fn fields_left(at: usize, left: u64, offset: u64) -> Run
+    ensures { λ r. ⌜ r ≡ leftFrom at left offset ⌝ }
+{
+    Run {
+        at,
+        left,
+        offset,
+        align: 1,
+        levels: 0,
+    }
+}
+
 // The place of the field with this index.
 pub fn field_at(kinds: &[u64], words: &[u64], names: u64, index: u64) -> Place
     requires { ⌜ StartsFields names (entries (now kinds) (now words)) ⌝ }
@@ -35,8 +50,11 @@ pub fn field_at(kinds: &[u64], words: &[u64], names: u64, index: u64) -> Place
         if left == 0 {
             return Place::At(at);
         }
-        left = left - 1;
-        at = at + skip(&kinds[at..], &words[at..], names);
+        let behind = at + skip(&kinds[at..], &words[at..], names);
+        let next = fields_left(behind, left - 1, 0);
+        let run = pass_scalars(kinds, words, names, true, kinds.len(), next);
+        at = run.at;
+        left = run.left;
     }
     Place::Nothing
 }
@@ -100,8 +118,12 @@ pub fn field_offset(
                 }
             }
         }
-        left = left - 1;
-        at = at + skip(ks, ws, names);
+        let behind = at + skip(ks, ws, names);
+        let next = fields_left(behind, left - 1, offset);
+        let run = pass_scalars(kinds, words, names, packed, kinds.len(), next);
+        at = run.at;
+        offset = run.offset;
+        left = run.left;
     }
     Offset::Refused(14)
 }

@@ -9,7 +9,7 @@ use native.Mathlib.Nat.{le-max-left, le-max-right, le-trans}
 use native.Mathlib.Omega.{arith}
 use borrow.Author.Tests.{eqb-false, ne-eqb}
 use lib.ListN.{length, getD, drop, length-append, length-drop}
-use lib.Seq.{drop-append-seam}
+use lib.Seq.{drop-append-seam, drop-drop, getD-drop}
 use Rattle.numbers.specs.Width.{widthOk}
 use Rattle.book.specs.Entry.{Entry, entry, entries}
 use Rattle.book.specs.Ast.{Ty, Tys, Sizeless}
@@ -20,6 +20,7 @@ use Rattle.book.specs.Encode.{encTy, encTys, depth, depths, closed}
 use Rattle.book.specs.Limits.{Each, Parts, PartsOf, TyTo}
 use Rattle.book.specs.AgreeTy.{ty-found, ty-head, untys, enc-tys, agrees-typeTo}
 use Rattle.book_types.specs.Groups.{typeGroupOf}
+use Rattle.book_types.specs.Laws.{entries-drop}
 use Rattle.book_types.specs.TypeLaws.{agrees-types}
 use Rattle.book_types.specs.declared.types.TypeGroup.{TypeGroup}
 use Rattle.book_types.specs.declared.types.TypeGroup.the-variants as group
@@ -228,3 +229,15 @@ kind-at [] ws a h = absurd (omega arith)
 kind-at (k ∷ ks) [] a h = absurd (omega arith)
 kind-at (k ∷ ks) (w ∷ ws) zero h = refl
 kind-at (k ∷ ks) (w ∷ ws) (suc a) h = kind-at ks ws a (omega arith)
+
+-- ---- the type at a place
+module _ (m : ℕ) (ks ws : List ℕ) (at : ℕ) (s : Starts m (drop at (entries ks ws))) (g : TypeGroup) (eg : g ≡ typeGroupOf (tyTag (getD ks at 0))) where
+  getD-front : (xs : List ℕ) (n : ℕ) → getD (drop n xs) 0 0 ≡ getD xs n 0
+  getD-front xs n = rw (getD-drop n xs 0 0) (ap (λ (j : ℕ). getD xs j 0) (omega arith))
+
+  pub shape-at : (h : TypeGroup) → g ≡ h → ShapeOf m (getD ws at 0) (drop (at + 1) (entries ks ws)) (tyOf m (drop at (entries ks ws))) h
+  shape-at h e =
+      let d : entries (drop at ks) (drop at ws) ≡ drop at (entries ks ws) = entries-drop at ks ws in
+      let x = shape m (drop at ks) (drop at ws) g (eg ∙ ap (λ (j : ℕ). typeGroupOf (tyTag j)) (sym (getD-front ks at))) (subst (Starts m) (sym d) s) in
+      let y : ShapeOf m (getD (drop at ws) 0 0) (drop 1 (drop at (entries ks ws))) (tyOf m (drop at (entries ks ws))) g = rw d at x in
+      rw (← e, ← getD-front ws at, ← drop-drop 1 at (entries ks ws)) y

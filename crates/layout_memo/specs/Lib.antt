@@ -6,4 +6,5 @@ pub mod Helpers
 pub mod Calls
 pub mod Fields
 pub mod FieldCalls
+pub mod Scalars
 pub mod Structs

@@ -2,6 +2,7 @@
 // `words`; the bodies of named structs stand among the book's entries, `book_kinds` and `book_words`, where word 4 of a
 // name's 8 work words says. What was measured of a named struct is remembered in word 7.
 pub mod memory;
+pub mod scalars;
 pub mod structs;
 
 ghost use mathlib.Core.Path.{_≡_};

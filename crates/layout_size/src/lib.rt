@@ -9,6 +9,9 @@ use layout_memo::larger;
 use layout_memo::memory::recalled;
 use layout_memo::memory::with_size;
 use layout_memo::one_more;
+use layout_memo::scalars::pass_scalars;
+use layout_memo::scalars::reach;
+use layout_memo::scalars::run_from;
 use layout_memo::skip;
 use numbers::align::align_up;
 ghost use mathlib.Core.Path.{_≡_};
@@ -176,11 +179,13 @@ fn struct_size(
     ensures { λ r. ⌜ Outcome names (entries (now («book_kinds» .entry)) (now («book_words» .entry))) (now (work .entry)) (now (work .exit))
         (fieldSizes (structsIn names (entries (now («book_kinds» .entry)) (now («book_words» .entry)))) packed (tysOf names (entries (now (kinds .entry)) (now (words .entry))))) level r ⌝ }
 {
-    let mut at: usize = 0;
+    let stop = reach(kinds.len(), level);
+    let first = pass_scalars(kinds, words, names, packed, stop, run_from(0, 0, 1, 0));
+    let mut at = first.at;
     let mut sum = Sum {
-        offset: 0,
-        align: 1,
-        levels: 0,
+        offset: first.offset,
+        align: first.align,
+        levels: first.levels,
     };
     while kinds[at] != 0 {
         let ks = &kinds[at..];
@@ -196,7 +201,15 @@ fn struct_size(
                 }
             }
         }
-        at = at + skip(ks, ws, names);
+        let behind = at + skip(ks, ws, names);
+        let next = run_from(behind, sum.offset, sum.align, sum.levels);
+        let run = pass_scalars(kinds, words, names, packed, stop, next);
+        at = run.at;
+        sum = Sum {
+            offset: run.offset,
+            align: run.align,
+            levels: run.levels,
+        };
     }
     closed(sum, packed)
 }

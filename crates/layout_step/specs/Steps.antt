@@ -6,20 +6,20 @@ use mathlib.Core.Option.{Option, none, some}
 use mathlib.Core.List.{List}
 use native.Mathlib.Omega.{arith}
 use lib.ListN.{length, getD, drop, length-drop}
-use lib.Seq.{drop-drop, getD-drop}
+use lib.Seq.{drop-drop}
 use Rattle.numbers.specs.Wrap.{wrapMul}
 use Rattle.book.specs.Entry.{Entry, entries}
 use Rattle.book.specs.Ast.{Ty, Tys, Value, StructType}
 use Rattle.book.specs.Kinds.{tyTag}
 use Rattle.book.specs.Result.{Result, ok, err, bind, okOr}
 use Rattle.book_types.specs.Groups.{typeGroupOf}
-use Rattle.book_types.specs.Laws.{entries-part, entries-drop, within-kinds, within-words}
+use Rattle.book_types.specs.Laws.{entries-part, within-kinds, within-words}
 use Rattle.book_types.specs.declared.types.TypeGroup.{TypeGroup}
 use Rattle.book_types.specs.declared.types.TypeGroup.the-variants as group
 use Rattle.layout.specs.Layout.{asType, resolve, sizeOf, fieldOffset}
 use Rattle.layout.specs.Step.{Step as GepStep, constInt, fieldAt, stride, structStep, gepStep}
 use Rattle.layout_memo.specs.Measured.{Measures}
-use Rattle.layout_memo.specs.Front.{Starts, StartsFields, tyOf, tysOf, ShapeOf, shape}
+use Rattle.layout_memo.specs.Front.{Starts, StartsFields, tyOf, tysOf, ShapeOf, shape-at}
 use Rattle.layout_memo.specs.Work.{structsIn, BodyAt, sizes, Ready, After, Outcome, Ask, AskFields, after-none}
 use Rattle.layout_memo.specs.Helpers.{gives-at, refused-at}
 use Rattle.layout_memo.specs.Calls.{lent, ask-part, ask-fields, part-type, starts-length}
@@ -199,18 +199,6 @@ module _ (m : ℕ) (bk bw : List ℕ) (work : List ℕ) (at : ℕ) (i : Index) (
       pub array-varying : i ≡ index.Varying → StepOutcome m (entries bk bw) work work′ (arrayBy (structsIn m (entries bk bw)) elem (indexOf i)) (step.Varying s at)
       unfolding arrayBy bind sizeOf stride
       array-varying e = record { says = record { answer = rw (size-is, e) refl; front = k .front }; after = o .after }
-
--- ---- the type at a place
-module _ (m : ℕ) (bk bw : List ℕ) (at : ℕ) (s : Starts m (drop at (entries bk bw))) (g : TypeGroup) (eg : g ≡ typeGroupOf (tyTag (getD bk at 0))) where
-  getD-front : (xs : List ℕ) (n : ℕ) → getD (drop n xs) 0 0 ≡ getD xs n 0
-  getD-front xs n = rw (getD-drop n xs 0 0) (ap (λ (j : ℕ). getD xs j 0) (omega arith))
-
-  pub shape-at : (h : TypeGroup) → g ≡ h → ShapeOf m (getD bw at 0) (drop (at + 1) (entries bk bw)) (tyOf m (drop at (entries bk bw))) h
-  shape-at h e =
-      let d : entries (drop at bk) (drop at bw) ≡ drop at (entries bk bw) = entries-drop at bk bw in
-      let x = shape m (drop at bk) (drop at bw) g (eg ∙ ap (λ (j : ℕ). typeGroupOf (tyTag j)) (sym (getD-front bk at))) (subst (Starts m) (sym d) s) in
-      let y : ShapeOf m (getD (drop at bw) 0 0) (drop 1 (drop at (entries bk bw))) (tyOf m (drop at (entries bk bw))) g = rw d at x in
-      rw (← e, ← getD-front bw at, ← drop-drop 1 at (entries bk bw)) y
 
 -- ---- `gep_step`
 module _ (m : ℕ) (bk bw : List ℕ) (work : List ℕ) (at : ℕ) (i : Index) (k : AskAt m (entries bk bw) work at) (g : TypeGroup) (eg : g ≡ typeGroupOf (tyTag (getD bk at 0))) where

@@ -2,6 +2,7 @@
 use Rattle.layout_memo.specs.Calls as calls
 use Rattle.layout_align.specs.LoopCalls as lc
 use Rattle.layout_memo.specs.FieldCalls as fields
+use Rattle.layout_memo.specs.Scalars.{passes-from}
 use borrow.Author.Needs.{needs}
 use Prim.Native.Nat.{ℕ, _+_, _-_, _*_, _<_}
 use native.Mathlib.Omega.{arith}
@@ -26,6 +27,9 @@ use Rattle.layout_memo.proofs.larger.Reads as larger-reads
 use Rattle.layout_memo.proofs.memory.recalled.Reads as recalled-reads
 use Rattle.layout_memo.proofs.memory.with_align.Reads as with-align-reads
 use Rattle.layout_memo.proofs.one_more.Reads as one-more-reads
+use Rattle.layout_memo.proofs.scalars.pass_scalars.Reads as pass-scalars-reads
+use Rattle.layout_memo.proofs.scalars.reach.Reads as reach-reads
+use Rattle.layout_memo.proofs.scalars.run_from.Reads as run-from-reads
 use Rattle.layout_memo.proofs.skip.Reads as skip-reads
 use Rattle.book_types.proofs.types.type_group.Reads as type-group-reads
 use Rattle.layout_align.proofs.+align_of+named_align+struct_align.{statement}
@@ -95,14 +99,20 @@ named-align-claims t = (
 
 abbrev struct-align-claims : ℕ → struct-align-lts.Claims
 struct-align-claims t = (
+  reach-reads.Asked,
+  reach-reads.Learnt,
+  run-from-reads.Asked,
+  run-from-reads.Learnt,
+  pass-scalars-reads.Asked,
+  pass-scalars-reads.Learnt,
   align-of-below t,
   align-of.Post,
+  skip-reads.Asked,
+  skip-reads.Learnt,
   larger-reads.Asked,
   larger-reads.Learnt,
   deeper-reads.Asked,
   deeper-reads.Learnt,
-  skip-reads.Asked,
-  skip-reads.Learnt,
 )
 
 align-of-returns : (t : ℕ) → align-of-lts.Need-returns (align-of-claims t) (align-of-at t) align-of.Post
@@ -404,11 +414,11 @@ named-align-returns-3 t c =
     (c .with-align .ensures)
 
 abbrev struct-align-Inv-loop : struct-align-lts.InvT-loop
-struct-align-Inv-loop kinds words book-kinds book-words work₀ names level packed at₀ align₀ levels₀ work at align levels =
+struct-align-Inv-loop kinds words book-kinds book-words work₀ names level packed stop at₀ align₀ levels₀ work at align levels =
     AlignLoop (structsIn names (entries book-kinds book-words)) names kinds words level at align levels × After names (entries book-kinds book-words) work₀ work
 
 abbrev struct-align-μ-loop : struct-align-lts.MeasureT-loop
-struct-align-μ-loop kinds words book-kinds book-words work₀ names level packed at₀ align₀ levels₀ work at align levels = length kinds - at
+struct-align-μ-loop kinds words book-kinds book-words work₀ names level packed stop at₀ align₀ levels₀ work at align levels = length kinds - at
 
 struct-align-returns : (t : ℕ) → struct-align-lts.Need-returns (struct-align-claims t) (struct-align-at t) struct-align.Post struct-align-Inv-loop struct-align-μ-loop
 struct-align-returns t c =
@@ -417,19 +427,39 @@ struct-align-returns t c =
     (entries (entry .args .book-kinds .now) (entry .args .book-words .now)) (entry .args .work .now) (entry .args .level) (entry .args .packed)
     (entry .pre .1) (c .if1 .taken)
 
+struct-align-reach-requires : (t : ℕ) → struct-align-lts.Need-reach-requires (struct-align-claims t) (struct-align-at t) struct-align.Post struct-align-Inv-loop struct-align-μ-loop
+struct-align-reach-requires t c κs = search needs
+
+struct-align-run-from-requires : (t : ℕ) → struct-align-lts.Need-run-from-requires (struct-align-claims t) (struct-align-at t) struct-align.Post struct-align-Inv-loop struct-align-μ-loop
+struct-align-run-from-requires t c κs = search needs
+
+struct-align-pass-scalars-requires : (t : ℕ) → struct-align-lts.Need-pass-scalars-requires (struct-align-claims t) (struct-align-at t) struct-align.Post struct-align-Inv-loop struct-align-μ-loop
+struct-align-pass-scalars-requires t c κs =
+    let entry = c .before .before .before .before .before .before .before .before in
+    let start = lc.align-start (entry .args .names) (entry .args .kinds .now) (entry .args .words .now)
+    (entries (entry .args .book-kinds .now) (entry .args .book-words .now)) (entry .args .work .now) (entry .args .level) (entry .args .packed)
+    (entry .pre .1) in
+    lc.align-from (entry .args .names) (entry .args .kinds .now) (entry .args .words .now)
+    (entries (entry .args .book-kinds .now) (entry .args .book-words .now)) (entry .args .work .now) (entry .args .level) (entry .args .packed)
+    start _ (c .run-from .ensures)
+
 struct-align-loop-holds : (t : ℕ) → struct-align-lts.Need-loop-holds (struct-align-claims t) (struct-align-at t) struct-align.Post struct-align-Inv-loop struct-align-μ-loop
 struct-align-loop-holds t c =
-    let entry = c .before .before .before .before .before .before in
-    lc.align-start (entry .args .names) (entry .args .kinds .now) (entry .args .words .now)
+    let after-reach = c .before .before in
+    let entry = after-reach .before .before .before .before .before .before .before in
+    let start = lc.align-start (entry .args .names) (entry .args .kinds .now) (entry .args .words .now)
     (entries (entry .args .book-kinds .now) (entry .args .book-words .now)) (entry .args .work .now) (entry .args .level) (entry .args .packed)
-    (entry .pre .1)
+    (entry .pre .1) in
+    lc.align-again (entry .args .names) (entry .args .kinds .now) (entry .args .words .now)
+    (entries (entry .args .book-kinds .now) (entry .args .book-words .now)) (entry .args .work .now) (entry .args .level) (entry .args .packed)
+    start _ _ (c .before .run-from .ensures) (after-reach .reach .ensures) (c .pass-scalars .ensures)
 
 struct-align-mul-if2 : (t : ℕ) → struct-align-lts.Need-mul-if2 (struct-align-claims t) (struct-align-at t) struct-align.Post struct-align-Inv-loop struct-align-μ-loop
 struct-align-mul-if2 t c = search needs
 
 struct-align-shared-slice-read-if2 : (t : ℕ) → struct-align-lts.Need-shared-slice-read-if2 (struct-align-claims t) (struct-align-at t) struct-align.Post struct-align-Inv-loop struct-align-μ-loop
 struct-align-shared-slice-read-if2 t c =
-    let entry = c .before .before .before .before .before .before .before .before in
+    let entry = c .before .before .before .before .before .before .before .before .before .before .before in
     let h = fields.place-kinds (entry .args .names) (entry .args .kinds .now) (entry .args .words .now) _ (c .before .loop .inv .0 .place) in
     search needs
 
@@ -438,13 +468,13 @@ struct-align-mul-ks t c = search needs
 
 struct-align-sub-ks : (t : ℕ) → struct-align-lts.Need-sub-ks (struct-align-claims t) (struct-align-at t) struct-align.Post struct-align-Inv-loop struct-align-μ-loop
 struct-align-sub-ks t c =
-    let entry = c .before .before .before .before .before .before .before .before .before in
+    let entry = c .before .before .before .before .before .before .before .before .before .before .before .before in
     let h = fields.place-kinds (entry .args .names) (entry .args .kinds .now) (entry .args .words .now) _ (c .before .before .loop .inv .0 .place) in
     search needs
 
 struct-align-part-ks-start : (t : ℕ) → struct-align-lts.Need-part-ks-start (struct-align-claims t) (struct-align-at t) struct-align.Post struct-align-Inv-loop struct-align-μ-loop
 struct-align-part-ks-start t c =
-    let entry = c .before .before .before .before .before .before .before .before .before in
+    let entry = c .before .before .before .before .before .before .before .before .before .before .before .before in
     let h = fields.place-kinds (entry .args .names) (entry .args .kinds .now) (entry .args .words .now) _ (c .before .before .loop .inv .0 .place) in
     search needs
 
@@ -457,14 +487,14 @@ struct-align-mul-ws t c = search needs
 struct-align-sub-ws : (t : ℕ) → struct-align-lts.Need-sub-ws (struct-align-claims t) (struct-align-at t) struct-align.Post struct-align-Inv-loop struct-align-μ-loop
 struct-align-sub-ws t c =
     let at-loop = c .before .before .before in
-    let entry = at-loop .before .before .before .before .before .before .before in
+    let entry = at-loop .before .before .before .before .before .before .before .before .before .before in
     let h = fields.place-words (entry .args .names) (entry .args .kinds .now) (entry .args .words .now) _ (at-loop .loop .inv .0 .place) in
     search needs
 
 struct-align-part-ws-start : (t : ℕ) → struct-align-lts.Need-part-ws-start (struct-align-claims t) (struct-align-at t) struct-align.Post struct-align-Inv-loop struct-align-μ-loop
 struct-align-part-ws-start t c =
     let at-loop = c .before .before .before in
-    let entry = at-loop .before .before .before .before .before .before .before in
+    let entry = at-loop .before .before .before .before .before .before .before .before .before .before in
     let h = fields.place-words (entry .args .names) (entry .args .kinds .now) (entry .args .words .now) _ (at-loop .loop .inv .0 .place) in
     search needs
 
@@ -475,7 +505,7 @@ struct-align-align-of-requires : (t : ℕ) → struct-align-lts.Need-align-of-re
 struct-align-align-of-requires t c κs =
     let then2 = c .before .before .before in
     let at-loop = then2 .before .before in
-    let entry = at-loop .before .before .before .before .before .before .before in (
+    let entry = at-loop .before .before .before .before .before .before .before .before .before .before in (
       omega arith,
       lc.align-ask (entry .args .names) (entry .args .kinds .now) (entry .args .words .now)
           (entries (entry .args .book-kinds .now) (entry .args .book-words .now)) (entry .args .work .now) (entry .args .level)
@@ -493,7 +523,7 @@ struct-align-returns-2 t c =
     let after-align-of = c .before .before .before .before .before in
     let then2 = after-align-of .before .before .before .before in
     let at-loop = then2 .before .before in
-    let else1 = at-loop .before in
+    let else1 = at-loop .before .before .before .before in
     let entry = else1 .before .before .before .before .before .before in
     lc.align-refused (entry .args .names) (entry .args .kinds .now) (entry .args .words .now)
     (entries (entry .args .book-kinds .now) (entry .args .book-words .now)) (entry .args .work .now) (entry .args .level) (entry .args .packed)
@@ -502,53 +532,80 @@ struct-align-returns-2 t c =
 struct-align-enum-known-a : (t : ℕ) → struct-align-lts.Need-enum-known-a (struct-align-claims t) (struct-align-at t) struct-align.Post struct-align-Inv-loop struct-align-μ-loop
 struct-align-enum-known-a t c = search needs
 
+struct-align-skip-requires : (t : ℕ) → struct-align-lts.Need-skip-requires (struct-align-claims t) (struct-align-at t) struct-align.Post struct-align-Inv-loop struct-align-μ-loop
+struct-align-skip-requires t c κs = search needs
+
+struct-align-add-behind : (t : ℕ) → struct-align-lts.Need-add-behind (struct-align-claims t) (struct-align-at t) struct-align.Post struct-align-Inv-loop struct-align-μ-loop
+struct-align-add-behind t c =
+    let then2 = c .before .before .before .before .before .before .before .before .before .before in
+    let at-loop = then2 .before .before in
+    let entry = at-loop .before .before .before .before .before .before .before .before .before .before in
+    let h = fields.place-next (entry .args .names) (entry .args .kinds .now) (entry .args .words .now) _ (at-loop .loop .inv .0 .place)
+    (then2 .if2 .taken) _ (c .skip .ensures) in
+    search needs
+
 struct-align-larger-requires : (t : ℕ) → struct-align-lts.Need-larger-requires (struct-align-claims t) (struct-align-at t) struct-align.Post struct-align-Inv-loop struct-align-μ-loop
 struct-align-larger-requires t c κs = search needs
 
 struct-align-deeper-requires : (t : ℕ) → struct-align-lts.Need-deeper-requires (struct-align-claims t) (struct-align-at t) struct-align.Post struct-align-Inv-loop struct-align-μ-loop
 struct-align-deeper-requires t c κs = search needs
 
-struct-align-skip-requires : (t : ℕ) → struct-align-lts.Need-skip-requires (struct-align-claims t) (struct-align-at t) struct-align.Post struct-align-Inv-loop struct-align-μ-loop
-struct-align-skip-requires t c κs = search needs
+struct-align-run-from-requires-2 : (t : ℕ) → struct-align-lts.Need-run-from-requires-2 (struct-align-claims t) (struct-align-at t) struct-align.Post struct-align-Inv-loop struct-align-μ-loop
+struct-align-run-from-requires-2 t c κs = search needs
 
-struct-align-add-at : (t : ℕ) → struct-align-lts.Need-add-at (struct-align-claims t) (struct-align-at t) struct-align.Post struct-align-Inv-loop struct-align-μ-loop
-struct-align-add-at t c =
-    let then2 = c .before .before .before .before .before .before .before .before .before .before .before .before in
-    let at-loop = then2 .before .before in
-    let entry = at-loop .before .before .before .before .before .before .before in
-    let h = fields.place-next (entry .args .names) (entry .args .kinds .now) (entry .args .words .now) _ (at-loop .loop .inv .0 .place)
-    (then2 .if2 .taken) _ (c .skip .ensures) in
-    search needs
-
-struct-align-loop-less : (t : ℕ) → struct-align-lts.Need-loop-less (struct-align-claims t) (struct-align-at t) struct-align.Post struct-align-Inv-loop struct-align-μ-loop
-struct-align-loop-less t c =
-    let then2 = c .before .before .before .before .before .before .before .before .before .before .before .before in
-    let at-loop = then2 .before .before in
-    let entry = at-loop .before .before .before .before .before .before .before in
-    let h = fields.place-next (entry .args .names) (entry .args .kinds .now) (entry .args .words .now) _ (at-loop .loop .inv .0 .place)
-    (then2 .if2 .taken) _ (c .skip .ensures) in
-    let g = fields.place-moves (entry .args .names) (entry .args .kinds .now) (entry .args .words .now) _ (at-loop .loop .inv .0 .place)
-    (then2 .if2 .taken) _ (c .skip .ensures) in
-    omega arith
-
-struct-align-loop-again : (t : ℕ) → struct-align-lts.Need-loop-again (struct-align-claims t) (struct-align-at t) struct-align.Post struct-align-Inv-loop struct-align-μ-loop
-struct-align-loop-again t c =
-    let after-a = c .before .before .before .before in
+struct-align-pass-scalars-requires-2 : (t : ℕ) → struct-align-lts.Need-pass-scalars-requires-2 (struct-align-claims t) (struct-align-at t) struct-align.Post struct-align-Inv-loop struct-align-μ-loop
+struct-align-pass-scalars-requires-2 t c κs =
+    let after-deeper = c .before in
+    let after-larger = after-deeper .before in
+    let after-skip = after-larger .before in
+    let after-a = after-skip .before .before in
     let after-align-of = after-a .before .before .before .before in
     let then2 = after-align-of .before .before .before .before in
     let at-loop = then2 .before .before in
-    let entry = at-loop .before .before .before .before .before .before .before in
-    lc.align-next (entry .args .names) (entry .args .kinds .now) (entry .args .words .now)
+    let entry = at-loop .before .before .before .before .before .before .before .before .before .before in
+    let next = lc.align-next (entry .args .names) (entry .args .kinds .now) (entry .args .words .now)
     (entries (entry .args .book-kinds .now) (entry .args .book-words .now)) (entry .args .work .now) (entry .args .level) (entry .args .packed)
-    (at-loop .loop .inv) (then2 .if2 .taken) (after-align-of .align-of .ensures) _ _ (after-a .a .given .1) _ (c .skip .ensures) _ _
-    (c .before .before .larger .ensures) (c .before .deeper .ensures)
+    (at-loop .loop .inv) (then2 .if2 .taken) (after-align-of .align-of .ensures) _ _ (after-a .a .given .1) _ (after-skip .skip .ensures) _ _
+    (after-larger .larger .ensures) (after-deeper .deeper .ensures) in
+    lc.align-from (entry .args .names) (entry .args .kinds .now) (entry .args .words .now)
+    (entries (entry .args .book-kinds .now) (entry .args .book-words .now)) (entry .args .work .now) (entry .args .level) (entry .args .packed)
+    next _ (c .run-from2 .ensures)
+
+struct-align-loop-less : (t : ℕ) → struct-align-lts.Need-loop-less (struct-align-claims t) (struct-align-at t) struct-align.Post struct-align-Inv-loop struct-align-μ-loop
+struct-align-loop-less t c =
+    let after-skip = c .before .before .before .before in
+    let then2 = after-skip .before .before .before .before .before .before .before .before .before .before in
+    let at-loop = then2 .before .before in
+    let entry = at-loop .before .before .before .before .before .before .before .before .before .before in
+    let h = fields.place-kinds (entry .args .names) (entry .args .kinds .now) (entry .args .words .now) _ (at-loop .loop .inv .0 .place) in
+    let g = fields.place-moves (entry .args .names) (entry .args .kinds .now) (entry .args .words .now) _ (at-loop .loop .inv .0 .place)
+    (then2 .if2 .taken) _ (after-skip .skip .ensures) in
+    omega (arith, passes-from _ _ (c .before .run-from2 .ensures) (c .pass-scalars2 .ensures))
+
+struct-align-loop-again : (t : ℕ) → struct-align-lts.Need-loop-again (struct-align-claims t) (struct-align-at t) struct-align.Post struct-align-Inv-loop struct-align-μ-loop
+struct-align-loop-again t c =
+    let after-deeper = c .before .before in
+    let after-larger = after-deeper .before in
+    let after-skip = after-larger .before in
+    let after-a = after-skip .before .before in
+    let after-align-of = after-a .before .before .before .before in
+    let then2 = after-align-of .before .before .before .before in
+    let at-loop = then2 .before .before in
+    let entry = at-loop .before .before .before .before .before .before .before .before .before .before in
+    let next = lc.align-next (entry .args .names) (entry .args .kinds .now) (entry .args .words .now)
+    (entries (entry .args .book-kinds .now) (entry .args .book-words .now)) (entry .args .work .now) (entry .args .level) (entry .args .packed)
+    (at-loop .loop .inv) (then2 .if2 .taken) (after-align-of .align-of .ensures) _ _ (after-a .a .given .1) _ (after-skip .skip .ensures) _ _
+    (after-larger .larger .ensures) (after-deeper .deeper .ensures) in
+    lc.align-again (entry .args .names) (entry .args .kinds .now) (entry .args .words .now)
+    (entries (entry .args .book-kinds .now) (entry .args .book-words .now)) (entry .args .work .now) (entry .args .level) (entry .args .packed)
+    next _ _ (c .before .run-from2 .ensures) (at-loop .before .before .before .reach .ensures) (c .pass-scalars2 .ensures)
 
 struct-align-same-length-2 : (t : ℕ) → struct-align-lts.Need-same-length-2 (struct-align-claims t) (struct-align-at t) struct-align.Post struct-align-Inv-loop struct-align-μ-loop
 struct-align-same-length-2 t c = search needs
 
 struct-align-returns-3 : (t : ℕ) → struct-align-lts.Need-returns-3 (struct-align-claims t) (struct-align-at t) struct-align.Post struct-align-Inv-loop struct-align-μ-loop
 struct-align-returns-3 t c =
-    let else1 = c .before .before .before in
+    let else1 = c .before .before .before .before .before .before in
     let entry = else1 .before .before .before .before .before .before in
     lc.align-done (entry .args .names) (entry .args .kinds .now) (entry .args .words .now)
     (entries (entry .args .book-kinds .now) (entry .args .book-words .now)) (entry .args .work .now) (entry .args .level) (entry .args .packed)
@@ -642,6 +699,9 @@ pub +align-of+named-align+struct-align-spec : {M : Type 1} → statement M
     struct-align-Inv-loop
     struct-align-μ-loop
     (struct-align-returns t)
+    (struct-align-reach-requires t)
+    (struct-align-run-from-requires t)
+    (struct-align-pass-scalars-requires t)
     (struct-align-loop-holds t)
     (struct-align-mul-if2 t)
     (struct-align-shared-slice-read-if2 t)
@@ -658,10 +718,12 @@ pub +align-of+named-align+struct-align-spec : {M : Type 1} → statement M
     (struct-align-same-length t)
     (struct-align-returns-2 t)
     (struct-align-enum-known-a t)
+    (struct-align-skip-requires t)
+    (struct-align-add-behind t)
     (struct-align-larger-requires t)
     (struct-align-deeper-requires t)
-    (struct-align-skip-requires t)
-    (struct-align-add-at t)
+    (struct-align-run-from-requires-2 t)
+    (struct-align-pass-scalars-requires-2 t)
     (struct-align-loop-less t)
     (struct-align-loop-again t)
     (struct-align-same-length-2 t)

@@ -10,6 +10,8 @@ use Rattle.layout_field.proofs.field_at.Tie as tie
 use Rattle.layout_field.proofs.field_at.Reads as reads
 use Rattle.layout_field.proofs.field_at.Lts as lts
 use Rattle.layout_memo.proofs.skip.Reads as skip-reads
+use Rattle.layout_field.proofs.fields_left.Reads as fields-left-reads
+use Rattle.layout_memo.proofs.scalars.pass_scalars.Reads as pass-scalars-reads
 
 abbrev Inv-loop : tie.InvT-loop
 Inv-loop kinds words names index at₀ left₀ at left = laws.FindLoop names kinds words index at left
@@ -35,9 +37,6 @@ returns c =
     let entry = at-loop .before .before .before in
     laws.find-here (entry .args .names) (entry .args .kinds .now) (entry .args .words .now) (entry .args .index) (at-loop .loop .inv)
     (c .before .if1 .taken) (c .if2 .taken)
-
-sub-left : tie.Need-sub-left Inv-loop μ-loop
-sub-left c = search needs
 
 mul-skip : tie.Need-mul-skip Inv-loop μ-loop
 mul-skip c = search needs
@@ -82,8 +81,8 @@ part-skip-end-2 c = search needs
 skip-requires : tie.Need-skip-requires Inv-loop μ-loop
 skip-requires c κs = search needs
 
-add-at : tie.Need-add-at Inv-loop μ-loop
-add-at c =
+add-behind : tie.Need-add-behind Inv-loop μ-loop
+add-behind c =
     let then1 = c .before .before .before .before in
     let at-loop = then1 .before .before in
     let entry = at-loop .before .before .before in
@@ -93,25 +92,46 @@ add-at c =
           (then1 .if1 .taken) _ (c .skip .ensures),
     )
 
-loop-less : tie.Need-loop-less Inv-loop μ-loop
-loop-less c =
-    let then1 = c .before .before .before .before in
-    let at-loop = then1 .before .before in
-    let entry = at-loop .before .before .before in
-    let h = fields.place-next (entry .args .names) (entry .args .kinds .now) (entry .args .words .now) _ (at-loop .loop .inv .place)
-    (then1 .if1 .taken) _ (c .skip .ensures) in
-    let g = fields.place-moves (entry .args .names) (entry .args .kinds .now) (entry .args .words .now) _ (at-loop .loop .inv .place)
-    (then1 .if1 .taken) _ (c .skip .ensures) in
-    omega arith
+sub-fields-left : tie.Need-sub-fields-left Inv-loop μ-loop
+sub-fields-left c = search needs
 
-loop-again : tie.Need-loop-again Inv-loop μ-loop
-loop-again c =
-    let else2 = c .before .before .before in
+fields-left-requires : tie.Need-fields-left-requires Inv-loop μ-loop
+fields-left-requires c κs = search needs
+
+pass-scalars-requires : tie.Need-pass-scalars-requires Inv-loop μ-loop
+pass-scalars-requires c κs =
+    let after-skip = c .before in
+    let else2 = after-skip .before .before .before in
     let then1 = else2 .before in
     let at-loop = then1 .before .before in
     let entry = at-loop .before .before .before in
-    laws.find-next (entry .args .names) (entry .args .kinds .now) (entry .args .words .now) (entry .args .index) (at-loop .loop .inv)
-    (then1 .if1 .taken) (else2 .if2 .left) _ (c .skip .ensures)
+    let next = laws.find-next (entry .args .names) (entry .args .kinds .now) (entry .args .words .now) (entry .args .index) (at-loop .loop .inv)
+    (then1 .if1 .taken) (else2 .if2 .left) _ (after-skip .skip .ensures) in
+    laws.find-from (entry .args .names) (entry .args .kinds .now) (entry .args .words .now) (entry .args .index) next _ (c .fields-left .ensures)
+
+loop-less : tie.Need-loop-less Inv-loop μ-loop
+loop-less c =
+    let after-skip = c .before .before in
+    let else2 = after-skip .before .before .before in
+    let then1 = else2 .before in
+    let at-loop = then1 .before .before in
+    let entry = at-loop .before .before .before in
+    let h = fields.place-kinds (entry .args .names) (entry .args .kinds .now) (entry .args .words .now) _ (at-loop .loop .inv .place) in
+    let g = fields.place-moves (entry .args .names) (entry .args .kinds .now) (entry .args .words .now) _ (at-loop .loop .inv .place)
+    (then1 .if1 .taken) _ (after-skip .skip .ensures) in
+    omega (arith, laws.left-on _ _ (c .before .fields-left .ensures) (c .pass-scalars .ensures))
+
+loop-again : tie.Need-loop-again Inv-loop μ-loop
+loop-again c =
+    let after-skip = c .before .before in
+    let else2 = after-skip .before .before .before in
+    let then1 = else2 .before in
+    let at-loop = then1 .before .before in
+    let entry = at-loop .before .before .before in
+    let next = laws.find-next (entry .args .names) (entry .args .kinds .now) (entry .args .words .now) (entry .args .index) (at-loop .loop .inv)
+    (then1 .if1 .taken) (else2 .if2 .left) _ (after-skip .skip .ensures) in
+    laws.find-again (entry .args .names) (entry .args .kinds .now) (entry .args .words .now) (entry .args .index) next _ (c .before .fields-left .ensures) _
+    (c .pass-scalars .ensures)
 
 returns-2 : tie.Need-returns-2 Inv-loop μ-loop
 returns-2 c =
@@ -129,7 +149,6 @@ field-at-spec =
     mul-if1
     shared-slice-read-if1
     returns
-    sub-left
     mul-skip
     sub-skip
     part-skip-start
@@ -139,7 +158,10 @@ field-at-spec =
     part-skip-start-2
     part-skip-end-2
     skip-requires
-    add-at
+    add-behind
+    sub-fields-left
+    fields-left-requires
+    pass-scalars-requires
     loop-less
     loop-again
     returns-2)

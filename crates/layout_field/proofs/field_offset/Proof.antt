@@ -13,6 +13,8 @@ use Rattle.layout_field.proofs.field_offset.Lts as lts
 use Rattle.layout_field.proofs.field_start.Reads as field-start-reads
 use Rattle.layout_size.proofs.size_of.Reads as size-of-reads
 use Rattle.layout_memo.proofs.skip.Reads as skip-reads
+use Rattle.layout_field.proofs.fields_left.Reads as fields-left-reads
+use Rattle.layout_memo.proofs.scalars.pass_scalars.Reads as pass-scalars-reads
 
 abbrev Inv-loop : tie.InvT-loop
 Inv-loop kinds words book-kinds book-words work₀ names packed index at₀ offset₀ left₀ work at offset left =
@@ -172,14 +174,11 @@ add-offset c =
           (else2 .if2 .left) (after-size-of .size-of .ensures) _ _ (c .before .size .given .1),
     )
 
-sub-left : tie.Need-sub-left Inv-loop μ-loop
-sub-left c = let z = c .before .before .before .before .before .before .before .if2 .left in search needs
-
 skip-requires : tie.Need-skip-requires Inv-loop μ-loop
 skip-requires c κs = search needs
 
-add-at : tie.Need-add-at Inv-loop μ-loop
-add-at c =
+add-behind : tie.Need-add-behind Inv-loop μ-loop
+add-behind c =
     let then1 = c .before .before .before .before .before .before .before .before .before .before .before .before .before .before .before .before .before .before in
     let at-loop = then1 .before .before in
     let entry = at-loop .before .before .before .before .before .before in
@@ -189,30 +188,65 @@ add-at c =
           (then1 .if1 .taken) _ (c .skip .ensures),
     )
 
-loop-less : tie.Need-loop-less Inv-loop μ-loop
-loop-less c =
-    let then1 = c .before .before .before .before .before .before .before .before .before .before .before .before .before .before .before .before .before .before in
-    let at-loop = then1 .before .before in
-    let entry = at-loop .before .before .before .before .before .before in
-    let h = fields.place-next (entry .args .names) (entry .args .kinds .now) (entry .args .words .now) _ (at-loop .loop .inv .place)
-    (then1 .if1 .taken) _ (c .skip .ensures) in
-    let g = fields.place-moves (entry .args .names) (entry .args .kinds .now) (entry .args .words .now) _ (at-loop .loop .inv .place)
-    (then1 .if1 .taken) _ (c .skip .ensures) in
-    omega arith
+sub-fields-left : tie.Need-sub-fields-left Inv-loop μ-loop
+sub-fields-left c = let z = c .before .before .before .before .before .before .before .before .if2 .left in search needs
 
-loop-again : tie.Need-loop-again Inv-loop μ-loop
-loop-again c =
-    let after-size-of = c .before .before .before .before .before .before in
+fields-left-requires : tie.Need-fields-left-requires Inv-loop μ-loop
+fields-left-requires c κs = search needs
+
+pass-scalars-requires : tie.Need-pass-scalars-requires Inv-loop μ-loop
+pass-scalars-requires c κs =
+    let after-skip = c .before in
+    let after-size = after-skip .before .before in
+    let after-size-of = after-size .before .before .before .before in
     let else2 = after-size-of .before .before in
     let after-start = else2 .before .before in
     let after-field-start = after-start .before .before .before .before in
     let then1 = after-field-start .before .before .before .before in
     let at-loop = then1 .before .before in
     let entry = at-loop .before .before .before .before .before .before in
-    laws.offset-next (entry .args .names) (entry .args .kinds .now) (entry .args .words .now)
+    let next = laws.offset-next (entry .args .names) (entry .args .kinds .now) (entry .args .words .now)
     (entries (entry .args .book-kinds .now) (entry .args .book-words .now)) (entry .args .work .now) (entry .args .packed) (entry .args .index)
     (at-loop .loop .inv) (then1 .if1 .taken) (after-field-start .field-start .ensures) _ (after-start .start .given .1) (else2 .if2 .left)
-    (after-size-of .size-of .ensures) _ _ (c .before .before .size .given .1) _ (c .skip .ensures)
+    (after-size-of .size-of .ensures) _ _ (after-size .size .given .1) _ (after-skip .skip .ensures) in
+    laws.offset-from (entry .args .names) (entry .args .kinds .now) (entry .args .words .now)
+    (entries (entry .args .book-kinds .now) (entry .args .book-words .now)) (entry .args .work .now) (entry .args .packed) (entry .args .index)
+    next _ (c .fields-left .ensures)
+
+loop-less : tie.Need-loop-less Inv-loop μ-loop
+loop-less c =
+    let after-skip = c .before .before in
+    let after-size = after-skip .before .before in
+    let after-size-of = after-size .before .before .before .before in
+    let else2 = after-size-of .before .before in
+    let after-start = else2 .before .before in
+    let after-field-start = after-start .before .before .before .before in
+    let then1 = after-field-start .before .before .before .before in
+    let at-loop = then1 .before .before in
+    let entry = at-loop .before .before .before .before .before .before in
+    let h = fields.place-kinds (entry .args .names) (entry .args .kinds .now) (entry .args .words .now) _ (at-loop .loop .inv .place) in
+    let g = fields.place-moves (entry .args .names) (entry .args .kinds .now) (entry .args .words .now) _ (at-loop .loop .inv .place)
+    (then1 .if1 .taken) _ (after-skip .skip .ensures) in
+    omega (arith, laws.left-on _ _ (c .before .fields-left .ensures) (c .pass-scalars .ensures))
+
+loop-again : tie.Need-loop-again Inv-loop μ-loop
+loop-again c =
+    let after-skip = c .before .before in
+    let after-size = after-skip .before .before in
+    let after-size-of = after-size .before .before .before .before in
+    let else2 = after-size-of .before .before in
+    let after-start = else2 .before .before in
+    let after-field-start = after-start .before .before .before .before in
+    let then1 = after-field-start .before .before .before .before in
+    let at-loop = then1 .before .before in
+    let entry = at-loop .before .before .before .before .before .before in
+    let next = laws.offset-next (entry .args .names) (entry .args .kinds .now) (entry .args .words .now)
+    (entries (entry .args .book-kinds .now) (entry .args .book-words .now)) (entry .args .work .now) (entry .args .packed) (entry .args .index)
+    (at-loop .loop .inv) (then1 .if1 .taken) (after-field-start .field-start .ensures) _ (after-start .start .given .1) (else2 .if2 .left)
+    (after-size-of .size-of .ensures) _ _ (after-size .size .given .1) _ (after-skip .skip .ensures) in
+    laws.offset-again (entry .args .names) (entry .args .kinds .now) (entry .args .words .now)
+    (entries (entry .args .book-kinds .now) (entry .args .book-words .now)) (entry .args .work .now) (entry .args .packed) (entry .args .index)
+    next _ (c .before .fields-left .ensures) _ (c .pass-scalars .ensures)
 
 same-length-4 : tie.Need-same-length-4 Inv-loop μ-loop
 same-length-4 c = search needs
@@ -227,7 +261,9 @@ returns-4 c =
 pub field-offset-spec : {M : Type 1} → statement M
 field-offset-spec =
     tie.close
-    (tie.spec Inv-loop μ-loop
+    (tie.spec
+    Inv-loop
+    μ-loop
     loop-holds
     mul-if1
     shared-slice-read-if1
@@ -252,9 +288,11 @@ field-offset-spec =
     returns-3
     enum-known-size
     add-offset
-    sub-left
     skip-requires
-    add-at
+    add-behind
+    sub-fields-left
+    fields-left-requires
+    pass-scalars-requires
     loop-less
     loop-again
     same-length-4

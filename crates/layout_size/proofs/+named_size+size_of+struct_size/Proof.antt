@@ -2,6 +2,7 @@
 use Rattle.layout_memo.specs.Calls as calls
 use Rattle.layout_size.specs.LoopCalls as lc
 use Rattle.layout_memo.specs.FieldCalls as fields
+use Rattle.layout_memo.specs.Scalars.{passes-from}
 use borrow.Author.Needs.{needs}
 use Rattle.layout_size.specs.LoopCalls.{SizeInv}
 use Prim.Native.Nat.{ℕ, _+_, _-_, _*_, _<_, _≤_}
@@ -27,6 +28,9 @@ use Rattle.layout_memo.proofs.memory.with_size.Reads as with-size-reads
 use Rattle.layout_memo.proofs.one_more.Reads as one-more-reads
 use Rattle.layout_size.proofs.add_field.Reads as add-field-reads
 use Rattle.layout_size.proofs.closed.Reads as closed-reads
+use Rattle.layout_memo.proofs.scalars.pass_scalars.Reads as pass-scalars-reads
+use Rattle.layout_memo.proofs.scalars.reach.Reads as reach-reads
+use Rattle.layout_memo.proofs.scalars.run_from.Reads as run-from-reads
 use Rattle.layout_memo.proofs.skip.Reads as skip-reads
 use Rattle.book_types.proofs.types.type_group.Reads as type-group-reads
 use Rattle.layout_size.proofs.+named_size+size_of+struct_size.{statement}
@@ -93,6 +97,12 @@ size-of-claims t = (
 
 abbrev struct-size-claims : ℕ → struct-size-lts.Claims
 struct-size-claims t = (
+  reach-reads.Asked,
+  reach-reads.Learnt,
+  run-from-reads.Asked,
+  run-from-reads.Learnt,
+  pass-scalars-reads.Asked,
+  pass-scalars-reads.Learnt,
   align-of-reads.Asked,
   align-of-reads.Learnt,
   size-of-below t,
@@ -411,19 +421,39 @@ size-of-returns-9 t c =
     calls.other _ _ _ _ _ _ (entry .pre .1) _ (c .before .before .type-group .ensures) (else1 .if1 .left) (c .enum-told7 .given .1)
 
 abbrev struct-size-Inv-loop : struct-size-lts.InvT-loop
-struct-size-Inv-loop kinds words book-kinds book-words work₀ names level packed at₀ sum₀ work at sum =
+struct-size-Inv-loop kinds words book-kinds book-words work₀ names level packed stop at₀ sum₀ work at sum =
     (lv : level ≤ 64) × SizeInv names kinds words (entries book-kinds book-words) work₀ level packed lv work at sum
 
 abbrev struct-size-μ-loop : struct-size-lts.MeasureT-loop
-struct-size-μ-loop kinds words book-kinds book-words work₀ names level packed at₀ sum₀ work at sum = length kinds - at
+struct-size-μ-loop kinds words book-kinds book-words work₀ names level packed stop at₀ sum₀ work at sum = length kinds - at
+
+struct-size-reach-requires : (t : ℕ) → struct-size-lts.Need-reach-requires (struct-size-claims t) (struct-size-at t) struct-size.Post struct-size-Inv-loop struct-size-μ-loop
+struct-size-reach-requires t c κs = search needs
+
+struct-size-run-from-requires : (t : ℕ) → struct-size-lts.Need-run-from-requires (struct-size-claims t) (struct-size-at t) struct-size.Post struct-size-Inv-loop struct-size-μ-loop
+struct-size-run-from-requires t c κs = search needs
+
+struct-size-pass-scalars-requires : (t : ℕ) → struct-size-lts.Need-pass-scalars-requires (struct-size-claims t) (struct-size-at t) struct-size.Post struct-size-Inv-loop struct-size-μ-loop
+struct-size-pass-scalars-requires t c κs =
+    let entry = c .before .before .before .before .before .before .before in
+    let start = lc.size-start (entry .args .names) (entry .args .kinds .now) (entry .args .words .now)
+    (entries (entry .args .book-kinds .now) (entry .args .book-words .now)) (entry .args .work .now) (entry .args .level) (entry .args .packed)
+    (entry .pre .1 .levels) (entry .pre .1) in
+    lc.size-from (entry .args .names) (entry .args .kinds .now) (entry .args .words .now)
+    (entries (entry .args .book-kinds .now) (entry .args .book-words .now)) (entry .args .work .now) (entry .args .level) (entry .args .packed)
+    (entry .pre .1 .levels) start _ (c .run-from .ensures)
 
 struct-size-loop-holds : (t : ℕ) → struct-size-lts.Need-loop-holds (struct-size-claims t) (struct-size-at t) struct-size.Post struct-size-Inv-loop struct-size-μ-loop
 struct-size-loop-holds t c =
-    let entry = c .before .before .before .before .before in (
+    let after-reach = c .before .before in
+    let entry = after-reach .before .before .before .before .before .before in
+    let start = lc.size-start (entry .args .names) (entry .args .kinds .now) (entry .args .words .now)
+    (entries (entry .args .book-kinds .now) (entry .args .book-words .now)) (entry .args .work .now) (entry .args .level) (entry .args .packed)
+    (entry .pre .1 .levels) (entry .pre .1) in (
       entry .pre .1 .levels,
-      lc.size-start (entry .args .names) (entry .args .kinds .now) (entry .args .words .now)
+      lc.size-again (entry .args .names) (entry .args .kinds .now) (entry .args .words .now)
           (entries (entry .args .book-kinds .now) (entry .args .book-words .now)) (entry .args .work .now) (entry .args .level)
-          (entry .args .packed) (entry .pre .1 .levels) (entry .pre .1),
+          (entry .args .packed) (entry .pre .1 .levels) start _ _ (c .before .run-from .ensures) (after-reach .reach .ensures) (c .pass-scalars .ensures),
     )
 
 struct-size-mul-if1 : (t : ℕ) → struct-size-lts.Need-mul-if1 (struct-size-claims t) (struct-size-at t) struct-size.Post struct-size-Inv-loop struct-size-μ-loop
@@ -431,7 +461,7 @@ struct-size-mul-if1 t c = search needs
 
 struct-size-shared-slice-read-if1 : (t : ℕ) → struct-size-lts.Need-shared-slice-read-if1 (struct-size-claims t) (struct-size-at t) struct-size.Post struct-size-Inv-loop struct-size-μ-loop
 struct-size-shared-slice-read-if1 t c =
-    let entry = c .before .before .before .before .before .before .before in
+    let entry = c .before .before .before .before .before .before .before .before .before .before in
     let h = fields.place-kinds (entry .args .names) (entry .args .kinds .now) (entry .args .words .now) _ (c .before .loop .inv .1 .0 .place) in
     search needs
 
@@ -440,13 +470,13 @@ struct-size-mul-ks t c = search needs
 
 struct-size-sub-ks : (t : ℕ) → struct-size-lts.Need-sub-ks (struct-size-claims t) (struct-size-at t) struct-size.Post struct-size-Inv-loop struct-size-μ-loop
 struct-size-sub-ks t c =
-    let entry = c .before .before .before .before .before .before .before .before in
+    let entry = c .before .before .before .before .before .before .before .before .before .before .before in
     let h = fields.place-kinds (entry .args .names) (entry .args .kinds .now) (entry .args .words .now) _ (c .before .before .loop .inv .1 .0 .place) in
     search needs
 
 struct-size-part-ks-start : (t : ℕ) → struct-size-lts.Need-part-ks-start (struct-size-claims t) (struct-size-at t) struct-size.Post struct-size-Inv-loop struct-size-μ-loop
 struct-size-part-ks-start t c =
-    let entry = c .before .before .before .before .before .before .before .before in
+    let entry = c .before .before .before .before .before .before .before .before .before .before .before in
     let h = fields.place-kinds (entry .args .names) (entry .args .kinds .now) (entry .args .words .now) _ (c .before .before .loop .inv .1 .0 .place) in
     search needs
 
@@ -459,14 +489,14 @@ struct-size-mul-ws t c = search needs
 struct-size-sub-ws : (t : ℕ) → struct-size-lts.Need-sub-ws (struct-size-claims t) (struct-size-at t) struct-size.Post struct-size-Inv-loop struct-size-μ-loop
 struct-size-sub-ws t c =
     let at-loop = c .before .before .before in
-    let entry = at-loop .before .before .before .before .before .before in
+    let entry = at-loop .before .before .before .before .before .before .before .before .before in
     let h = fields.place-words (entry .args .names) (entry .args .kinds .now) (entry .args .words .now) _ (at-loop .loop .inv .1 .0 .place) in
     search needs
 
 struct-size-part-ws-start : (t : ℕ) → struct-size-lts.Need-part-ws-start (struct-size-claims t) (struct-size-at t) struct-size.Post struct-size-Inv-loop struct-size-μ-loop
 struct-size-part-ws-start t c =
     let at-loop = c .before .before .before in
-    let entry = at-loop .before .before .before .before .before .before in
+    let entry = at-loop .before .before .before .before .before .before .before .before .before in
     let h = fields.place-words (entry .args .names) (entry .args .kinds .now) (entry .args .words .now) _ (at-loop .loop .inv .1 .0 .place) in
     search needs
 
@@ -477,7 +507,7 @@ struct-size-align-of-requires : (t : ℕ) → struct-size-lts.Need-align-of-requ
 struct-size-align-of-requires t c κs =
     let then1 = c .before .before .before in
     let at-loop = then1 .before .before in
-    let entry = at-loop .before .before .before .before .before .before in
+    let entry = at-loop .before .before .before .before .before .before .before .before .before in
     lc.size-align-ask (entry .args .names) (entry .args .kinds .now) (entry .args .words .now)
     (entries (entry .args .book-kinds .now) (entry .args .book-words .now)) (entry .args .work .now) (entry .args .level) (entry .args .packed)
     (at-loop .loop .inv .0) (at-loop .loop .inv .1) (then1 .if1 .taken)
@@ -493,7 +523,7 @@ struct-size-returns t c =
     let after-align-of = c .before .before .before .before .before in
     let then1 = after-align-of .before .before .before .before in
     let at-loop = then1 .before .before in
-    let entry = at-loop .before .before .before .before .before .before in
+    let entry = at-loop .before .before .before .before .before .before .before .before .before in
     lc.size-align-refused (entry .args .names) (entry .args .kinds .now) (entry .args .words .now)
     (entries (entry .args .book-kinds .now) (entry .args .book-words .now)) (entry .args .work .now) (entry .args .level) (entry .args .packed)
     (at-loop .loop .inv .0) (at-loop .loop .inv .1) (then1 .if1 .taken) (after-align-of .align-of .ensures) _ (c .before .e .given .1)
@@ -506,7 +536,7 @@ struct-size-size-of-requires t c κs =
     let after-align-of = c .before .before .before .before .before .before in
     let then1 = after-align-of .before .before .before .before in
     let at-loop = then1 .before .before in
-    let entry = at-loop .before .before .before .before .before .before in (
+    let entry = at-loop .before .before .before .before .before .before .before .before .before in (
       omega arith,
       lc.size-ask (entry .args .names) (entry .args .kinds .now) (entry .args .words .now)
           (entries (entry .args .book-kinds .now) (entry .args .book-words .now)) (entry .args .work .now) (entry .args .level)
@@ -517,7 +547,14 @@ struct-size-enum-known-e-2 : (t : ℕ) → struct-size-lts.Need-enum-known-e-2 (
 struct-size-enum-known-e-2 t c = search needs
 
 struct-size-same-length-2 : (t : ℕ) → struct-size-lts.Need-same-length-2 (struct-size-claims t) (struct-size-at t) struct-size.Post struct-size-Inv-loop struct-size-μ-loop
-struct-size-same-length-2 t c = search needs
+struct-size-same-length-2 t c =
+    let after-size-of = c .before .before .before .before .before in
+    let after-align-of = after-size-of .before .before .before .before .before .before .before in
+    let at-loop = after-align-of .before .before .before .before .before .before in
+    let h = at-loop .loop .inv .1 .1 .kept .long in
+    let g = after-align-of .align-of .ensures .after .kept .long in
+    let f = after-size-of .size-of .ensures .after .kept .long in
+    search needs
 
 struct-size-returns-2 : (t : ℕ) → struct-size-lts.Need-returns-2 (struct-size-claims t) (struct-size-at t) struct-size.Post struct-size-Inv-loop struct-size-μ-loop
 struct-size-returns-2 t c =
@@ -526,7 +563,7 @@ struct-size-returns-2 t c =
     let after-align-of = after-a .before .before .before .before in
     let then1 = after-align-of .before .before .before .before in
     let at-loop = then1 .before .before in
-    let entry = at-loop .before .before .before .before .before .before in
+    let entry = at-loop .before .before .before .before .before .before .before .before .before in
     lc.size-refused (entry .args .names) (entry .args .kinds .now) (entry .args .words .now)
     (entries (entry .args .book-kinds .now) (entry .args .book-words .now)) (entry .args .work .now) (entry .args .level) (entry .args .packed)
     (at-loop .loop .inv .0) (at-loop .loop .inv .1) (then1 .if1 .taken) (after-align-of .align-of .ensures) _ _ (after-a .a .given .1)
@@ -542,7 +579,7 @@ struct-size-add-field-requires t c κs =
     let after-align-of = after-a .before .before .before .before in
     let then1 = after-align-of .before .before .before .before in
     let at-loop = then1 .before .before in
-    let entry = at-loop .before .before .before .before .before .before in
+    let entry = at-loop .before .before .before .before .before .before .before .before .before in
     lc.field-small (entry .args .names) (entry .args .kinds .now) (entry .args .words .now)
     (entries (entry .args .book-kinds .now) (entry .args .book-words .now)) (entry .args .work .now) (entry .args .level) (entry .args .packed)
     (at-loop .loop .inv .0) (at-loop .loop .inv .1) (then1 .if1 .taken) (after-align-of .align-of .ensures) _ _ (after-a .a .given .1)
@@ -551,42 +588,68 @@ struct-size-add-field-requires t c κs =
 struct-size-skip-requires : (t : ℕ) → struct-size-lts.Need-skip-requires (struct-size-claims t) (struct-size-at t) struct-size.Post struct-size-Inv-loop struct-size-μ-loop
 struct-size-skip-requires t c κs = search needs
 
-struct-size-add-at : (t : ℕ) → struct-size-lts.Need-add-at (struct-size-claims t) (struct-size-at t) struct-size.Post struct-size-Inv-loop struct-size-μ-loop
-struct-size-add-at t c =
+struct-size-add-behind : (t : ℕ) → struct-size-lts.Need-add-behind (struct-size-claims t) (struct-size-at t) struct-size.Post struct-size-Inv-loop struct-size-μ-loop
+struct-size-add-behind t c =
     let then1 = c .before .before .before .before .before .before .before .before .before .before .before .before .before .before .before .before .before .before in
     let at-loop = then1 .before .before in
-    let entry = at-loop .before .before .before .before .before .before in
+    let entry = at-loop .before .before .before .before .before .before .before .before .before in
     omega (
       arith,
       fields.next-few (entry .args .names) (entry .args .kinds .now) (entry .args .words .now) _ (at-loop .loop .inv .1 .0 .place)
           (then1 .if1 .taken) _ (c .skip .ensures),
     )
 
-struct-size-loop-less : (t : ℕ) → struct-size-lts.Need-loop-less (struct-size-claims t) (struct-size-at t) struct-size.Post struct-size-Inv-loop struct-size-μ-loop
-struct-size-loop-less t c =
-    let then1 = c .before .before .before .before .before .before .before .before .before .before .before .before .before .before .before .before .before .before in
-    let at-loop = then1 .before .before in
-    let entry = at-loop .before .before .before .before .before .before in
-    let h = fields.place-next (entry .args .names) (entry .args .kinds .now) (entry .args .words .now) _ (at-loop .loop .inv .1 .0 .place)
-    (then1 .if1 .taken) _ (c .skip .ensures) in
-    let g = fields.place-moves (entry .args .names) (entry .args .kinds .now) (entry .args .words .now) _ (at-loop .loop .inv .1 .0 .place)
-    (then1 .if1 .taken) _ (c .skip .ensures) in
-    omega arith
+struct-size-run-from-requires-2 : (t : ℕ) → struct-size-lts.Need-run-from-requires-2 (struct-size-claims t) (struct-size-at t) struct-size.Post struct-size-Inv-loop struct-size-μ-loop
+struct-size-run-from-requires-2 t c κs = search needs
 
-struct-size-loop-again : (t : ℕ) → struct-size-lts.Need-loop-again (struct-size-claims t) (struct-size-at t) struct-size.Post struct-size-Inv-loop struct-size-μ-loop
-struct-size-loop-again t c =
-    let after-s = c .before .before .before in
+struct-size-pass-scalars-requires-2 : (t : ℕ) → struct-size-lts.Need-pass-scalars-requires-2 (struct-size-claims t) (struct-size-at t) struct-size.Post struct-size-Inv-loop struct-size-μ-loop
+struct-size-pass-scalars-requires-2 t c κs =
+    let after-skip = c .before in
+    let after-s = after-skip .before .before .before in
     let after-size-of = after-s .before .before .before .before in
     let after-a = after-size-of .before .before .before in
     let after-align-of = after-a .before .before .before .before in
     let then1 = after-align-of .before .before .before .before in
     let at-loop = then1 .before .before in
-    let entry = at-loop .before .before .before .before .before .before in (
+    let entry = at-loop .before .before .before .before .before .before .before .before .before in
+    let next = lc.size-next (entry .args .names) (entry .args .kinds .now) (entry .args .words .now)
+    (entries (entry .args .book-kinds .now) (entry .args .book-words .now)) (entry .args .work .now) (entry .args .level) (entry .args .packed)
+    (at-loop .loop .inv .0) (at-loop .loop .inv .1) (then1 .if1 .taken) (after-align-of .align-of .ensures) _ _ (after-a .a .given .1)
+    (after-size-of .size-of .ensures) _ _ (after-s .s .given .1) _ (after-skip .skip .ensures) _ (after-skip .before .add-field .ensures) in
+    lc.size-from (entry .args .names) (entry .args .kinds .now) (entry .args .words .now)
+    (entries (entry .args .book-kinds .now) (entry .args .book-words .now)) (entry .args .work .now) (entry .args .level) (entry .args .packed)
+    (at-loop .loop .inv .0) next _ (c .run-from2 .ensures)
+
+struct-size-loop-less : (t : ℕ) → struct-size-lts.Need-loop-less (struct-size-claims t) (struct-size-at t) struct-size.Post struct-size-Inv-loop struct-size-μ-loop
+struct-size-loop-less t c =
+    let after-skip = c .before .before in
+    let then1 = after-skip .before .before .before .before .before .before .before .before .before .before .before .before .before .before .before .before .before .before in
+    let at-loop = then1 .before .before in
+    let entry = at-loop .before .before .before .before .before .before .before .before .before in
+    let h = fields.place-kinds (entry .args .names) (entry .args .kinds .now) (entry .args .words .now) _ (at-loop .loop .inv .1 .0 .place) in
+    let g = fields.place-moves (entry .args .names) (entry .args .kinds .now) (entry .args .words .now) _ (at-loop .loop .inv .1 .0 .place)
+    (then1 .if1 .taken) _ (after-skip .skip .ensures) in
+    omega (arith, passes-from _ _ (c .before .run-from2 .ensures) (c .pass-scalars2 .ensures))
+
+struct-size-loop-again : (t : ℕ) → struct-size-lts.Need-loop-again (struct-size-claims t) (struct-size-at t) struct-size.Post struct-size-Inv-loop struct-size-μ-loop
+struct-size-loop-again t c =
+    let after-skip = c .before .before in
+    let after-s = after-skip .before .before .before in
+    let after-size-of = after-s .before .before .before .before in
+    let after-a = after-size-of .before .before .before in
+    let after-align-of = after-a .before .before .before .before in
+    let then1 = after-align-of .before .before .before .before in
+    let at-loop = then1 .before .before in
+    let entry = at-loop .before .before .before .before .before .before .before .before .before in
+    let next = lc.size-next (entry .args .names) (entry .args .kinds .now) (entry .args .words .now)
+    (entries (entry .args .book-kinds .now) (entry .args .book-words .now)) (entry .args .work .now) (entry .args .level) (entry .args .packed)
+    (at-loop .loop .inv .0) (at-loop .loop .inv .1) (then1 .if1 .taken) (after-align-of .align-of .ensures) _ _ (after-a .a .given .1)
+    (after-size-of .size-of .ensures) _ _ (after-s .s .given .1) _ (after-skip .skip .ensures) _ (after-skip .before .add-field .ensures) in (
       at-loop .loop .inv .0,
-      lc.size-next (entry .args .names) (entry .args .kinds .now) (entry .args .words .now)
+      lc.size-again (entry .args .names) (entry .args .kinds .now) (entry .args .words .now)
           (entries (entry .args .book-kinds .now) (entry .args .book-words .now)) (entry .args .work .now) (entry .args .level)
-          (entry .args .packed) (at-loop .loop .inv .0) (at-loop .loop .inv .1) (then1 .if1 .taken) (after-align-of .align-of .ensures) _ _
-          (after-a .a .given .1) (after-size-of .size-of .ensures) _ _ (after-s .s .given .1) _ (c .skip .ensures) _ (c .before .add-field .ensures),
+          (entry .args .packed) (at-loop .loop .inv .0) next _ _ (c .before .run-from2 .ensures) (at-loop .before .before .before .reach .ensures)
+          (c .pass-scalars2 .ensures),
     )
 
 struct-size-closed-requires : (t : ℕ) → struct-size-lts.Need-closed-requires (struct-size-claims t) (struct-size-at t) struct-size.Post struct-size-Inv-loop struct-size-μ-loop
@@ -598,7 +661,7 @@ struct-size-same-length-3 t c = search needs
 struct-size-returns-3 : (t : ℕ) → struct-size-lts.Need-returns-3 (struct-size-claims t) (struct-size-at t) struct-size.Post struct-size-Inv-loop struct-size-μ-loop
 struct-size-returns-3 t c =
     let at-loop = c .before .before .before in
-    let entry = at-loop .before .before .before .before .before .before in
+    let entry = at-loop .before .before .before .before .before .before .before .before .before in
     lc.size-done (entry .args .names) (entry .args .kinds .now) (entry .args .words .now)
     (entries (entry .args .book-kinds .now) (entry .args .book-words .now)) (entry .args .work .now) (entry .args .level) (entry .args .packed)
     (at-loop .loop .inv .0) (at-loop .loop .inv .1) (c .before .if1 .left) _ (c .closed .ensures)
@@ -691,6 +754,9 @@ pub +named-size+size-of+struct-size-spec : {M : Type 1} → statement M
     struct-size.Post
     struct-size-Inv-loop
     struct-size-μ-loop
+    (struct-size-reach-requires t)
+    (struct-size-run-from-requires t)
+    (struct-size-pass-scalars-requires t)
     (struct-size-loop-holds t)
     (struct-size-mul-if1 t)
     (struct-size-shared-slice-read-if1 t)
@@ -714,7 +780,9 @@ pub +named-size+size-of+struct-size-spec : {M : Type 1} → statement M
     (struct-size-enum-known-s t)
     (struct-size-add-field-requires t)
     (struct-size-skip-requires t)
-    (struct-size-add-at t)
+    (struct-size-add-behind t)
+    (struct-size-run-from-requires-2 t)
+    (struct-size-pass-scalars-requires-2 t)
     (struct-size-loop-less t)
     (struct-size-loop-again t)
     (struct-size-closed-requires t)
