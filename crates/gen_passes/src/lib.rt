@@ -144,7 +144,7 @@ fn few_passes(
     )
 }
 
-// The same by slices of 1,024 lines.
+// The same by slices of 512 lines.
 fn some_passes(
     book_kinds: &[u64],
     book_words: &[u64],
@@ -159,8 +159,39 @@ fn some_passes(
     ensures { λ r. ⌜ Passed names (now («book_kinds» .entry)) (now («book_words» .entry)) head counter (now (work .entry))
         r (now (lines .entry)) (now (operands .entry)) (now (lines .exit)) (now (operands .exit)) ⌝ }
 {
-    let mut own_lines = [0u16; 1024];
-    let mut own_operands = [0u64; 1024];
+    let mut own_lines = [0u16; 512];
+    let mut own_operands = [0u64; 512];
+    pass_over(
+        book_kinds,
+        book_words,
+        head,
+        work,
+        names,
+        counter,
+        lines,
+        operands,
+        &mut own_lines,
+        &mut own_operands,
+    )
+}
+
+// The same by slices of 2,048 lines.
+fn more_passes(
+    book_kinds: &[u64],
+    book_words: &[u64],
+    head: Prepared,
+    work: &mut [u64],
+    names: u64,
+    counter: u64,
+    lines: &mut [u16],
+    operands: &mut [u64],
+) -> Translation
+    requires { ⌜ FunctionAsk names (now «book_kinds») (now «book_words») head (now work) ⌝ }
+    ensures { λ r. ⌜ Passed names (now («book_kinds» .entry)) (now («book_words» .entry)) head counter (now (work .entry))
+        r (now (lines .entry)) (now (operands .entry)) (now (lines .exit)) (now (operands .exit)) ⌝ }
+{
+    let mut own_lines = [0u16; 2048];
+    let mut own_operands = [0u64; 2048];
     pass_over(
         book_kinds,
         book_words,
@@ -225,7 +256,7 @@ fn passes(
     ensures { λ r. ⌜ Passed names (now («book_kinds» .entry)) (now («book_words» .entry)) head counter (now (work .entry))
         r (now (lines .entry)) (now (operands .entry)) (now (lines .exit)) (now (operands .exit)) ⌝ }
 {
-    if 1024 < room {
+    if 2048 < room {
         return many_passes(
             book_kinds,
             book_words,
@@ -247,7 +278,7 @@ fn passes(
             counter,
             lines,
             operands,
-            8 * room,
+            4 * room,
         );
     }
     if room <= 128 {
@@ -262,7 +293,19 @@ fn passes(
             operands,
         );
     }
-    some_passes(
+    if room <= 512 {
+        return some_passes(
+            book_kinds,
+            book_words,
+            head,
+            work,
+            names,
+            counter,
+            lines,
+            operands,
+        );
+    }
+    more_passes(
         book_kinds,
         book_words,
         head,

@@ -9,12 +9,13 @@ use Rattle.gen_passes.proofs.passes.Kinds as passes-kinds
 use Rattle.gen_passes.proofs.+passes.Lts-passes as passes-lts
 use Rattle.gen_passes.proofs.few_passes.Reads as few-passes-reads
 use Rattle.gen_passes.proofs.many_passes.Reads as many-passes-reads
+use Rattle.gen_passes.proofs.more_passes.Reads as more-passes-reads
 use Rattle.gen_passes.proofs.some_passes.Reads as some-passes-reads
 use Rattle.gen_passes.proofs.+passes.{statement}
 use Rattle.gen_passes.proofs.+passes.Tie.{close}
 
 abbrev μ-passes : Measures 5 passes-kinds.ps ℕ
-μ-passes κs a = 1025 - a .1 .1 .1 .1 .1 .1 .1 .1 .0
+μ-passes κs a = 2049 - a .1 .1 .1 .1 .1 .1 .1 .1 .0
 
 abbrev passes-at : ℕ → In 5 passes-kinds.ps
 passes-at t = and 5 passes-kinds.ps (is 5 passes-kinds.ps μ-passes t) passes.Pre
@@ -32,6 +33,8 @@ pub +passes-spec : {M : Type 1} → statement M
   few-passes-reads.Learnt,
   some-passes-reads.Asked,
   some-passes-reads.Learnt,
+  more-passes-reads.Asked,
+  more-passes-reads.Learnt,
 )
     (passes-at t)
     passes.Post
@@ -45,6 +48,11 @@ pub +passes-spec : {M : Type 1} → statement M
     let else1 = c .before .before .before .before in
     let entry = else1 .before .before .before .before .before .before in
     (omega (arith, entry .pre .0, entry .pre .1 .0, else1 .if1 .left), (omega (arith, entry .pre .1 .0), entry .pre .1 .1)))
+    (λ c. search needs)
+    (λ c. search needs)
+    (λ c. search needs)
+    (λ c. search needs)
+    (λ c κs. search needs)
     (λ c. search needs)
     (λ c. search needs)
     (λ c. search needs)
