@@ -77,6 +77,30 @@ length-le zero n h = omega (arith, length-small n h)
 length-le (suc k) n h =
     ⊎-elim (λ d. omega (arith, length-small n d)) (λ d. omega (arith, length-more n d, length-le k (n / 10) (omega arith))) (lt-or-le n 10)
 
+-- of two, three and four digits
+pub length-two : (n : ℕ) → 10 ≤ n → n < 100 → length (decimal n) ≡ 2
+length-two n h k = omega (arith, length-more n h, length-small (n / 10) (omega arith))
+
+pub length-three : (n : ℕ) → 100 ≤ n → n < 1000 → length (decimal n) ≡ 3
+length-three n h k = omega (arith, length-more n (omega arith), length-two (n / 10) (omega arith) (omega arith))
+
+pub length-four : (n : ℕ) → 1000 ≤ n → n < 10000 → length (decimal n) ≡ 4
+length-four n h k = omega (arith, length-more n (omega arith), length-three (n / 10) (omega arith) (omega arith))
+
+-- and four at once
+pub length-more-four : (n : ℕ) → 10000 ≤ n → length (decimal n) ≡ length (decimal (n / 10000)) + 4
+length-more-four n h =
+    let a = length-more n (omega arith) in
+    let b = length-more (n / 10) (omega arith) in
+    let c = length-more (n / 10 / 10) (omega arith) in
+    let d = length-more (n / 10 / 10 / 10) (omega arith) in
+    let e : n / 10 / 10 / 10 / 10 ≡ n / 10000 = omega arith in
+    rw (← e) (omega (arith, a, b, c, d))
+
+-- a number of two digits
+pub decimal-two : (n : ℕ) → 10 ≤ n → n < 100 → decimal n ≡ (48 + n / 10) ∷ (48 + n % 10) ∷ []
+decimal-two n h k = rw (decimal-more n h, decimal-small (n / 10) (omega arith))
+
 -- a word has no more than 20 digits
 pub length-word : (n : ℕ) → n < 2 ^ 64 → length (decimal n) ≤ 20
 length-word n h = length-le 19 n (lt-of-lt-of-le h (lit≤ tt))

@@ -46,6 +46,15 @@ Inv-loop n text₀ at end rest₀ i₀ text rest i = Writing n text₀ at text r
 abbrev μ-loop : tie.MeasureT-loop
 μ-loop n text₀ at end rest₀ i₀ text rest i = rest
 
+put-short-requires : tie.Need-put-short-requires Inv-loop μ-loop
+put-short-requires c κs = search needs
+
+same-length : tie.Need-same-length Inv-loop μ-loop
+same-length c = search needs
+
+returns : tie.Need-returns Inv-loop μ-loop
+returns c = search needs
+
 decimal-len-requires : tie.Need-decimal-len-requires Inv-loop μ-loop
 decimal-len-requires c κs = search needs
 
@@ -82,11 +91,11 @@ add-text-2 c = search needs
 slice-write-text-2 : tie.Need-slice-write-text-2 Inv-loop μ-loop
 slice-write-text-2 c = omega (arith, length-pos (c .before .loop .rest))
 
-same-length : tie.Need-same-length Inv-loop μ-loop
-same-length c = simp length-set (c .before .loop .inv .long)
+same-length-2 : tie.Need-same-length-2 Inv-loop μ-loop
+same-length-2 c = simp length-set (c .before .loop .inv .long)
 
-returns : tie.Need-returns Inv-loop μ-loop
-returns c = (omega arith, last (c .before .loop .inv) (c .loop-test .left))
+returns-2 : tie.Need-returns-2 Inv-loop μ-loop
+returns-2 c = (omega arith, last (c .before .loop .inv) (c .loop-test .left))
 
 pub put-decimal-spec : {M : Type 1} → statement M
 put-decimal-spec =
@@ -94,6 +103,9 @@ put-decimal-spec =
     (tie.spec
     Inv-loop
     μ-loop
+    put-short-requires
+    same-length
+    returns
     decimal-len-requires
     add-end
     loop-holds
@@ -106,5 +118,5 @@ put-decimal-spec =
     cast-text-2
     add-text-2
     slice-write-text-2
-    same-length
-    returns)
+    same-length-2
+    returns-2)
