@@ -19,7 +19,7 @@ use Rattle.book.specs.Encode.{ending, closed, encInst, encTerm, encBasicBlock}
 use Rattle.book.specs.Limits.{Each, BlockLimits}
 use Rattle.book_types.specs.Laws.{within-kinds, within-words}
 use Rattle.lowering.specs.Context.{paramMap, blockMap}
-use Rattle.layout_memo.specs.Work.{Ready}
+use Rattle.layout_memo.specs.Work.{Ready, tableAt, table-other}
 use Rattle.gen_values.specs.Maps.{numbered, BlockAt, BlockWord}
 use Rattle.gen_values.specs.Fields.{entry-at}
 use Rattle.gen_blocks.specs.Inside.{Inside, inside-body}
@@ -282,3 +282,4 @@ module _ {m : ℕ} {es : List Entry} {work work′ : List ℕ} {r : ℕ} where
   pub function-ready : Ready m es work → FunctionPlaced m es work work′ r → Ready m es work′
   function-ready k p =
       ready-kept k (p .long) (λ x _. p .same (8 * x + 4) (λ y _ e. omega arith) (λ y _ e. omega arith)) (λ x _. p .same (8 * x + 7) (λ y _ e. omega arith) (λ y _ e. omega arith))
+      (λ i. p .same (tableAt m i) (λ y ly e. table-other m i y 0 (omega arith) (λ z. omega arith) ly (omega arith)) (λ y ly. table-other m i y 2 (omega arith) (λ z. omega arith) ly))

@@ -15,7 +15,7 @@ use Rattle.book.specs.Entry.{Entry}
 use Rattle.book.specs.Result.{Result, ok, err}
 use Rattle.book.specs.Map.{Map, lookup}
 use Rattle.layout.specs.Frame.{Places}
-use Rattle.layout_memo.specs.Work.{Ready, Kept}
+use Rattle.layout_memo.specs.Work.{Ready, Kept, Settled, settled-word, tableAt, facts-kept}
 use Rattle.lowering.specs.Context.{Slots}
 use Rattle.gen_values.specs.Maps.{numbered}
 use Rattle.gen_frame.specs.declared.Frame.{Frame}
@@ -53,15 +53,15 @@ FrameSays m (ok p) work f = PlacesHold m p work f
 FrameSays m (err e) work f = (f .refused ≡ true) × (f .off ≡ e)
 
 -- ---- what is left as it was
--- words 3 and 7 may have changed
+-- words 3 may have changed, and those of measuring
 pub record PlacesKept (m : ℕ) (work work′ : List ℕ) : Type 0 where
   pub long : length work′ ≡ length work
-  pub same : (i : ℕ) → ((x : ℕ) → x < m → i ≡ 8 * x + 3 → ⊥) → ((x : ℕ) → x < m → i ≡ 8 * x + 7 → ⊥) → getD work′ i 0 ≡ getD work i 0
+  pub same : (i : ℕ) → ((x : ℕ) → x < m → i ≡ 8 * x + 3 → ⊥) → Settled m i → getD work′ i 0 ≡ getD work i 0
 
--- words 1, 3 and 7 may have changed
+-- words 1 and 3 may have changed, and those of measuring
 pub record FrameKept (m : ℕ) (work work′ : List ℕ) : Type 0 where
   pub long : length work′ ≡ length work
-  pub same : (i : ℕ) → ((x : ℕ) → x < m → i ≡ 8 * x + 1 → ⊥) → ((x : ℕ) → x < m → i ≡ 8 * x + 3 → ⊥) → ((x : ℕ) → x < m → i ≡ 8 * x + 7 → ⊥) → getD work′ i 0 ≡ getD work i 0
+  pub same : (i : ℕ) → ((x : ℕ) → x < m → i ≡ 8 * x + 1 → ⊥) → ((x : ℕ) → x < m → i ≡ 8 * x + 3 → ⊥) → Settled m i → getD work′ i 0 ≡ getD work i 0
 
 module _ {m : ℕ} where
   pub measured-kept : {work work′ : List ℕ} → Kept m work work′ → PlacesKept m work work′
@@ -80,7 +80,7 @@ module _ {m : ℕ} where
   kept-then p q = record { long = q .long ∙ p .long; same = λ i x y z. q .same i x y z ∙ p .same i x y z }
 
   pub overflows-kept : (names : List (List ℕ)) {work work′ : List ℕ} → FrameKept m work work′ → Overflows names m work → Overflows names m work′
-  overflows-kept names k o x l = ap (leb 4) (k .same (8 * x + 5) (λ y _ e. omega arith) (λ y _ e. omega arith) (λ y _ e. omega arith)) ∙ o x l
+  overflows-kept names k o x l = ap (leb 4) (k .same (8 * x + 5) (λ y _ e. omega arith) (λ y _ e. omega arith) (settled-word x 5 l (omega arith))) ∙ o x l
 
 -- ---- a word of a name is set
 -- a map's word j of each name, with one entry more
@@ -98,12 +98,13 @@ module _ (j : ℕ) (small : j < 8) {m : ℕ} (work : List ℕ) (room : 8 * m ≤
           let q = eqb-false y x e in
           rw (e, getD-set-other work (8 * x + j) (8 * y + j) (v + 1) 0 (λ z. q (omega arith))) (h y l)
 
--- the words of measuring and of bodies are left
-pub ready-set : {m : ℕ} {bs : List Entry} {work : List ℕ} (i v : ℕ) → Ready m bs work → ((x : ℕ) → i ≡ 8 * x + 4 → ⊥) → ((x : ℕ) → i ≡ 8 * x + 7 → ⊥) → Ready m bs (set work i v)
-ready-set {m} {bs} {work} i v r a b =
+-- the words of measuring, of bodies and of the table are left
+pub ready-set : {m : ℕ} {bs : List Entry} {work : List ℕ} (i v : ℕ) → Ready m bs work → ((x : ℕ) → i ≡ 8 * x + 4 → ⊥) → ((x : ℕ) → i ≡ 8 * x + 7 → ⊥) → ((k : ℕ) → tableAt m k ≡ i → ⊥) → Ready m bs (set work i v)
+ready-set {m} {bs} {work} i v r a b t =
     record {
       room = omega (arith, r .room, length-set work i v);
       bodies = λ x l. rw (getD-set-other work i (8 * x + 4) v 0 (λ e. a x (sym e))) (r .bodies x l);
       known = λ x l. rw (getD-set-other work i (8 * x + 7) v 0 (λ e. b x (sym e))) (r .known x l);
+      facts = facts-kept (set work i v) r (λ k. getD-set-other work i (tableAt m k) v 0 (t k));
       few = r .few;
     }

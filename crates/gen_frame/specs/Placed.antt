@@ -16,7 +16,7 @@ use Rattle.book.specs.Result.{Result, ok, err, bind, given}
 use Rattle.layout.specs.Layout.{alignOf, sizeOf, frameLimit}
 use Rattle.layout.specs.Frame.{Places, place, withPlace}
 use Rattle.layout_memo.specs.Front.{Starts, tyOf}
-use Rattle.layout_memo.specs.Work.{Ready, After, Outcome, structsIn, sizes, aligns, size-small, align-small}
+use Rattle.layout_memo.specs.Work.{Ready, After, Outcome, kept-word, table-other, structsIn, sizes, aligns, size-small, align-small}
 use Rattle.layout_memo.specs.Helpers.{gives-at, refused-at}
 use Rattle.layout_memo.specs.declared.Measured.{Measured}
 use Rattle.layout_memo.specs.declared.Measured.the-variants.{Bytes, Refused}
@@ -74,7 +74,7 @@ step-none step r e s = record { ready = r; kept = record { long = refl; same = �
 -- the words of places stand as before where only word 7 changed
 holds-after : {m : ℕ} {bs : List Entry} {work work′ : List ℕ} {p : Places} {f : Frame} → After m bs work work′ → PlacesHold m p work f → PlacesHold m p work′ f
 holds-after a h =
-    record { going = h .going; off = h .off; within = h .within; dynamic = h .dynamic; words = λ x l. a .kept .same (8 * x + 3) (λ y _ e. omega arith) ∙ h .words x l }
+    record { going = h .going; off = h .off; within = h .within; dynamic = h .dynamic; words = λ x l. kept-word a x 3 l (omega arith) ∙ h .words x l }
 
 -- a measurement, then a step
 then-step : {m : ℕ} {bs : List Entry} {a b c : List ℕ} {f r : Frame} (one all : Places → Result Places)
@@ -120,7 +120,7 @@ module _ (name align size count : ℕ) where
         go : (b : Bool) → leb end (2 ^ 31) ≡ b → PlaceStep m bs work (orElse b stored work) f (orElse b (madeBy align size count f) (barredBy f 7)) limited
         go true e =
             record {
-              ready = ready-set (8 * name + 3) (start + 1) ready (λ x d. omega arith) (λ x d. omega arith);
+              ready = ready-set (8 * name + 3) (start + 1) ready (λ x d. omega arith) (λ x d. omega arith) (λ k. table-other m k name 3 (omega arith) (λ z. omega arith) named);
               kept = record { long = length-set work (8 * name + 3) (start + 1); same = λ i a b. getD-set-other work (8 * name + 3) i (start + 1) 0 (a name named) };
               slots = refl;
               says = λ p h.

@@ -15,7 +15,7 @@ use Rattle.book.specs.Limits.{Maybe, NameLimits}
 use Rattle.book.specs.Result.{Result, ok, err, bind}
 use Rattle.book.specs.Shape.{Shape, shape}
 use Rattle.layout.specs.Frame.{Places, frameStep}
-use Rattle.layout_memo.specs.Work.{Ready, structsIn}
+use Rattle.layout_memo.specs.Work.{Ready, settled-word, structsIn}
 use Rattle.layout_memo.specs.Calls.{lent}
 use Rattle.lowering.specs.Context.{Slots, slotStep}
 use Rattle.gen_values.specs.Values.{destOf, dest-is}
@@ -144,7 +144,7 @@ module _ {m : ℕ} (ks ws : List ℕ) {bs : List Entry} (work : List ℕ) (f : F
             places = places;
             slots = λ i a d names o z h.
                 let g = t .slots i a names o z h in
-                record { count = s .slots ∙ g .count; words = λ x l. s .kept .same (8 * x + 1) (λ y _ q. omega arith) (λ y _ q. omega arith) ∙ g .words x l };
+                record { count = s .slots ∙ g .count; words = λ x l. s .kept .same (8 * x + 1) (λ y _ q. omega arith) (settled-word x 1 l (omega arith)) ∙ g .words x l };
           }
         where
           places : (i : Inst) → InstAt m i (entries ks ws) → (fr : Result Places) → FrameSays m fr work f → FrameSays m (bind fr (frameStep (structsIn m bs) (i .dest) (shape (i .kind)))) work″ r

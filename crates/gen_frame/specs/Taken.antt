@@ -19,7 +19,7 @@ use Rattle.book.specs.AgreeInst.{inst-found}
 use Rattle.book_types.specs.Laws.{entries-part}
 use Rattle.layout.specs.Frame.{Places}
 use Rattle.layout_memo.specs.Front.{tyLen}
-use Rattle.layout_memo.specs.Work.{Ready}
+use Rattle.layout_memo.specs.Work.{Ready, table-other}
 use Rattle.layout_memo.specs.Calls.{lent}
 use Rattle.lowering.specs.Context.{Slots, callSlots, slotsFor, slotStep}
 use Rattle.gen_values.specs.Fields.{Fields, entry-at, behind-type}
@@ -287,7 +287,7 @@ module _ {m : ℕ} (ks ws work : List ℕ) (f : Frame) where
           few = omega (arith, c .most);
           off = refl;
           going = refl;
-          ready = λ bs r. ready-set (8 * x + 1) (f .slots + 1) r (λ y e. omega arith) (λ y e. omega arith);
+          ready = λ bs r. ready-set (8 * x + 1) (f .slots + 1) r (λ y e. omega arith) (λ y e. omega arith) (λ k. table-other m k x 1 (omega arith) (λ e. omega arith) take-below);
           slots = λ i a names o s h.
               rw (dest-some (i .dest) (inst-front ks ws a .dest) z)
               (record {

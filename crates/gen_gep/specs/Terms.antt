@@ -9,7 +9,7 @@ use Rattle.book.specs.Entry.{Entry, entries}
 use Rattle.book.specs.Fields.{Meanings}
 use Rattle.lowering.specs.Context.{FnCtx}
 use Rattle.lowering.specs.Gep.{VarTerm}
-use Rattle.layout_memo.specs.Work.{Ready, After}
+use Rattle.layout_memo.specs.Work.{Ready, After, kept-word, kept-term, tableAt, table-term, facts-kept}
 use Rattle.gen_values.specs.Values.{widthBy}
 use Rattle.gen_values.specs.Fields.{Fields}
 use Rattle.gen_values.specs.Maps.{Maps}
@@ -20,43 +20,44 @@ use Rattle.gen_gep.specs.Indices.{indexThen}
 pub record Stays (m : ℕ) (es : List Entry) (work work′ : List ℕ) : Type 0 where
   pub ready : Ready m es work′
   pub long : length work′ ≡ length work
-  pub same : (i : ℕ) → i < 8 * m → ((x : ℕ) → x < m → i ≡ 8 * x + 7 → ⊥) → getD work′ i 0 ≡ getD work i 0
+  pub same : (x j : ℕ) → x < m → j < 6 → getD work′ (8 * x + j) 0 ≡ getD work (8 * x + j) 0
 
 module _ {m : ℕ} {es : List Entry} where
   pub stays-none : {work : List ℕ} → Ready m es work → Stays m es work work
-  stays-none r = record { ready = r; long = refl; same = λ i l n. refl }
+  stays-none r = record { ready = r; long = refl; same = λ x j l h. refl }
 
   pub stays-then : {a b c : List ℕ} → Stays m es a b → Stays m es b c → Stays m es a c
-  stays-then p q = record { ready = q .ready; long = q .long ∙ p .long; same = λ i l n. q .same i l n ∙ p .same i l n }
+  stays-then p q = record { ready = q .ready; long = q .long ∙ p .long; same = λ x j l h. q .same x j l h ∙ p .same x j l h }
 
   pub stays-after : {work work′ : List ℕ} → After m es work work′ → Stays m es work work′
-  stays-after a = record { ready = a .ready; long = a .kept .long; same = λ i l n. a .kept .same i n }
+  stays-after a = record { ready = a .ready; long = a .kept .long; same = kept-word a }
 
-  -- a word behind the names' is stored
-  stays-set : {work : List ℕ} (i v : ℕ) → 8 * m ≤ i → Ready m es work → Stays m es work (set work i v)
-  stays-set {work} i v l r =
+  -- a word of terms is stored
+  stays-set : {work : List ℕ} (i v : ℕ) → 8 * m ≤ i → i < 8 * m + 64 → Ready m es work → Stays m es work (set work i v)
+  stays-set {work} i v l h r =
       record {
         ready = record {
           room = omega (arith, r .room, length-set work i v);
           bodies = λ y ly. rw (getD-set-other work i (8 * y + 4) v 0 (λ e. omega arith)) (r .bodies y ly);
           known = λ y ly. rw (getD-set-other work i (8 * y + 7) v 0 (λ e. omega arith)) (r .known y ly);
+          facts = facts-kept (set work i v) r (λ k. getD-set-other work i (tableAt m k) v 0 (table-term m k i l h));
           few = r .few;
         };
         long = length-set work i v;
-        same = λ j lj n. getD-set-other work i j v 0 (λ e. omega arith);
+        same = λ x j lx lj. getD-set-other work i (8 * x + j) v 0 (λ e. omega arith);
       }
 
   pub maps-stays : {c : FnCtx} {work work′ : List ℕ} → Maps m es c work → Stays m es work work′ → Maps m es c work′
-  maps-stays k a =
+  maps-stays {work = work} {work′ = work′} k a =
       record {
         room = omega (arith, k .room, a .long);
         locals = record {
-          params = λ x l. a .same (8 * x) (omega arith) (λ y _ e. omega arith) ∙ k .locals .params x l;
-          slots = λ x l. a .same (8 * x + 1) (omega arith) (λ y _ e. omega arith) ∙ k .locals .slots x l;
+          params = λ x l. subst (λ (i : ℕ). getD work′ i 0 ≡ getD work i 0) (let e : 8 * x + 0 ≡ 8 * x = omega arith in e) (a .same x 0 l (omega arith)) ∙ k .locals .params x l;
+          slots = λ x l. a .same x 1 l (omega arith) ∙ k .locals .slots x l;
         };
-        blocks = λ x l. rw (a .same (8 * x + 2) (omega arith) (λ y _ e. omega arith)) (k .blocks x l);
-        places = λ x l. a .same (8 * x + 3) (omega arith) (λ y _ e. omega arith) ∙ k .places x l;
-        marks = λ x l. a .same (8 * x + 5) (omega arith) (λ y _ e. omega arith) ∙ k .marks x l;
+        blocks = λ x l. rw (a .same x 2 l (omega arith)) (k .blocks x l);
+        places = λ x l. a .same x 3 l (omega arith) ∙ k .places x l;
+        marks = λ x l. a .same x 5 l (omega arith) ∙ k .marks x l;
         structs = k .structs;
         measured = a .ready;
       }
@@ -120,12 +121,12 @@ module _ (m : ℕ) (bk bw : List ℕ) where
 
     pub stays-stored : {es : List Entry} → Ready m es work → Stays m es work stored
     stays-stored r =
-        let a = stays-set to place (omega arith) r in
-        stays-then a (stays-set (to + 1) stride (omega arith) (a .ready))
+        let a = stays-set to place (omega arith) (omega arith) r in
+        stays-then a (stays-set (to + 1) stride (omega arith) (omega arith) (a .ready))
 
   -- terms stay in a measurement
-  pub terms-after : (es : List Entry) (work work′ : List ℕ) (ts : List VarTerm) → After m es work work′ → Terms m bk bw work 0 ts → Terms m bk bw work′ 0 ts
-  terms-after es work work′ ts a k = terms-kept work work′ 0 ts (λ i l h. a .kept .same i (λ x lx e. omega arith)) k
+  pub terms-after : (es : List Entry) (work work′ : List ℕ) (ts : List VarTerm) → length ts ≤ 32 → After m es work work′ → Terms m bk bw work 0 ts → Terms m bk bw work′ 0 ts
+  terms-after es work work′ ts few a k = terms-kept work work′ 0 ts (λ i l h. kept-term a i l (omega arith)) k
 
   -- the i-th term
   pub record Ith (work : List ℕ) (j i : ℕ) (ts : List VarTerm) : Type 0 where

@@ -196,8 +196,8 @@ varying-went k idx size next q h = rw (q .answer) h
 
 -- behind a measurement
 module _ {m : ℕ} {bk bw work work′ : List ℕ} where
-  pub walk-after : {k : GepWalk} {w : Way} → After m (entries bk bw) work work′ → WalkAt m bk bw work k w → WalkAt m bk bw work′ k w
-  walk-after {k} a h = record { type = h .type; sum = h .sum; count = h .count; terms = terms-after m bk bw (entries bk bw) work work′ (k .varTerms) a (h .terms) }
+  pub walk-after : {k : GepWalk} {w : Way} → w .terms < 32 → After m (entries bk bw) work work′ → WalkAt m bk bw work k w → WalkAt m bk bw work′ k w
+  walk-after {k} few a h = record { type = h .type; sum = h .sum; count = h .count; terms = terms-after m bk bw (entries bk bw) work work′ (k .varTerms) (omega (arith, h .count)) a (h .terms) }
 
   pub went-after : {work″ : List ℕ} {answer : Result GepWalk} {w r : Way} → After m (entries bk bw) work work′ → Went m bk bw work′ work″ answer w r → Went m bk bw work work″ answer w r
   went-after a h =

@@ -242,4 +242,4 @@ module _ {bs : List ℕ} {m a : ℕ} (ks ws : List ℕ) {work : List ℕ} (k : M
 -- measuring is not touched
 module _ {m : ℕ} {es : List Entry} {g : Codegen} {work work′ : List ℕ} where
   pub marks-ready : Ready m es work → MarksPlaced m g work work′ → Ready m es work′
-  marks-ready r p = ready-words 5 (omega arith) (λ e. omega arith) (λ e. omega arith) r (p .kept)
+  marks-ready r p = ready-words 5 (omega arith) (λ e. omega arith) (λ e. omega arith) (λ e. omega arith) r (p .kept)

@@ -16,7 +16,7 @@ use Rattle.book.specs.Shape.{allInsts}
 use Rattle.book_types.specs.Laws.{entries-part}
 use Rattle.layout.specs.Frame.{Places, noFrame, framePass, framed}
 use Rattle.layout_memo.specs.Calls.{lent}
-use Rattle.layout_memo.specs.Work.{Ready, structsIn, structsOr}
+use Rattle.layout_memo.specs.Work.{Ready, settled-word, settled-first, tableAt, structsIn, structsOr}
 use Rattle.layout_memo.specs.Structs.{Blank, StructsPlaced}
 use Rattle.lowering.specs.Context.{Codegen, codegenOf}
 use Rattle.lowering.specs.Function.{contextOf}
@@ -46,7 +46,7 @@ module _ {bs : List ℕ} {m : ℕ} (ks ws : List ℕ) {work : List ℕ} (k : Pre
   es = entries ks ws
 
   pub structs-ask : Blank m es work
-  structs-ask = record { book = k .book; room = omega (arith, k .room); bodies = λ x l. k .blank (8 * x + 4); known = λ x l. k .blank (8 * x + 7) }
+  structs-ask = record { book = k .book; room = omega (arith, k .room); bodies = λ x l. k .blank (8 * x + 4); known = λ x l. k .blank (8 * x + 7); table = λ i. k .blank (tableAt m i) }
 
   module _ {work₁ : List ℕ} (s : StructsPlaced m es work work₁) {a : ℕ} (fn : FunctionAt m es a) where
     pub marks-ask : MarksAsked bs m es work₁ a
@@ -120,12 +120,12 @@ module _ {bs : List ℕ} {m : ℕ} (ks ws : List ℕ) {work : List ℕ} (k : Pre
                 record {
                   room = omega (arith, k .room, same-room);
                   locals = record {
-                    params = λ x l. r .kept .same (8 * x) (λ y _ e. omega arith) (λ y _ e. omega arith) (λ y _ e. omega arith) ∙ passed.book-params w b eb x l;
+                    params = λ x l. r .kept .same (8 * x) (λ y _ e. omega arith) (λ y _ e. omega arith) (settled-first x l) ∙ passed.book-params w b eb x l;
                     slots = h .slots;
                   };
-                  blocks = λ x l. rw (r .kept .same (8 * x + 2) (λ y _ e. omega arith) (λ y _ e. omega arith) (λ y _ e. omega arith)) (passed.book-blocks w b eb x l);
+                  blocks = λ x l. rw (r .kept .same (8 * x + 2) (λ y _ e. omega arith) (λ y _ e. omega arith) (settled-word x 2 l (omega arith))) (passed.book-blocks w b eb x l);
                   places = h .places;
-                  marks = λ x l. r .kept .same (8 * x + 5) (λ y _ e. omega arith) (λ y _ e. omega arith) (λ y _ e. omega arith) ∙ marks₃ x l;
+                  marks = λ x l. r .kept .same (8 * x + 5) (λ y _ e. omega arith) (λ y _ e. omega arith) (settled-word x 5 l (omega arith)) ∙ marks₃ x l;
                   structs = structs-are m es ns b eb;
                   measured = r .ready;
                 }

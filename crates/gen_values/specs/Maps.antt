@@ -15,7 +15,7 @@ use Rattle.book.specs.Limits.{Each, InstLimits, TermLimits}
 use Rattle.book.specs.Map.{Map, lookup}
 use Rattle.book.specs.Decode.{member}
 use Rattle.lowering.specs.Context.{Codegen, FnCtx}
-use Rattle.layout_memo.specs.Work.{Ready, Kept, After, structsIn}
+use Rattle.layout_memo.specs.Work.{Ready, After, kept-word, kept-first, structsIn}
 use Rattle.gen_lines.specs.declared.Reached.{Reached}
 use Rattle.gen_lines.specs.Puts.{Puts}
 use Rattle.lowering.specs.Gen.{Gen}
@@ -68,12 +68,12 @@ module _ {m : ℕ} {bs : List Entry} {c : FnCtx} {work work′ : List ℕ} where
       record {
         room = omega (arith, k .room, a .kept .long);
         locals = record {
-          params = λ x l. a .kept .same (8 * x) (λ y _ e. omega arith) ∙ k .locals .params x l;
-          slots = λ x l. a .kept .same (8 * x + 1) (λ y _ e. omega arith) ∙ k .locals .slots x l;
+          params = λ x l. kept-first a x l ∙ k .locals .params x l;
+          slots = λ x l. kept-word a x 1 l (omega arith) ∙ k .locals .slots x l;
         };
-        blocks = λ x l. rw (a .kept .same (8 * x + 2) (λ y _ e. omega arith)) (k .blocks x l);
-        places = λ x l. a .kept .same (8 * x + 3) (λ y _ e. omega arith) ∙ k .places x l;
-        marks = λ x l. a .kept .same (8 * x + 5) (λ y _ e. omega arith) ∙ k .marks x l;
+        blocks = λ x l. rw (kept-word a x 2 l (omega arith)) (k .blocks x l);
+        places = λ x l. kept-word a x 3 l (omega arith) ∙ k .places x l;
+        marks = λ x l. kept-word a x 5 l (omega arith) ∙ k .marks x l;
         structs = k .structs;
         measured = a .ready;
       }

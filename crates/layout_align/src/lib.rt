@@ -3,6 +3,7 @@ use book_types::types::TypeGroup;
 use book_types::types::type_group;
 use layout_memo::Measured;
 use layout_memo::deeper;
+use layout_memo::ends::type_end;
 use layout_memo::larger;
 use layout_memo::memory::recalled;
 use layout_memo::memory::with_align;
@@ -10,7 +11,6 @@ use layout_memo::one_more;
 use layout_memo::scalars::pass_scalars;
 use layout_memo::scalars::reach;
 use layout_memo::scalars::run_from;
-use layout_memo::skip;
 ghost use Rattle.book.specs.Entry.{entries};
 ghost use Rattle.book.specs.Ast.{Ty};
 ghost use Rattle.layout_memo.specs.Front.{tyOf, tysOf};
@@ -129,7 +129,7 @@ fn struct_align(
         match align_of(ks, ws, book_kinds, book_words, work, names, level) {
             Measured::Refused(e) => return Measured::Refused(e),
             Measured::Bytes(a, h) => {
-                let behind = at + skip(ks, ws, names);
+                let behind = at + type_end(ks, ws, names);
                 let next = run_from(behind, 0, larger(align, a), deeper(levels, h));
                 let run = pass_scalars(kinds, words, names, true, stop, next);
                 at = run.at;

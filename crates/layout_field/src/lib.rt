@@ -1,9 +1,9 @@
 // Offsets of fields.
 use layout_align::align_of;
 use layout_memo::Measured;
+use layout_memo::ends::type_end;
 use layout_memo::scalars::Run;
 use layout_memo::scalars::pass_scalars;
-use layout_memo::skip;
 use layout_size::placed;
 use layout_size::size_of;
 ghost use mathlib.Core.Path.{_≡_};
@@ -50,7 +50,7 @@ pub fn field_at(kinds: &[u64], words: &[u64], names: u64, index: u64) -> Place
         if left == 0 {
             return Place::At(at);
         }
-        let behind = at + skip(&kinds[at..], &words[at..], names);
+        let behind = at + type_end(&kinds[at..], &words[at..], names);
         let next = fields_left(behind, left - 1, 0);
         let run = pass_scalars(kinds, words, names, true, kinds.len(), next);
         at = run.at;
@@ -118,7 +118,7 @@ pub fn field_offset(
                 }
             }
         }
-        let behind = at + skip(ks, ws, names);
+        let behind = at + type_end(ks, ws, names);
         let next = fields_left(behind, left - 1, offset);
         let run = pass_scalars(kinds, words, names, packed, kinds.len(), next);
         at = run.at;

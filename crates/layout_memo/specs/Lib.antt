@@ -7,4 +7,5 @@ pub mod Calls
 pub mod Fields
 pub mod FieldCalls
 pub mod Scalars
+pub mod Ends
 pub mod Structs

@@ -21,7 +21,7 @@ use Rattle.book.specs.AgreeBook.{decode-sound}
 use Rattle.book_types.specs.Laws.{entries-part, within-kinds, within-words}
 use Rattle.layout.specs.Layout.{bodyOf, resolve, asType}
 use Rattle.layout_memo.specs.Front.{Starts, tyLen, ty-is, len-is, kindOf, kind-at}
-use Rattle.layout_memo.specs.Work.{structsIn, structsOr, Placed, Ready}
+use Rattle.layout_memo.specs.Work.{structsIn, structsOr, Placed, Ready, tableAt, table-other, facts-none}
 use Rattle.layout_memo.specs.Calls.{lent}
 
 abbrev nameOf : StructType → ℕ
@@ -133,6 +133,7 @@ pub record Placing (m : ℕ) (es : List Entry) (work : List ℕ) (a : ℕ) : Typ
   pub once : distinct (map nameOf left) ≡ true
   pub track : (x : ℕ) → x < m → Track (structsIn m es) left m es x (getD work (8 * x + 4) 0) (member x (map nameOf left))
   pub blank : (x : ℕ) → x < m → getD work (8 * x + 7) 0 ≡ 0
+  pub table : (k : ℕ) → getD work (tableAt m k) 0 ≡ 0
   pub room : 8 * m ≤ length work
   pub few : length es ≤ 2 ^ 20
 
@@ -152,12 +153,13 @@ pub record NextStruct (m : ℕ) (es : List Entry) (work work′ : List ℕ) (a r
   pub more : a < r
   pub kept : BodiesKept m work work′
 
--- a book, and words of bodies and of measuring that are 0
+-- a book, and words of bodies, of measuring and of the table that are 0
 pub record Blank (m : ℕ) (es : List Entry) (work : List ℕ) : Type 0 where
   pub book : IsBook m es
   pub room : 8 * m ≤ length work
   pub bodies : (x : ℕ) → x < m → getD work (8 * x + 4) 0 ≡ 0
   pub known : (x : ℕ) → x < m → getD work (8 * x + 7) 0 ≡ 0
+  pub table : (k : ℕ) → getD work (tableAt m k) 0 ≡ 0
 
 pub record StructsPlaced (m : ℕ) (es : List Entry) (work work′ : List ℕ) : Type 0 where
   pub ready : Ready m es work′
@@ -174,6 +176,7 @@ placing-start m es work a b f =
       once = f .once;
       track = λ x l. go x (b .bodies x l) (member x (map nameOf (structsIn m es))) refl;
       blank = b .known;
+      table = b .table;
       room = b .room;
       few = f .few;
     }
@@ -260,6 +263,7 @@ module _ (m : ℕ) (ks ws : List ℕ) (work : List ℕ) (a : ℕ) (p : Placing m
             room = p .room;
             bodies = λ x l. subst (λ (left : List StructType). Track structs left m es x (getD work (8 * x + 4) 0) (member x (map nameOf left))) e (p .track x l);
             known = λ x l. rw (p .blank x l) (record { align = record { right = λ z. absurd (z refl) }; size = record { right = λ z. absurd (z refl) } });
+            facts = λ k. facts-none _ _ (p .table (2 * k));
             few = p .few;
           }
 
@@ -329,6 +333,7 @@ module _ (m : ℕ) (ks ws : List ℕ) (work : List ℕ) (a : ℕ) (p : Placing m
                 track = λ x l. track-next structs (here .s) (here .ss) m es x (getD work (8 * x + 4) 0) (getD work (8 * x + 4) 0) once-here (λ n. refl)
                     (λ q z r. record { absent = λ y. r ∙ ap (okOr 6) e; present = λ y. absurd (y z) }) (track-here x l);
                 blank = p .blank;
+                table = p .table;
                 room = p .room;
                 few = p .few;
               };
@@ -401,6 +406,7 @@ module _ (m : ℕ) (ks ws : List ℕ) (work : List ℕ) (a : ℕ) (p : Placing m
                 once = later once-here;
                 track = word-next;
                 blank = λ x l. getD-set-other work at (8 * x + 7) (a + 1 + 1) 0 (λ y. omega arith) ∙ p .blank x l;
+                table = λ k. getD-set-other work at (tableAt m k) (a + 1 + 1) 0 (table-other m k (getD ws a 0) 4 (omega arith) (λ e. omega arith) name-below) ∙ p .table k;
                 room = omega (arith, p .room, length-set work at (a + 1 + 1));
                 few = p .few;
               };

@@ -1,26 +1,30 @@
 -- The work words of measuring. A name has 8 words; the name x has those from 8 * x on:
---   0 parameter   1 slot   2 block   3 fixed place   4 struct body   5 mark   6 start of the name's bytes   7 measuring
+--   0 parameter   1 slot   2 block   3 fixed place   4 struct body   5 mark   6 table of fields   7 measuring
 -- Word 4 is one more than the place of the struct's body among the book's entries, 0 where the name has none. Word 7 has the size in its upper
--- 32 bits and the alignment in its lower ones, each as 128 * bytes + levels, 0 where it is not measured yet.
+-- 32 bits and the alignment in its lower ones, each as 128 * bytes + levels, 0 where it is not measured yet. The table of fields is made of the words 6
+-- and of all words behind the 64 that a getelementptr's varying terms take.
 use Prim.Native.Nat.{ℕ, _+_, _-_, _*_, _/_, _%_, _<_, _≤_, _^_}
-use mathlib.Core.Path.{_≡_, refl, _∙_}
-use mathlib.Core.Bool.{Bool, true, false}
+use mathlib.Core.Path.{_≡_, refl, subst, _∙_}
+use mathlib.Core.Logic.{_⊎_, inl, inr, ⊎-elim}
+use mathlib.Core.Bool.{Bool, true, false, cond}
 use mathlib.Core.Option.{Option, none, some}
 use mathlib.Core.List.{List, []}
 use native.Mathlib.Omega.{arith}
-use lib.Dec.{leb, eqb}
+use lib.Dec.{leb, ltb, eqb}
 use lib.ListN.{length, getD, drop, set, length-set}
 use lib.Seq.{getD-set-same, getD-set-other}
-use borrow.Author.Tests.{eqb-true, eqb-false, leb-true, leb-false}
+use borrow.Author.Tests.{eqb-true, eqb-false, leb-true, leb-false, lt-ltb, le-ltb}
+use Rattle.numbers.specs.Tests.{lt-or-le}
 use Rattle.book.specs.Entry.{Entry}
 use Rattle.book.specs.Ast.{Ty, StructBody, StructType, Book}
 use Rattle.book.specs.Decode.{decode}
 use Rattle.book.specs.Result.{Result, ok, err}
-use Rattle.layout.specs.Layout.{asType, resolve, alignAt, sizeAt, alignOf, sizeOf}
+use Rattle.layout.specs.Layout.{asType, resolve, alignAt, sizeAt, alignOf, sizeOf, offsetFrom}
+use Rattle.layout.specs.Step.{fieldAt}
 use Rattle.layout.specs.Natural.{Natural, one, two, four, eight, align-of-natural}
 use Rattle.layout.specs.Limit.{size-of-limit}
 use Rattle.layout_memo.specs.Measured.{resultOf, Known, Measures, measures-result}
-use Rattle.layout_memo.specs.Front.{Starts, StartsFields, tyOf}
+use Rattle.layout_memo.specs.Front.{Starts, StartsFields, tyOf, tysOf}
 use Rattle.layout_memo.specs.declared.Measured.{Measured}
 use Rattle.layout_memo.specs.declared.Measured.the-variants.{Bytes, Refused}
 
@@ -71,18 +75,76 @@ module _ (structs : List StructType) where
     pub align : Recalls (aligns (Ty.namedStruct x)) (alignPart w)
     pub size : Recalls (sizes (Ty.namedStruct x)) (sizePart w)
 
+-- ---- the table of fields
+-- where the table's word i stands: word 6 of the name i, or behind the terms
+unfoldable pub tableAt : ℕ → ℕ → ℕ
+tableAt m i = cond (ltb i m) (8 * i + 6) (7 * m + 64 + i)
+
+-- a table word is word 6 of a name or stands behind the terms
+pub table-word : (m i : ℕ) → ((i < m) × (tableAt m i ≡ 8 * i + 6)) ⊎ ((m ≤ i) × (tableAt m i ≡ 7 * m + 64 + i))
+unfolding tableAt
+table-word m i = ⊎-elim (λ l. inl (l, rw (lt-ltb i m l) refl)) (λ l. inr (l, rw (le-ltb i m l) refl)) (lt-or-le i m)
+
+-- the word 8 * x + j of a name, j not 6, and the words of terms are none of the table's
+pub table-other : (m i x j : ℕ) → j < 8 → (j ≡ 6 → ⊥) → x < m → tableAt m i ≡ 8 * x + j → ⊥
+table-other m i x j l n lx e = ⊎-elim (λ t. n (omega (arith, t .0, t .1))) (λ t. omega (arith, t .0, t .1)) (table-word m i)
+
+pub table-term : (m i k : ℕ) → 8 * m ≤ k → k < 8 * m + 64 → tableAt m i ≡ k → ⊥
+table-term m i k l h e = ⊎-elim (λ t. omega (arith, t .0, t .1)) (λ t. omega (arith, t .0, t .1)) (table-word m i)
+
+-- what a fact says: behind j fields of the struct whose first field stands at p, the fields from q on are left, and `off` bytes are taken
+module _ (m : ℕ) (es : List Entry) where
+  pub record FieldFact (packed : Bool) (p j q off : ℕ) : Type 0 where
+    pub fields : StartsFields m (drop q es)
+    pub there : q < length es
+    pub later : p < q
+    pub small : off < 16777216
+    pub places : (i : ℕ) → fieldAt (tysOf m (drop p es)) (j + i) ≡ fieldAt (tysOf m (drop q es)) i
+    pub offsets : (i : ℕ) → offsetFrom (alignOf (structsIn m es)) (sizeOf (structsIn m es)) packed (tysOf m (drop p es)) (j + i) 0
+        ≡ offsetFrom (alignOf (structsIn m es)) (sizeOf (structsIn m es)) packed (tysOf m (drop q es)) i off
+
+  -- two words of the table: the first is 0 for no fact, or one more than whether the struct is packed, p above it and whatever else; the second has `off`
+  -- in its lower 24 bits, then q in 20, then j
+  pub record FactWords (key value : ℕ) : Type 0 where
+    pub right : (key ≡ 0 → ⊥) → FieldFact (eqb ((key - 1) % 2) 1) ((key - 1) / 2 % 1048576) (value / 17592186044416) (value / 16777216 % 1048576) (value % 16777216)
+
 -- ---- the words of all names
 module _ (m : ℕ) (es : List Entry) where
   pub record Ready (work : List ℕ) : Type 0 where
     pub room : 8 * m ≤ length work
     pub bodies : (x : ℕ) → x < m → Placed (structsIn m es) m es x (getD work (8 * x + 4) 0)
     pub known : (x : ℕ) → x < m → Remembered (structsIn m es) x (getD work (8 * x + 7) 0)
+    pub facts : (k : ℕ) → FactWords m es (getD work (tableAt m (2 * k)) 0) (getD work (tableAt m (2 * k + 1)) 0)
     pub few : length es ≤ 2 ^ 20
+
+-- a word that measuring leaves: none of the table's, and none of the words 7
+pub record Settled (m i : ℕ) : Type 0 where
+  pub table : (k : ℕ) → tableAt m k ≡ i → ⊥
+  pub known : (x : ℕ) → x < m → i ≡ 8 * x + 7 → ⊥
+
+-- so are the words 0 to 5 of a name, and those of terms
+pub settled-word : {m : ℕ} (x j : ℕ) → x < m → j < 6 → Settled m (8 * x + j)
+settled-word {m} x j l h = record { table = λ k e. table-other m k x j (omega arith) (λ z. omega arith) l e; known = λ y ly e. omega arith }
+
+pub settled-first : {m : ℕ} (x : ℕ) → x < m → Settled m (8 * x)
+settled-first {m} x l = subst (Settled m) (let e : 8 * x + 0 ≡ 8 * x = omega arith in e) (settled-word x 0 l (omega arith))
+
+pub settled-term : {m : ℕ} (i : ℕ) → 8 * m ≤ i → i < 8 * m + 64 → Settled m i
+settled-term {m} i l h = record { table = λ k e. table-term m k i l h e; known = λ y ly e. omega arith }
 
 -- no word has changed but those of measuring
 pub record Kept (m : ℕ) (work work′ : List ℕ) : Type 0 where
   pub long : length work′ ≡ length work
-  pub same : (i : ℕ) → ((x : ℕ) → x < m → i ≡ 8 * x + 7 → ⊥) → getD work′ i 0 ≡ getD work i 0
+  pub same : (i : ℕ) → Settled m i → getD work′ i 0 ≡ getD work i 0
+
+-- the table's facts stand where its words do
+pub facts-kept : {m : ℕ} {es : List Entry} {work : List ℕ} (work′ : List ℕ) → Ready m es work → ((k : ℕ) → getD work′ (tableAt m k) 0 ≡ getD work (tableAt m k) 0)
+    → (k : ℕ) → FactWords m es (getD work′ (tableAt m (2 * k)) 0) (getD work′ (tableAt m (2 * k + 1)) 0)
+facts-kept work′ r same k = rw (same (2 * k), same (2 * k + 1)) (r .facts k)
+
+-- words that are 0 have none
+pub facts-none : {m : ℕ} {es : List Entry} (key value : ℕ) → key ≡ 0 → FactWords m es key value
+facts-none key value e = record { right = λ z. absurd (z e) }
 
 -- after a measurement
 pub record After (m : ℕ) (es : List Entry) (work work′ : List ℕ) : Type 0 where
@@ -104,9 +166,10 @@ module _ {m : ℕ} {es : List Entry} where
           room = omega (arith, r .room, length-set work (8 * x + 7) v);
           bodies = λ y ly. rw (getD-set-other work (8 * x + 7) (8 * y + 4) v 0 (λ e. omega arith)) (r .bodies y ly);
           known = λ y ly. stored y ly (eqb y x) refl;
+          facts = facts-kept (set work (8 * x + 7) v) r (λ k. getD-set-other work (8 * x + 7) (tableAt m k) v 0 (table-other m k x 7 (omega arith) (λ e. omega arith) l));
           few = r .few;
         };
-        kept = record { long = length-set work (8 * x + 7) v; same = λ i n. getD-set-other work (8 * x + 7) i v 0 (n x l) };
+        kept = record { long = length-set work (8 * x + 7) v; same = λ i n. getD-set-other work (8 * x + 7) i v 0 (n .known x l) };
       }
     where
       stored : (y : ℕ) → y < m → (b : Bool) → eqb y x ≡ b → Remembered (structsIn m es) y (getD (set work (8 * x + 7) v) (8 * y + 7) 0)
@@ -117,6 +180,17 @@ module _ {m : ℕ} {es : List Entry} where
       stored y ly false e =
           let q = eqb-false y x e in
           rw (getD-set-other work (8 * x + 7) (8 * y + 7) v 0 (λ z. q (omega arith))) (r .known y ly)
+
+-- a measurement leaves the words 0 to 5 of a name and those of terms
+module _ {m : ℕ} {es : List Entry} {work work′ : List ℕ} (a : After m es work work′) where
+  pub kept-word : (x j : ℕ) → x < m → j < 6 → getD work′ (8 * x + j) 0 ≡ getD work (8 * x + j) 0
+  kept-word x j l h = a .kept .same (8 * x + j) (settled-word x j l h)
+
+  pub kept-first : (x : ℕ) → x < m → getD work′ (8 * x) 0 ≡ getD work (8 * x) 0
+  kept-first x l = a .kept .same (8 * x) (settled-first x l)
+
+  pub kept-term : (i : ℕ) → 8 * m ≤ i → i < 8 * m + 64 → getD work′ i 0 ≡ getD work i 0
+  kept-term i l h = a .kept .same i (settled-term i l h)
 
 -- ---- a part of the word of measuring
 abbrev pub partOf : ℕ → ℕ → ℕ

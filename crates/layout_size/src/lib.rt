@@ -5,6 +5,7 @@ use layout_align::align_of;
 use layout_memo::Measured;
 use layout_memo::array_bytes;
 use layout_memo::deeper;
+use layout_memo::ends::type_end;
 use layout_memo::larger;
 use layout_memo::memory::recalled;
 use layout_memo::memory::with_size;
@@ -12,7 +13,6 @@ use layout_memo::one_more;
 use layout_memo::scalars::pass_scalars;
 use layout_memo::scalars::reach;
 use layout_memo::scalars::run_from;
-use layout_memo::skip;
 use numbers::align::align_up;
 ghost use mathlib.Core.Path.{_≡_};
 ghost use Prim.Native.Nat.{_≤_};
@@ -201,7 +201,7 @@ fn struct_size(
                 }
             }
         }
-        let behind = at + skip(ks, ws, names);
+        let behind = at + type_end(ks, ws, names);
         let next = run_from(behind, sum.offset, sum.align, sum.levels);
         let run = pass_scalars(kinds, words, names, packed, stop, next);
         at = run.at;

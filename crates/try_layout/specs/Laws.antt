@@ -2,10 +2,12 @@
 use Prim.Native.Nat.{ℕ, _+_, _-_, _≤_, _^_}
 use mathlib.Core.Path.{_≡_, refl, sym, ap, _∙_}
 use mathlib.Core.Bool.{Bool, true, false}
+use mathlib.Core.Logic.{⊎-elim}
 use mathlib.Core.Option.{Option, none, some}
 use mathlib.Core.List.{List}
 use native.Mathlib.Omega.{arith}
-use lib.ListN.{length, drop, length-drop}
+use lib.ListN.{length, drop, getD, replicate, length-drop, length-replicate, getD-replicate, List·getD-eq-default}
+use Rattle.numbers.specs.Tests.{lt-or-le}
 use Rattle.book.specs.Entry.{Entry, entries}
 use Rattle.book.specs.Ast.{Book}
 use Rattle.book.specs.Decode.{typeTo, decode}
@@ -18,6 +20,11 @@ use Rattle.layout_memo.specs.Front.{Starts}
 use Rattle.layout_memo.specs.Work.{Ready, Ask}
 use Rattle.layout_memo.specs.Calls.{lent}
 use Rattle.layout_memo.specs.Structs.{IsBook}
+
+-- words that are all 0
+pub all-zero : (n i : ℕ) → _≡_ {A = ℕ} (getD (replicate n 0) i 0) 0
+all-zero n i =
+    ⊎-elim (λ l. getD-replicate n i 0 0 l) (λ l. List·getD-eq-default (replicate n 0) 0 (omega (arith, length-replicate {A = ℕ} n 0))) (lt-or-le i n)
 
 -- what measuring one type leaves
 pub record Measuring (m : ℕ) (es : List Entry) (work work′ : List ℕ) (at r : ℕ) : Type 0 where

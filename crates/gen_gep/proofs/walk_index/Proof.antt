@@ -37,7 +37,7 @@ returns c =
     let ei = after-index-at .index-at .ensures (a .names) (p .1 .0) (take-value (entry .pre) f) in
     let structs = structsIn (a .names) (entries (a .book-kinds .now) (a .book-words .now)) in
     let says = same-step structs at (after-index-at .index-at .result) (indexIn p) ei (after-next-step .next-step .result) (o .says) in
-    went-after (o .after) (after-took .took .ensures p k _ f (o .after .ready) (entry .pre .front) says (walk-after (o .after) at))
+    went-after (o .after) (after-took .took .ensures p k _ f (o .after .ready) (entry .pre .front) says (walk-after (entry .pre .few) (o .after) at))
 
 pub walk-index-spec : {M : Type 1} → statement M
 walk-index-spec =

@@ -30,7 +30,7 @@ use Rattle.layout_memo.proofs.one_more.Reads as one-more-reads
 use Rattle.layout_memo.proofs.scalars.pass_scalars.Reads as pass-scalars-reads
 use Rattle.layout_memo.proofs.scalars.reach.Reads as reach-reads
 use Rattle.layout_memo.proofs.scalars.run_from.Reads as run-from-reads
-use Rattle.layout_memo.proofs.skip.Reads as skip-reads
+use Rattle.layout_memo.proofs.ends.type_end.Reads as type-end-reads
 use Rattle.book_types.proofs.types.type_group.Reads as type-group-reads
 use Rattle.layout_align.proofs.+align_of+named_align+struct_align.{statement}
 use Rattle.layout_align.proofs.+align_of+named_align+struct_align.Tie.{close}
@@ -107,8 +107,8 @@ struct-align-claims t = (
   pass-scalars-reads.Learnt,
   align-of-below t,
   align-of.Post,
-  skip-reads.Asked,
-  skip-reads.Learnt,
+  type-end-reads.Asked,
+  type-end-reads.Learnt,
   larger-reads.Asked,
   larger-reads.Learnt,
   deeper-reads.Asked,
@@ -532,8 +532,12 @@ struct-align-returns-2 t c =
 struct-align-enum-known-a : (t : ℕ) → struct-align-lts.Need-enum-known-a (struct-align-claims t) (struct-align-at t) struct-align.Post struct-align-Inv-loop struct-align-μ-loop
 struct-align-enum-known-a t c = search needs
 
-struct-align-skip-requires : (t : ℕ) → struct-align-lts.Need-skip-requires (struct-align-claims t) (struct-align-at t) struct-align.Post struct-align-Inv-loop struct-align-μ-loop
-struct-align-skip-requires t c κs = search needs
+struct-align-type-end-requires : (t : ℕ) → struct-align-lts.Need-type-end-requires (struct-align-claims t) (struct-align-at t) struct-align.Post struct-align-Inv-loop struct-align-μ-loop
+struct-align-type-end-requires t c κs =
+    let then2 = c .before .before .before .before .before .before .before .before .before in
+    let at-loop = then2 .before .before in
+    let entry = at-loop .before .before .before .before .before .before .before .before .before .before in
+    fields.place-starts (entry .args .names) (entry .args .kinds .now) (entry .args .words .now) _ (at-loop .loop .inv .0 .place) (then2 .if2 .taken)
 
 struct-align-add-behind : (t : ℕ) → struct-align-lts.Need-add-behind (struct-align-claims t) (struct-align-at t) struct-align.Post struct-align-Inv-loop struct-align-μ-loop
 struct-align-add-behind t c =
@@ -541,7 +545,7 @@ struct-align-add-behind t c =
     let at-loop = then2 .before .before in
     let entry = at-loop .before .before .before .before .before .before .before .before .before .before in
     let h = fields.place-next (entry .args .names) (entry .args .kinds .now) (entry .args .words .now) _ (at-loop .loop .inv .0 .place)
-    (then2 .if2 .taken) _ (c .skip .ensures) in
+    (then2 .if2 .taken) _ (c .type-end .ensures) in
     search needs
 
 struct-align-larger-requires : (t : ℕ) → struct-align-lts.Need-larger-requires (struct-align-claims t) (struct-align-at t) struct-align.Post struct-align-Inv-loop struct-align-μ-loop
@@ -557,15 +561,15 @@ struct-align-pass-scalars-requires-2 : (t : ℕ) → struct-align-lts.Need-pass-
 struct-align-pass-scalars-requires-2 t c κs =
     let after-deeper = c .before in
     let after-larger = after-deeper .before in
-    let after-skip = after-larger .before in
-    let after-a = after-skip .before .before in
+    let after-type-end = after-larger .before in
+    let after-a = after-type-end .before .before in
     let after-align-of = after-a .before .before .before .before in
     let then2 = after-align-of .before .before .before .before in
     let at-loop = then2 .before .before in
     let entry = at-loop .before .before .before .before .before .before .before .before .before .before in
     let next = lc.align-next (entry .args .names) (entry .args .kinds .now) (entry .args .words .now)
     (entries (entry .args .book-kinds .now) (entry .args .book-words .now)) (entry .args .work .now) (entry .args .level) (entry .args .packed)
-    (at-loop .loop .inv) (then2 .if2 .taken) (after-align-of .align-of .ensures) _ _ (after-a .a .given .1) _ (after-skip .skip .ensures) _ _
+    (at-loop .loop .inv) (then2 .if2 .taken) (after-align-of .align-of .ensures) _ _ (after-a .a .given .1) _ (after-type-end .type-end .ensures) _ _
     (after-larger .larger .ensures) (after-deeper .deeper .ensures) in
     lc.align-from (entry .args .names) (entry .args .kinds .now) (entry .args .words .now)
     (entries (entry .args .book-kinds .now) (entry .args .book-words .now)) (entry .args .work .now) (entry .args .level) (entry .args .packed)
@@ -573,28 +577,28 @@ struct-align-pass-scalars-requires-2 t c κs =
 
 struct-align-loop-less : (t : ℕ) → struct-align-lts.Need-loop-less (struct-align-claims t) (struct-align-at t) struct-align.Post struct-align-Inv-loop struct-align-μ-loop
 struct-align-loop-less t c =
-    let after-skip = c .before .before .before .before in
-    let then2 = after-skip .before .before .before .before .before .before .before .before .before .before in
+    let after-type-end = c .before .before .before .before in
+    let then2 = after-type-end .before .before .before .before .before .before .before .before .before .before in
     let at-loop = then2 .before .before in
     let entry = at-loop .before .before .before .before .before .before .before .before .before .before in
     let h = fields.place-kinds (entry .args .names) (entry .args .kinds .now) (entry .args .words .now) _ (at-loop .loop .inv .0 .place) in
     let g = fields.place-moves (entry .args .names) (entry .args .kinds .now) (entry .args .words .now) _ (at-loop .loop .inv .0 .place)
-    (then2 .if2 .taken) _ (after-skip .skip .ensures) in
+    (then2 .if2 .taken) _ (after-type-end .type-end .ensures) in
     omega (arith, passes-from _ _ (c .before .run-from2 .ensures) (c .pass-scalars2 .ensures))
 
 struct-align-loop-again : (t : ℕ) → struct-align-lts.Need-loop-again (struct-align-claims t) (struct-align-at t) struct-align.Post struct-align-Inv-loop struct-align-μ-loop
 struct-align-loop-again t c =
     let after-deeper = c .before .before in
     let after-larger = after-deeper .before in
-    let after-skip = after-larger .before in
-    let after-a = after-skip .before .before in
+    let after-type-end = after-larger .before in
+    let after-a = after-type-end .before .before in
     let after-align-of = after-a .before .before .before .before in
     let then2 = after-align-of .before .before .before .before in
     let at-loop = then2 .before .before in
     let entry = at-loop .before .before .before .before .before .before .before .before .before .before in
     let next = lc.align-next (entry .args .names) (entry .args .kinds .now) (entry .args .words .now)
     (entries (entry .args .book-kinds .now) (entry .args .book-words .now)) (entry .args .work .now) (entry .args .level) (entry .args .packed)
-    (at-loop .loop .inv) (then2 .if2 .taken) (after-align-of .align-of .ensures) _ _ (after-a .a .given .1) _ (after-skip .skip .ensures) _ _
+    (at-loop .loop .inv) (then2 .if2 .taken) (after-align-of .align-of .ensures) _ _ (after-a .a .given .1) _ (after-type-end .type-end .ensures) _ _
     (after-larger .larger .ensures) (after-deeper .deeper .ensures) in
     lc.align-again (entry .args .names) (entry .args .kinds .now) (entry .args .words .now)
     (entries (entry .args .book-kinds .now) (entry .args .book-words .now)) (entry .args .work .now) (entry .args .level) (entry .args .packed)
@@ -718,7 +722,7 @@ pub +align-of+named-align+struct-align-spec : {M : Type 1} → statement M
     (struct-align-same-length t)
     (struct-align-returns-2 t)
     (struct-align-enum-known-a t)
-    (struct-align-skip-requires t)
+    (struct-align-type-end-requires t)
     (struct-align-add-behind t)
     (struct-align-larger-requires t)
     (struct-align-deeper-requires t)

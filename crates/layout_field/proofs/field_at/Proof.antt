@@ -9,7 +9,7 @@ use Rattle.layout_field.proofs.field_at.Statement.{statement}
 use Rattle.layout_field.proofs.field_at.Tie as tie
 use Rattle.layout_field.proofs.field_at.Reads as reads
 use Rattle.layout_field.proofs.field_at.Lts as lts
-use Rattle.layout_memo.proofs.skip.Reads as skip-reads
+use Rattle.layout_memo.proofs.ends.type_end.Reads as type-end-reads
 use Rattle.layout_field.proofs.fields_left.Reads as fields-left-reads
 use Rattle.layout_memo.proofs.scalars.pass_scalars.Reads as pass-scalars-reads
 
@@ -38,48 +38,52 @@ returns c =
     laws.find-here (entry .args .names) (entry .args .kinds .now) (entry .args .words .now) (entry .args .index) (at-loop .loop .inv)
     (c .before .if1 .taken) (c .if2 .taken)
 
-mul-skip : tie.Need-mul-skip Inv-loop μ-loop
-mul-skip c = search needs
+mul-type-end : tie.Need-mul-type-end Inv-loop μ-loop
+mul-type-end c = search needs
 
-sub-skip : tie.Need-sub-skip Inv-loop μ-loop
-sub-skip c =
+sub-type-end : tie.Need-sub-type-end Inv-loop μ-loop
+sub-type-end c =
     let at-loop = c .before .before .before in
     let entry = at-loop .before .before .before in
     let h = fields.place-kinds (entry .args .names) (entry .args .kinds .now) (entry .args .words .now) _ (at-loop .loop .inv .place) in
     search needs
 
-part-skip-start : tie.Need-part-skip-start Inv-loop μ-loop
-part-skip-start c =
+part-type-end-start : tie.Need-part-type-end-start Inv-loop μ-loop
+part-type-end-start c =
     let at-loop = c .before .before .before in
     let entry = at-loop .before .before .before in
     let h = fields.place-kinds (entry .args .names) (entry .args .kinds .now) (entry .args .words .now) _ (at-loop .loop .inv .place) in
     search needs
 
-part-skip-end : tie.Need-part-skip-end Inv-loop μ-loop
-part-skip-end c = search needs
+part-type-end-end : tie.Need-part-type-end-end Inv-loop μ-loop
+part-type-end-end c = search needs
 
-mul-skip-2 : tie.Need-mul-skip-2 Inv-loop μ-loop
-mul-skip-2 c = search needs
+mul-type-end-2 : tie.Need-mul-type-end-2 Inv-loop μ-loop
+mul-type-end-2 c = search needs
 
-sub-skip-2 : tie.Need-sub-skip-2 Inv-loop μ-loop
-sub-skip-2 c =
+sub-type-end-2 : tie.Need-sub-type-end-2 Inv-loop μ-loop
+sub-type-end-2 c =
     let at-loop = c .before .before .before .before in
     let entry = at-loop .before .before .before in
     let h = fields.place-words (entry .args .names) (entry .args .kinds .now) (entry .args .words .now) _ (at-loop .loop .inv .place) in
     search needs
 
-part-skip-start-2 : tie.Need-part-skip-start-2 Inv-loop μ-loop
-part-skip-start-2 c =
+part-type-end-start-2 : tie.Need-part-type-end-start-2 Inv-loop μ-loop
+part-type-end-start-2 c =
     let at-loop = c .before .before .before .before in
     let entry = at-loop .before .before .before in
     let h = fields.place-words (entry .args .names) (entry .args .kinds .now) (entry .args .words .now) _ (at-loop .loop .inv .place) in
     search needs
 
-part-skip-end-2 : tie.Need-part-skip-end-2 Inv-loop μ-loop
-part-skip-end-2 c = search needs
+part-type-end-end-2 : tie.Need-part-type-end-end-2 Inv-loop μ-loop
+part-type-end-end-2 c = search needs
 
-skip-requires : tie.Need-skip-requires Inv-loop μ-loop
-skip-requires c κs = search needs
+type-end-requires : tie.Need-type-end-requires Inv-loop μ-loop
+type-end-requires c κs =
+    let then1 = c .before .before .before in
+    let at-loop = then1 .before .before in
+    let entry = at-loop .before .before .before in
+    fields.place-starts (entry .args .names) (entry .args .kinds .now) (entry .args .words .now) _ (at-loop .loop .inv .place) (then1 .if1 .taken)
 
 add-behind : tie.Need-add-behind Inv-loop μ-loop
 add-behind c =
@@ -89,7 +93,7 @@ add-behind c =
     omega (
       arith,
       fields.next-few (entry .args .names) (entry .args .kinds .now) (entry .args .words .now) _ (at-loop .loop .inv .place)
-          (then1 .if1 .taken) _ (c .skip .ensures),
+          (then1 .if1 .taken) _ (c .type-end .ensures),
     )
 
 sub-fields-left : tie.Need-sub-fields-left Inv-loop μ-loop
@@ -100,36 +104,36 @@ fields-left-requires c κs = search needs
 
 pass-scalars-requires : tie.Need-pass-scalars-requires Inv-loop μ-loop
 pass-scalars-requires c κs =
-    let after-skip = c .before in
-    let else2 = after-skip .before .before .before in
+    let after-type-end = c .before in
+    let else2 = after-type-end .before .before .before in
     let then1 = else2 .before in
     let at-loop = then1 .before .before in
     let entry = at-loop .before .before .before in
     let next = laws.find-next (entry .args .names) (entry .args .kinds .now) (entry .args .words .now) (entry .args .index) (at-loop .loop .inv)
-    (then1 .if1 .taken) (else2 .if2 .left) _ (after-skip .skip .ensures) in
+    (then1 .if1 .taken) (else2 .if2 .left) _ (after-type-end .type-end .ensures) in
     laws.find-from (entry .args .names) (entry .args .kinds .now) (entry .args .words .now) (entry .args .index) next _ (c .fields-left .ensures)
 
 loop-less : tie.Need-loop-less Inv-loop μ-loop
 loop-less c =
-    let after-skip = c .before .before in
-    let else2 = after-skip .before .before .before in
+    let after-type-end = c .before .before in
+    let else2 = after-type-end .before .before .before in
     let then1 = else2 .before in
     let at-loop = then1 .before .before in
     let entry = at-loop .before .before .before in
     let h = fields.place-kinds (entry .args .names) (entry .args .kinds .now) (entry .args .words .now) _ (at-loop .loop .inv .place) in
     let g = fields.place-moves (entry .args .names) (entry .args .kinds .now) (entry .args .words .now) _ (at-loop .loop .inv .place)
-    (then1 .if1 .taken) _ (after-skip .skip .ensures) in
+    (then1 .if1 .taken) _ (after-type-end .type-end .ensures) in
     omega (arith, laws.left-on _ _ (c .before .fields-left .ensures) (c .pass-scalars .ensures))
 
 loop-again : tie.Need-loop-again Inv-loop μ-loop
 loop-again c =
-    let after-skip = c .before .before in
-    let else2 = after-skip .before .before .before in
+    let after-type-end = c .before .before in
+    let else2 = after-type-end .before .before .before in
     let then1 = else2 .before in
     let at-loop = then1 .before .before in
     let entry = at-loop .before .before .before in
     let next = laws.find-next (entry .args .names) (entry .args .kinds .now) (entry .args .words .now) (entry .args .index) (at-loop .loop .inv)
-    (then1 .if1 .taken) (else2 .if2 .left) _ (after-skip .skip .ensures) in
+    (then1 .if1 .taken) (else2 .if2 .left) _ (after-type-end .type-end .ensures) in
     laws.find-again (entry .args .names) (entry .args .kinds .now) (entry .args .words .now) (entry .args .index) next _ (c .before .fields-left .ensures) _
     (c .pass-scalars .ensures)
 
@@ -149,15 +153,15 @@ field-at-spec =
     mul-if1
     shared-slice-read-if1
     returns
-    mul-skip
-    sub-skip
-    part-skip-start
-    part-skip-end
-    mul-skip-2
-    sub-skip-2
-    part-skip-start-2
-    part-skip-end-2
-    skip-requires
+    mul-type-end
+    sub-type-end
+    part-type-end-start
+    part-type-end-end
+    mul-type-end-2
+    sub-type-end-2
+    part-type-end-start-2
+    part-type-end-end-2
+    type-end-requires
     add-behind
     sub-fields-left
     fields-left-requires

@@ -12,7 +12,7 @@ use Rattle.layout_field.proofs.field_offset.Reads as reads
 use Rattle.layout_field.proofs.field_offset.Lts as lts
 use Rattle.layout_field.proofs.field_start.Reads as field-start-reads
 use Rattle.layout_size.proofs.size_of.Reads as size-of-reads
-use Rattle.layout_memo.proofs.skip.Reads as skip-reads
+use Rattle.layout_memo.proofs.ends.type_end.Reads as type-end-reads
 use Rattle.layout_field.proofs.fields_left.Reads as fields-left-reads
 use Rattle.layout_memo.proofs.scalars.pass_scalars.Reads as pass-scalars-reads
 
@@ -174,8 +174,12 @@ add-offset c =
           (else2 .if2 .left) (after-size-of .size-of .ensures) _ _ (c .before .size .given .1),
     )
 
-skip-requires : tie.Need-skip-requires Inv-loop μ-loop
-skip-requires c κs = search needs
+type-end-requires : tie.Need-type-end-requires Inv-loop μ-loop
+type-end-requires c κs =
+    let then1 = c .before .before .before .before .before .before .before .before .before .before .before .before .before .before .before .before .before in
+    let at-loop = then1 .before .before in
+    let entry = at-loop .before .before .before .before .before .before in
+    fields.place-starts (entry .args .names) (entry .args .kinds .now) (entry .args .words .now) _ (at-loop .loop .inv .place) (then1 .if1 .taken)
 
 add-behind : tie.Need-add-behind Inv-loop μ-loop
 add-behind c =
@@ -185,7 +189,7 @@ add-behind c =
     omega (
       arith,
       fields.next-few (entry .args .names) (entry .args .kinds .now) (entry .args .words .now) _ (at-loop .loop .inv .place)
-          (then1 .if1 .taken) _ (c .skip .ensures),
+          (then1 .if1 .taken) _ (c .type-end .ensures),
     )
 
 sub-fields-left : tie.Need-sub-fields-left Inv-loop μ-loop
@@ -196,8 +200,8 @@ fields-left-requires c κs = search needs
 
 pass-scalars-requires : tie.Need-pass-scalars-requires Inv-loop μ-loop
 pass-scalars-requires c κs =
-    let after-skip = c .before in
-    let after-size = after-skip .before .before in
+    let after-type-end = c .before in
+    let after-size = after-type-end .before .before in
     let after-size-of = after-size .before .before .before .before in
     let else2 = after-size-of .before .before in
     let after-start = else2 .before .before in
@@ -208,15 +212,15 @@ pass-scalars-requires c κs =
     let next = laws.offset-next (entry .args .names) (entry .args .kinds .now) (entry .args .words .now)
     (entries (entry .args .book-kinds .now) (entry .args .book-words .now)) (entry .args .work .now) (entry .args .packed) (entry .args .index)
     (at-loop .loop .inv) (then1 .if1 .taken) (after-field-start .field-start .ensures) _ (after-start .start .given .1) (else2 .if2 .left)
-    (after-size-of .size-of .ensures) _ _ (after-size .size .given .1) _ (after-skip .skip .ensures) in
+    (after-size-of .size-of .ensures) _ _ (after-size .size .given .1) _ (after-type-end .type-end .ensures) in
     laws.offset-from (entry .args .names) (entry .args .kinds .now) (entry .args .words .now)
     (entries (entry .args .book-kinds .now) (entry .args .book-words .now)) (entry .args .work .now) (entry .args .packed) (entry .args .index)
     next _ (c .fields-left .ensures)
 
 loop-less : tie.Need-loop-less Inv-loop μ-loop
 loop-less c =
-    let after-skip = c .before .before in
-    let after-size = after-skip .before .before in
+    let after-type-end = c .before .before in
+    let after-size = after-type-end .before .before in
     let after-size-of = after-size .before .before .before .before in
     let else2 = after-size-of .before .before in
     let after-start = else2 .before .before in
@@ -226,13 +230,13 @@ loop-less c =
     let entry = at-loop .before .before .before .before .before .before in
     let h = fields.place-kinds (entry .args .names) (entry .args .kinds .now) (entry .args .words .now) _ (at-loop .loop .inv .place) in
     let g = fields.place-moves (entry .args .names) (entry .args .kinds .now) (entry .args .words .now) _ (at-loop .loop .inv .place)
-    (then1 .if1 .taken) _ (after-skip .skip .ensures) in
+    (then1 .if1 .taken) _ (after-type-end .type-end .ensures) in
     omega (arith, laws.left-on _ _ (c .before .fields-left .ensures) (c .pass-scalars .ensures))
 
 loop-again : tie.Need-loop-again Inv-loop μ-loop
 loop-again c =
-    let after-skip = c .before .before in
-    let after-size = after-skip .before .before in
+    let after-type-end = c .before .before in
+    let after-size = after-type-end .before .before in
     let after-size-of = after-size .before .before .before .before in
     let else2 = after-size-of .before .before in
     let after-start = else2 .before .before in
@@ -243,7 +247,7 @@ loop-again c =
     let next = laws.offset-next (entry .args .names) (entry .args .kinds .now) (entry .args .words .now)
     (entries (entry .args .book-kinds .now) (entry .args .book-words .now)) (entry .args .work .now) (entry .args .packed) (entry .args .index)
     (at-loop .loop .inv) (then1 .if1 .taken) (after-field-start .field-start .ensures) _ (after-start .start .given .1) (else2 .if2 .left)
-    (after-size-of .size-of .ensures) _ _ (after-size .size .given .1) _ (after-skip .skip .ensures) in
+    (after-size-of .size-of .ensures) _ _ (after-size .size .given .1) _ (after-type-end .type-end .ensures) in
     laws.offset-again (entry .args .names) (entry .args .kinds .now) (entry .args .words .now)
     (entries (entry .args .book-kinds .now) (entry .args .book-words .now)) (entry .args .work .now) (entry .args .packed) (entry .args .index)
     next _ (c .before .fields-left .ensures) _ (c .pass-scalars .ensures)
@@ -288,7 +292,7 @@ field-offset-spec =
     returns-3
     enum-known-size
     add-offset
-    skip-requires
+    type-end-requires
     add-behind
     sub-fields-left
     fields-left-requires

@@ -31,7 +31,7 @@ use Rattle.layout_size.proofs.closed.Reads as closed-reads
 use Rattle.layout_memo.proofs.scalars.pass_scalars.Reads as pass-scalars-reads
 use Rattle.layout_memo.proofs.scalars.reach.Reads as reach-reads
 use Rattle.layout_memo.proofs.scalars.run_from.Reads as run-from-reads
-use Rattle.layout_memo.proofs.skip.Reads as skip-reads
+use Rattle.layout_memo.proofs.ends.type_end.Reads as type-end-reads
 use Rattle.book_types.proofs.types.type_group.Reads as type-group-reads
 use Rattle.layout_size.proofs.+named_size+size_of+struct_size.{statement}
 use Rattle.layout_size.proofs.+named_size+size_of+struct_size.Tie.{close}
@@ -109,8 +109,8 @@ struct-size-claims t = (
   size-of.Post,
   add-field-reads.Asked,
   add-field-reads.Learnt,
-  skip-reads.Asked,
-  skip-reads.Learnt,
+  type-end-reads.Asked,
+  type-end-reads.Learnt,
   closed-reads.Asked,
   closed-reads.Learnt,
 )
@@ -585,8 +585,12 @@ struct-size-add-field-requires t c κs =
     (at-loop .loop .inv .0) (at-loop .loop .inv .1) (then1 .if1 .taken) (after-align-of .align-of .ensures) _ _ (after-a .a .given .1)
     (after-size-of .size-of .ensures) _ _ (c .before .s .given .1)
 
-struct-size-skip-requires : (t : ℕ) → struct-size-lts.Need-skip-requires (struct-size-claims t) (struct-size-at t) struct-size.Post struct-size-Inv-loop struct-size-μ-loop
-struct-size-skip-requires t c κs = search needs
+struct-size-type-end-requires : (t : ℕ) → struct-size-lts.Need-type-end-requires (struct-size-claims t) (struct-size-at t) struct-size.Post struct-size-Inv-loop struct-size-μ-loop
+struct-size-type-end-requires t c κs =
+    let then1 = c .before .before .before .before .before .before .before .before .before .before .before .before .before .before .before .before .before in
+    let at-loop = then1 .before .before in
+    let entry = at-loop .before .before .before .before .before .before .before .before .before in
+    fields.place-starts (entry .args .names) (entry .args .kinds .now) (entry .args .words .now) _ (at-loop .loop .inv .1 .0 .place) (then1 .if1 .taken)
 
 struct-size-add-behind : (t : ℕ) → struct-size-lts.Need-add-behind (struct-size-claims t) (struct-size-at t) struct-size.Post struct-size-Inv-loop struct-size-μ-loop
 struct-size-add-behind t c =
@@ -596,7 +600,7 @@ struct-size-add-behind t c =
     omega (
       arith,
       fields.next-few (entry .args .names) (entry .args .kinds .now) (entry .args .words .now) _ (at-loop .loop .inv .1 .0 .place)
-          (then1 .if1 .taken) _ (c .skip .ensures),
+          (then1 .if1 .taken) _ (c .type-end .ensures),
     )
 
 struct-size-run-from-requires-2 : (t : ℕ) → struct-size-lts.Need-run-from-requires-2 (struct-size-claims t) (struct-size-at t) struct-size.Post struct-size-Inv-loop struct-size-μ-loop
@@ -604,8 +608,8 @@ struct-size-run-from-requires-2 t c κs = search needs
 
 struct-size-pass-scalars-requires-2 : (t : ℕ) → struct-size-lts.Need-pass-scalars-requires-2 (struct-size-claims t) (struct-size-at t) struct-size.Post struct-size-Inv-loop struct-size-μ-loop
 struct-size-pass-scalars-requires-2 t c κs =
-    let after-skip = c .before in
-    let after-s = after-skip .before .before .before in
+    let after-type-end = c .before in
+    let after-s = after-type-end .before .before .before in
     let after-size-of = after-s .before .before .before .before in
     let after-a = after-size-of .before .before .before in
     let after-align-of = after-a .before .before .before .before in
@@ -615,26 +619,26 @@ struct-size-pass-scalars-requires-2 t c κs =
     let next = lc.size-next (entry .args .names) (entry .args .kinds .now) (entry .args .words .now)
     (entries (entry .args .book-kinds .now) (entry .args .book-words .now)) (entry .args .work .now) (entry .args .level) (entry .args .packed)
     (at-loop .loop .inv .0) (at-loop .loop .inv .1) (then1 .if1 .taken) (after-align-of .align-of .ensures) _ _ (after-a .a .given .1)
-    (after-size-of .size-of .ensures) _ _ (after-s .s .given .1) _ (after-skip .skip .ensures) _ (after-skip .before .add-field .ensures) in
+    (after-size-of .size-of .ensures) _ _ (after-s .s .given .1) _ (after-type-end .type-end .ensures) _ (after-type-end .before .add-field .ensures) in
     lc.size-from (entry .args .names) (entry .args .kinds .now) (entry .args .words .now)
     (entries (entry .args .book-kinds .now) (entry .args .book-words .now)) (entry .args .work .now) (entry .args .level) (entry .args .packed)
     (at-loop .loop .inv .0) next _ (c .run-from2 .ensures)
 
 struct-size-loop-less : (t : ℕ) → struct-size-lts.Need-loop-less (struct-size-claims t) (struct-size-at t) struct-size.Post struct-size-Inv-loop struct-size-μ-loop
 struct-size-loop-less t c =
-    let after-skip = c .before .before in
-    let then1 = after-skip .before .before .before .before .before .before .before .before .before .before .before .before .before .before .before .before .before .before in
+    let after-type-end = c .before .before in
+    let then1 = after-type-end .before .before .before .before .before .before .before .before .before .before .before .before .before .before .before .before .before .before in
     let at-loop = then1 .before .before in
     let entry = at-loop .before .before .before .before .before .before .before .before .before in
     let h = fields.place-kinds (entry .args .names) (entry .args .kinds .now) (entry .args .words .now) _ (at-loop .loop .inv .1 .0 .place) in
     let g = fields.place-moves (entry .args .names) (entry .args .kinds .now) (entry .args .words .now) _ (at-loop .loop .inv .1 .0 .place)
-    (then1 .if1 .taken) _ (after-skip .skip .ensures) in
+    (then1 .if1 .taken) _ (after-type-end .type-end .ensures) in
     omega (arith, passes-from _ _ (c .before .run-from2 .ensures) (c .pass-scalars2 .ensures))
 
 struct-size-loop-again : (t : ℕ) → struct-size-lts.Need-loop-again (struct-size-claims t) (struct-size-at t) struct-size.Post struct-size-Inv-loop struct-size-μ-loop
 struct-size-loop-again t c =
-    let after-skip = c .before .before in
-    let after-s = after-skip .before .before .before in
+    let after-type-end = c .before .before in
+    let after-s = after-type-end .before .before .before in
     let after-size-of = after-s .before .before .before .before in
     let after-a = after-size-of .before .before .before in
     let after-align-of = after-a .before .before .before .before in
@@ -644,7 +648,7 @@ struct-size-loop-again t c =
     let next = lc.size-next (entry .args .names) (entry .args .kinds .now) (entry .args .words .now)
     (entries (entry .args .book-kinds .now) (entry .args .book-words .now)) (entry .args .work .now) (entry .args .level) (entry .args .packed)
     (at-loop .loop .inv .0) (at-loop .loop .inv .1) (then1 .if1 .taken) (after-align-of .align-of .ensures) _ _ (after-a .a .given .1)
-    (after-size-of .size-of .ensures) _ _ (after-s .s .given .1) _ (after-skip .skip .ensures) _ (after-skip .before .add-field .ensures) in (
+    (after-size-of .size-of .ensures) _ _ (after-s .s .given .1) _ (after-type-end .type-end .ensures) _ (after-type-end .before .add-field .ensures) in (
       at-loop .loop .inv .0,
       lc.size-again (entry .args .names) (entry .args .kinds .now) (entry .args .words .now)
           (entries (entry .args .book-kinds .now) (entry .args .book-words .now)) (entry .args .work .now) (entry .args .level)
@@ -779,7 +783,7 @@ pub +named-size+size-of+struct-size-spec : {M : Type 1} → statement M
     (struct-size-returns-2 t)
     (struct-size-enum-known-s t)
     (struct-size-add-field-requires t)
-    (struct-size-skip-requires t)
+    (struct-size-type-end-requires t)
     (struct-size-add-behind t)
     (struct-size-run-from-requires-2 t)
     (struct-size-pass-scalars-requires-2 t)

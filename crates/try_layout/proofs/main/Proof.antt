@@ -4,6 +4,8 @@ use native.Mathlib.Omega.{arith}
 use lib.ListN.{getD-replicate}
 use Rattle.try_layout.specs.Book.{kinds, words}
 use Rattle.try_layout.specs.Decodes.{this-book}
+use Rattle.try_layout.specs.Laws.{all-zero}
+use Rattle.layout_memo.specs.Work.{tableAt}
 use borrow.Author.Needs.{needs}
 use Rattle.try_layout.proofs.main.Statement.{statement}
 use Rattle.try_layout.proofs.main.Tie as tie
@@ -29,6 +31,7 @@ place-structs-requires c κs =
       room = omega arith;
       bodies = λ x l. getD-replicate 576 (8 * x + 4) 0 0 (omega arith);
       known = λ x l. getD-replicate 576 (8 * x + 7) 0 0 (omega arith);
+      table = λ k. all-zero 576 (tableAt _ k);
     }
 
 slice-aggregate-measure-all : tie.Need-slice-aggregate-measure-all
