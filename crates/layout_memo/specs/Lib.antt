@@ -8,4 +8,5 @@ pub mod Fields
 pub mod FieldCalls
 pub mod Scalars
 pub mod Ends
+pub mod Table
 pub mod Structs
