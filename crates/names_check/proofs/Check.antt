@@ -96,13 +96,15 @@ module _ (names : List ℕ) (at end : ℕ) (q : end ≡ at + length (front (drop
   split-named l e = rw (← q, e) at (reach-split barred names at (rw q at l))
 
   -- it is the line that stands there
-  pub line-named : end < length names → getD names end 0 ≡ 10 → lines (drop at names) ≡ nameFrom names at ∷ lines (drop (end + 1) names)
+  name-front : end < length names → getD names end 0 ≡ 10 → nameFrom names at ≡ front (drop at names)
   unfolding nameFrom
-  line-named l e =
-      let f = front (drop at names) in
-      let r = drop (end + 1) names in
-      let b = front-bytes (drop at names) in
-      rw (ap line (split-named l e) ∙ line-of f r b) (ap lines (split-named l e) ∙ lines-of f r b)
+  name-front l e = ap line (split-named l e) ∙ line-of (front (drop at names)) (drop (end + 1) names) (front-bytes (drop at names))
+
+  pub end-named : end < length names → getD names end 0 ≡ 10 → end ≡ at + length (nameFrom names at)
+  end-named l e = rw (name-front l e) q
+
+  pub line-named : end < length names → getD names end 0 ≡ 10 → lines (drop at names) ≡ nameFrom names at ∷ lines (drop (end + 1) names)
+  line-named l e = rw (name-front l e) (ap lines (split-named l e) ∙ lines-of (front (drop at names)) (drop (end + 1) names) (front-bytes (drop at names)))
 
   module _ (last : List ℕ) (n m : ℕ) where
     pub going-open : at < length names → length names ≤ end → going last (drop at names) n m ≡ false

@@ -1,3 +1,5 @@
--- What the loop over the names rests on: what is left of the check behind those that were passed, and the range that was found among them.
+-- What the loop over the names rests on: what is left of the check behind those that were passed, the range that was found among them,
+-- and where they end.
 pub mod Check
 pub mod Tally
+pub mod Ends

@@ -1,12 +1,15 @@
-// The names that come with a book: whether they are a list of names as document 01 wants them, and which of them start with a prefix.
+// The names that come with a book: whether they are a list of names as document 01 wants them, which of them start with a prefix, and
+// where each of them ends.
 use names_spelling::END;
 use names_spelling::name_starts;
 ghost use mathlib.Core.Path.{_≡_};
-ghost use Prim.Native.Nat.{_+_};
-ghost use lib.ListN.{length, drop};
+ghost use mathlib.Core.Bool.{true};
+ghost use Prim.Native.Nat.{_+_, _*_};
+ghost use lib.ListN.{length, drop, set};
 ghost use Rattle.names.specs.Name.{nameByte, before, accepted, lines, front};
 ghost use Rattle.names.specs.Prefix.{firstWith, pastWith};
 ghost use Rattle.names_check.specs.Read.{namesRead};
+ghost use Rattle.names_check.specs.Ends.{Noted};
 
 // Whether a byte may stand in a name.
 fn name_byte(b: u8) -> bool
@@ -54,11 +57,21 @@ pub enum Names {
     Bad,
 }
 
+// Notes where the name numbered `x` ends: word 5 of its eight, where the slice has that word.
+fn note_end(ends: &mut [u64], x: u64, end: usize)
+    ensures { λ _. ⌜ now (ends .exit) ≡ set (now (ends .entry)) (8 * x + 5) end ⌝ }
+{
+    if x < ((ends.len() + 2) / 8) as u64 {
+        ends[8 * (x as usize) + 5] = end as u64;
+    }
+}
+
 // Whether the bytes are a list of names, and `count` of them, with the range of those that start with the prefix: one pass, in which each
-// name is compared with the one before it. An empty name fails that comparison, since nothing comes before it. The range ends at the first
-// name behind it, from which on `to` is less than `seen`.
-pub fn read_names(names: &[u8], count: u64, prefix: &[u8]) -> Names
+// name is compared with the one before it, and its end is noted. An empty name fails that comparison, since nothing comes before it. The
+// range ends at the first name behind it, from which on `to` is less than `seen`.
+pub fn read_names(names: &[u8], count: u64, prefix: &[u8], ends: &mut [u64]) -> Names
     ensures { λ r. ⌜ r ≡ namesRead (accepted (now (names .entry)) count) (firstWith (now (prefix .entry)) (lines (now (names .entry)))) (pastWith (now (prefix .entry)) (lines (now (names .entry)))) ⌝ }
+    ensures { λ _. ⌜ (accepted (now (names .entry)) count ≡ true → Noted (now (names .entry)) count (now (ends .entry)) (now (ends .exit))) ⌝ }
 {
     let mut seen: u64 = 0;
     let mut from: u64 = 0;
@@ -85,6 +98,7 @@ pub fn read_names(names: &[u8], count: u64, prefix: &[u8]) -> Names
                 to += 1;
             }
         }
+        note_end(ends, seen, end);
         seen += 1;
         last = at;
         last_end = end;

@@ -1,43 +1,59 @@
--- `read_names` meets its contract: what is left of the check behind the names that were passed decides, and the two numbers tally these.
+-- `read_names` meets its contract: what is left of the check behind the names that were passed decides, the two numbers tally these, and
+-- their ends are noted.
 use Prim.Native.Nat.{_-_, _≤_}
 use mathlib.Core.Path.{_≡_, sym, _∙_}
+use mathlib.Core.Bool.{Bool, true, false, false≢true}
 use mathlib.Core.Logic.{⊎-elim}
 use borrow.Author.Tests.{not-true, not-false, eq-eqb, ne-eqb}
 use lib.ListN.{length, take, drop}
 use borrow.Author.Needs.{needs}
 use Rattle.names.specs.Name.{accepted, lines}
-use Rattle.names_check.proofs.Check.{going, going-start, going-over, going-open, going-barred, going-unordered, going-ordered, line-named}
+use Rattle.names_check.proofs.Check.{going, going-start, going-over, going-open, going-barred, going-unordered, going-ordered, end-named, line-named}
 use Rattle.names_check.proofs.Tally.{Passed, lines-past, passed-start, passed-end, passed-hit, passed-skip, passed-stop, passed-behind}
+use Rattle.names_check.proofs.Ends.{Noting, noting-start, noting-next}
 use Rattle.names_check.proofs.read_names.Statement.{statement}
 use Rattle.names_check.proofs.read_names.Tie as tie
 
 abbrev Inv-loop : tie.InvT-loop
-Inv-loop names count prefix seen₀ from₀ to₀ last₀ last-end₀ at₀ seen from to last last-end at =
+Inv-loop names count prefix ends₀ seen₀ from₀ to₀ last₀ last-end₀ at₀ ends seen from to last last-end at =
     (last ≤ last-end) × (last-end ≤ length names) × (seen ≤ at) × (at ≤ length names)
     × (accepted names count ≡ going (take (last-end - last) (drop last names)) (drop at names) seen count)
     × Passed prefix (lines names) seen from to (lines (drop at names))
+    × Noting names ends₀ ends seen at
 
 abbrev μ-loop : tie.MeasureT-loop
-μ-loop names count prefix seen₀ from₀ to₀ last₀ last-end₀ at₀ seen from to last last-end at = length names - at
+μ-loop names count prefix ends₀ seen₀ from₀ to₀ last₀ last-end₀ at₀ ends seen from to last last-end at = length names - at
 
 loop-holds : tie.Need-loop-holds Inv-loop μ-loop
-loop-holds c = (search needs, search needs, search needs, search needs, going-start _ _, passed-start _ _)
+loop-holds c = (search needs, search needs, search needs, search needs, going-start _ _, passed-start _ _, noting-start _ _)
+
+-- nothing is said of the ends where the names are not accepted
+refused : {A : Type 0} {t : Bool} → t ≡ false → t ≡ true → A
+refused e a = absurd (false≢true (sym e ∙ a))
 
 front-end-requires : tie.Need-front-end-requires Inv-loop μ-loop
 front-end-requires c κs = search needs
 
+same-length : tie.Need-same-length Inv-loop μ-loop
+same-length c = c .before .before .before .loop .inv .6 .noted .long
+
 returns : tie.Need-returns Inv-loop μ-loop
 returns c =
     let t = c .before .before in
-    rw (t .before .loop .inv .4 ∙ going-open _ _ _ (c .before .front-end .ensures) _ _ _ (t .loop-test .taken) (c .if1 .taken))
+    let e = t .before .loop .inv .4 ∙ going-open _ _ _ (c .before .front-end .ensures) _ _ _ (t .loop-test .taken) (c .if1 .taken) in
+    (rw e, refused e)
 
 shared-slice-read-if2 : tie.Need-shared-slice-read-if2 Inv-loop μ-loop
 shared-slice-read-if2 c = search needs
 
+same-length-2 : tie.Need-same-length-2 Inv-loop μ-loop
+same-length-2 c = c .before .before .before .before .before .loop .inv .6 .noted .long
+
 returns-2 : tie.Need-returns-2 Inv-loop μ-loop
 returns-2 c =
     let t = c .before .before in
-    rw (t .before .before .before .loop .inv .4 ∙ going-barred _ _ _ (t .before .front-end .ensures) _ _ _ (t .if1 .left) (c .if2 .taken))
+    let e = t .before .before .before .loop .inv .4 ∙ going-barred _ _ _ (t .before .front-end .ensures) _ _ _ (t .if1 .left) (c .if2 .taken) in
+    (rw e, refused e)
 
 sub-name-before : tie.Need-sub-name-before Inv-loop μ-loop
 sub-name-before c = search needs
@@ -60,14 +76,18 @@ part-name-before-end-2 c = search needs
 name-before-requires : tie.Need-name-before-requires Inv-loop μ-loop
 name-before-requires c κs = search needs
 
+same-length-3 : tie.Need-same-length-3 Inv-loop μ-loop
+same-length-3 c = c .before .before .before .before .before .before .before .before .before .loop .inv .6 .noted .long
+
 returns-3 : tie.Need-returns-3 Inv-loop μ-loop
 returns-3 c =
     let e = c .before .before .before .before in
     let t = e .before .before in
-    rw
-    (t .before .before .before .loop .inv .4
+    let f =
+    t .before .before .before .loop .inv .4
     ∙ going-unordered _ _ _ (t .before .front-end .ensures) _ _ _ (t .if1 .left) (e .if2 .left)
-    (sym (c .before .name-before .ensures) ∙ not-true _ (c .if3 .taken)))
+    (sym (c .before .name-before .ensures) ∙ not-true _ (c .if3 .taken)) in
+    (rw f, refused f)
 
 name-starts-requires : tie.Need-name-starts-requires Inv-loop μ-loop
 name-starts-requires c κs = search needs
@@ -81,6 +101,9 @@ add-from c = search needs
 add-to-2 : tie.Need-add-to-2 Inv-loop μ-loop
 add-to-2 c = search needs
 
+note-end-requires : tie.Need-note-end-requires Inv-loop μ-loop
+note-end-requires c κs = search needs
+
 add-seen : tie.Need-add-seen Inv-loop μ-loop
 add-seen c = search needs
 
@@ -92,7 +115,9 @@ loop-less c = search needs
 
 loop-again : tie.Need-loop-again Inv-loop μ-loop
 loop-again c =
-    let b = c .before .before in
+    let after-note-end = c .before .before in
+    let j = after-note-end .before .before in
+    let b = j .before .before in
     let e = b .before .before .before in
     let t = e .before .before in
     let i = t .before .before .before .loop .inv in
@@ -103,25 +128,34 @@ loop-again c =
       search needs,
       i .4
           ∙ going-ordered _ _ _ (t .before .front-end .ensures) _ _ _ (t .if1 .left) (e .if2 .left)
-          (sym (b .name-before .ensures) ∙ not-false _ (c .before .if3 .left)),
+          (sym (b .name-before .ensures) ∙ not-false _ (j .before .if3 .left)),
       ⊎-elim (λ w. rw (w .3, w .4) (passed-hit _ _ _ _ _ _ _ _ here (w .0 .taken) (sym (w .1 .ensures) ∙ w .2 .taken) (i .5)))
           (⊎-elim
           (λ w. rw (w .4, w .5) (passed-skip _ _ _ _ _ _ _ _ here (w .0 .taken) (sym (w .1 .ensures) ∙ w .2 .left) (w .3 .taken) (i .5)))
           (⊎-elim
           (λ w. rw (w .4, w .5) (passed-stop _ _ _ _ _ _ _ _ here (w .0 .taken) (sym (w .1 .ensures) ∙ w .2 .left) (w .3 .left) (i .5)))
           (λ w. rw (w .1, w .2) (passed-behind _ _ _ _ _ _ _ _ here (w .0 .left) (i .5)))))
-          (c .if4 .came),
+          (j .if4 .came),
+      rw (after-note-end .note-end .ensures) (noting-next (i .6) here (end-named _ _ _ (t .before .front-end .ensures) (t .if1 .left) (e .if2 .left))),
     )
+
+same-length-4 : tie.Need-same-length-4 Inv-loop μ-loop
+same-length-4 c = c .before .before .loop .inv .6 .noted .long
 
 returns-4 : tie.Need-returns-4 Inv-loop μ-loop
 returns-4 c =
     let t = c .before .before in
     let l = c .before .loop-test .left in
     let r = passed-end _ _ _ _ _ _ (lines-past _ _ l) (t .loop .inv .5) in
-    rw (t .loop .inv .4 ∙ going-over _ _ _ _ _ l ∙ eq-eqb _ _ (c .if7 .taken), ← r .first, ← r .past)
+    (rw (t .loop .inv .4 ∙ going-over _ _ _ _ _ l ∙ eq-eqb _ _ (c .if7 .taken), ← r .first, ← r .past), λ a. rw (c .if7 .taken) at (t .loop .inv .6 .noted))
+
+same-length-5 : tie.Need-same-length-5 Inv-loop μ-loop
+same-length-5 c = c .before .before .loop .inv .6 .noted .long
 
 returns-5 : tie.Need-returns-5 Inv-loop μ-loop
-returns-5 c = rw (c .before .before .loop .inv .4 ∙ going-over _ _ _ _ _ (c .before .loop-test .left) ∙ ne-eqb _ _ (c .if7 .left))
+returns-5 c =
+    let e = c .before .before .loop .inv .4 ∙ going-over _ _ _ _ _ (c .before .loop-test .left) ∙ ne-eqb _ _ (c .if7 .left) in
+    (rw e, refused e)
 
 pub read-names-spec : {M : Type 1} → statement M
 read-names-spec =
@@ -131,8 +165,10 @@ read-names-spec =
     μ-loop
     loop-holds
     front-end-requires
+    same-length
     returns
     shared-slice-read-if2
+    same-length-2
     returns-2
     sub-name-before
     part-name-before-start
@@ -141,14 +177,18 @@ read-names-spec =
     part-name-before-start-2
     part-name-before-end-2
     name-before-requires
+    same-length-3
     returns-3
     name-starts-requires
     add-to
     add-from
     add-to-2
+    note-end-requires
     add-seen
     add-at
     loop-less
     loop-again
+    same-length-4
     returns-4
+    same-length-5
     returns-5)
