@@ -16,6 +16,7 @@ use Rattle.names.specs.Prefix.{firstWith, pastWith}
 use Rattle.names.specs.Lines.{accepted-iff, names-lines}
 use Rattle.names.specs.Ranges.{range-test, range-order}
 use Rattle.names_check.specs.Read.{namesRead, sorted-read, bad-read}
+use Rattle.names_check.specs.Ends.{Noted}
 use Rattle.names_check.specs.declared.Names.{Names}
 use Rattle.names_check.specs.declared.Names.the-variants as names
 use Rattle.book.specs.Ast.{Book}
@@ -183,6 +184,15 @@ no-count [] h = refl
 no-count (n ∷ []) h = refl
 no-count (n ∷ (m ∷ es)) h = absurd (omega arith)
 
+-- bytes that are no list of names are not sound
+never-sound : (rd : Reading) (counter m work : ℕ) → verdictOf rd false counter m work ≡ verdict.Sound → ⊥
+never-sound reading.Bad counter m work e = let z : _≡_ {A = ℕ} 0 1 = cc in omega arith
+never-sound (reading.Book x) counter m work e = go (leb counter (2 ^ 32)) e
+  where
+    go : (t : Bool) → pickVerdict t verdict.BadNames verdict.BadBook ≡ verdict.Sound → ⊥
+    go true f = let z : _≡_ {A = ℕ} 0 1 = cc in omega arith
+    go false f = let z : _≡_ {A = ℕ} 0 1 = cc in omega arith
+
 -- the whole, over what the code has at hand
 module _ (s bs : List ℕ) (counter work count : ℕ) (ec : count ≡ getD s 1 0) (nm : Names)
     (en : nm ≡ namesRead (accepted bs count) (firstWith intrinsic (lines bs)) (pastWith intrinsic (lines bs))) where
@@ -203,3 +213,10 @@ module _ (s bs : List ℕ) (counter work count : ℕ) (ec : count ≡ getD s 1 0
   check-bad h rd er v ev =
       ap numberOf (at-count rd false v ev ∙ ap (λ x. verdictOf x false counter (getD s 1 0) work) er)
       ∙ by-book s bs counter work false 0 0 (λ c e f. not-listed s bs counter work c e f (bad-read (accepted bs (getD s 1 0)) (firstWith intrinsic (lines bs)) (pastWith intrinsic (lines bs)) (sym named ∙ h)))
+
+  -- the ends of a list of names
+  pub noted-sorted : (from to : ℕ) → nm ≡ names.Sorted from to → {ends ends′ : List ℕ} → (accepted bs count ≡ true → Noted bs count ends ends′) → Noted bs (getD s 1 0) ends ends′
+  noted-sorted from to h noted = rw ec at (noted (sorted-read (accepted bs count) (firstWith intrinsic (lines bs)) (pastWith intrinsic (lines bs)) from to (sym en ∙ h) .0))
+
+  pub unnamed : (rd : Reading) → rd ≡ readingIn (barredRange 0 0) (bookIn s) → (v : Verdict) → v ≡ verdictOf rd false counter count work → v ≡ verdict.Sound → ⊥
+  unnamed rd er v ev sound = never-sound rd counter count work (sym ev ∙ sound)
