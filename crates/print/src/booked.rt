@@ -70,7 +70,8 @@ pub fn print_booked(
     ensures { λ r. ⌜ printing r (now (text .exit)) ≡ print (now (book .entry)) (now (names .entry)) (now («line_kinds» .entry)) (now (operands .entry)) (now (text .entry)) ⌝ }
 {
     let count = book[1];
-    let Names::Sorted(from, to) = names_check::read_names(names, count, b"__uvm_") else {
+    let mut ends = [0u64; 0];
+    let Names::Sorted(from, to) = names_check::read_names(names, count, b"__uvm_", &mut ends) else {
         return Printed::Refused(2);
     };
     let middle = book[0] as usize + 2;

@@ -17,6 +17,9 @@ shared-slice-read-count c =
 slice-aggregate-read-names : tie.Need-slice-aggregate-read-names
 slice-aggregate-read-names c = search needs
 
+slice-aggregate-read-names-2 : tie.Need-slice-aggregate-read-names-2
+slice-aggregate-read-names-2 c = search needs
+
 read-names-requires : tie.Need-read-names-requires
 read-names-requires c κs = search needs
 
@@ -29,18 +32,18 @@ enum-told c = search needs
 returns : tie.Need-returns
 unfolding bytes
 returns c =
-    let after-read-names = c .before .before in
-    let entry = after-read-names .before .before .before .before .before .before .before .before in
-    booked-names (entry .args .book .now) (entry .pre) _ _ _ _ _ (after-read-names .read-names .ensures) (c .enum-told .given .1)
+    let after-read-names = c .before .before .before in
+    let entry = after-read-names .before .before .before .before .before .before .before .before .before in
+    booked-names (entry .args .book .now) (entry .pre) _ _ _ _ _ (after-read-names .read-names .ensures .0) (c .enum-told .given .1)
 
 shared-slice-read-middle : tie.Need-shared-slice-read-middle
 shared-slice-read-middle c =
-    let entry = c .before .before .before .before .before .before .before .before .before .before .before .before in
+    let entry = c .before .before .before .before .before .before .before .before .before .before .before .before .before .before in
     omega (arith, book-long (entry .args .book .now) (entry .pre))
 
 add-middle : tie.Need-add-middle
 add-middle c =
-    let entry = c .before .before .before .before .before .before .before .before .before .before .before .before in
+    let entry = c .before .before .before .before .before .before .before .before .before .before .before .before .before .before in
     omega (arith, middle-inside (entry .args .book .now) (entry .pre), entry .good)
 
 sub-print-entries : tie.Need-sub-print-entries
@@ -51,22 +54,22 @@ part-print-entries-start c = search needs
 
 part-print-entries-end : tie.Need-part-print-entries-end
 part-print-entries-end c =
-    let entry = c .before .before .before .before .before .before .before .before .before .before .before .before in
+    let entry = c .before .before .before .before .before .before .before .before .before .before .before .before .before .before in
     middle-inside (entry .args .book .now) (entry .pre)
 
 mul-print-entries : tie.Need-mul-print-entries
 mul-print-entries c =
-    let entry = c .before .before .before .before .before .before .before .before .before .before .before .before .before in
+    let entry = c .before .before .before .before .before .before .before .before .before .before .before .before .before .before .before in
     omega (arith, middle-inside (entry .args .book .now) (entry .pre), entry .good)
 
 sub-print-entries-2 : tie.Need-sub-print-entries-2
 sub-print-entries-2 c =
-    let entry = c .before .before .before .before .before .before .before .before .before .before .before .before .before in
+    let entry = c .before .before .before .before .before .before .before .before .before .before .before .before .before .before .before in
     middle-inside (entry .args .book .now) (entry .pre)
 
 part-print-entries-start-2 : tie.Need-part-print-entries-start-2
 part-print-entries-start-2 c =
-    let entry = c .before .before .before .before .before .before .before .before .before .before .before .before .before in
+    let entry = c .before .before .before .before .before .before .before .before .before .before .before .before .before .before .before in
     middle-inside (entry .args .book .now) (entry .pre)
 
 part-print-entries-end-2 : tie.Need-part-print-entries-end-2
@@ -76,10 +79,10 @@ print-entries-requires : tie.Need-print-entries-requires
 unfolding bytes
 print-entries-requires c κs =
     let after-from = c .before .before .before .before .before in
-    let after-read-names = after-from .before .before in
-    let entry = after-read-names .before .before .before .before .before .before .before .before in (
+    let after-read-names = after-from .before .before .before in
+    let entry = after-read-names .before .before .before .before .before .before .before .before .before in (
       book-decoded (entry .args .book .now) (entry .pre),
-      booked-named (entry .args .book .now) (entry .pre) (entry .args .names .now) [] [] [] _ (after-read-names .read-names .ensures) _ _
+      booked-named (entry .args .book .now) (entry .pre) (entry .args .names .now) [] [] [] _ (after-read-names .read-names .ensures .0) _ _
           (after-from .from .given .1),
     )
 
@@ -91,9 +94,9 @@ unfolding bytes
 returns-2 c =
     let after-print-entries = c .before .before in
     let after-from = after-print-entries .before .before .before .before .before .before in
-    let after-read-names = after-from .before .before in
-    let entry = after-read-names .before .before .before .before .before .before .before .before in
-    booked-printed (entry .args .book .now) (entry .pre) _ _ _ _ _ (after-read-names .read-names .ensures) _ _ (after-from .from .given .1) _
+    let after-read-names = after-from .before .before .before in
+    let entry = after-read-names .before .before .before .before .before .before .before .before .before in
+    booked-printed (entry .args .book .now) (entry .pre) _ _ _ _ _ (after-read-names .read-names .ensures .0) _ _ (after-from .from .given .1) _
     (after-print-entries .print-entries .ensures)
 
 pub print-booked-spec : {M : Type 1} → statement M
@@ -102,6 +105,7 @@ print-booked-spec =
     (tie.spec
     shared-slice-read-count
     slice-aggregate-read-names
+    slice-aggregate-read-names-2
     read-names-requires
     enum-known-from
     enum-told
