@@ -1,2 +1,2 @@
--- What the scan of a name rests on.
+-- What looking through a name rests on.
 pub mod Scan

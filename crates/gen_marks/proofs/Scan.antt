@@ -1,81 +1,96 @@
--- A name passed byte by byte, and its class by its spelling.
-use Prim.Native.Nat.{ℕ, _+_, _-_}
+-- A name looked through for `.with.overflow.`, and its class by its spelling.
+use Prim.Native.Nat.{ℕ, _+_, _-_, _<_, _≤_}
 use mathlib.Core.Path.{_≡_, refl, sym, ap, _∙_}
-use mathlib.Core.Bool.{Bool, true, false, _&&_, _||_, or-false}
-use mathlib.Core.List.{List, [], _∷_}
+use mathlib.Core.Bool.{Bool, true, false, _||_, or-false}
+use mathlib.Core.List.{List, _∷_, _++_}
 use native.Mathlib.Omega.{arith}
-use borrow.Author.Tests.{ne-eqb}
+use borrow.Author.Tests.{eqb-true, eqb-false, eq-eqb, ne-eqb}
 use lib.Dec.{eqb}
-use lib.ListN.{length}
+use lib.ListN.{length, getD, length-append}
 use Rattle.names.specs.Text.{bytes, same, starts, contains}
 use Rattle.names.specs.Name.{nameFrom}
-use Rattle.names.specs.Spelling.{isSyscall, isBcmp, isMemcmp, hasOverflow}
-use Rattle.names_spelling.proofs.Spell.{same-part, same-not}
-use Rattle.gen_marks.specs.Mark.{spelled}
-use Rattle.gen_marks.specs.Spelling.{Scanned}
+use Rattle.names.specs.Spelling.{isBcmp, isMemcmp, hasOverflow}
+use Rattle.names.specs.Tests.{is-false}
+use Rattle.names.specs.Texts.{contains-here, contains-iff}
+use Rattle.names_spelling.proofs.Spell.{name-ended, name-more, contains-later, same-part, same-not}
+use Rattle.gen_marks.specs.Spelling.{Ended}
 
--- at the place i of the name that begins at `at`
-pub record Scanning (bs : List ℕ) (at i : ℕ) (overflow : Bool) : Type 0 where
-  pub ends : i + length (nameFrom bs i) ≡ at + length (nameFrom bs at)
-  pub found : hasOverflow (nameFrom bs at) ≡ (overflow || hasOverflow (nameFrom bs i))
+-- a name does not start with a text that has another first byte
+pub starts-other : (bs : List ℕ) (i x : ℕ) (p : List ℕ) → i < length bs → (getD bs i 0 ≡ x → ⊥) → starts (x ∷ p) (nameFrom bs i) ≡ false
+unfolding starts
+starts-other bs i x p l n = go (eqb (getD bs i 0) 10) refl
+  where
+    go : (b : Bool) → eqb (getD bs i 0) 10 ≡ b → starts (x ∷ p) (nameFrom bs i) ≡ false
+    go true e = rw (name-ended bs i l (eqb-true _ 10 e))
+    go false e = rw (name-more bs i l (eqb-false _ 10 e), ne-eqb x (getD bs i 0) (λ z. n (sym z)))
 
-pub scan-start : (bs : List ℕ) (at : ℕ) → Scanning bs at at false
-scan-start bs at = record { ends = refl; found = refl }
+-- what is contained is not longer
+contains-long : (p s : List ℕ) → contains p s ≡ true → length p ≤ length s
+contains-long p s h =
+    let w = contains-iff p s .0 h in
+    omega (arith, ap length (w .2), length-append (w .0) (p ++ w .1), length-append p (w .1))
 
-or-assoc : (a b c : Bool) → (a || (b || c)) ≡ ((a || b) || c)
-or-assoc true b c = refl
-or-assoc false b c = refl
+-- at the place i of the name that goes from `at` to `end`, in front of which the text does not start
+pub record Looking (bs : List ℕ) (at end i : ℕ) : Type 0 where
+  pub left : Ended bs i end
+  pub found : hasOverflow (nameFrom bs at) ≡ hasOverflow (nameFrom bs i)
 
-module _ {bs : List ℕ} {at i : ℕ} {overflow : Bool} (s : Scanning bs at i overflow) where
-  pub scan-end : nameFrom bs i ≡ [] → Scanned bs at i overflow
-  unfolding hasOverflow contains starts bytes
-  scan-end e =
-      record {
-        ends = omega (arith, s .ends, ap length e);
-        found = sym (s .found ∙ ap (λ (n : List ℕ). overflow || hasOverflow n) e ∙ or-false overflow);
-      }
+pub look-start : {bs : List ℕ} {at end : ℕ} → Ended bs at end → Looking bs at end at
+look-start e = record { left = e; found = refl }
 
-  module _ {b : ℕ} (e : nameFrom bs i ≡ b ∷ nameFrom bs (i + 1)) where
-    further : i + 1 + length (nameFrom bs (i + 1)) ≡ at + length (nameFrom bs at)
-    further = omega (arith, s .ends, ap length e)
+module _ {bs : List ℕ} {at end i : ℕ} (s : Looking bs at end i) where
+  pub look-here : starts (bytes ".with.overflow.") (nameFrom bs i) ≡ true → true ≡ hasOverflow (nameFrom bs at)
+  unfolding hasOverflow
+  look-here h = sym (s .found ∙ contains-here (bytes ".with.overflow.") (nameFrom bs i) h)
 
-    pub scan-dot : {t : Bool} → t ≡ starts (bytes ".with.overflow.") (nameFrom bs i) → Scanning bs at (i + 1) (overflow || t)
-    unfolding hasOverflow contains
-    scan-dot {t} d =
+  -- too few bytes are left
+  pub look-end : end ≤ i + 14 → false ≡ hasOverflow (nameFrom bs at)
+  unfolding hasOverflow bytes
+  look-end l =
+      sym (s .found ∙ is-false _ (λ h. omega (arith, contains-long (bytes ".with.overflow.") (nameFrom bs i) h, s .left .ends)))
+
+  module _ (l : i + 14 < end) where
+    more : nameFrom bs i ≡ getD bs i 0 ∷ nameFrom bs (i + 1)
+    more = name-more bs i (omega (arith, s .left .inside)) (λ z. omega (arith, s .left .ends, ap length (name-ended bs i (omega (arith, s .left .inside)) z)))
+
+    pub look-later : starts (bytes ".with.overflow.") (nameFrom bs i) ≡ false → Looking bs at end (i + 1)
+    unfolding hasOverflow
+    look-later h =
         record {
-          ends = further;
-          found = s .found ∙ ap (λ (n : List ℕ). overflow || hasOverflow n) e
-              ∙ ap (λ (x : Bool). overflow || (x || hasOverflow (nameFrom bs (i + 1)))) (sym (d ∙ ap (starts (bytes ".with.overflow.")) e))
-              ∙ or-assoc overflow t (hasOverflow (nameFrom bs (i + 1)));
+          left = record { ends = omega (arith, s .left .ends, ap length more); inside = s .left .inside };
+          found = s .found ∙ contains-later (bytes ".with.overflow.") (nameFrom bs i) (nameFrom bs (i + 1)) (getD bs i 0) more h;
         }
 
-    pub scan-other : (b ≡ 46 → ⊥) → Scanning bs at (i + 1) overflow
-    unfolding hasOverflow contains starts bytes
-    scan-other n =
-        let q : eqb 46 b ≡ false = ne-eqb 46 b (λ z. n (sym z)) in
-        record { ends = further; found = s .found ∙ ap (λ (n : List ℕ). overflow || hasOverflow n) e ∙ rw q }
+    pub look-other : (getD bs i 0 ≡ 46 → ⊥) → Looking bs at end (i + 1)
+    unfolding bytes
+    look-other n = look-later (starts-other bs i 46 _ (omega (arith, s .left .inside)) n)
 
 -- ---- the class
--- a name is a text where it starts with it and is as long
-pub same-both : (p s : List ℕ) (at end : ℕ) → end ≡ at + length s → (b : Bool) → b ≡ starts p s → same s p ≡ (b && eqb (end - at) (length p))
-same-both p s at end e true d = same-part p s at end e (sym d)
-same-both p s at end e false d = same-not p s (sym d)
+-- the name s goes from `at` to `end`: only a text as long may be the same
+module _ (s : List ℕ) (at end : ℕ) (e : end ≡ at + length s) where
+  module _ (p : List ℕ) where
+    same-as : end - at ≡ length p → same s p ≡ starts p s
+    same-as l = go (starts p s) refl
+      where
+        go : (b : Bool) → starts p s ≡ b → same s p ≡ b
+        go true h = same-part p s at end e h ∙ eq-eqb (end - at) (length p) l
+        go false h = same-not p s h
 
-module _ (n : List ℕ) where
-  pub class-syscall : isSyscall n ≡ true → 2 ≡ spelled n
-  unfolding spelled
-  class-syscall a = rw a
+    same-apart : (end - at ≡ length p → ⊥) → same s p ≡ false
+    same-apart n = go (starts p s) refl
+      where
+        go : (b : Bool) → starts p s ≡ b → same s p ≡ false
+        go true h = same-part p s at end e h ∙ ne-eqb (end - at) (length p) n
+        go false h = same-not p s h
 
-  module _ (a : isSyscall n ≡ false) where
-    pub class-bcmp : isBcmp n ≡ true → 3 ≡ spelled n
-    unfolding spelled
-    class-bcmp b = rw (a, b)
+  pub memcmp-four : end - at ≡ 4 → starts (bytes "bcmp") s ≡ (isBcmp s || isMemcmp s)
+  unfolding isBcmp isMemcmp bytes
+  memcmp-four l = sym (rw (same-as (bytes "bcmp") l, same-apart (bytes "memcmp") (λ z. omega arith)) (or-false _))
 
-    module _ (b : isBcmp n ≡ false) where
-      pub class-memcmp : isMemcmp n ≡ true → 3 ≡ spelled n
-      unfolding spelled
-      class-memcmp c = rw (a, b, c)
+  pub memcmp-six : end - at ≡ 6 → starts (bytes "memcmp") s ≡ (isBcmp s || isMemcmp s)
+  unfolding isBcmp isMemcmp bytes
+  memcmp-six l = sym (rw (same-apart (bytes "bcmp") (λ z. omega arith), same-as (bytes "memcmp") l))
 
-      pub class-other : isMemcmp n ≡ false → 0 ≡ spelled n
-      unfolding spelled
-      class-other c = rw (a, b, c)
+  pub memcmp-other : (end - at ≡ 4 → ⊥) → (end - at ≡ 6 → ⊥) → false ≡ (isBcmp s || isMemcmp s)
+  unfolding isBcmp isMemcmp bytes
+  memcmp-other n4 n6 = sym (rw (same-apart (bytes "bcmp") n4, same-apart (bytes "memcmp") n6))

@@ -1,66 +1,79 @@
 // Work word 5 of each name: how a global of that name is called. 2 for a name that starts `__uvm_`, 3 for `bcmp` and `memcmp`,
-// 1 for another that is defined here, else 0; and 4 more where the name contains `.with.overflow.`.
-use names_spelling::END;
+// 1 for another that is defined here, else 0; and 4 more where the name contains `.with.overflow.`. Until this is placed, the word
+// holds the index of the byte that ends the name, as the check has noted it.
 use names_spelling::name_starts;
 ghost use mathlib.Core.Path.{_≡_};
-ghost use Prim.Native.Nat.{ℕ, _+_, _<_};
+ghost use Prim.Native.Nat.{ℕ, _<_};
+ghost use mathlib.Core.Bool.{_||_};
 ghost use mathlib.Core.List.{List};
 ghost use mathlib.Core.Option.{some};
 ghost use lib.ListN.{length};
 ghost use Rattle.names.specs.Name.{namesOf, nameFrom};
+ghost use Rattle.names.specs.Spelling.{isSyscall, isBcmp, isMemcmp, hasOverflow};
 ghost use Rattle.book.specs.Ast.{Book};
 ghost use Rattle.book.specs.Entry.{entries};
 ghost use Rattle.book.specs.Decode.{decode};
 ghost use Rattle.lowering.specs.Context.{codegenOf};
 ghost use Rattle.gen_marks.specs.Mark.{spelled as spelledAs, withOverflow, definedMark};
-ghost use Rattle.gen_marks.specs.Spelling.{Scanned as ScannedAs, SpellAsked, SpellDone};
+ghost use Rattle.gen_marks.specs.Spelling.{Ended, SpellAsked, SpellDone};
 ghost use Rattle.gen_marks.specs.Defined.{DefineAsked, DefineDone, MarksAsked, MarksPlaced};
 
-// Where a name ends, and whether it contains `.with.overflow.`.
-struct Scanned {
-    end: usize,
-    overflow: bool,
+// Whether the name at `at` starts `__uvm_`. Most have another first byte.
+fn is_syscall(names: &[u8], at: usize) -> bool
+    requires { ⌜ at < length (now names) ⌝ }
+    ensures { λ r. ⌜ r ≡ isSyscall (nameFrom (now (names .entry)) at) ⌝ }
+{
+    if names[at] == b'_' {
+        name_starts(names, at, b"__uvm_")
+    } else {
+        false
+    }
 }
 
-// The name at the place, passed once. Most bytes come behind the dot, and so behind the byte that ends a name.
-fn scan_name(names: &[u8], at: usize) -> Scanned
-    ensures { λ r. ⌜ ScannedAs (now (names .entry)) at (r .end) (r .overflow) ⌝ }
+// Whether the name that goes from `at` to `end` is `bcmp` or `memcmp`. Most have another length.
+fn is_memcmp(names: &[u8], at: usize, end: usize) -> bool
+    requires { ⌜ Ended (now names) at end ⌝ }
+    ensures { λ r. ⌜ r ≡ (isBcmp (nameFrom (now (names .entry)) at) || isMemcmp (nameFrom (now (names .entry)) at)) ⌝ }
 {
-    let mut i = at;
-    let mut overflow = false;
-    while i < names.len() {
-        let b = names[i];
-        if b'.' < b {
-            i += 1;
-            continue;
-        }
-        if b == END {
-            return Scanned { end: i, overflow };
-        }
-        if b == b'.' {
-            overflow = overflow | name_starts(names, i, b".with.overflow.");
-        }
-        i += 1;
+    let long = end - at;
+    if long == 4 {
+        return name_starts(names, at, b"bcmp");
     }
-    Scanned { end: i, overflow }
+    if long == 6 {
+        return name_starts(names, at, b"memcmp");
+    }
+    false
 }
 
 // The class of the name that goes from `at` to `end`, by its spelling.
 fn spelled(names: &[u8], at: usize, end: usize) -> u64
-    requires { ⌜ end ≡ at + length (nameFrom (now names) at) ⌝ }
+    requires { ⌜ Ended (now names) at end ⌝ }
     ensures { λ r. ⌜ r ≡ spelledAs (nameFrom (now (names .entry)) at) ⌝ }
 {
-    if name_starts(names, at, b"__uvm_") {
+    if is_syscall(names, at) {
         return 2;
     }
-    let long = end - at;
-    if name_starts(names, at, b"bcmp") & (long == 4) {
-        return 3;
-    }
-    if name_starts(names, at, b"memcmp") & (long == 6) {
+    if is_memcmp(names, at, end) {
         return 3;
     }
     0
+}
+
+// Whether the name that goes from `at` to `end` contains `.with.overflow.`. Most are shorter than these 15 bytes.
+fn overflows(names: &[u8], at: usize, end: usize) -> bool
+    requires { ⌜ Ended (now names) at end ⌝ }
+    ensures { λ r. ⌜ r ≡ hasOverflow (nameFrom (now (names .entry)) at) ⌝ }
+{
+    let mut i = at;
+    while i + 14 < end {
+        if names[i] == b'.' {
+            if name_starts(names, i, b".with.overflow.") {
+                return true;
+            }
+        }
+        i += 1;
+    }
+    false
 }
 
 // A class as a word, before it is known whether the name is defined here.
@@ -78,7 +91,7 @@ fn defined(word: u64) -> u64
     if word % 4 == 0 { word + 1 } else { word }
 }
 
-// Every name by its spelling, in one pass over the bytes.
+// Every name by its spelling, in place of its end.
 fn spell_marks(names: &[u8], work: &mut [u64], count: u64)
     requires { ⌜ SpellAsked (now names) count (now work) ⌝ }
     ensures { λ _. ⌜ SpellDone (now (names .entry)) count (now (work .entry)) (now (work .exit)) ⌝ }
@@ -86,9 +99,9 @@ fn spell_marks(names: &[u8], work: &mut [u64], count: u64)
     let mut at: usize = 0;
     let mut x: usize = 0;
     while at < names.len() {
-        let s = scan_name(names, at);
-        let end = s.end;
-        work[8 * x + 5] = with_overflow(spelled(names, at, end), s.overflow);
+        let place = 8 * x + 5;
+        let end = work[place] as usize;
+        work[place] = with_overflow(spelled(names, at, end), overflows(names, at, end));
         x = x + 1;
         at = end + 1;
     }

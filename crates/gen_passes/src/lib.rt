@@ -317,7 +317,7 @@ fn passes(
     )
 }
 
-// The lines of a sound book's function, whose work words are 0.
+// The lines of a sound book's function. The work words are 0 but for the ends of names.
 pub fn generate(
     book_kinds: &[u64],
     book_words: &[u64],

@@ -16,7 +16,7 @@ use Rattle.book.specs.Shape.{allInsts}
 use Rattle.book_types.specs.Laws.{entries-part}
 use Rattle.layout.specs.Frame.{Places, noFrame, framePass, framed}
 use Rattle.layout_memo.specs.Calls.{lent}
-use Rattle.layout_memo.specs.Work.{Ready, settled-word, settled-first, tableAt, structsIn, structsOr}
+use Rattle.layout_memo.specs.Work.{Ready, settled-word, settled-first, tableAt, table-other, structsIn, structsOr}
 use Rattle.layout_memo.specs.Structs.{Blank, StructsPlaced}
 use Rattle.lowering.specs.Context.{Codegen, codegenOf}
 use Rattle.lowering.specs.Function.{contextOf}
@@ -46,11 +46,25 @@ module _ {bs : List ℕ} {m : ℕ} (ks ws : List ℕ) {work : List ℕ} (k : Pre
   es = entries ks ws
 
   pub structs-ask : Blank m es work
-  structs-ask = record { book = k .book; room = omega (arith, k .room); bodies = λ x l. k .blank (8 * x + 4); known = λ x l. k .blank (8 * x + 7); table = λ i. k .blank (tableAt m i) }
+  structs-ask =
+      record {
+        book = k .book;
+        room = omega (arith, k .room);
+        bodies = λ x l. k .words .blank (8 * x + 4) (λ y _ e. omega arith);
+        known = λ x l. k .words .blank (8 * x + 7) (λ y _ e. omega arith);
+        table = λ i. k .words .blank (tableAt m i) (λ y ly. table-other m i y 5 (omega arith) (λ e. omega arith) ly);
+      }
 
   module _ {work₁ : List ℕ} (s : StructsPlaced m es work work₁) {a : ℕ} (fn : FunctionAt m es a) where
     pub marks-ask : MarksAsked bs m es work₁ a
-    marks-ask = record { names = k .names; book = k .book; fn = fn; room = omega (arith, k .room, s .kept .long) }
+    marks-ask =
+        record {
+          names = k .names;
+          book = k .book;
+          fn = fn;
+          room = omega (arith, k .room, s .kept .long);
+          ends = λ x l. s .kept .same (8 * x + 5) (λ y _ e. omega arith) ∙ k .words .ends x l (omega (arith, k .room));
+        }
 
     module _ {work₂ : List ℕ}
         (d : (ns : List (List ℕ)) (b : Book) → namesOf bs ≡ some ns → decode m es ≡ some b → MarksPlaced m (codegenOf ns b) work₁ work₂) where
@@ -63,7 +77,7 @@ module _ {bs : List ℕ} {m : ℕ} (ks ws : List ℕ) {work : List ℕ} (k : Pre
 
       -- a word that is neither a body's nor a mark
       still-blank : (i : ℕ) → ((x : ℕ) → x < m → i ≡ 8 * x + 4 → ⊥) → ((x : ℕ) → x < m → i ≡ 8 * x + 5 → ⊥) → getD work₂ i 0 ≡ 0
-      still-blank i p q = marks-kept .same i q ∙ s .kept .same i p ∙ k .blank i
+      still-blank i p q = marks-kept .same i q ∙ s .kept .same i p ∙ k .words .blank i q
 
       pub function-ask : FunctionAsked m es work₂ a
       function-ask =

@@ -1,4 +1,4 @@
--- `gen_marks::spell_marks` meets its contract: the place goes from the start of each name to the next.
+-- `gen_marks::spell_marks` meets its contract: the place goes from the start of each name to the next, by the end that is noted.
 use borrow.Author.Needs.{needs}
 use Prim.Native.Nat.{_-_}
 use lib.ListN.{length}
@@ -7,7 +7,7 @@ use Rattle.gen_marks.specs.Mark.{spelled-small}
 use Rattle.gen_marks.specs.Spelling as laws
 use Rattle.gen_marks.proofs.spell_marks.Statement.{statement}
 use Rattle.gen_marks.proofs.spell_marks.Tie as tie
-use Rattle.gen_marks.proofs.scan_name.Reads as scan-name-reads
+use Rattle.gen_marks.proofs.overflows.Reads as overflows-reads
 use Rattle.gen_marks.proofs.spelled.Reads as spelled-reads
 use Rattle.gen_marks.proofs.with_overflow.Reads as with-overflow-reads
 
@@ -22,38 +22,58 @@ loop-holds c =
     let entry = c .before .before in
     laws.spell-start _ _ _ (entry .pre)
 
-scan-name-requires : tie.Need-scan-name-requires Inv-loop μ-loop
-scan-name-requires c κs = search needs
+mul-place : tie.Need-mul-place Inv-loop μ-loop
+mul-place c =
+    let in-loop = c in
+    let at-loop = in-loop .before in
+    let q = laws.spell-more (at-loop .loop .inv) (in-loop .loop-test .taken) in
+    let r = at-loop .loop .inv .room in
+    search needs
+
+add-place : tie.Need-add-place Inv-loop μ-loop
+add-place c =
+    let in-loop = c in
+    let at-loop = in-loop .before in
+    let q = laws.spell-more (at-loop .loop .inv) (in-loop .loop-test .taken) in
+    let r = at-loop .loop .inv .room in
+    search needs
+
+mul-end : tie.Need-mul-end Inv-loop μ-loop
+mul-end c =
+    let in-loop = c in
+    let at-loop = in-loop .before in
+    let q = laws.spell-more (at-loop .loop .inv) (in-loop .loop-test .taken) in
+    let r = at-loop .loop .inv .room in
+    search needs
+
+slice-read-end : tie.Need-slice-read-end Inv-loop μ-loop
+slice-read-end c =
+    let in-loop = c .before in
+    let at-loop = in-loop .before in
+    let q = laws.spell-more (at-loop .loop .inv) (in-loop .loop-test .taken) in
+    let r = at-loop .loop .inv .room in
+    search needs
 
 spelled-requires : tie.Need-spelled-requires Inv-loop μ-loop
 spelled-requires c κs =
-    let after-scan-name = c in
-    after-scan-name .scan-name .ensures .ends
+    let in-loop = c .before in
+    let at-loop = in-loop .before in
+    laws.ended-here (at-loop .loop .inv) (in-loop .loop-test .taken)
+
+overflows-requires : tie.Need-overflows-requires Inv-loop μ-loop
+overflows-requires c κs =
+    let in-loop = c .before .before in
+    let at-loop = in-loop .before in
+    laws.ended-here (at-loop .loop .inv) (in-loop .loop-test .taken)
 
 with-overflow-requires : tie.Need-with-overflow-requires Inv-loop μ-loop
 with-overflow-requires c κs =
-    let after-spelled = c in
+    let after-spelled = c .before in
     rw (after-spelled .spelled .ensures) (spelled-small _)
 
 mul-work : tie.Need-mul-work Inv-loop μ-loop
 mul-work c =
-    let in-loop = c .before .before .before in
-    let at-loop = in-loop .before in
-    let q = laws.spell-more (at-loop .loop .inv) (in-loop .loop-test .taken) in
-    let r = at-loop .loop .inv .room in
-    search needs
-
-add-work : tie.Need-add-work Inv-loop μ-loop
-add-work c =
-    let in-loop = c .before .before .before in
-    let at-loop = in-loop .before in
-    let q = laws.spell-more (at-loop .loop .inv) (in-loop .loop-test .taken) in
-    let r = at-loop .loop .inv .room in
-    search needs
-
-mul-work-2 : tie.Need-mul-work-2 Inv-loop μ-loop
-mul-work-2 c =
-    let in-loop = c .before .before .before in
+    let in-loop = c .before .before .before .before in
     let at-loop = in-loop .before in
     let q = laws.spell-more (at-loop .loop .inv) (in-loop .loop-test .taken) in
     let r = at-loop .loop .inv .room in
@@ -61,7 +81,7 @@ mul-work-2 c =
 
 slice-write-work : tie.Need-slice-write-work Inv-loop μ-loop
 slice-write-work c =
-    let in-loop = c .before .before .before in
+    let in-loop = c .before .before .before .before in
     let at-loop = in-loop .before in
     let q = laws.spell-more (at-loop .loop .inv) (in-loop .loop-test .taken) in
     let r = at-loop .loop .inv .room in
@@ -69,7 +89,7 @@ slice-write-work c =
 
 add-x : tie.Need-add-x Inv-loop μ-loop
 add-x c =
-    let in-loop = c .before .before .before in
+    let in-loop = c .before .before .before .before in
     let at-loop = in-loop .before in
     let q = laws.spell-more (at-loop .loop .inv) (in-loop .loop-test .taken) in
     let r = at-loop .loop .inv .room in
@@ -77,28 +97,28 @@ add-x c =
 
 add-at : tie.Need-add-at Inv-loop μ-loop
 add-at c =
-    let after-scan-name = c .before .before in
-    let in-loop = after-scan-name .before in
+    let in-loop = c .before .before .before .before in
     let at-loop = in-loop .before in
-    let q = laws.end-inside (at-loop .loop .inv) (in-loop .loop-test .taken) (after-scan-name .scan-name .ensures .ends) in
+    let e = laws.ended-here (at-loop .loop .inv) (in-loop .loop-test .taken) in
+    let i = e .inside in
     search needs
 
 loop-less : tie.Need-loop-less Inv-loop μ-loop
 loop-less c =
-    let after-scan-name = c .before .before in
-    let in-loop = after-scan-name .before in
+    let in-loop = c .before .before .before .before in
     let at-loop = in-loop .before in
-    let q = laws.end-inside (at-loop .loop .inv) (in-loop .loop-test .taken) (after-scan-name .scan-name .ensures .ends) in
-    omega (arith, after-scan-name .scan-name .ensures .ends)
+    let e = laws.ended-here (at-loop .loop .inv) (in-loop .loop-test .taken) in
+    omega (arith, e .ends, e .inside)
 
 loop-again : tie.Need-loop-again Inv-loop μ-loop
 loop-again c =
-    let after-spelled = c .before in
-    let after-scan-name = after-spelled .before in
-    let in-loop = after-scan-name .before in
+    let after-overflows = c .before in
+    let after-spelled = after-overflows .before in
+    let in-loop = after-spelled .before .before in
     let at-loop = in-loop .before in
-    laws.spell-next (at-loop .loop .inv) (in-loop .loop-test .taken) (after-scan-name .scan-name .ensures .ends) _
-    (laws.word-is _ _ _ _ _ (after-spelled .spelled .ensures) (after-scan-name .scan-name .ensures .found) (c .with-overflow .ensures))
+    let more = in-loop .loop-test .taken in
+    laws.spell-next (at-loop .loop .inv) more (laws.ended-here (at-loop .loop .inv) more) _
+    (laws.word-is _ _ _ _ _ (after-spelled .spelled .ensures) (after-overflows .overflows .ensures) (c .with-overflow .ensures))
 
 same-length : tie.Need-same-length Inv-loop μ-loop
 same-length c = search needs
@@ -115,12 +135,14 @@ spell-marks-spec =
     Inv-loop
     μ-loop
     loop-holds
-    scan-name-requires
+    mul-place
+    add-place
+    mul-end
+    slice-read-end
     spelled-requires
+    overflows-requires
     with-overflow-requires
     mul-work
-    add-work
-    mul-work-2
     slice-write-work
     add-x
     add-at
