@@ -9,6 +9,9 @@ use lib.Dec.{eqb, ltb}
 use lib.ListN.{length, getD, set, replicate, length-replicate, getD-replicate, List·getD-eq-default}
 use lib.Seq.{getD-set-same, getD-set-other, ext-getD}
 
+abbrev pub Blank : List ℕ → Type 0
+Blank work = (i : ℕ) → getD work i 0 ≡ 0
+
 -- one word more
 pub one-more : (work : List ℕ) (i : ℕ) → i < length work → ((k : ℕ) → k < i → getD work k 0 ≡ 0) → (k : ℕ) → k < i + 1 → getD (set work i 0) k 0 ≡ 0
 one-more work i l h k m = go (eqb k i) refl
@@ -27,7 +30,7 @@ module _ (n : ℕ) (work : List ℕ) (z : work ≡ replicate n 0) where
   pub clear-long : length work ≡ n
   clear-long = ap length z ∙ length-replicate n 0
 
-  pub clear-blank : (i : ℕ) → getD work i 0 ≡ 0
+  pub clear-blank : Blank work
   clear-blank i = rw z (go (ltb i n) refl)
     where
       go : (b : Bool) → ltb i n ≡ b → _≡_ {A = ℕ} (getD (replicate n 0) i 0) 0

@@ -1,12 +1,11 @@
 -- The answer of the code as the definition's reply: document 01's number, line count and counter are then those of `translationNumber`, `translationLines`
 -- and `translationCounter`.
-use Prim.Native.Nat.{ℕ, _%_, _≤_, _^_}
-use mathlib.Core.Path.{_≡_, refl, sym, ap, subst, _∙_}
+use Prim.Native.Nat.{ℕ, _%_, _^_}
+use mathlib.Core.Path.{_≡_, refl, ap, subst, _∙_}
 use mathlib.Core.List.{List, map}
 use native.Mathlib.Nat.{mod-eq-of-lt}
 use lib.ListN.{length, replicate}
-use Rattle.book.specs.Result.{Result, ok, err, bind}
-use Rattle.book.specs.Check.{checked, refusalOf}
+use Rattle.book.specs.Result.{Result, ok, err}
 use Rattle.assembly.specs.Number.{operandOf}
 use Rattle.lowering.specs.Gen.{Out}
 use Rattle.lowering.specs.Fits.{Fits, generated-fits, operands-same}
@@ -17,7 +16,6 @@ use Rattle.gen_passes.specs.Passes.{Answered, room}
 use Rattle.gen_passes.specs.declared.Translation.{Translation}
 use Rattle.gen_passes.specs.declared.Translation.the-variants.{Accepted, Refused}
 use Rattle.translate.specs.Clear.{clear-long}
-use Rattle.translate.specs.Sound.{refused-by}
 
 abbrev pub replyOf : Translation → definition.Translation
 replyOf (Accepted n next) = definition.Translation.accepted n next
@@ -38,11 +36,11 @@ module _ (book names : List ℕ) (counter : ℕ) (work ks os : List ℕ) {cleare
   long : length cleared ≡ length work
   long = clear-long (length work) cleared z
 
-  -- what was answered for a sound book, with the work words cleared again
-  pub reply-sound : (r : Translation) (used work′ ks′ os′ : List ℕ) → Answered (generated book names counter (length cleared) (room ks os)) r ks os ks′ os′
+  -- what was answered, with the work words cleared again
+  pub reply-cleared : (r : Translation) (used work′ ks′ os′ : List ℕ) → Answered (generated book names counter (length cleared) (room ks os)) r ks os ks′ os′
       → length used ≡ length cleared → work′ ≡ replicate (length used) 0 → translating r work′ ks′ os′ ≡ translate book names counter work ks os
   unfolding translate replied
-  reply-sound r used work′ ks′ os′ a l y =
+  reply-cleared r used work′ ks′ os′ a l y =
       go lent refl (subst (λ (n : ℕ). Answered (generated book names counter n (room ks os)) r ks os ks′ os′) long a)
     where
       all : work′ ≡ replicate (length work) 0
@@ -54,11 +52,3 @@ module _ (book names : List ℕ) (counter : ℕ) (work ks os : List ℕ) {cleare
           let n : out .next % 2 ^ 64 ≡ out .next = mod-eq-of-lt (f .next) in
           rw (e, h .reply, all, h .kinds, h .operands, same-operands out f, n)
       go (err x) e h = rw (e, h .reply, all, h .kinds, h .operands)
-
-  -- one of the first four refusals
-  pub reply-refused : (e : ℕ) → 1 ≤ e → e ≡ refusalOf (checked book names counter (length cleared)) → translating (Refused e) cleared ks os ≡ translate book names counter work ks os
-  unfolding translate generated replied bind
-  reply-refused e l h =
-      let c : checked book names counter (length work) ≡ err e =
-      ap (λ (n : ℕ). checked book names counter n) (sym long) ∙ refused-by book names counter (length cleared) e h l in
-      rw (c, z)

@@ -10,6 +10,7 @@ use lib.ListN.{length, getD, take, drop, length-take, length-drop}
 use lib.Dec.{leb}
 use Rattle.names.specs.Name.{namesOf, counts, accepted}
 use Rattle.names.specs.Lines.{accepted-iff}
+use Rattle.names_check.specs.Ends.{Noted, EndsAlone, ends-alone}
 use Rattle.book.specs.Entry.{entries}
 use Rattle.book.specs.Rule.{pick}
 use Rattle.book.specs.Decode.{decode}
@@ -29,6 +30,8 @@ use Rattle.lowering.specs.Translate.{generated}
 use Rattle.gen_passes.specs.Passes.{fitted, Answered}
 use Rattle.gen_passes.specs.Generate.{GenerateAsk}
 use Rattle.gen_passes.specs.declared.Translation.{Translation}
+use Rattle.gen_passes.specs.declared.Translation.the-variants.{Refused}
+use Rattle.translate.specs.Clear.{Blank}
 
 -- ---- a refusal has a number that is not 0
 module _ {A B : Type 0} where
@@ -58,13 +61,18 @@ module _ (book names : List ℕ) (counter work : ℕ) where
       (λ ns. bind-some _ _ (given-some (not (forbidden ns (b .book))) 3 (omega arith) tt) (λ _. given-some (leb (workFor (b .count)) work) 4 (omega arith) _))))
 
   -- a refusal by its number
-  pub refused-by : (n : ℕ) → n ≡ refusalOf (checked book names counter work) → 1 ≤ n → checked book names counter work ≡ err n
+  refused-by : (n : ℕ) → n ≡ refusalOf (checked book names counter work) → 1 ≤ n → checked book names counter work ≡ err n
   unfolding refusalOf
   refused-by n e l = go (checked book names counter work) refl
     where
       go : (r : Result Sound) → checked book names counter work ≡ r → checked book names counter work ≡ err n
       go (ok s) i = absurd (let z : n ≡ 0 = e ∙ ap refusalOf i in omega arith)
       go (err x) i = let z : x ≡ n = sym (e ∙ ap refusalOf i) in i ∙ ap err z
+
+  -- it is the answer
+  pub refused-answer : (n : ℕ) → n ≡ refusalOf (checked book names counter work) → 1 ≤ n → (k : ℕ) (ks os : List ℕ) → Answered (generated book names counter work k) (Refused n) ks os ks os
+  unfolding generated bind
+  refused-answer n e l k ks os = rw (refused-by n e l) (record { reply = refl; kinds = refl; operands = refl })
 
   -- a sound book
   pub sound-by : 0 ≡ refusalOf (checked book names counter work) → (s : Sound) × (checked book names counter work ≡ ok s)
@@ -78,7 +86,7 @@ module _ (book names : List ℕ) (counter work : ℕ) where
 -- ---- the call of a sound book
 pub record SoundAsk (book names : List ℕ) (counter : ℕ) (work : List ℕ) : Type 0 where
   pub sound : 0 ≡ refusalOf (checked book names counter (length work))
-  pub blank : (i : ℕ) → getD work i 0 ≡ 0
+  pub words : EndsAlone names (getD book 1 0) work
 
 module _ {book names : List ℕ} {counter : ℕ} {work : List ℕ} (a : SoundAsk book names counter work) where
   abbrev pub s : Sound
@@ -148,7 +156,7 @@ module _ {book names : List ℕ} {counter : ℕ} {work : List ℕ} (a : SoundAsk
           names = accepted-iff names (getD book 1 0) .1 (s .names, named, names-counted (own .counted .count) names (s .names) (own .spelled) ∙ holds .count);
           book = record { book = s .book; says = decoded; few = omega (arith, length-entries kinds words, length-take (2 + getD book 0 0 - 2) (drop 2 book), most) };
           room = omega (arith, room, holds .count);
-          blank = a .blank;
+          words = a .words;
         };
         even = omega (
           arith,
@@ -168,3 +176,12 @@ module _ {book names : List ℕ} {counter : ℕ} {work : List ℕ} (a : SoundAsk
   pub sound-answer : (k : ℕ) (q : Translation) (ks os ks′ os′ : List ℕ) → Answered (fitted (genFunction (codegenOf (s .names) (s .book)) (s .book .function) counter) k) q ks os ks′ os′
       → Answered (generated book names counter (length work) k) q ks os ks′ os′
   sound-answer k q ks os ks′ os′ h = subst (λ (g : Result Out). Answered g q ks os ks′ os′) (sym (generated-is k)) h
+
+-- the work words after the check
+module _ (book : List ℕ) {names : List ℕ} (counter : ℕ) {work work′ : List ℕ} (n : Noted names (getD book 1 0) work work′) where
+  pub sound-ask : 0 ≡ refusalOf (checked book names counter (length work)) → Blank work → SoundAsk book names counter work′
+  sound-ask e z = record { sound = e ∙ ap (λ (l : ℕ). refusalOf (checked book names counter l)) (sym (n .long)); words = ends-alone n z }
+
+  pub noted-answer : (k : ℕ) (q : Translation) (ks os ks′ os′ : List ℕ) → Answered (generated book names counter (length work′) k) q ks os ks′ os′
+      → Answered (generated book names counter (length work) k) q ks os ks′ os′
+  noted-answer k q ks os ks′ os′ = subst (λ (l : ℕ). Answered (generated book names counter l k) q ks os ks′ os′) (n .long)
