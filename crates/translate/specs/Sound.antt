@@ -6,7 +6,7 @@ use mathlib.Core.Option.{Option, none, some}
 use mathlib.Core.List.{List, []}
 use native.Mathlib.Omega.{arith}
 use borrow.Author.Tests.{leb-true}
-use lib.ListN.{length, getD, take, drop, length-take, length-drop}
+use lib.ListN.{length, getD, take, drop, replicate, length-take, length-drop, length-replicate}
 use lib.Dec.{leb}
 use Rattle.names.specs.Name.{namesOf, counts, accepted}
 use Rattle.names.specs.Lines.{accepted-iff}
@@ -31,7 +31,7 @@ use Rattle.gen_passes.specs.Passes.{fitted, Answered}
 use Rattle.gen_passes.specs.Generate.{GenerateAsk}
 use Rattle.gen_passes.specs.declared.Translation.{Translation}
 use Rattle.gen_passes.specs.declared.Translation.the-variants.{Refused}
-use Rattle.translate.specs.Clear.{Blank}
+use Rattle.translate.specs.Clear.{Blank, clear-blank}
 
 -- ---- a refusal has a number that is not 0
 module _ {A B : Type 0} where
@@ -83,20 +83,52 @@ module _ (book names : List ℕ) (counter work : ℕ) where
       go (ok s) i = (s, i)
       go (err x) i = let z : x ≡ 0 = sym (e ∙ ap refusalOf i) in absurd (never-0 (i ∙ ap err z))
 
--- ---- the call of a sound book
-pub record SoundAsk (book names : List ℕ) (counter : ℕ) (work : List ℕ) : Type 0 where
-  pub sound : 0 ≡ refusalOf (checked book names counter (length work))
+-- ---- a sound book, for a work slice of so many words
+module _ (book names : List ℕ) (counter lent : ℕ) (e : 0 ≡ refusalOf (checked book names counter lent)) where
+  abbrev sound : Sound
+  sound = sound-by book names counter lent e .0
+
+  sound-is : checked book names counter lent ≡ ok sound
+  sound-is = sound-by book names counter lent e .1
+
+  sound-lent : Lent book names sound
+  sound-lent = checked-lent book names counter lent sound sound-is
+
+  sound-holds : Holds book (sound-lent .counted)
+  sound-holds = slice-holds book (sound-lent .counted) (sound-lent .read)
+
+  -- they are enough for its names
+  sound-room : 8 * getD book 1 0 + 64 ≤ lent
+  unfolding checked okOr
+  sound-room =
+      let b = bind-ok (okOr 1 (bookIn book)) _ sound sound-is in
+      let c = bind-ok (require (leb counter (2 ^ 32)) 1) _ sound (b .2) in
+      let n = bind-ok (okOr 2 (namesIn (b .0 .count) names)) _ sound (c .2) in
+      let f = bind-ok (require (not (forbidden (n .0) (b .0 .book))) 3) _ sound (n .2) in
+      let w = given-ok (leb (workFor (b .0 .count)) lent) 4 _ sound (f .2) in
+      let e : b .0 ≡ sound-lent .counted = found (bookIn book) (b .1) (sound-lent .read) in
+      let r : 8 * sound-lent .counted .count + 64 ≤ lent = subst (λ (x : Counted). 8 * x .count + 64 ≤ lent) e (leb-true _ _ (w .0)) in
+      omega (arith, r, sound-holds .count)
+    where
+      found : (o : Option Counted) {x y : Counted} → okOr 1 o ≡ ok x → o ≡ some y → x ≡ y
+      found none p q = absurd (let z : _≡_ {A = ℕ} 0 1 = cc in omega arith)
+      found (some z) p q = cc
+
+-- ---- the call of a sound book: a slice of `lent` words was lent, and the words that are used are enough
+pub record SoundAsk (book names : List ℕ) (counter lent : ℕ) (work : List ℕ) : Type 0 where
+  pub sound : 0 ≡ refusalOf (checked book names counter lent)
+  pub room : 8 * getD book 1 0 + 64 ≤ length work
   pub words : EndsAlone names (getD book 1 0) work
 
-module _ {book names : List ℕ} {counter : ℕ} {work : List ℕ} (a : SoundAsk book names counter work) where
+module _ {book names : List ℕ} {counter lent : ℕ} {work : List ℕ} (a : SoundAsk book names counter lent work) where
   abbrev pub s : Sound
-  s = sound-by book names counter (length work) (a .sound) .0
+  s = sound book names counter lent (a .sound)
 
-  is : checked book names counter (length work) ≡ ok s
-  is = sound-by book names counter (length work) (a .sound) .1
+  is : checked book names counter lent ≡ ok s
+  is = sound-is book names counter lent (a .sound)
 
   own : Lent book names s
-  own = checked-lent book names counter (length work) s is
+  own = sound-lent book names counter lent (a .sound)
 
   holds : Holds book (own .counted)
   holds = slice-holds book (own .counted) (own .read)
@@ -134,28 +166,13 @@ module _ {book names : List ℕ} {counter : ℕ} {work : List ℕ} (a : SoundAsk
       go true e = e
       go false e = absurd (let z : _≡_ {A = ℕ} 0 1 = cc in omega arith)
 
-  room : 8 * own .counted .count + 64 ≤ length work
-  unfolding checked okOr
-  room =
-      let b = bind-ok (okOr 1 (bookIn book)) _ s is in
-      let c = bind-ok (require (leb counter (2 ^ 32)) 1) _ s (b .2) in
-      let n = bind-ok (okOr 2 (namesIn (b .0 .count) names)) _ s (c .2) in
-      let f = bind-ok (require (not (forbidden (n .0) (b .0 .book))) 3) _ s (n .2) in
-      let w = given-ok (leb (workFor (b .0 .count)) (length work)) 4 _ s (f .2) in
-      let e : b .0 ≡ own .counted = found (bookIn book) (b .1) (own .read) in
-      subst (λ (x : Counted). 8 * x .count + 64 ≤ length work) e (leb-true _ _ (w .0))
-    where
-      found : (o : Option Counted) {x y : Counted} → okOr 1 o ≡ ok x → o ≡ some y → x ≡ y
-      found none p q = absurd (let z : _≡_ {A = ℕ} 0 1 = cc in omega arith)
-      found (some z) p q = cc
-
   pub generate-ask : GenerateAsk names (getD book 1 0) kinds words work
   generate-ask =
       record {
         ask = record {
           names = accepted-iff names (getD book 1 0) .1 (s .names, named, names-counted (own .counted .count) names (s .names) (own .spelled) ∙ holds .count);
           book = record { book = s .book; says = decoded; few = omega (arith, length-entries kinds words, length-take (2 + getD book 0 0 - 2) (drop 2 book), most) };
-          room = omega (arith, room, holds .count);
+          room = a .room;
           words = a .words;
         };
         even = omega (
@@ -169,19 +186,29 @@ module _ {book names : List ℕ} {counter : ℕ} {work : List ℕ} (a : SoundAsk
       }
 
   -- what is generated
-  generated-is : (k : ℕ) → generated book names counter (length work) k ≡ fitted (genFunction (codegenOf (s .names) (s .book)) (s .book .function) counter) k
+  generated-is : (k : ℕ) → generated book names counter lent k ≡ fitted (genFunction (codegenOf (s .names) (s .book)) (s .book .function) counter) k
   unfolding generated bind
   generated-is k = ap (λ (r : Result Sound). bind r (λ s. fitted (genFunction (codegenOf (s .names) (s .book)) (s .book .function) counter) k)) is
 
   pub sound-answer : (k : ℕ) (q : Translation) (ks os ks′ os′ : List ℕ) → Answered (fitted (genFunction (codegenOf (s .names) (s .book)) (s .book .function) counter) k) q ks os ks′ os′
-      → Answered (generated book names counter (length work) k) q ks os ks′ os′
+      → Answered (generated book names counter lent k) q ks os ks′ os′
   sound-answer k q ks os ks′ os′ h = subst (λ (g : Result Out). Answered g q ks os ks′ os′) (sym (generated-is k)) h
 
--- the work words after the check
-module _ (book : List ℕ) {names : List ℕ} (counter : ℕ) {work work′ : List ℕ} (n : Noted names (getD book 1 0) work work′) where
-  pub sound-ask : 0 ≡ refusalOf (checked book names counter (length work)) → Blank work → SoundAsk book names counter work′
-  sound-ask e z = record { sound = e ∙ ap (λ (l : ℕ). refusalOf (checked book names counter l)) (sym (n .long)); words = ends-alone n z }
+-- ---- words that are 0, and enough of them where those that were lent are enough
+pub record BlankAsk (book : List ℕ) (lent : ℕ) (work : List ℕ) : Type 0 where
+  pub blank : Blank work
+  pub enough : 8 * getD book 1 0 + 64 ≤ lent → 8 * getD book 1 0 + 64 ≤ length work
 
-  pub noted-answer : (k : ℕ) (q : Translation) (ks os ks′ os′ : List ℕ) → Answered (generated book names counter (length work′) k) q ks os ks′ os′
-      → Answered (generated book names counter (length work) k) q ks os ks′ os′
-  noted-answer k q ks os ks′ os′ = subst (λ (l : ℕ). Answered (generated book names counter l k) q ks os ks′ os′) (n .long)
+-- the lent words themselves
+pub blank-lent : (book : List ℕ) {work : List ℕ} → Blank work → BlankAsk book (length work) work
+blank-lent book z = record { blank = z; enough = λ l. l }
+
+-- words of our own
+pub blank-own : (book : List ℕ) (lent n : ℕ) → 8 * getD book 1 0 + 64 ≤ n → BlankAsk book lent (replicate n 0)
+blank-own book lent n l = record { blank = clear-blank n (replicate n 0) refl; enough = λ _. omega (arith, l, length-replicate {A = ℕ} n 0) }
+
+-- after the check
+pub sound-ask : (book names : List ℕ) (counter lent : ℕ) {work work′ : List ℕ} → Noted names (getD book 1 0) work work′ → 0 ≡ refusalOf (checked book names counter lent)
+    → BlankAsk book lent work → SoundAsk book names counter lent work′
+sound-ask book names counter lent n e z =
+    record { sound = e; room = omega (arith, z .enough (sound-room book names counter lent e), n .long); words = ends-alone n (z .blank) }

@@ -6,13 +6,13 @@ use borrow.Author.Needs.{needs}
 use Rattle.translate.proofs.translate.Statement.{statement}
 use Rattle.translate.proofs.translate.Tie as tie
 use Rattle.translate.proofs.clear.Reads as clear-reads
-use Rattle.translate.proofs.translate_blank.Reads as translate-blank-reads
+use Rattle.translate.proofs.translate_sized.Reads as translate-sized-reads
 
 clear-requires : tie.Need-clear-requires
 clear-requires c κs = search needs
 
-translate-blank-requires : tie.Need-translate-blank-requires
-translate-blank-requires c κs =
+translate-sized-requires : tie.Need-translate-sized-requires
+translate-sized-requires c κs =
     let after-clear = c .before .before .before .before .before in
     let entry = after-clear .before .before .before .before .before .before .before in
     clear-blank (length (entry .args .work .now)) _ (after-clear .clear .ensures)
@@ -36,7 +36,7 @@ returns c =
     let after-clear = after-translate .before .before .before .before .before .before in
     let entry = after-clear .before .before .before .before .before .before .before in
     let a = entry .args in
-    let t = after-translate .translate-blank in
+    let t = after-translate .translate-sized in
     reply-cleared (a .book .now) (a .names .now) (a .counter) (a .work .now) (a .kinds .now) (a .operands .now) (after-clear .clear .ensures) (t .result)
     (t .last .1 .1 .1 .0) _ _ _ (t .ensures) (t .kept .1 .1 .1 .0) (after-clear2 .clear2 .ensures)
 
@@ -45,7 +45,7 @@ translate-spec =
     tie.close
     (tie.spec
     clear-requires
-    translate-blank-requires
+    translate-sized-requires
     clear-requires-2
     same-length
     same-length-2

@@ -2,7 +2,7 @@
 use mathlib.Core.Path.{sym, ap, _∙_}
 use native.Mathlib.Omega.{arith}
 use Rattle.book_check.specs.Verdict.{numberOf}
-use Rattle.translate.specs.Sound.{refused-answer, sound-ask, noted-answer}
+use Rattle.translate.specs.Sound.{refused-answer, sound-ask}
 use borrow.Author.Needs.{needs}
 use Rattle.translate.proofs.translate_blank.Statement.{statement}
 use Rattle.translate.proofs.translate_blank.Tie as tie
@@ -21,7 +21,7 @@ translate-sound-requires c κs =
     let after-check = after-told .before .before .before .before in
     let entry = after-check .before .before .before .before .before .before .before in
     let is = after-told .enum-told .given .1 in
-    sound-ask (entry .args .book .now) _ (after-check .check-noting .ensures .1 is) (sym (ap numberOf is) ∙ after-check .check-noting .ensures .0) (entry .pre)
+    sound-ask (entry .args .book .now) _ _ _ (after-check .check-noting .ensures .1 is) (sym (ap numberOf is) ∙ after-check .check-noting .ensures .0) (entry .pre)
 
 enum-told-2 : tie.Need-enum-told-2
 enum-told-2 c = search needs
@@ -45,12 +45,7 @@ same-length-3 : tie.Need-same-length-3
 same-length-3 c = search needs
 
 returns : tie.Need-returns
-returns c =
-    let after-sound = c .before .before .before .before .before .before in
-    let after-told = after-sound .before .before .before .before in
-    let after-check = after-told .before .before .before .before in
-    let entry = after-check .before .before .before .before .before .before .before in
-    noted-answer (entry .args .book .now) _ (after-check .check-noting .ensures .1 (after-told .enum-told .given .1)) _ _ _ _ _ _ (after-sound .translate-sound .ensures)
+returns c = search needs
 
 same-length-4 : tie.Need-same-length-4
 same-length-4 c = search needs
