@@ -1,0 +1,262 @@
+// Where the fields of structs stand, noted in the work words, so that a field is found without passing all fields before it.
+// A fact is noted behind j fields where the 2^t fields before it take `size` entries or more, 2^t the largest power of two that
+// divides j; so a field is found by taking set bits off its index from below until a fact is there.
+pub mod table;
+
+use crate::table::find;
+use crate::table::no_fields;
+use crate::table::note;
+use crate::table::room_for;
+use layout_field::Offset;
+use layout_field::field_start;
+use layout_memo::Measured;
+use layout_memo::ends::type_end;
+use layout_size::size_of;
+ghost use mathlib.Core.Path.{_≡_};
+ghost use Prim.Native.Nat.{_<_, _≤_, _^_};
+ghost use lib.ListN.{length};
+ghost use Rattle.book.specs.Entry.{entries};
+ghost use Rattle.layout_memo.specs.Work.{After};
+ghost use Rattle.layout_table.specs.Table.{AskFieldsAt, AskNote};
+ghost use Rattle.layout_table.specs.Known.{isEnded, FieldPassed, KnownOutcome};
+
+// Behind `index` fields of a struct, the fields from `at` on are left, and `offset` bytes are taken. Where `ended` is set,
+// nothing is known behind them.
+pub struct Known {
+    pub index: u64,
+    pub at: usize,
+    pub offset: u64,
+    pub ended: bool,
+}
+
+// Nothing is known behind these fields.
+fn ended(known: Known) -> Known
+    ensures { λ r. ⌜ r ≡ isEnded known ⌝ }
+{
+    Known {
+        index: known.index,
+        at: known.at,
+        offset: known.offset,
+        ended: true,
+    }
+}
+
+// One field more, where there is one that can be measured and the bytes taken stay within 2^24.
+fn next_field(
+    book_kinds: &[u64],
+    book_words: &[u64],
+    work: &mut [u64],
+    names: u64,
+    place: usize,
+    packed: bool,
+    from: Known,
+) -> Known
+    requires { ⌜ AskNote names (entries (now «book_kinds») (now «book_words»)) (now work) packed place from ⌝ }
+    ensures { λ r. ⌜ FieldPassed names (entries (now («book_kinds» .entry)) (now («book_words» .entry))) (now (work .entry)) (now (work .exit)) packed place r ⌝ }
+{
+    let at = from.at;
+    if book_kinds[at] == 0 {
+        return ended(from);
+    }
+    if 1048576 <= from.index {
+        return ended(from);
+    }
+    let ks = &book_kinds[at..];
+    let ws = &book_words[at..];
+    let Offset::At(start) = field_start(
+        ks,
+        ws,
+        book_kinds,
+        book_words,
+        work,
+        names,
+        packed,
+        from.offset,
+    ) else {
+        return ended(from);
+    };
+    let Measured::Bytes(size, _) = size_of(ks, ws, book_kinds, book_words, work, names, 64) else {
+        return ended(from);
+    };
+    if 16777216 < start + size {
+        return ended(from);
+    }
+    Known {
+        index: from.index + 1,
+        at: at + type_end(ks, ws, names),
+        offset: start + size,
+        ended: false,
+    }
+}
+
+// Notes a fact where the fields from `start` on take `size` entries or more before it.
+fn note_behind(
+    book_kinds: &[u64],
+    book_words: &[u64],
+    work: &mut [u64],
+    names: u64,
+    place: usize,
+    packed: bool,
+    start: usize,
+    size: usize,
+    fact: Known,
+)
+    requires { ⌜ AskNote names (entries (now «book_kinds») (now «book_words»)) (now work) packed place fact ⌝ }
+    requires { ⌜ (start ≤ 2 ^ 32) × (size ≤ 2 ^ 32) ⌝ }
+    ensures { λ _. ⌜ After names (entries (now («book_kinds» .entry)) (now («book_words» .entry))) (now (work .entry)) (now (work .exit)) ⌝ }
+{
+    if start + size <= fact.at {
+        note(book_kinds, book_words, work, names, place, packed, fact);
+    }
+}
+
+// Passes 2^level fields, or all that are left, and notes facts on the way.
+fn note_fields(
+    book_kinds: &[u64],
+    book_words: &[u64],
+    work: &mut [u64],
+    names: u64,
+    place: usize,
+    packed: bool,
+    size: usize,
+    level: u32,
+    from: Known,
+) -> Known
+    requires { ⌜ AskNote names (entries (now «book_kinds») (now «book_words»)) (now work) packed place from ⌝ }
+    requires { ⌜ size ≤ 2 ^ 32 ⌝ }
+    ensures { λ r. ⌜ FieldPassed names (entries (now («book_kinds» .entry)) (now («book_words» .entry))) (now (work .entry)) (now (work .exit)) packed place r ⌝ }
+{
+    if level == 0 {
+        return next_field(book_kinds, book_words, work, names, place, packed, from);
+    }
+    let half = note_fields(
+        book_kinds,
+        book_words,
+        work,
+        names,
+        place,
+        packed,
+        size,
+        level - 1,
+        from,
+    );
+    if half.ended {
+        return half;
+    }
+    note_behind(
+        book_kinds,
+        book_words,
+        work,
+        names,
+        place,
+        packed,
+        from.at,
+        size,
+        half,
+    );
+    note_fields(
+        book_kinds,
+        book_words,
+        work,
+        names,
+        place,
+        packed,
+        size,
+        level - 1,
+        half,
+    )
+}
+
+// The entries that the fields before a fact take at least: enough that the table has room for twice the facts of a book.
+fn size_for(facts: usize, count: usize) -> usize
+    requires { ⌜ (16 ≤ facts) × (count ≤ 1048576) ⌝ }
+    ensures { λ r. ⌜ r ≤ 2 ^ 32 ⌝ }
+{
+    let size = 2 * count / facts;
+    if size < 64 {
+        return 64;
+    }
+    size
+}
+
+// Whether few entries stand before the field: few fields, none of them an array or a struct.
+fn is_near(kinds: &[u64], place: usize, index: u64) -> bool {
+    if 64 <= index {
+        return false;
+    }
+    let mut at = place;
+    let mut left = index;
+    while left != 0 {
+        if kinds.len() <= at {
+            return true;
+        }
+        match kinds[at] {
+            13 | 14 | 16 | 17 => return false,
+            _ => {}
+        }
+        at = at + 1;
+        left = left - 1;
+    }
+    true
+}
+
+// How many facts the table has room for, 0 where the field is found without it.
+fn facts_for(kinds: &[u64], place: usize, index: u64, words: usize, names: u64) -> usize
+    ensures { λ r. ⌜ (1 ≤ r → (16 ≤ r) × ((index < 1048576) × (length (now (kinds .entry)) ≤ 1048576))) ⌝ }
+{
+    if kinds.len() < 2048 {
+        return 0;
+    }
+    if is_near(kinds, place, index) {
+        return 0;
+    }
+    if 1048576 < kinds.len() {
+        return 0;
+    }
+    if 1048576 <= index {
+        return 0;
+    }
+    let facts = room_for(words, names);
+    if facts < 16 {
+        return 0;
+    }
+    facts
+}
+
+// A fact behind so many fields of the struct or fewer. The first time that it is asked for a struct, all its fields are passed.
+pub fn known_before(
+    book_kinds: &[u64],
+    book_words: &[u64],
+    work: &mut [u64],
+    names: u64,
+    place: usize,
+    packed: bool,
+    index: u64,
+) -> Known
+    requires { ⌜ AskFieldsAt names (entries (now «book_kinds») (now «book_words»)) (now work) place ⌝ }
+    ensures { λ r. ⌜ KnownOutcome names (entries (now («book_kinds» .entry)) (now («book_words» .entry))) (now (work .entry)) (now (work .exit)) packed place index r ⌝ }
+{
+    let first = no_fields(place, false);
+    let facts = facts_for(book_kinds, place, index, work.len(), names);
+    if facts == 0 {
+        return first;
+    }
+    let found = find(book_kinds, book_words, work, names, place, packed, index);
+    if found.ended {
+        let size = size_for(facts, book_kinds.len());
+        note(book_kinds, book_words, work, names, place, packed, first);
+        note_fields(
+            book_kinds,
+            book_words,
+            work,
+            names,
+            place,
+            packed,
+            size,
+            20,
+            first,
+        );
+        return find(book_kinds, book_words, work, names, place, packed, index);
+    }
+    found
+}
