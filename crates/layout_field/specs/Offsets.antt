@@ -151,6 +151,20 @@ module _ (m : ℕ) (es bs : List Entry) (work : List ℕ) (packed : Bool) (off :
         let s : aligns (structsIn m bs) (tyOf m es) 64 ≡ ok a = g .known .high 64 (g .within) in
         record { answer = ap ok en ∙ rw (e, s) refl; most = omega (arith, placed-most packed off a (start-align a h q)); after = o .after }
 
+-- an integer or a pointer
+module _ (structs : List StructType) {m : ℕ} {ks ws : List ℕ} {a b : ℕ} (f : AtFields m ks ws a) (nz : b ≡ 0 → ⊥) (c : Scalar (getD ks a 0) (getD ws a 0) b) where
+  pub scalar-sized : sizes structs (tyOf m (drop a (entries ks ws))) 64 ≡ ok b
+  scalar-sized = let g = scalar-type f nz c .sized structs 64 (λ z. omega arith) in g .known .high 64 (g .within)
+
+  scalar-aligned : aligns structs (tyOf m (drop a (entries ks ws))) 64 ≡ ok b
+  scalar-aligned = let g = scalar-type f nz c .aligned structs 64 (λ z. omega arith) in g .known .high 64 (g .within)
+
+pub scalar-starts : (structs : List StructType) (packed : Bool) {m : ℕ} {ks ws : List ℕ} {a b : ℕ} (f : AtFields m ks ws a) (nz : b ≡ 0 → ⊥) (c : Scalar (getD ks a 0) (getD ws a 0) b) (off : ℕ)
+    → startOf structs packed (tyOf m (drop a (entries ks ws))) off ≡ ok (placed packed off b)
+unfolding startOf alignIn placed bind alignOf
+scalar-starts structs true f nz c off = refl
+scalar-starts structs false f nz c off = rw (scalar-aligned structs f nz c) refl
+
 -- ---- the loop
 pub through : (r : Result ℕ) (g : ℕ → ℕ) (x : Result ℕ) (f : ℕ → Result ℕ) → x ≡ bind r (λ a. ok (g a)) → bind r (λ a. f (g a)) ≡ bind x f
 unfolding bind
@@ -262,18 +276,10 @@ module _ (m : ℕ) (ks ws : List ℕ) (bs : List Entry) (work₀ : List ℕ) (pa
     known = scalar-type (l .place) nz c
 
     start-known : startOf structs packed (tyOf m (drop (s .at) (entries ks ws))) (s .offset) ≡ ok (placed packed (s .offset) b)
-    unfolding startOf alignIn placed bind alignOf
-    start-known = go packed
-      where
-        aligned : aligns structs (tyOf m (drop (s .at) (entries ks ws))) 64 ≡ ok b
-        aligned = let g = known .aligned structs 64 (λ z. omega arith) in g .known .high 64 (g .within)
-
-        go : (p : Bool) → startOf structs p (tyOf m (drop (s .at) (entries ks ws))) (s .offset) ≡ ok (placed p (s .offset) b)
-        go true = refl
-        go false = rw aligned refl
+    start-known = scalar-starts structs packed (l .place) nz c (s .offset)
 
     size-known : sizes structs (tyOf m (drop (s .at) (entries ks ws))) 64 ≡ ok b
-    size-known = let g = known .sized structs 64 (λ z. omega arith) in g .known .high 64 (g .within)
+    size-known = scalar-sized structs (l .place) nz c
 
     offset-one : OffsetLoop work (s .at + 1) (placed packed (s .offset) b + b) (s .left - 1)
     unfolding bind

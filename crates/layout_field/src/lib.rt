@@ -27,7 +27,7 @@ pub enum Place {
 }
 
 // So many fields are to be passed from the place on.
-fn fields_left(at: usize, left: u64, offset: u64) -> Run
+pub fn fields_left(at: usize, left: u64, offset: u64) -> Run
     ensures { λ r. ⌜ r ≡ leftFrom at left offset ⌝ }
 {
     Run {

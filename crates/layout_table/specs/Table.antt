@@ -21,8 +21,8 @@ abbrev pub FactOf : (m : ℕ) (es : List Entry) (packed : Bool) (p : ℕ) → Kn
 FactOf m es packed p k = FieldFact m es packed p (k .index) (k .at) (k .offset)
 
 -- behind no fields
-abbrev pub noFields : ℕ → Bool → Known
-noFields p b = record { index = 0; at = p; offset = 0; ended = b }
+abbrev pub noFields : ℕ → Known
+noFields p = record { index = 0; at = p; offset = 0; ended = false }
 
 -- what is asked about the struct
 pub record AskFieldsAt (m : ℕ) (es : List Entry) (work : List ℕ) (at : ℕ) : Type 0 where
@@ -89,8 +89,8 @@ pub record Best (m : ℕ) (es : List Entry) (packed : Bool) (p index : ℕ) (r :
   pub fact : FactOf m es packed p r
   pub before : r .index ≤ index
 
-pub best-none : {m : ℕ} {es : List Entry} {work : List ℕ} {p : ℕ} → AskFieldsAt m es work p → (packed b : Bool) (index : ℕ) (r : Known) → r ≡ noFields p b → Best m es packed p index r
-best-none k packed b index r e = rw e (record { fact = fact-none k packed; before = omega arith })
+pub best-none : {m : ℕ} {es : List Entry} {work : List ℕ} {p : ℕ} → AskFieldsAt m es work p → (packed : Bool) (index : ℕ) (r : Known) → r ≡ noFields p → Best m es packed p index r
+best-none k packed index r e = rw e (record { fact = fact-none k packed; before = omega arith })
 
 -- what is asked to find a fact
 pub record AskFind (m : ℕ) (es : List Entry) (work : List ℕ) (p index : ℕ) : Type 0 where
@@ -220,11 +220,3 @@ module _ {m : ℕ} {es : List Entry} {work : List ℕ} {packed : Bool} {p : ℕ}
 
   pub note-to : k .at < 1048576
   note-to = omega (arith, a .fact .there, a .ready .few)
-
--- the struct is asked about again
-module _ {m : ℕ} {es : List Entry} {work work′ : List ℕ} {p : ℕ} (k : AskFieldsAt m es work p) (a : After m es work work′) where
-  pub ask-again : AskFieldsAt m es work′ p
-  ask-again = record { front = k .front; there = k .there; ready = a .ready }
-
-  pub ask-none : (packed b : Bool) (r : Known) → r ≡ noFields p b → AskNote m es work′ packed p r
-  ask-none packed b r e = record { ready = a .ready; fact = rw e (fact-none k packed) }

@@ -1,6 +1,7 @@
 // Where the fields of structs stand, noted in the work words, so that a field is found without passing all fields before it.
 // A fact is noted behind j fields where the 2^t fields before it take `size` entries or more, 2^t the largest power of two that
-// divides j; so a field is found by taking set bits off its index from below until a fact is there.
+// divides j; so a field is found by taking set bits off its index from below until a fact is there. What lies between that fact
+// and the field is passed then, and facts are noted on the way.
 pub mod table;
 
 use crate::table::find;
@@ -9,19 +10,21 @@ use crate::table::note;
 use crate::table::room_for;
 use layout_field::Offset;
 use layout_field::field_start;
+use layout_field::fields_left;
 use layout_memo::Measured;
 use layout_memo::ends::type_end;
+use layout_memo::scalars::pass_scalars;
 use layout_size::size_of;
 ghost use mathlib.Core.Path.{_≡_};
 ghost use Prim.Native.Nat.{_<_, _≤_, _^_};
 ghost use lib.ListN.{length};
 ghost use Rattle.book.specs.Entry.{entries};
 ghost use Rattle.layout_memo.specs.Work.{After};
-ghost use Rattle.layout_table.specs.Table.{AskFieldsAt, AskNote};
-ghost use Rattle.layout_table.specs.Known.{isEnded, FieldPassed, KnownOutcome};
+ghost use Rattle.layout_table.specs.Table.{AskFieldsAt, AskNote, Best};
+ghost use Rattle.layout_table.specs.Known.{isEnded, AskRun, AskPass, KnownOutcome};
 
-// Behind `index` fields of a struct, the fields from `at` on are left, and `offset` bytes are taken. Where `ended` is set,
-// nothing is known behind them.
+// Behind `index` fields of a struct, the fields from `at` on are left, and `offset` bytes are taken. Passing sets `ended` where
+// it did not come as far as it was to.
 pub struct Known {
     pub index: u64,
     pub at: usize,
@@ -29,7 +32,7 @@ pub struct Known {
     pub ended: bool,
 }
 
-// Nothing is known behind these fields.
+// No field more is passed.
 fn ended(known: Known) -> Known
     ensures { λ r. ⌜ r ≡ isEnded known ⌝ }
 {
@@ -41,7 +44,7 @@ fn ended(known: Known) -> Known
     }
 }
 
-// One field more, where there is one that can be measured and the bytes taken stay within 2^24.
+// Passes one field, up to the field with this index, where it can be measured and the bytes taken stay within 2^24.
 fn next_field(
     book_kinds: &[u64],
     book_words: &[u64],
@@ -49,16 +52,17 @@ fn next_field(
     names: u64,
     place: usize,
     packed: bool,
+    index: u64,
     from: Known,
 ) -> Known
-    requires { ⌜ AskNote names (entries (now «book_kinds») (now «book_words»)) (now work) packed place from ⌝ }
-    ensures { λ r. ⌜ FieldPassed names (entries (now («book_kinds» .entry)) (now («book_words» .entry))) (now (work .entry)) (now (work .exit)) packed place r ⌝ }
+    requires { ⌜ AskPass names (entries (now «book_kinds») (now «book_words»)) (now work) packed place index from ⌝ }
+    ensures { λ r. ⌜ KnownOutcome names (entries (now («book_kinds» .entry)) (now («book_words» .entry))) (now (work .entry)) (now (work .exit)) packed place index r ⌝ }
 {
     let at = from.at;
     if book_kinds[at] == 0 {
         return ended(from);
     }
-    if 1048576 <= from.index {
+    if index <= from.index {
         return ended(from);
     }
     let ks = &book_kinds[at..];
@@ -89,6 +93,50 @@ fn next_field(
     }
 }
 
+// Passes 2^level fields, up to the field with this index, where there are few and all are integers or pointers.
+fn next_scalars(
+    book_kinds: &[u64],
+    book_words: &[u64],
+    names: u64,
+    place: usize,
+    packed: bool,
+    index: u64,
+    level: u32,
+    from: Known,
+) -> Known
+    requires { ⌜ AskRun names (entries (now «book_kinds») (now «book_words»)) packed place index from ⌝ }
+    ensures { λ r. ⌜ Best names (entries (now («book_kinds» .entry)) (now («book_words» .entry))) packed place index r ⌝ }
+{
+    if 6 < level {
+        return ended(from);
+    }
+    let many = 1u64 << level;
+    if index - from.index < many {
+        return ended(from);
+    }
+    let next = fields_left(from.at, many, from.offset);
+    let run = pass_scalars(
+        book_kinds,
+        book_words,
+        names,
+        packed,
+        book_kinds.len(),
+        next,
+    );
+    if run.left != 0 {
+        return ended(from);
+    }
+    if 16777216 < run.offset {
+        return ended(from);
+    }
+    Known {
+        index: from.index + many,
+        at: run.at,
+        offset: run.offset,
+        ended: false,
+    }
+}
+
 // Notes a fact where the fields from `start` on take `size` entries or more before it.
 fn note_behind(
     book_kinds: &[u64],
@@ -110,7 +158,7 @@ fn note_behind(
     }
 }
 
-// Passes 2^level fields, or all that are left, and notes facts on the way.
+// Passes 2^level fields, up to the field with this index, and notes facts on the way.
 fn note_fields(
     book_kinds: &[u64],
     book_words: &[u64],
@@ -118,16 +166,39 @@ fn note_fields(
     names: u64,
     place: usize,
     packed: bool,
+    index: u64,
     size: usize,
     level: u32,
     from: Known,
 ) -> Known
-    requires { ⌜ AskNote names (entries (now «book_kinds») (now «book_words»)) (now work) packed place from ⌝ }
+    requires { ⌜ AskPass names (entries (now «book_kinds») (now «book_words»)) (now work) packed place index from ⌝ }
     requires { ⌜ size ≤ 2 ^ 32 ⌝ }
-    ensures { λ r. ⌜ FieldPassed names (entries (now («book_kinds» .entry)) (now («book_words» .entry))) (now (work .entry)) (now (work .exit)) packed place r ⌝ }
+    ensures { λ r. ⌜ KnownOutcome names (entries (now («book_kinds» .entry)) (now («book_words» .entry))) (now (work .entry)) (now (work .exit)) packed place index r ⌝ }
 {
+    let run = next_scalars(
+        book_kinds,
+        book_words,
+        names,
+        place,
+        packed,
+        index,
+        level,
+        from,
+    );
+    if run.ended == false {
+        return run;
+    }
     if level == 0 {
-        return next_field(book_kinds, book_words, work, names, place, packed, from);
+        return next_field(
+            book_kinds,
+            book_words,
+            work,
+            names,
+            place,
+            packed,
+            index,
+            from,
+        );
     }
     let half = note_fields(
         book_kinds,
@@ -136,6 +207,7 @@ fn note_fields(
         names,
         place,
         packed,
+        index,
         size,
         level - 1,
         from,
@@ -161,6 +233,7 @@ fn note_fields(
         names,
         place,
         packed,
+        index,
         size,
         level - 1,
         half,
@@ -223,7 +296,12 @@ fn facts_for(kinds: &[u64], place: usize, index: u64, words: usize, names: u64) 
     facts
 }
 
-// A fact behind so many fields of the struct or fewer. The first time that it is asked for a struct, all its fields are passed.
+// A level at which so many fields are passed.
+fn level_for(fields: u64) -> u32 {
+    if fields < 64 { 6 } else { 20 }
+}
+
+// A fact behind so many fields of the struct or fewer.
 pub fn known_before(
     book_kinds: &[u64],
     book_words: &[u64],
@@ -236,27 +314,23 @@ pub fn known_before(
     requires { ⌜ AskFieldsAt names (entries (now «book_kinds») (now «book_words»)) (now work) place ⌝ }
     ensures { λ r. ⌜ KnownOutcome names (entries (now («book_kinds» .entry)) (now («book_words» .entry))) (now (work .entry)) (now (work .exit)) packed place index r ⌝ }
 {
-    let first = no_fields(place, false);
     let facts = facts_for(book_kinds, place, index, work.len(), names);
     if facts == 0 {
-        return first;
+        return no_fields(place);
     }
     let found = find(book_kinds, book_words, work, names, place, packed, index);
-    if found.ended {
-        let size = size_for(facts, book_kinds.len());
-        note(book_kinds, book_words, work, names, place, packed, first);
-        note_fields(
-            book_kinds,
-            book_words,
-            work,
-            names,
-            place,
-            packed,
-            size,
-            20,
-            first,
-        );
-        return find(book_kinds, book_words, work, names, place, packed, index);
-    }
-    found
+    let size = size_for(facts, book_kinds.len());
+    let level = level_for(index - found.index);
+    note_fields(
+        book_kinds,
+        book_words,
+        work,
+        names,
+        place,
+        packed,
+        index,
+        size,
+        level,
+        found,
+    )
 }

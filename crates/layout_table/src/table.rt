@@ -99,19 +99,18 @@ pub fn room_for(length: usize, names: u64) -> usize
 }
 
 // Behind no fields of the struct.
-pub fn no_fields(place: usize, ended: bool) -> Known
-    ensures { λ r. ⌜ r ≡ noFields place ended ⌝ }
+pub fn no_fields(place: usize) -> Known
+    ensures { λ r. ⌜ r ≡ noFields place ⌝ }
 {
     Known {
         index: 0,
         at: place,
         offset: 0,
-        ended,
+        ended: false,
     }
 }
 
-// A fact behind so many fields or fewer: set bits are taken off the index from below until one is there. Where none is, it is
-// the one behind no fields, and `ended` is set.
+// A fact behind so many fields or fewer: set bits are taken off the index from below until one is there.
 pub fn find(
     book_kinds: &[u64],
     book_words: &[u64],
@@ -126,10 +125,10 @@ pub fn find(
 {
     let facts = room_for(work.len(), names);
     if facts < 16 {
-        return no_fields(place, true);
+        return no_fields(place);
     }
     let mut before = index;
-    loop {
+    while before != 0 {
         let value = probe(work, names, facts, key_of(place, packed, before));
         if value != 0 {
             return Known {
@@ -139,11 +138,9 @@ pub fn find(
                 ended: false,
             };
         }
-        if before == 0 {
-            return no_fields(place, true);
-        }
         before = before & (before - 1);
     }
+    no_fields(place)
 }
 
 // The second word of a fact.

@@ -19,7 +19,7 @@ mul-if1 c = search needs
 shared-slice-read-if1 : tie.Need-shared-slice-read-if1
 shared-slice-read-if1 c =
     let entry = c .before .before .before .before in
-    let h = fields.place-kinds _ _ _ _ (laws.known-place _ _ _ _ _ _ _ (entry .pre)) in
+    let h = fields.place-kinds _ _ _ _ (laws.known-place _ _ _ _ _ _ (entry .pre)) in
     search needs
 
 ended-requires : tie.Need-ended-requires
@@ -28,7 +28,7 @@ ended-requires c κs = search needs
 returns : tie.Need-returns
 returns c =
     let entry = c .before .before .before .before .before .before in
-    laws.ended-after _ _ _ _ _ _ _ (entry .pre) _ (c .ended .ensures) (after-none (entry .pre .ready))
+    laws.field-ended _ _ _ _ _ _ (entry .pre) _ (c .ended .ensures) (after-none (entry .pre .ready))
 
 ended-requires-2 : tie.Need-ended-requires-2
 ended-requires-2 c κs = search needs
@@ -36,7 +36,7 @@ ended-requires-2 c κs = search needs
 returns-2 : tie.Need-returns-2
 returns-2 c =
     let entry = c .before .before .before .before .before .before .before .before in
-    laws.ended-after _ _ _ _ _ _ _ (entry .pre) _ (c .ended2 .ensures) (after-none (entry .pre .ready))
+    laws.field-ended _ _ _ _ _ _ (entry .pre) _ (c .ended2 .ensures) (after-none (entry .pre .ready))
 
 mul-ks : tie.Need-mul-ks
 mul-ks c = search needs
@@ -44,13 +44,13 @@ mul-ks c = search needs
 sub-ks : tie.Need-sub-ks
 sub-ks c =
     let entry = c .before .before .before .before .before .before .before in
-    let h = fields.place-kinds _ _ _ _ (laws.known-place _ _ _ _ _ _ _ (entry .pre)) in
+    let h = fields.place-kinds _ _ _ _ (laws.known-place _ _ _ _ _ _ (entry .pre)) in
     search needs
 
 part-ks-start : tie.Need-part-ks-start
 part-ks-start c =
     let entry = c .before .before .before .before .before .before .before in
-    let h = fields.place-kinds _ _ _ _ (laws.known-place _ _ _ _ _ _ _ (entry .pre)) in
+    let h = fields.place-kinds _ _ _ _ (laws.known-place _ _ _ _ _ _ (entry .pre)) in
     search needs
 
 part-ks-end : tie.Need-part-ks-end
@@ -62,13 +62,13 @@ mul-ws c = search needs
 sub-ws : tie.Need-sub-ws
 sub-ws c =
     let entry = c .before .before .before .before .before .before .before .before in
-    let h = fields.place-words _ _ _ _ (laws.known-place _ _ _ _ _ _ _ (entry .pre)) in
+    let h = fields.place-words _ _ _ _ (laws.known-place _ _ _ _ _ _ (entry .pre)) in
     search needs
 
 part-ws-start : tie.Need-part-ws-start
 part-ws-start c =
     let entry = c .before .before .before .before .before .before .before .before in
-    let h = fields.place-words _ _ _ _ (laws.known-place _ _ _ _ _ _ _ (entry .pre)) in
+    let h = fields.place-words _ _ _ _ (laws.known-place _ _ _ _ _ _ (entry .pre)) in
     search needs
 
 part-ws-end : tie.Need-part-ws-end
@@ -78,7 +78,7 @@ field-start-requires : tie.Need-field-start-requires
 field-start-requires c κs =
     let else1 = c .before .before .before .before .before in
     let entry = else1 .before .before .before .before .before in
-    laws.start-ask _ _ _ _ _ _ _ (entry .pre) (else1 .if1 .left)
+    laws.start-ask _ _ _ _ _ _ (entry .pre) (else1 .if1 .left)
 
 enum-known-start : tie.Need-enum-known-start
 enum-known-start c = search needs
@@ -96,7 +96,7 @@ returns-3 : tie.Need-returns-3
 returns-3 c =
     let after-field-start = c .before .before .before .before .before in
     let entry = after-field-start .before .before .before .before .before .before .before .before .before .before .before in
-    laws.ended-after _ _ _ _ _ _ _ (entry .pre) _ (c .ended3 .ensures) (after-field-start .field-start .ensures .after)
+    laws.field-ended _ _ _ _ _ _ (entry .pre) _ (c .ended3 .ensures) (after-field-start .field-start .ensures .after)
 
 size-of-requires : tie.Need-size-of-requires
 size-of-requires c κs =
@@ -104,7 +104,7 @@ size-of-requires c κs =
     let after-field-start = after-start .before .before .before .before in
     let else1 = after-field-start .before .before .before .before .before .before in
     let entry = else1 .before .before .before .before .before in
-    laws.size-ask _ _ _ _ _ _ _ (entry .pre) (else1 .if1 .left) _ (after-field-start .field-start .ensures) _ (after-start .start .given .1)
+    laws.size-ask _ _ _ _ _ _ (entry .pre) (else1 .if1 .left) _ (after-field-start .field-start .ensures) _ (after-start .start .given .1)
 
 enum-known-size : tie.Need-enum-known-size
 enum-known-size c = search needs
@@ -123,7 +123,7 @@ returns-4 c =
     let after-size-of = c .before .before .before .before .before in
     let after-field-start = after-size-of .before .before .before .before .before .before .before in
     let entry = after-field-start .before .before .before .before .before .before .before .before .before .before .before in
-    laws.ended-after _ _ _ _ _ _ _ (entry .pre) _ (c .ended4 .ensures)
+    laws.field-ended _ _ _ _ _ _ (entry .pre) _ (c .ended4 .ensures)
     (after-then (after-field-start .field-start .ensures .after) (after-size-of .size-of .ensures .after))
 
 add-if3 : tie.Need-add-if3
@@ -136,7 +136,7 @@ add-if3 c =
     let entry = else1 .before .before .before .before .before in
     omega (
       arith,
-      laws.next-fits _ _ _ _ _ _ _ (entry .pre) (else1 .if1 .left) _ (after-field-start .field-start .ensures) _ (after-start .start .given .1) _
+      laws.next-fits _ _ _ _ _ _ (entry .pre) (else1 .if1 .left) _ (after-field-start .field-start .ensures) _ (after-start .start .given .1) _
           (after-size-of .size-of .ensures) _ _ (after-size .size .given .1),
     )
 
@@ -151,26 +151,29 @@ returns-5 c =
     let after-size-of = c .before .before .before .before .before .before .before in
     let after-field-start = after-size-of .before .before .before .before .before .before .before in
     let entry = after-field-start .before .before .before .before .before .before .before .before .before .before .before in
-    laws.ended-after _ _ _ _ _ _ _ (entry .pre) _ (c .ended5 .ensures)
+    laws.field-ended _ _ _ _ _ _ (entry .pre) _ (c .ended5 .ensures)
     (after-then (after-field-start .field-start .ensures .after) (after-size-of .size-of .ensures .after))
 
-add-t15 : tie.Need-add-t15
-add-t15 c = search needs
+add-t16 : tie.Need-add-t16
+add-t16 c =
+    let else2 = c .before .before .before .before .before .before .before .before .before .before .before .before .before .before .before .before .before .before in
+    let entry = else2 .before .before .before .before .before .before .before in
+    omega (arith, else2 .if2 .left, entry .pre .few)
 
 type-end-requires : tie.Need-type-end-requires
 type-end-requires c κs =
     let else1 = c .before .before .before .before .before .before .before .before .before .before .before .before .before .before .before .before .before .before .before .before in
     let entry = else1 .before .before .before .before .before in
-    fields.place-starts _ _ _ _ (laws.known-place _ _ _ _ _ _ _ (entry .pre)) (else1 .if1 .left)
+    fields.place-starts _ _ _ _ (laws.known-place _ _ _ _ _ _ (entry .pre)) (else1 .if1 .left)
 
-add-t18 : tie.Need-add-t18
-add-t18 c =
+add-t19 : tie.Need-add-t19
+add-t19 c =
     let else1 = c .before .before .before .before .before .before .before .before .before .before .before .before .before .before .before .before .before .before .before .before .before in
     let entry = else1 .before .before .before .before .before in
-    omega (arith, fields.next-few _ _ _ _ (laws.known-place _ _ _ _ _ _ _ (entry .pre)) (else1 .if1 .left) _ (c .type-end .ensures))
+    omega (arith, fields.next-few _ _ _ _ (laws.known-place _ _ _ _ _ _ (entry .pre)) (else1 .if1 .left) _ (c .type-end .ensures))
 
-add-t28 : tie.Need-add-t28
-add-t28 c = search needs
+add-t29 : tie.Need-add-t29
+add-t29 c = search needs
 
 same-length-4 : tie.Need-same-length-4
 same-length-4 c = search needs
@@ -182,10 +185,11 @@ returns-6 c =
     let after-size-of = after-size .before .before .before .before in
     let after-start = after-size-of .before .before .before in
     let after-field-start = after-start .before .before .before .before in
-    let else1 = after-field-start .before .before .before .before .before .before in
+    let else2 = after-field-start .before .before .before .before in
+    let else1 = else2 .before .before in
     let entry = else1 .before .before .before .before .before in
-    laws.field-passed _ _ _ _ _ _ _ (entry .pre) (else1 .if1 .left) _ (after-field-start .field-start .ensures) _ (after-start .start .given .1) _
-    (after-size-of .size-of .ensures) _ _ (after-size .size .given .1) (else3 .if3 .left) _ (c .type-end .ensures)
+    laws.field-passed _ _ _ _ _ _ (entry .pre) (else1 .if1 .left) _ (after-field-start .field-start .ensures) _ (after-start .start .given .1) _
+    (after-size-of .size-of .ensures) _ _ (after-size .size .given .1) (else3 .if3 .left) (else2 .if2 .left) _ (c .type-end .ensures)
 
 pub next-field-spec : {M : Type 1} → statement M
 next-field-spec =
@@ -221,9 +225,9 @@ next-field-spec =
     ended-requires-5
     same-length-3
     returns-5
-    add-t15
+    add-t16
     type-end-requires
-    add-t18
-    add-t28
+    add-t19
+    add-t29
     same-length-4
     returns-6)

@@ -1,6 +1,5 @@
 -- `layout_table::table::find` meets its contract.
 use Prim.Native.Nat.{_≤_}
-use mathlib.Core.Bool.{true}
 use native.Mathlib.Omega.{arith}
 use Rattle.layout_table.specs.Table as laws
 use borrow.Author.Needs.{needs}
@@ -28,45 +27,49 @@ no-fields-requires c κs = search needs
 returns : tie.Need-returns Inv-loop μ-loop
 returns c =
     let entry = c .before .before .before .before .before .before in
-    laws.best-none (entry .pre .ask) (entry .args .packed) true _ _ (c .no-fields .ensures)
+    laws.best-none (entry .pre .ask) (entry .args .packed) _ _ (c .no-fields .ensures)
 
 loop-holds : tie.Need-loop-holds Inv-loop μ-loop
 loop-holds c = search needs
 
 key-of-requires : tie.Need-key-of-requires Inv-loop μ-loop
 key-of-requires c κs =
-    let entry = c .before .before .before .before .before .before in
-    (laws.find-place (entry .pre) (entry .args .packed), omega (arith, entry .pre .few, c .loop .inv))
+    let at-loop = c .before in
+    let entry = at-loop .before .before .before .before .before .before in
+    (laws.find-place (entry .pre) (entry .args .packed), omega (arith, entry .pre .few, at-loop .loop .inv))
 
 probe-requires : tie.Need-probe-requires Inv-loop μ-loop
-probe-requires c κs = let h = c .before .before .before .room-for .ensures .1 (search needs) in search needs
+probe-requires c κs = let h = c .before .before .before .before .room-for .ensures .1 (search needs) in search needs
 
 returns-2 : tie.Need-returns-2 Inv-loop μ-loop
 returns-2 c =
     let after-probe = c .before in
     let after-key-of = after-probe .before in
-    let at-loop = after-key-of .before in
+    let at-loop = after-key-of .before .before in
     let entry = at-loop .before .before .before .before .before .before in
     laws.find-here (entry .pre) (entry .args .packed) _ _ _ (after-key-of .key-of .ensures) (after-probe .probe .ensures) (c .if2 .taken) (at-loop .loop .inv)
+
+sub-before : tie.Need-sub-before Inv-loop μ-loop
+sub-before c = search needs
+
+loop-less : tie.Need-loop-less Inv-loop μ-loop
+loop-less c =
+    let in-loop = c .before .before .before in
+    laws.bit-less _ (in-loop .loop-test .taken)
+
+loop-again : tie.Need-loop-again Inv-loop μ-loop
+loop-again c =
+    let in-loop = c .before .before .before in
+    let at-loop = in-loop .before in
+    omega (arith, laws.bit-less (at-loop .loop .before) (in-loop .loop-test .taken), at-loop .loop .inv)
 
 no-fields-requires-2 : tie.Need-no-fields-requires-2 Inv-loop μ-loop
 no-fields-requires-2 c κs = search needs
 
 returns-3 : tie.Need-returns-3 Inv-loop μ-loop
 returns-3 c =
-    let entry = c .before .before .before .before .before .before .before .before .before .before .before in
-    laws.best-none (entry .pre .ask) (entry .args .packed) true _ _ (c .no-fields2 .ensures)
-
-sub-before : tie.Need-sub-before Inv-loop μ-loop
-sub-before c = search needs
-
-loop-less : tie.Need-loop-less Inv-loop μ-loop
-loop-less c = laws.bit-less _ (c .if3 .left)
-
-loop-again : tie.Need-loop-again Inv-loop μ-loop
-loop-again c =
-    let at-loop = c .before .before .before .before in
-    omega (arith, laws.bit-less (at-loop .loop .before) (c .if3 .left), at-loop .loop .inv)
+    let entry = c .before .before .before .before .before .before .before .before in
+    laws.best-none (entry .pre .ask) (entry .args .packed) _ _ (c .no-fields2 .ensures)
 
 pub find-spec : {M : Type 1} → statement M
 find-spec =
@@ -81,8 +84,8 @@ find-spec =
     key-of-requires
     probe-requires
     returns-2
-    no-fields-requires-2
-    returns-3
     sub-before
     loop-less
-    loop-again)
+    loop-again
+    no-fields-requires-2
+    returns-3)
