@@ -133,7 +133,8 @@ module _ (m : ℕ) (bk bw : List ℕ) (packed : Bool) (p : ℕ) where
       rw one at (behind-next h (scalar-kind (h .place) nz c) (placed packed (s .offset) b) b (sym (scalar-starts structs packed (h .place) nz c (s .offset))) (scalar-sized structs (h .place) nz c))
 
   -- so many are to be passed before the field with the index `goal`
-  behind-run : (goal : ℕ) {stop : ℕ} (r s : Run) → Passes bk bw packed stop r s → r .left ≤ goal → Behind (goal - r .left) (r .at) (r .offset) → (s .left ≤ goal) × Behind (goal - s .left) (s .at) (s .offset)
+  behind-run : (goal : ℕ) {stop : ℕ} (r s : Run) → Passes bk bw packed stop r s → r .left ≤ goal → Behind (goal - r .left) (r .at) (r .offset)
+      → (s .left ≤ goal) × Behind (goal - s .left) (s .at) (s .offset)
   behind-run goal r s none l h = (l, h)
   behind-run goal r s (more {s = u} b p c nz w n) l h =
       let i = behind-run goal r u p l h in (

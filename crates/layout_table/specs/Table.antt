@@ -208,8 +208,8 @@ pub store-both : (m : ℕ) (work : List ℕ) (slot at behind key value : ℕ) �
     → Stored m work (set (set work at key) behind value) key value
 store-both m work slot at behind key value ea eb la lb = inr (record { slot = slot; first = rw (← ea) la; second = rw (← eb) lb; same = rw (ea, eb) refl })
 
-pub stored-after : {m : ℕ} {es : List Entry} {work work′ : List ℕ} {packed : Bool} {p key value : ℕ} (k : Known) → AskNote m es work packed p k → KeyOf packed p (k .index) key → ValueOf (k .at) (k .offset) value
-    → Stored m work work′ key value → After m es work work′
+pub stored-after : {m : ℕ} {es : List Entry} {work work′ : List ℕ} {packed : Bool} {p key value : ℕ} (k : Known) → AskNote m es work packed p k → KeyOf packed p (k .index) key
+    → ValueOf (k .at) (k .offset) value → Stored m work work′ key value → After m es work work′
 stored-after k a c v (inl e) = rw e (after-none (a .ready))
 stored-after {m} {es} {work} {packed = packed} {p = p} {key = key} {value = value} k a c v (inr s) =
     rw (s .same) (after-note (s .slot) key value (a .ready) (words-right m es packed p (k .index) (k .at) (k .offset) key value c v (a .fact)) (s .first) (s .second))

@@ -32,6 +32,15 @@ pub struct Known {
     pub ended: bool,
 }
 
+// The field with this index of the struct whose first field stands at the place; facts are noted behind fields that take `size`
+// entries or more.
+pub struct Sought {
+    pub place: usize,
+    pub packed: bool,
+    pub index: u64,
+    pub size: usize,
+}
+
 // No field more is passed.
 fn ended(known: Known) -> Known
     ensures { λ r. ⌜ r ≡ isEnded known ⌝ }
@@ -44,39 +53,32 @@ fn ended(known: Known) -> Known
     }
 }
 
-// Passes one field, up to the field with this index, where it can be measured and the bytes taken stay within 2^24.
+// Passes one field, up to the one asked for, where it can be measured and the bytes taken stay within 2^24.
 fn next_field(
     book_kinds: &[u64],
     book_words: &[u64],
     work: &mut [u64],
     names: u64,
-    place: usize,
-    packed: bool,
-    index: u64,
+    sought: Sought,
     from: Known,
 ) -> Known
-    requires { ⌜ AskPass names (entries (now «book_kinds») (now «book_words»)) (now work) packed place index from ⌝ }
-    ensures { λ r. ⌜ KnownOutcome names (entries (now («book_kinds» .entry)) (now («book_words» .entry))) (now (work .entry)) (now (work .exit)) packed place index r ⌝ }
+    requires { ⌜ AskPass names (entries (now «book_kinds») (now «book_words»)) (now work) (sought .packed) (sought .place) (sought .index) from ⌝ }
+    ensures { λ r. ⌜ KnownOutcome names (entries (now («book_kinds» .entry)) (now («book_words» .entry))) (now (work .entry)) (now (work .exit))
+        (sought .packed) (sought .place) (sought .index) r ⌝ }
 {
     let at = from.at;
+    let packed = sought.packed;
     if book_kinds[at] == 0 {
         return ended(from);
     }
-    if index <= from.index {
+    if sought.index <= from.index {
         return ended(from);
     }
     let ks = &book_kinds[at..];
     let ws = &book_words[at..];
-    let Offset::At(start) = field_start(
-        ks,
-        ws,
-        book_kinds,
-        book_words,
-        work,
-        names,
-        packed,
-        from.offset,
-    ) else {
+    let begin = from.offset;
+    let Offset::At(start) = field_start(ks, ws, book_kinds, book_words, work, names, packed, begin)
+    else {
         return ended(from);
     };
     let Measured::Bytes(size, _) = size_of(ks, ws, book_kinds, book_words, work, names, 64) else {
@@ -93,36 +95,28 @@ fn next_field(
     }
 }
 
-// Passes 2^level fields, up to the field with this index, where there are few and all are integers or pointers.
+// Passes 2^level fields, up to the one asked for, where these are few and all integers or pointers.
 fn next_scalars(
     book_kinds: &[u64],
     book_words: &[u64],
     names: u64,
-    place: usize,
-    packed: bool,
-    index: u64,
+    sought: Sought,
     level: u32,
     from: Known,
 ) -> Known
-    requires { ⌜ AskRun names (entries (now «book_kinds») (now «book_words»)) packed place index from ⌝ }
-    ensures { λ r. ⌜ Best names (entries (now («book_kinds» .entry)) (now («book_words» .entry))) packed place index r ⌝ }
+    requires { ⌜ AskRun names (entries (now «book_kinds») (now «book_words»)) (sought .packed) (sought .place) (sought .index) from ⌝ }
+    ensures { λ r. ⌜ Best names (entries (now («book_kinds» .entry)) (now («book_words» .entry))) (sought .packed) (sought .place) (sought .index) r ⌝ }
 {
     if 6 < level {
         return ended(from);
     }
     let many = 1u64 << level;
-    if index - from.index < many {
+    if sought.index - from.index < many {
         return ended(from);
     }
     let next = fields_left(from.at, many, from.offset);
-    let run = pass_scalars(
-        book_kinds,
-        book_words,
-        names,
-        packed,
-        book_kinds.len(),
-        next,
-    );
+    let stop = book_kinds.len();
+    let run = pass_scalars(book_kinds, book_words, names, sought.packed, stop, next);
     if run.left != 0 {
         return ended(from);
     }
@@ -137,107 +131,55 @@ fn next_scalars(
     }
 }
 
-// Notes a fact where the fields from `start` on take `size` entries or more before it.
+// Notes a fact where the fields from `start` on take many entries before it.
 fn note_behind(
     book_kinds: &[u64],
     book_words: &[u64],
     work: &mut [u64],
     names: u64,
-    place: usize,
-    packed: bool,
+    sought: Sought,
     start: usize,
-    size: usize,
     fact: Known,
 )
-    requires { ⌜ AskNote names (entries (now «book_kinds») (now «book_words»)) (now work) packed place fact ⌝ }
-    requires { ⌜ (start ≤ 2 ^ 32) × (size ≤ 2 ^ 32) ⌝ }
+    requires { ⌜ AskNote names (entries (now «book_kinds») (now «book_words»)) (now work) (sought .packed) (sought .place) fact ⌝ }
+    requires { ⌜ (start ≤ 2 ^ 32) × (sought .size ≤ 2 ^ 32) ⌝ }
     ensures { λ _. ⌜ After names (entries (now («book_kinds» .entry)) (now («book_words» .entry))) (now (work .entry)) (now (work .exit)) ⌝ }
 {
-    if start + size <= fact.at {
+    let place = sought.place;
+    let packed = sought.packed;
+    if start + sought.size <= fact.at {
         note(book_kinds, book_words, work, names, place, packed, fact);
     }
 }
 
-// Passes 2^level fields, up to the field with this index, and notes facts on the way.
+// Passes 2^level fields, up to the one asked for, and notes facts on the way.
 fn note_fields(
     book_kinds: &[u64],
     book_words: &[u64],
     work: &mut [u64],
     names: u64,
-    place: usize,
-    packed: bool,
-    index: u64,
-    size: usize,
+    sought: Sought,
     level: u32,
     from: Known,
 ) -> Known
-    requires { ⌜ AskPass names (entries (now «book_kinds») (now «book_words»)) (now work) packed place index from ⌝ }
-    requires { ⌜ size ≤ 2 ^ 32 ⌝ }
-    ensures { λ r. ⌜ KnownOutcome names (entries (now («book_kinds» .entry)) (now («book_words» .entry))) (now (work .entry)) (now (work .exit)) packed place index r ⌝ }
+    requires { ⌜ AskPass names (entries (now «book_kinds») (now «book_words»)) (now work) (sought .packed) (sought .place) (sought .index) from ⌝ }
+    requires { ⌜ sought .size ≤ 2 ^ 32 ⌝ }
+    ensures { λ r. ⌜ KnownOutcome names (entries (now («book_kinds» .entry)) (now («book_words» .entry))) (now (work .entry)) (now (work .exit))
+        (sought .packed) (sought .place) (sought .index) r ⌝ }
 {
-    let run = next_scalars(
-        book_kinds,
-        book_words,
-        names,
-        place,
-        packed,
-        index,
-        level,
-        from,
-    );
+    let run = next_scalars(book_kinds, book_words, names, sought, level, from);
     if run.ended == false {
         return run;
     }
     if level == 0 {
-        return next_field(
-            book_kinds,
-            book_words,
-            work,
-            names,
-            place,
-            packed,
-            index,
-            from,
-        );
+        return next_field(book_kinds, book_words, work, names, sought, from);
     }
-    let half = note_fields(
-        book_kinds,
-        book_words,
-        work,
-        names,
-        place,
-        packed,
-        index,
-        size,
-        level - 1,
-        from,
-    );
+    let half = note_fields(book_kinds, book_words, work, names, sought, level - 1, from);
     if half.ended {
         return half;
     }
-    note_behind(
-        book_kinds,
-        book_words,
-        work,
-        names,
-        place,
-        packed,
-        from.at,
-        size,
-        half,
-    );
-    note_fields(
-        book_kinds,
-        book_words,
-        work,
-        names,
-        place,
-        packed,
-        index,
-        size,
-        level - 1,
-        half,
-    )
+    note_behind(book_kinds, book_words, work, names, sought, from.at, half);
+    note_fields(book_kinds, book_words, work, names, sought, level - 1, half)
 }
 
 // The entries that the fields before a fact take at least: enough that the table has room for twice the facts of a book.
@@ -319,18 +261,12 @@ pub fn known_before(
         return no_fields(place);
     }
     let found = find(book_kinds, book_words, work, names, place, packed, index);
-    let size = size_for(facts, book_kinds.len());
-    let level = level_for(index - found.index);
-    note_fields(
-        book_kinds,
-        book_words,
-        work,
-        names,
+    let sought = Sought {
         place,
         packed,
         index,
-        size,
-        level,
-        found,
-    )
+        size: size_for(facts, book_kinds.len()),
+    };
+    let level = level_for(index - found.index);
+    note_fields(book_kinds, book_words, work, names, sought, level, found)
 }

@@ -16,7 +16,7 @@ use Rattle.layout_table.proofs.+note_fields.{statement}
 use Rattle.layout_table.proofs.+note_fields.Tie.{close}
 
 abbrev μ-note-fields : Measures 3 note-fields-kinds.ps ℕ
-μ-note-fields κs a = a .1 .1 .1 .1 .1 .1 .1 .1 .0
+μ-note-fields κs a = a .1 .1 .1 .1 .1 .0
 
 abbrev note-fields-at : ℕ → In 3 note-fields-kinds.ps
 note-fields-at t =
@@ -39,7 +39,9 @@ note-fields-claims t = (
 )
 
 note-fields-next-scalars-requires : (t : ℕ) → note-fields-lts.Need-next-scalars-requires (note-fields-claims t) (note-fields-at t) note-fields.Post
-note-fields-next-scalars-requires t c κs = laws.pass-run (c .before .before .before .pre .1 .0)
+note-fields-next-scalars-requires t c κs =
+    let entry = c .before .before .before in
+    laws.pass-run (entry .pre .1 .0)
 
 note-fields-returns : (t : ℕ) → note-fields-lts.Need-returns (note-fields-claims t) (note-fields-at t) note-fields.Post
 note-fields-returns t c =

@@ -35,7 +35,7 @@ ended-requires-2 c κs = search needs
 
 returns-2 : tie.Need-returns-2
 returns-2 c =
-    let entry = c .before .before .before .before .before .before .before .before in
+    let entry = c .before .before .before .before .before .before .before .before .before in
     laws.field-ended _ _ _ _ _ _ (entry .pre) _ (c .ended2 .ensures) (after-none (entry .pre .ready))
 
 mul-ks : tie.Need-mul-ks
@@ -43,13 +43,13 @@ mul-ks c = search needs
 
 sub-ks : tie.Need-sub-ks
 sub-ks c =
-    let entry = c .before .before .before .before .before .before .before in
+    let entry = c .before .before .before .before .before .before .before .before in
     let h = fields.place-kinds _ _ _ _ (laws.known-place _ _ _ _ _ _ (entry .pre)) in
     search needs
 
 part-ks-start : tie.Need-part-ks-start
 part-ks-start c =
-    let entry = c .before .before .before .before .before .before .before in
+    let entry = c .before .before .before .before .before .before .before .before in
     let h = fields.place-kinds _ _ _ _ (laws.known-place _ _ _ _ _ _ (entry .pre)) in
     search needs
 
@@ -61,13 +61,13 @@ mul-ws c = search needs
 
 sub-ws : tie.Need-sub-ws
 sub-ws c =
-    let entry = c .before .before .before .before .before .before .before .before in
+    let entry = c .before .before .before .before .before .before .before .before .before in
     let h = fields.place-words _ _ _ _ (laws.known-place _ _ _ _ _ _ (entry .pre)) in
     search needs
 
 part-ws-start : tie.Need-part-ws-start
 part-ws-start c =
-    let entry = c .before .before .before .before .before .before .before .before in
+    let entry = c .before .before .before .before .before .before .before .before .before in
     let h = fields.place-words _ _ _ _ (laws.known-place _ _ _ _ _ _ (entry .pre)) in
     search needs
 
@@ -76,7 +76,7 @@ part-ws-end c = search needs
 
 field-start-requires : tie.Need-field-start-requires
 field-start-requires c κs =
-    let else1 = c .before .before .before .before .before in
+    let else1 = c .before .before .before .before .before .before in
     let entry = else1 .before .before .before .before .before in
     laws.start-ask _ _ _ _ _ _ (entry .pre) (else1 .if1 .left)
 
@@ -95,14 +95,14 @@ same-length c = search needs
 returns-3 : tie.Need-returns-3
 returns-3 c =
     let after-field-start = c .before .before .before .before .before in
-    let entry = after-field-start .before .before .before .before .before .before .before .before .before .before .before in
+    let entry = after-field-start .before .before .before .before .before .before .before .before .before .before .before .before in
     laws.field-ended _ _ _ _ _ _ (entry .pre) _ (c .ended3 .ensures) (after-field-start .field-start .ensures .after)
 
 size-of-requires : tie.Need-size-of-requires
 size-of-requires c κs =
     let after-start = c .before .before in
     let after-field-start = after-start .before .before .before .before in
-    let else1 = after-field-start .before .before .before .before .before .before in
+    let else1 = after-field-start .before .before .before .before .before .before .before in
     let entry = else1 .before .before .before .before .before in
     laws.size-ask _ _ _ _ _ _ (entry .pre) (else1 .if1 .left) _ (after-field-start .field-start .ensures) _ (after-start .start .given .1)
 
@@ -122,7 +122,7 @@ returns-4 : tie.Need-returns-4
 returns-4 c =
     let after-size-of = c .before .before .before .before .before in
     let after-field-start = after-size-of .before .before .before .before .before .before .before in
-    let entry = after-field-start .before .before .before .before .before .before .before .before .before .before .before in
+    let entry = after-field-start .before .before .before .before .before .before .before .before .before .before .before .before in
     laws.field-ended _ _ _ _ _ _ (entry .pre) _ (c .ended4 .ensures)
     (after-then (after-field-start .field-start .ensures .after) (after-size-of .size-of .ensures .after))
 
@@ -132,7 +132,7 @@ add-if3 c =
     let after-size-of = after-size .before .before .before .before in
     let after-start = after-size-of .before .before .before in
     let after-field-start = after-start .before .before .before .before in
-    let else1 = after-field-start .before .before .before .before .before .before in
+    let else1 = after-field-start .before .before .before .before .before .before .before in
     let entry = else1 .before .before .before .before .before in
     omega (
       arith,
@@ -150,25 +150,25 @@ returns-5 : tie.Need-returns-5
 returns-5 c =
     let after-size-of = c .before .before .before .before .before .before .before in
     let after-field-start = after-size-of .before .before .before .before .before .before .before in
-    let entry = after-field-start .before .before .before .before .before .before .before .before .before .before .before in
+    let entry = after-field-start .before .before .before .before .before .before .before .before .before .before .before .before in
     laws.field-ended _ _ _ _ _ _ (entry .pre) _ (c .ended5 .ensures)
     (after-then (after-field-start .field-start .ensures .after) (after-size-of .size-of .ensures .after))
 
 add-t16 : tie.Need-add-t16
 add-t16 c =
     let else2 = c .before .before .before .before .before .before .before .before .before .before .before .before .before .before .before .before .before .before in
-    let entry = else2 .before .before .before .before .before .before .before in
+    let entry = else2 .before .before .before .before .before .before .before .before in
     omega (arith, else2 .if2 .left, entry .pre .few)
 
 type-end-requires : tie.Need-type-end-requires
 type-end-requires c κs =
-    let else1 = c .before .before .before .before .before .before .before .before .before .before .before .before .before .before .before .before .before .before .before .before in
+    let else1 = c .before .before .before .before .before .before .before .before .before .before .before .before .before .before .before .before .before .before .before .before .before in
     let entry = else1 .before .before .before .before .before in
     fields.place-starts _ _ _ _ (laws.known-place _ _ _ _ _ _ (entry .pre)) (else1 .if1 .left)
 
 add-t19 : tie.Need-add-t19
 add-t19 c =
-    let else1 = c .before .before .before .before .before .before .before .before .before .before .before .before .before .before .before .before .before .before .before .before .before in
+    let else1 = c .before .before .before .before .before .before .before .before .before .before .before .before .before .before .before .before .before .before .before .before .before .before in
     let entry = else1 .before .before .before .before .before in
     omega (arith, fields.next-few _ _ _ _ (laws.known-place _ _ _ _ _ _ (entry .pre)) (else1 .if1 .left) _ (c .type-end .ensures))
 
@@ -186,7 +186,7 @@ returns-6 c =
     let after-start = after-size-of .before .before .before in
     let after-field-start = after-start .before .before .before .before in
     let else2 = after-field-start .before .before .before .before in
-    let else1 = else2 .before .before in
+    let else1 = else2 .before .before .before in
     let entry = else1 .before .before .before .before .before in
     laws.field-passed _ _ _ _ _ _ (entry .pre) (else1 .if1 .left) _ (after-field-start .field-start .ensures) _ (after-start .start .given .1) _
     (after-size-of .size-of .ensures) _ _ (after-size .size .given .1) (else3 .if3 .left) (else2 .if2 .left) _ (c .type-end .ensures)

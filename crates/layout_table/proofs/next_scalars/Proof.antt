@@ -28,7 +28,7 @@ ended-requires-2 c κs = search needs
 
 returns-2 : tie.Need-returns-2
 returns-2 c =
-    let entry = c .before .before .before .before .before .before in
+    let entry = c .before .before .before .before .before .before .before in
     laws.best-ended _ (c .ended2 .ensures) (entry .pre .best)
 
 fields-left-requires : tie.Need-fields-left-requires
@@ -36,15 +36,16 @@ fields-left-requires c κs = search needs
 
 pass-scalars-requires : tie.Need-pass-scalars-requires
 pass-scalars-requires c κs =
-    let entry = c .before .before .before .before .before .before in
-    laws.run-from _ _ _ _ _ _ (entry .pre) _ _ (c .fields-left .ensures)
+    let after-fields-left = c in
+    let entry = after-fields-left .before .before .before .before .before .before .before in
+    laws.run-from _ _ _ _ _ _ (entry .pre) _ _ (after-fields-left .fields-left .ensures)
 
 ended-requires-3 : tie.Need-ended-requires-3
 ended-requires-3 c κs = search needs
 
 returns-3 : tie.Need-returns-3
 returns-3 c =
-    let entry = c .before .before .before .before .before .before .before .before .before .before in
+    let entry = c .before .before .before .before .before .before .before .before .before .before .before in
     laws.best-ended _ (c .ended3 .ensures) (entry .pre .best)
 
 ended-requires-4 : tie.Need-ended-requires-4
@@ -52,11 +53,11 @@ ended-requires-4 c κs = search needs
 
 returns-4 : tie.Need-returns-4
 returns-4 c =
-    let entry = c .before .before .before .before .before .before .before .before .before .before .before .before in
+    let entry = c .before .before .before .before .before .before .before .before .before .before .before .before .before in
     laws.best-ended _ (c .ended4 .ensures) (entry .pre .best)
 
-add-t13 : tie.Need-add-t13
-add-t13 c = search needs
+add-t12 : tie.Need-add-t12
+add-t12 c = search needs
 
 returns-5 : tie.Need-returns-5
 returns-5 c =
@@ -65,7 +66,7 @@ returns-5 c =
     let after-pass-scalars = else3 .before .before in
     let after-fields-left = after-pass-scalars .before in
     let else2 = after-fields-left .before in
-    let entry = else2 .before .before .before .before .before in
+    let entry = else2 .before .before .before .before .before .before in
     laws.run-passed _ _ _ _ _ _ (entry .pre) _ _ (after-fields-left .fields-left .ensures) _ (after-pass-scalars .pass-scalars .ensures) (else3 .if3 .left)
     (else4 .if4 .left) (else2 .if2 .left)
 
@@ -85,5 +86,5 @@ next-scalars-spec =
     returns-3
     ended-requires-4
     returns-4
-    add-t13
+    add-t12
     returns-5)
