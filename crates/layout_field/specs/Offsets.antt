@@ -101,8 +101,13 @@ module _ (structs : List StructType) (packed : Bool) where
   unfoldable pub startOf : Ty → ℕ → Result ℕ
   startOf t off = bind (alignIn (alignOf structs) (sizeOf structs) packed t) (λ a. ok (placed packed off a))
 
-  abbrev pub offsetOf : Tys → ℕ → Result ℕ
-  offsetOf ts i = offsetFrom (alignOf structs) (sizeOf structs) packed ts i 0
+  abbrev pub offsetOf : Tys → ℕ → ℕ → Result ℕ
+  offsetOf ts i off = offsetFrom (alignOf structs) (sizeOf structs) packed ts i off
+
+-- a field of those at the front is asked for, behind so many bytes
+pub record AskOffset (m : ℕ) (es bs : List Entry) (work : List ℕ) (off : ℕ) : Type 0 where
+  pub ask : AskFields m es bs work 64
+  pub small : off ≤ 16777216
 
 pub record AskStart (m : ℕ) (es bs : List Entry) (work : List ℕ) (off : ℕ) : Type 0 where
   pub ask : Ask m es bs work 64
@@ -146,13 +151,27 @@ module _ (m : ℕ) (es bs : List Entry) (work : List ℕ) (packed : Bool) (off :
         let s : aligns (structsIn m bs) (tyOf m es) 64 ≡ ok a = g .known .high 64 (g .within) in
         record { answer = ap ok en ∙ rw (e, s) refl; most = omega (arith, placed-most packed off a (start-align a h q)); after = o .after }
 
+-- an integer or a pointer
+module _ (structs : List StructType) {m : ℕ} {ks ws : List ℕ} {a b : ℕ} (f : AtFields m ks ws a) (nz : b ≡ 0 → ⊥) (c : Scalar (getD ks a 0) (getD ws a 0) b) where
+  pub scalar-sized : sizes structs (tyOf m (drop a (entries ks ws))) 64 ≡ ok b
+  scalar-sized = let g = scalar-type f nz c .sized structs 64 (λ z. omega arith) in g .known .high 64 (g .within)
+
+  scalar-aligned : aligns structs (tyOf m (drop a (entries ks ws))) 64 ≡ ok b
+  scalar-aligned = let g = scalar-type f nz c .aligned structs 64 (λ z. omega arith) in g .known .high 64 (g .within)
+
+pub scalar-starts : (structs : List StructType) (packed : Bool) {m : ℕ} {ks ws : List ℕ} {a b : ℕ} (f : AtFields m ks ws a) (nz : b ≡ 0 → ⊥) (c : Scalar (getD ks a 0) (getD ws a 0) b) (off : ℕ)
+    → startOf structs packed (tyOf m (drop a (entries ks ws))) off ≡ ok (placed packed off b)
+unfolding startOf alignIn placed bind alignOf
+scalar-starts structs true f nz c off = refl
+scalar-starts structs false f nz c off = rw (scalar-aligned structs f nz c) refl
+
 -- ---- the loop
-through : (r : Result ℕ) (g : ℕ → ℕ) (x : Result ℕ) (f : ℕ → Result ℕ) → x ≡ bind r (λ a. ok (g a)) → bind r (λ a. f (g a)) ≡ bind x f
+pub through : (r : Result ℕ) (g : ℕ → ℕ) (x : Result ℕ) (f : ℕ → Result ℕ) → x ≡ bind r (λ a. ok (g a)) → bind r (λ a. f (g a)) ≡ bind x f
 unfolding bind
 through (ok a) g x f e = rw e refl
 through (err c) g x f e = rw e refl
 
-module _ (m : ℕ) (ks ws : List ℕ) (bs : List Entry) (work₀ : List ℕ) (packed : Bool) (i : ℕ) where
+module _ (m : ℕ) (ks ws : List ℕ) (bs : List Entry) (work₀ : List ℕ) (packed : Bool) (i off₀ : ℕ) where
   abbrev structs : List StructType
   structs = structsIn m bs
 
@@ -161,15 +180,15 @@ module _ (m : ℕ) (ks ws : List ℕ) (bs : List Entry) (work₀ : List ℕ) (pa
 
   pub record OffsetLoop (work : List ℕ) (a off left : ℕ) : Type 0 where
     pub place : AtFields m ks ws a
-    pub goes : offsetOf structs packed (tysOf m (entries ks ws)) i ≡ from a left off
-    pub small : off ≤ a * 33554432
+    pub goes : offsetOf structs packed (tysOf m (entries ks ws)) i off₀ ≡ from a left off
+    pub small : off ≤ a * 33554432 + 33554432
     pub after : After m bs work₀ work
 
-  pub offset-start : AskFields m (entries ks ws) bs work₀ 64 → OffsetLoop work₀ 0 0 i
-  offset-start k = record { place = at-start m ks ws (k .front); goes = refl; small = omega arith; after = after-none (k .ready) }
+  pub offset-start : AskOffset m (entries ks ws) bs work₀ off₀ → OffsetLoop work₀ 0 off₀ i
+  offset-start k = record { place = at-start m ks ws (k .ask .front); goes = refl; small = omega (arith, k .small); after = after-none (k .ask .ready) }
 
   module _ {work : List ℕ} {a off left : ℕ} (l : OffsetLoop work a off left) where
-    pub offset-none : getD ks a 0 ≡ 0 → OffsetOutcome m bs work₀ work (offsetOf structs packed (tysOf m (entries ks ws)) i) (offset.Refused 14)
+    pub offset-none : getD ks a 0 ≡ 0 → OffsetOutcome m bs work₀ work (offsetOf structs packed (tysOf m (entries ks ws)) i off₀) (offset.Refused 14)
     unfolding offsetFrom
     offset-none z = record { answer = sym (l .goes ∙ rw (at-nil (l .place) z) refl); after = l .after }
 
@@ -200,11 +219,11 @@ module _ (m : ℕ) (ks ws : List ℕ) (bs : List Entry) (work₀ : List ℕ) (pa
         refused-from x q zero e = from-zero e ∙ sym start-is ∙ ap offsetResult q
         refused-from x q (suc k) e = from-suc k e (err x) (sym (ap offsetResult q) ∙ start-is)
 
-        pub offset-refused : (x : ℕ) → r ≡ offset.Refused x → OffsetOutcome m bs work₀ work′ (offsetOf structs packed (tysOf m (entries ks ws)) i) (offset.Refused x)
+        pub offset-refused : (x : ℕ) → r ≡ offset.Refused x → OffsetOutcome m bs work₀ work′ (offsetOf structs packed (tysOf m (entries ks ws)) i off₀) (offset.Refused x)
         offset-refused x q = record { answer = sym (l .goes ∙ refused-from x q left refl); after = after-then (l .after) (o .after) }
 
         module _ (n : ℕ) (q : r ≡ offset.At n) where
-          pub offset-here : left ≡ 0 → OffsetOutcome m bs work₀ work′ (offsetOf structs packed (tysOf m (entries ks ws)) i) (offset.At n)
+          pub offset-here : left ≡ 0 → OffsetOutcome m bs work₀ work′ (offsetOf structs packed (tysOf m (entries ks ws)) i off₀) (offset.At n)
           offset-here e = record { answer = sym (l .goes ∙ from-zero e ∙ sym start-is ∙ ap offsetResult q); after = after-then (l .after) (o .after) }
 
           pub start-most : n ≤ off + 8
@@ -227,7 +246,7 @@ module _ (m : ℕ) (ks ws : List ℕ) (bs : List Entry) (work₀ : List ℕ) (pa
             size-says : Measures (sizes structs field) 64 s
             size-says = part-type (sizes structs) m ks ws a 64 s (u .says)
 
-            pub offset-size-refused : (x : ℕ) → s ≡ Refused x → OffsetOutcome m bs work₀ work″ (offsetOf structs packed (tysOf m (entries ks ws)) i) (offset.Refused x)
+            pub offset-size-refused : (x : ℕ) → s ≡ Refused x → OffsetOutcome m bs work₀ work″ (offsetOf structs packed (tysOf m (entries ks ws)) i off₀) (offset.Refused x)
             unfolding bind
             offset-size-refused x p =
                 let g : sizes structs field 64 ≡ err x = refused-at s _ 64 p size-says in
@@ -257,18 +276,10 @@ module _ (m : ℕ) (ks ws : List ℕ) (bs : List Entry) (work₀ : List ℕ) (pa
     known = scalar-type (l .place) nz c
 
     start-known : startOf structs packed (tyOf m (drop (s .at) (entries ks ws))) (s .offset) ≡ ok (placed packed (s .offset) b)
-    unfolding startOf alignIn placed bind alignOf
-    start-known = go packed
-      where
-        aligned : aligns structs (tyOf m (drop (s .at) (entries ks ws))) 64 ≡ ok b
-        aligned = let g = known .aligned structs 64 (λ z. omega arith) in g .known .high 64 (g .within)
-
-        go : (p : Bool) → startOf structs p (tyOf m (drop (s .at) (entries ks ws))) (s .offset) ≡ ok (placed p (s .offset) b)
-        go true = refl
-        go false = rw aligned refl
+    start-known = scalar-starts structs packed (l .place) nz c (s .offset)
 
     size-known : sizes structs (tyOf m (drop (s .at) (entries ks ws))) 64 ≡ ok b
-    size-known = let g = known .sized structs 64 (λ z. omega arith) in g .known .high 64 (g .within)
+    size-known = scalar-sized structs (l .place) nz c
 
     offset-one : OffsetLoop work (s .at + 1) (placed packed (s .offset) b + b) (s .left - 1)
     unfolding bind

@@ -11,8 +11,8 @@ ghost use mathlib.Core.Bool.{Bool};
 ghost use Prim.Native.Nat.{_≤_, _^_};
 ghost use Rattle.book.specs.Entry.{entries};
 ghost use Rattle.layout_memo.specs.Front.{StartsFields, tyOf, tysOf};
-ghost use Rattle.layout_memo.specs.Work.{Ask, AskFields, structsIn};
-ghost use Rattle.layout_field.specs.Offsets.{leftFrom, FieldFound, AskStart, StartOutcome, OffsetOutcome, startOf, offsetOf};
+ghost use Rattle.layout_memo.specs.Work.{Ask, structsIn};
+ghost use Rattle.layout_field.specs.Offsets.{leftFrom, FieldFound, AskStart, AskOffset, StartOutcome, OffsetOutcome, startOf, offsetOf};
 
 // Where something starts, or the number of a refusal.
 pub enum Offset {
@@ -27,7 +27,7 @@ pub enum Place {
 }
 
 // So many fields are to be passed from the place on.
-fn fields_left(at: usize, left: u64, offset: u64) -> Run
+pub fn fields_left(at: usize, left: u64, offset: u64) -> Run
     ensures { λ r. ⌜ r ≡ leftFrom at left offset ⌝ }
 {
     Run {
@@ -60,7 +60,7 @@ pub fn field_at(kinds: &[u64], words: &[u64], names: u64, index: u64) -> Place
 }
 
 // Where the field at the front starts, behind so many bytes.
-fn field_start(
+pub fn field_start(
     kinds: &[u64],
     words: &[u64],
     book_kinds: &[u64],
@@ -83,7 +83,7 @@ fn field_start(
     }
 }
 
-// The offset of the field with this index; 14 where the struct has none.
+// The offset of the field with this index among those at the front, behind so many bytes; 14 where there is none.
 pub fn field_offset(
     kinds: &[u64],
     words: &[u64],
@@ -93,18 +93,19 @@ pub fn field_offset(
     names: u64,
     packed: bool,
     index: u64,
+    offset: u64,
 ) -> Offset
-    requires { ⌜ AskFields names (entries (now kinds) (now words)) (entries (now «book_kinds») (now «book_words»)) (now work) 64 ⌝ }
+    requires { ⌜ AskOffset names (entries (now kinds) (now words)) (entries (now «book_kinds») (now «book_words»)) (now work) offset ⌝ }
     ensures { λ r. ⌜ OffsetOutcome names (entries (now («book_kinds» .entry)) (now («book_words» .entry))) (now (work .entry)) (now (work .exit))
-        (offsetOf (structsIn names (entries (now («book_kinds» .entry)) (now («book_words» .entry)))) packed (tysOf names (entries (now (kinds .entry)) (now (words .entry)))) index) r ⌝ }
+        (offsetOf (structsIn names (entries (now («book_kinds» .entry)) (now («book_words» .entry)))) packed (tysOf names (entries (now (kinds .entry)) (now (words .entry)))) index offset) r ⌝ }
 {
     let mut at: usize = 0;
-    let mut offset: u64 = 0;
+    let mut taken = offset;
     let mut left = index;
     while kinds[at] != 0 {
         let ks = &kinds[at..];
         let ws = &words[at..];
-        match field_start(ks, ws, book_kinds, book_words, work, names, packed, offset) {
+        match field_start(ks, ws, book_kinds, book_words, work, names, packed, taken) {
             Offset::Refused(e) => return Offset::Refused(e),
             Offset::At(start) => {
                 if left == 0 {
@@ -113,16 +114,16 @@ pub fn field_offset(
                 match size_of(ks, ws, book_kinds, book_words, work, names, 64) {
                     Measured::Refused(e) => return Offset::Refused(e),
                     Measured::Bytes(size, _) => {
-                        offset = start + size;
+                        taken = start + size;
                     }
                 }
             }
         }
         let behind = at + type_end(ks, ws, names);
-        let next = fields_left(behind, left - 1, offset);
+        let next = fields_left(behind, left - 1, taken);
         let run = pass_scalars(kinds, words, names, packed, kinds.len(), next);
         at = run.at;
-        offset = run.offset;
+        taken = run.offset;
         left = run.left;
     }
     Offset::Refused(14)

@@ -8,5 +8,4 @@ pub mod Fields
 pub mod FieldCalls
 pub mod Scalars
 pub mod Ends
-pub mod Table
 pub mod Structs

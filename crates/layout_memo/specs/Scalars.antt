@@ -140,7 +140,7 @@ pub data Passes (ks ws : List ℕ) (packed : Bool) (stop : ℕ) : Run → Run �
 -- what is asked: a place among the fields, and offsets of a book's structs
 pub record RunFrom (m : ℕ) (ks ws : List ℕ) (r : Run) : Type 0 where
   pub place : AtFields m ks ws (r .at)
-  pub small : r .offset ≤ r .at * 33554432
+  pub small : r .offset ≤ r .at * 33554432 + 33554432
 
 pub placed-within : (packed : Bool) (off b : ℕ) → b ≤ 8 → placed packed off b ≤ off + 8
 unfolding placed

@@ -97,16 +97,16 @@ module _ (m : ℕ) (es : List Entry) where
   pub record FieldFact (packed : Bool) (p j q off : ℕ) : Type 0 where
     pub fields : StartsFields m (drop q es)
     pub there : q < length es
-    pub later : p < q
-    pub small : off < 16777216
+    pub later : p ≤ q
+    pub small : off ≤ 16777216
     pub places : (i : ℕ) → fieldAt (tysOf m (drop p es)) (j + i) ≡ fieldAt (tysOf m (drop q es)) i
     pub offsets : (i : ℕ) → offsetFrom (alignOf (structsIn m es)) (sizeOf (structsIn m es)) packed (tysOf m (drop p es)) (j + i) 0
         ≡ offsetFrom (alignOf (structsIn m es)) (sizeOf (structsIn m es)) packed (tysOf m (drop q es)) i off
 
-  -- two words of the table: the first is 0 for no fact, or one more than whether the struct is packed, p above it and whatever else; the second has `off`
-  -- in its lower 24 bits, then q in 20, then j
+  -- two words of the table: the first is 0 for no fact, or one more than whether the struct is packed, with p in the 20 bits above it and j above p; the
+  -- second has `off` in its lower 25 bits and q above it
   pub record FactWords (key value : ℕ) : Type 0 where
-    pub right : (key ≡ 0 → ⊥) → FieldFact (eqb ((key - 1) % 2) 1) ((key - 1) / 2 % 1048576) (value / 17592186044416) (value / 16777216 % 1048576) (value % 16777216)
+    pub right : (key ≡ 0 → ⊥) → FieldFact (eqb ((key - 1) % 2) 1) ((key - 1) / 2 % 1048576) ((key - 1) / 2097152) (value / 33554432) (value % 33554432)
 
 -- ---- the words of all names
 module _ (m : ℕ) (es : List Entry) where

@@ -5,7 +5,6 @@ pub mod ends;
 pub mod memory;
 pub mod scalars;
 pub mod structs;
-pub mod table;
 
 ghost use mathlib.Core.Path.{_≡_};
 ghost use Prim.Native.Nat.{max};

@@ -81,7 +81,7 @@ module _ (m : ℕ) (ks ws : List ℕ) (bs : List Entry) (work₀ : List ℕ) (le
 
     -- integers and pointers are passed
     pub size-from : (next : Run) → next ≡ allFrom a (sum .offset) (sum .align) (sum .levels) → RunFrom m ks ws next
-    size-from next e = rw e (record { place = i .0 .place; small = i .0 .offset })
+    size-from next e = rw e (record { place = i .0 .place; small = omega (arith, i .0 .offset) })
 
   size-one : {work : List ℕ} (s : Run) (b : ℕ) → Scalar (getD ks (s .at) 0) (getD ws (s .at) 0) b → (b ≡ 0 → ⊥) → (level ≡ 0 → ⊥)
       → SizeInv work (s .at) (sumOf s) → SizeInv work (s .at + 1) (sumOf (passed packed s b))

@@ -20,16 +20,19 @@ use Rattle.layout.specs.Layout.{asType, resolve, sizeOf, fieldOffset}
 use Rattle.layout.specs.Step.{Step as GepStep, constInt, fieldAt, stride, structStep, gepStep}
 use Rattle.layout_memo.specs.Measured.{Measures}
 use Rattle.layout_memo.specs.Front.{Starts, StartsFields, tyOf, tysOf, ShapeOf, shape-at}
-use Rattle.layout_memo.specs.Work.{structsIn, BodyAt, sizes, Ready, After, Outcome, Ask, AskFields, after-none}
+use Rattle.layout_memo.specs.Work.{structsIn, BodyAt, sizes, Ready, After, FieldFact, Outcome, Ask, after-none, after-then}
 use Rattle.layout_memo.specs.Helpers.{gives-at, refused-at}
 use Rattle.layout_memo.specs.Calls.{lent, ask-part, ask-fields, part-type, starts-length}
-use Rattle.layout_field.specs.Offsets.{FieldFound, FieldPlace, OffsetOutcome, offsetOf, offsetResult}
+use Rattle.layout_field.specs.Offsets.{FieldFound, FieldPlace, AskOffset, OffsetOutcome, offsetOf, offsetResult}
 use Rattle.layout_memo.specs.declared.Measured.{Measured}
 use Rattle.layout_memo.specs.declared.Measured.the-variants.{Bytes, Refused}
 use Rattle.layout_field.specs.declared.Offset.{Offset}
 use Rattle.layout_field.specs.declared.Offset.the-variants as offset
 use Rattle.layout_field.specs.declared.Place.{Place}
 use Rattle.layout_field.specs.declared.Place.the-variants as place
+use Rattle.layout_table.specs.Table.{AskFieldsAt}
+use Rattle.layout_table.specs.Known.{KnownOutcome}
+use Rattle.layout_table.specs.declared.Known.{Known}
 use Rattle.layout_step.specs.declared.Index.{Index}
 use Rattle.layout_step.specs.declared.Index.the-variants as index
 use Rattle.layout_step.specs.declared.Step.{Step}
@@ -73,11 +76,6 @@ pub record AskAt (m : ℕ) (es : List Entry) (work : List ℕ) (at : ℕ) : Type
   pub front : Starts m (drop at es)
   pub ready : Ready m es work
 
-pub record AskFieldsAt (m : ℕ) (es : List Entry) (work : List ℕ) (at : ℕ) : Type 0 where
-  pub front : StartsFields m (drop at es)
-  pub there : at ≤ length es
-  pub ready : Ready m es work
-
 pub record AskNameAt (m : ℕ) (es : List Entry) (work : List ℕ) (x : ℕ) : Type 0 where
   pub name : x < m
   pub ready : Ready m es work
@@ -107,59 +105,78 @@ module _ (m : ℕ) (bk bw : List ℕ) (work : List ℕ) (at : ℕ) (packed : Boo
   abbrev answer : Result GepStep
   answer = structBy (structsIn m es) packed fields (indexOf i)
 
-  pub struct-kinds : at ≤ length bk
-  struct-kinds = within-kinds at bk bw (k .there)
-
-  pub struct-words : at ≤ length bw
-  struct-words = within-words at bk bw (k .there)
-
-  pub struct-front : StartsFields m (lent bk bw at)
-  struct-front = subst (StartsFields m) (sym (entries-part at bk bw)) (k .front)
-
-  pub struct-ask : AskFields m (lent bk bw at) es work 64
-  struct-ask = ask-fields bk bw at (k .front) (k .ready) (omega arith)
-
   pub struct-varying : i ≡ index.Varying → StepOutcome m es work work answer (step.Refused 14)
   unfolding structBy bind okOr
   struct-varying e = record { says = rw e refl; after = after-none (k .ready) }
 
-  module _ (f : ℕ) (ef : i ≡ index.Constant f) (q : Place) (found : FieldFound m (lent bk bw at) f q) where
-    found-here : FieldFound m (drop at es) f q
-    found-here = subst (λ (x : List Entry). FieldFound m x f q) (entries-part at bk bw) found
+  module _ (f : ℕ) (ef : i ≡ index.Constant f) {work′ : List ℕ} (v : Known) (w : KnownOutcome m es work work′ packed at f v) where
+    fact : FieldFact m es packed at (v .index) (v .at) (v .offset)
+    fact = w .best .fact
 
-    pub struct-nothing : q ≡ place.Nothing → StepOutcome m es work work answer (step.Refused 14)
-    unfolding structBy bind okOr
-    struct-nothing e =
-        let g : fieldAt fields f ≡ none = subst (FieldFound m (drop at es) f) e found-here in
-        record { says = rw (ef, g) refl; after = after-none (k .ready) }
+    pub known-kinds : v .at ≤ length bk
+    known-kinds = within-kinds (v .at) bk bw (omega (arith, fact .there))
 
-    module _ (n : ℕ) (eq : q ≡ place.At n) where
-      field-place : FieldPlace m (drop at es) f n
-      field-place = subst (FieldFound m (drop at es) f) eq found-here
+    pub known-words : v .at ≤ length bw
+    known-words = within-words (v .at) bk bw (omega (arith, fact .there))
 
-      pub struct-fits : at + n + 1 ≤ length bk
-      struct-fits = within-kinds (at + n + 1) bk bw (omega (arith, field-place .there, length-drop at es))
+    pub known-front : StartsFields m (lent bk bw (v .at))
+    known-front = subst (StartsFields m) (sym (entries-part (v .at) bk bw)) (fact .fields)
 
-      module _ {work′ : List ℕ} (r : Offset) (o : OffsetOutcome m es work work′ (offsetOf (structsIn m es) packed (tysOf m (lent bk bw at)) f) r) where
-        offset-is : fieldOffset (structsIn m es) (record { packed = packed; fields = fields }) f ≡ offsetResult r
-        unfolding fieldOffset
-        offset-is = sym (o .answer ∙ ap (λ (x : List Entry). offsetOf (structsIn m es) packed (tysOf m x) f) (entries-part at bk bw))
+    pub known-ask : AskOffset m (lent bk bw (v .at)) es work′ (v .offset)
+    known-ask = record { ask = ask-fields bk bw (v .at) (fact .fields) (w .after .ready) (omega arith); small = fact .small }
 
-        pub struct-refused : (e : ℕ) → r ≡ offset.Refused e → StepOutcome m es work work′ answer (step.Refused e)
-        unfolding structBy bind okOr
-        struct-refused e er =
-            let g : fieldOffset (structsIn m es) (record { packed = packed; fields = fields }) f ≡ err e = offset-is ∙ ap offsetResult er in
-            record { says = rw (ef, field-place .field, g) refl; after = o .after }
+    abbrev left : ℕ
+    left = f - v .index
 
-        pub struct-const : (off : ℕ) → r ≡ offset.At off → StepOutcome m es work work′ answer (step.Constant off (at + n))
-        unfolding structBy bind okOr
-        struct-const off er =
-            let g : fieldOffset (structsIn m es) (record { packed = packed; fields = fields }) f ≡ ok off = offset-is ∙ ap offsetResult er in
-            let d : drop n (drop at es) ≡ drop (at + n) es = drop-drop n at es in
-            record {
-              says = record { answer = rw (ef, field-place .field, g) (ap (λ (x : List Entry). ok (GepStep.const off (tyOf m x))) d); front = subst (Starts m) d (field-place .front) };
-              after = o .after;
-            }
+    whole : v .index + left ≡ f
+    whole = omega (arith, w .best .before)
+
+    place-is : fieldAt fields f ≡ fieldAt (tysOf m (drop (v .at) es)) left
+    place-is = ap (fieldAt fields) (sym whole) ∙ fact .places left
+
+    module _ (q : Place) (found : FieldFound m (lent bk bw (v .at)) left q) where
+      found-here : FieldFound m (drop (v .at) es) left q
+      found-here = subst (λ (x : List Entry). FieldFound m x left q) (entries-part (v .at) bk bw) found
+
+      pub struct-nothing : q ≡ place.Nothing → StepOutcome m es work work′ answer (step.Refused 14)
+      unfolding structBy bind okOr
+      struct-nothing e =
+          let g : fieldAt fields f ≡ none = place-is ∙ subst (FieldFound m (drop (v .at) es) left) e found-here in
+          record { says = rw (ef, g) refl; after = w .after }
+
+      module _ (n : ℕ) (eq : q ≡ place.At n) where
+        field-place : FieldPlace m (drop (v .at) es) left n
+        field-place = subst (FieldFound m (drop (v .at) es) left) eq found-here
+
+        pub struct-fits : v .at + n + 1 ≤ length bk
+        struct-fits = within-kinds (v .at + n + 1) bk bw (omega (arith, field-place .there, length-drop (v .at) es))
+
+        module _ {work″ : List ℕ} (r : Offset) (o : OffsetOutcome m es work′ work″ (offsetOf (structsIn m es) packed (tysOf m (lent bk bw (v .at))) left (v .offset)) r) where
+          offset-is : fieldOffset (structsIn m es) (record { packed = packed; fields = fields }) f ≡ offsetResult r
+          unfolding fieldOffset
+          offset-is =
+              ap (λ (j : ℕ). offsetOf (structsIn m es) packed fields j 0) (sym whole)
+              ∙ fact .offsets left
+              ∙ sym (o .answer ∙ ap (λ (x : List Entry). offsetOf (structsIn m es) packed (tysOf m x) left (v .offset)) (entries-part (v .at) bk bw))
+
+          both-after : After m es work work″
+          both-after = after-then (w .after) (o .after)
+
+          pub struct-refused : (e : ℕ) → r ≡ offset.Refused e → StepOutcome m es work work″ answer (step.Refused e)
+          unfolding structBy bind okOr
+          struct-refused e er =
+              let g : fieldOffset (structsIn m es) (record { packed = packed; fields = fields }) f ≡ err e = offset-is ∙ ap offsetResult er in
+              record { says = rw (ef, place-is ∙ field-place .field, g) refl; after = both-after }
+
+          pub struct-const : (off : ℕ) → r ≡ offset.At off → StepOutcome m es work work″ answer (step.Constant off (v .at + n))
+          unfolding structBy bind okOr
+          struct-const off er =
+              let g : fieldOffset (structsIn m es) (record { packed = packed; fields = fields }) f ≡ ok off = offset-is ∙ ap offsetResult er in
+              let d : drop n (drop (v .at) es) ≡ drop (v .at + n) es = drop-drop n (v .at) es in
+              record {
+                says = record { answer = rw (ef, place-is ∙ field-place .field, g) (ap (λ (x : List Entry). ok (GepStep.const off (tyOf m x))) d); front = subst (Starts m) d (field-place .front) };
+                after = both-after;
+              }
 
 -- ---- an array
 module _ (m : ℕ) (bk bw : List ℕ) (work : List ℕ) (at : ℕ) (i : Index) (k : AskAt m (entries bk bw) work at) where

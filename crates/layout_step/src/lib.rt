@@ -8,13 +8,15 @@ use layout_field::field_at;
 use layout_field::field_offset;
 use layout_memo::Measured;
 use layout_size::size_of;
+use layout_table::known_before;
 use numbers::wrap::wrapping_mul;
 ghost use Rattle.book.specs.Entry.{entries};
 ghost use Rattle.book.specs.Ast.{Ty};
 ghost use lib.ListN.{drop};
 ghost use Rattle.layout_memo.specs.Front.{tyOf, tysOf};
 ghost use Rattle.layout_memo.specs.Work.{structsIn};
-ghost use Rattle.layout_step.specs.Steps.{AskAt, AskFieldsAt, AskNameAt, StepOutcome, indexOf, stepBy, structBy, arrayBy};
+ghost use Rattle.layout_table.specs.Table.{AskFieldsAt};
+ghost use Rattle.layout_step.specs.Steps.{AskAt, AskNameAt, StepOutcome, indexOf, stepBy, structBy, arrayBy};
 
 // An index: a constant's two's complement word, or a value that varies.
 pub enum Index {
@@ -47,14 +49,27 @@ fn struct_step(
     let Index::Constant(field) = index else {
         return Step::Refused(14);
     };
-    let ks = &book_kinds[at..];
-    let ws = &book_words[at..];
-    let Place::At(n) = field_at(ks, ws, names, field) else {
+    let known = known_before(book_kinds, book_words, work, names, at, packed, field);
+    let from = known.at;
+    let left = field - known.index;
+    let ks = &book_kinds[from..];
+    let ws = &book_words[from..];
+    let Place::At(n) = field_at(ks, ws, names, left) else {
         return Step::Refused(14);
     };
-    match field_offset(ks, ws, book_kinds, book_words, work, names, packed, field) {
+    match field_offset(
+        ks,
+        ws,
+        book_kinds,
+        book_words,
+        work,
+        names,
+        packed,
+        left,
+        known.offset,
+    ) {
         Offset::Refused(e) => Step::Refused(e),
-        Offset::At(offset) => Step::Constant(offset, at + n),
+        Offset::At(offset) => Step::Constant(offset, from + n),
     }
 }
 

@@ -17,17 +17,17 @@ use Rattle.layout_field.proofs.fields_left.Reads as fields-left-reads
 use Rattle.layout_memo.proofs.scalars.pass_scalars.Reads as pass-scalars-reads
 
 abbrev Inv-loop : tie.InvT-loop
-Inv-loop kinds words book-kinds book-words work₀ names packed index at₀ offset₀ left₀ work at offset left =
-    laws.OffsetLoop names kinds words (entries book-kinds book-words) work₀ packed index work at offset left
+Inv-loop kinds words book-kinds book-words work₀ names packed index offset at₀ taken₀ left₀ work at taken left =
+    laws.OffsetLoop names kinds words (entries book-kinds book-words) work₀ packed index offset work at taken left
 
 abbrev μ-loop : tie.MeasureT-loop
-μ-loop kinds words book-kinds book-words work₀ names packed index at₀ offset₀ left₀ work at offset left = length kinds - at
+μ-loop kinds words book-kinds book-words work₀ names packed index offset at₀ taken₀ left₀ work at taken left = length kinds - at
 
 loop-holds : tie.Need-loop-holds Inv-loop μ-loop
 loop-holds c =
     let entry = c .before .before .before .before .before in
     laws.offset-start (entry .args .names) (entry .args .kinds .now) (entry .args .words .now)
-    (entries (entry .args .book-kinds .now) (entry .args .book-words .now)) (entry .args .work .now) (entry .args .packed) (entry .args .index)
+    (entries (entry .args .book-kinds .now) (entry .args .book-words .now)) (entry .args .work .now) (entry .args .packed) (entry .args .index) (entry .args .offset)
     (entry .pre)
 
 mul-if1 : tie.Need-mul-if1 Inv-loop μ-loop
@@ -88,7 +88,7 @@ field-start-requires c κs =
     let at-loop = then1 .before .before in
     let entry = at-loop .before .before .before .before .before .before in
     laws.offset-ask (entry .args .names) (entry .args .kinds .now) (entry .args .words .now)
-    (entries (entry .args .book-kinds .now) (entry .args .book-words .now)) (entry .args .work .now) (entry .args .packed) (entry .args .index)
+    (entries (entry .args .book-kinds .now) (entry .args .book-words .now)) (entry .args .work .now) (entry .args .packed) (entry .args .index) (entry .args .offset)
     (at-loop .loop .inv) (then1 .if1 .taken)
 
 enum-known-e : tie.Need-enum-known-e Inv-loop μ-loop
@@ -104,7 +104,7 @@ returns c =
     let at-loop = then1 .before .before in
     let entry = at-loop .before .before .before .before .before .before in
     laws.offset-refused (entry .args .names) (entry .args .kinds .now) (entry .args .words .now)
-    (entries (entry .args .book-kinds .now) (entry .args .book-words .now)) (entry .args .work .now) (entry .args .packed) (entry .args .index)
+    (entries (entry .args .book-kinds .now) (entry .args .book-words .now)) (entry .args .work .now) (entry .args .packed) (entry .args .index) (entry .args .offset)
     (at-loop .loop .inv) (then1 .if1 .taken) (after-field-start .field-start .ensures) _ (c .before .e .given .1)
 
 enum-known-start : tie.Need-enum-known-start Inv-loop μ-loop
@@ -120,7 +120,7 @@ returns-2 c =
     let at-loop = then1 .before .before in
     let entry = at-loop .before .before .before .before .before .before in
     laws.offset-here (entry .args .names) (entry .args .kinds .now) (entry .args .words .now)
-    (entries (entry .args .book-kinds .now) (entry .args .book-words .now)) (entry .args .work .now) (entry .args .packed) (entry .args .index)
+    (entries (entry .args .book-kinds .now) (entry .args .book-words .now)) (entry .args .work .now) (entry .args .packed) (entry .args .index) (entry .args .offset)
     (at-loop .loop .inv) (then1 .if1 .taken) (after-field-start .field-start .ensures) _ (c .before .before .start .given .1) (c .if2 .taken)
 
 size-of-requires : tie.Need-size-of-requires Inv-loop μ-loop
@@ -131,7 +131,7 @@ size-of-requires c κs =
     let at-loop = then1 .before .before in
     let entry = at-loop .before .before .before .before .before .before in
     laws.size-ask (entry .args .names) (entry .args .kinds .now) (entry .args .words .now)
-    (entries (entry .args .book-kinds .now) (entry .args .book-words .now)) (entry .args .work .now) (entry .args .packed) (entry .args .index)
+    (entries (entry .args .book-kinds .now) (entry .args .book-words .now)) (entry .args .work .now) (entry .args .packed) (entry .args .index) (entry .args .offset)
     (at-loop .loop .inv) (then1 .if1 .taken) (after-field-start .field-start .ensures) _ (after-start .start .given .1)
 
 enum-known-e-2 : tie.Need-enum-known-e-2 Inv-loop μ-loop
@@ -150,15 +150,15 @@ returns-3 c =
     let at-loop = then1 .before .before in
     let entry = at-loop .before .before .before .before .before .before in
     laws.offset-size-refused (entry .args .names) (entry .args .kinds .now) (entry .args .words .now)
-    (entries (entry .args .book-kinds .now) (entry .args .book-words .now)) (entry .args .work .now) (entry .args .packed) (entry .args .index)
+    (entries (entry .args .book-kinds .now) (entry .args .book-words .now)) (entry .args .work .now) (entry .args .packed) (entry .args .index) (entry .args .offset)
     (at-loop .loop .inv) (then1 .if1 .taken) (after-field-start .field-start .ensures) _ (after-start .start .given .1) (else2 .if2 .left)
     (after-size-of .size-of .ensures) _ (c .before .e2 .given .1)
 
 enum-known-size : tie.Need-enum-known-size Inv-loop μ-loop
 enum-known-size c = search needs
 
-add-offset : tie.Need-add-offset Inv-loop μ-loop
-add-offset c =
+add-taken : tie.Need-add-taken Inv-loop μ-loop
+add-taken c =
     let after-size-of = c .before .before .before .before .before in
     let else2 = after-size-of .before .before in
     let after-start = else2 .before .before in
@@ -170,7 +170,7 @@ add-offset c =
       arith,
       laws.offset-fits (entry .args .names) (entry .args .kinds .now) (entry .args .words .now)
           (entries (entry .args .book-kinds .now) (entry .args .book-words .now)) (entry .args .work .now) (entry .args .packed)
-          (entry .args .index) (at-loop .loop .inv) (then1 .if1 .taken) (after-field-start .field-start .ensures) _ (after-start .start .given .1)
+          (entry .args .index) (entry .args .offset) (at-loop .loop .inv) (then1 .if1 .taken) (after-field-start .field-start .ensures) _ (after-start .start .given .1)
           (else2 .if2 .left) (after-size-of .size-of .ensures) _ _ (c .before .size .given .1),
     )
 
@@ -210,11 +210,11 @@ pass-scalars-requires c κs =
     let at-loop = then1 .before .before in
     let entry = at-loop .before .before .before .before .before .before in
     let next = laws.offset-next (entry .args .names) (entry .args .kinds .now) (entry .args .words .now)
-    (entries (entry .args .book-kinds .now) (entry .args .book-words .now)) (entry .args .work .now) (entry .args .packed) (entry .args .index)
+    (entries (entry .args .book-kinds .now) (entry .args .book-words .now)) (entry .args .work .now) (entry .args .packed) (entry .args .index) (entry .args .offset)
     (at-loop .loop .inv) (then1 .if1 .taken) (after-field-start .field-start .ensures) _ (after-start .start .given .1) (else2 .if2 .left)
     (after-size-of .size-of .ensures) _ _ (after-size .size .given .1) _ (after-type-end .type-end .ensures) in
     laws.offset-from (entry .args .names) (entry .args .kinds .now) (entry .args .words .now)
-    (entries (entry .args .book-kinds .now) (entry .args .book-words .now)) (entry .args .work .now) (entry .args .packed) (entry .args .index)
+    (entries (entry .args .book-kinds .now) (entry .args .book-words .now)) (entry .args .work .now) (entry .args .packed) (entry .args .index) (entry .args .offset)
     next _ (c .fields-left .ensures)
 
 loop-less : tie.Need-loop-less Inv-loop μ-loop
@@ -245,11 +245,11 @@ loop-again c =
     let at-loop = then1 .before .before in
     let entry = at-loop .before .before .before .before .before .before in
     let next = laws.offset-next (entry .args .names) (entry .args .kinds .now) (entry .args .words .now)
-    (entries (entry .args .book-kinds .now) (entry .args .book-words .now)) (entry .args .work .now) (entry .args .packed) (entry .args .index)
+    (entries (entry .args .book-kinds .now) (entry .args .book-words .now)) (entry .args .work .now) (entry .args .packed) (entry .args .index) (entry .args .offset)
     (at-loop .loop .inv) (then1 .if1 .taken) (after-field-start .field-start .ensures) _ (after-start .start .given .1) (else2 .if2 .left)
     (after-size-of .size-of .ensures) _ _ (after-size .size .given .1) _ (after-type-end .type-end .ensures) in
     laws.offset-again (entry .args .names) (entry .args .kinds .now) (entry .args .words .now)
-    (entries (entry .args .book-kinds .now) (entry .args .book-words .now)) (entry .args .work .now) (entry .args .packed) (entry .args .index)
+    (entries (entry .args .book-kinds .now) (entry .args .book-words .now)) (entry .args .work .now) (entry .args .packed) (entry .args .index) (entry .args .offset)
     next _ (c .before .fields-left .ensures) _ (c .pass-scalars .ensures)
 
 same-length-4 : tie.Need-same-length-4 Inv-loop μ-loop
@@ -259,7 +259,7 @@ returns-4 : tie.Need-returns-4 Inv-loop μ-loop
 returns-4 c =
     let entry = c .before .before .before .before .before .before .before .before in
     laws.offset-none (entry .args .names) (entry .args .kinds .now) (entry .args .words .now)
-    (entries (entry .args .book-kinds .now) (entry .args .book-words .now)) (entry .args .work .now) (entry .args .packed) (entry .args .index)
+    (entries (entry .args .book-kinds .now) (entry .args .book-words .now)) (entry .args .work .now) (entry .args .packed) (entry .args .index) (entry .args .offset)
     (c .before .before .loop .inv) (c .if1 .left)
 
 pub field-offset-spec : {M : Type 1} → statement M
@@ -291,7 +291,7 @@ field-offset-spec =
     same-length-3
     returns-3
     enum-known-size
-    add-offset
+    add-taken
     type-end-requires
     add-behind
     sub-fields-left

@@ -1,13 +1,13 @@
--- `layout_memo::table::free_slot` meets its contract.
+-- `layout_table::table::free_slot` meets its contract.
 use Prim.Native.Nat.{_-_, _≤_, _^_}
 use borrow.Author.Needs.{needs}
-use Rattle.layout_memo.proofs.table.free_slot.Statement.{statement}
-use Rattle.layout_memo.proofs.table.free_slot.Tie as tie
-use Rattle.layout_memo.proofs.table.free_slot.Reads as reads
-use Rattle.layout_memo.proofs.table.free_slot.Lts as lts
-use Rattle.layout_memo.proofs.table.first_slot.Reads as first-slot-reads
-use Rattle.layout_memo.proofs.table.next_slot.Reads as next-slot-reads
-use Rattle.layout_memo.proofs.table.table_at.Reads as table-at-reads
+use Rattle.layout_table.proofs.table.free_slot.Statement.{statement}
+use Rattle.layout_table.proofs.table.free_slot.Tie as tie
+use Rattle.layout_table.proofs.table.free_slot.Reads as reads
+use Rattle.layout_table.proofs.table.free_slot.Lts as lts
+use Rattle.layout_table.proofs.table.first_slot.Reads as first-slot-reads
+use Rattle.layout_table.proofs.table.next_slot.Reads as next-slot-reads
+use Rattle.layout_table.proofs.table.table_at.Reads as table-at-reads
 
 abbrev Inv-loop : tie.InvT-loop
 Inv-loop work names facts key first slot₀ tries₀ slot tries = slot ≤ 2 ^ 32

@@ -1,13 +1,13 @@
--- `layout_memo::table::store` meets its contract.
+-- `layout_table::table::store` meets its contract.
 use mathlib.Core.Path.{refl}
 use mathlib.Core.Logic.{inl}
-use Rattle.layout_memo.specs.Table as laws
+use Rattle.layout_table.specs.Table as laws
 use borrow.Author.Needs.{needs}
-use Rattle.layout_memo.proofs.table.store.Statement.{statement}
-use Rattle.layout_memo.proofs.table.store.Tie as tie
-use Rattle.layout_memo.proofs.table.store.Reads as reads
-use Rattle.layout_memo.proofs.table.store.Lts as lts
-use Rattle.layout_memo.proofs.table.table_at.Reads as table-at-reads
+use Rattle.layout_table.proofs.table.store.Statement.{statement}
+use Rattle.layout_table.proofs.table.store.Tie as tie
+use Rattle.layout_table.proofs.table.store.Reads as reads
+use Rattle.layout_table.proofs.table.store.Lts as lts
+use Rattle.layout_table.proofs.table.table_at.Reads as table-at-reads
 
 mul-table-at : tie.Need-mul-table-at
 mul-table-at c = search needs

@@ -1,11 +1,11 @@
--- `layout_memo::table::table_at` meets its contract.
+-- `layout_table::table::table_at` meets its contract.
 use native.Mathlib.Omega.{arith}
-use Rattle.layout_memo.specs.Table as laws
+use Rattle.layout_table.specs.Table as laws
 use borrow.Author.Needs.{needs}
-use Rattle.layout_memo.proofs.table.table_at.Statement.{statement}
-use Rattle.layout_memo.proofs.table.table_at.Tie as tie
-use Rattle.layout_memo.proofs.table.table_at.Reads as reads
-use Rattle.layout_memo.proofs.table.table_at.Lts as lts
+use Rattle.layout_table.proofs.table.table_at.Statement.{statement}
+use Rattle.layout_table.proofs.table.table_at.Tie as tie
+use Rattle.layout_table.proofs.table.table_at.Reads as reads
+use Rattle.layout_table.proofs.table.table_at.Lts as lts
 
 mul-result : tie.Need-mul-result
 mul-result c = search needs
