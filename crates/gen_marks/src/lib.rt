@@ -59,11 +59,14 @@ fn spelled(names: &[u8], at: usize, end: usize) -> u64
     0
 }
 
-// Whether the name that goes from `at` to `end` contains `.with.overflow.`. Most are shorter than these 15 bytes.
+// Whether the name that goes from `at` to `end` contains `.with.overflow.`. Most are shorter than these 15 bytes, and not looked through.
 fn overflows(names: &[u8], at: usize, end: usize) -> bool
     requires { ⌜ Ended (now names) at end ⌝ }
     ensures { λ r. ⌜ r ≡ hasOverflow (nameFrom (now (names .entry)) at) ⌝ }
 {
+    if end - at < 15 {
+        return false;
+    }
     let mut i = at;
     while i + 14 < end {
         if names[i] == b'.' {

@@ -16,16 +16,24 @@ Inv-loop names at end i₀ t5 i = Looking names at end i
 abbrev μ-loop : tie.MeasureT-loop
 μ-loop names at end i₀ t5 i = end - i
 
+sub-if1 : tie.Need-sub-if1 Inv-loop μ-loop
+sub-if1 c = let entry = c .before in omega (arith, entry .pre .ends)
+
+returns : tie.Need-returns Inv-loop μ-loop
+returns c =
+    let entry = c .before .before in
+    look-end (look-start (entry .pre)) (omega (arith, c .if1 .taken))
+
 loop-holds : tie.Need-loop-holds Inv-loop μ-loop
-loop-holds c = look-start (c .before .pre)
+loop-holds c = let entry = c .before .before in look-start (entry .pre)
 
 add-loop : tie.Need-add-loop Inv-loop μ-loop
 add-loop c =
-    let entry = c .before .before in
+    let entry = c .before .before .before in
     omega (arith, c .loop .inv .left .ends, c .loop .inv .left .inside, entry .good)
 
-shared-slice-read-if1 : tie.Need-shared-slice-read-if1 Inv-loop μ-loop
-shared-slice-read-if1 c =
+shared-slice-read-if2 : tie.Need-shared-slice-read-if2 Inv-loop μ-loop
+shared-slice-read-if2 c =
     let at-loop = c .before .before in
     omega (arith, at-loop .loop .inv .left .inside)
 
@@ -35,12 +43,12 @@ slice-aggregate-name-starts c = search needs
 name-starts-requires : tie.Need-name-starts-requires Inv-loop μ-loop
 name-starts-requires c κs = search needs
 
-returns : tie.Need-returns Inv-loop μ-loop
+returns-2 : tie.Need-returns-2 Inv-loop μ-loop
 unfolding bytes
-returns c =
+returns-2 c =
     let after-name-starts = c .before in
     let at-loop = after-name-starts .before .before .before .before .before in
-    look-here (at-loop .loop .inv) (sym (after-name-starts .name-starts .ensures) ∙ c .if2 .taken)
+    look-here (at-loop .loop .inv) (sym (after-name-starts .name-starts .ensures) ∙ c .if3 .taken)
 
 add-i : tie.Need-add-i Inv-loop μ-loop
 add-i c = search needs
@@ -56,10 +64,10 @@ loop-again c =
     ⊎-elim
     (λ w. look-later (at-loop .loop .inv) (in-loop .loop-test .taken) (sym (w .2 .ensures) ∙ w .3 .left))
     (λ w. look-other (at-loop .loop .inv) (in-loop .loop-test .taken) (w .left))
-    (c .if1 .came)
+    (c .if2 .came)
 
-returns-2 : tie.Need-returns-2 Inv-loop μ-loop
-returns-2 c =
+returns-3 : tie.Need-returns-3 Inv-loop μ-loop
+returns-3 c =
     let at-loop = c .before in
     look-end (at-loop .loop .inv) (c .loop-test .left)
 
@@ -69,13 +77,15 @@ overflows-spec =
     (tie.spec
     Inv-loop
     μ-loop
+    sub-if1
+    returns
     loop-holds
     add-loop
-    shared-slice-read-if1
+    shared-slice-read-if2
     slice-aggregate-name-starts
     name-starts-requires
-    returns
+    returns-2
     add-i
     loop-less
     loop-again
-    returns-2)
+    returns-3)
