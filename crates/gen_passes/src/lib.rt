@@ -4,6 +4,8 @@ use gen_function::gen_function;
 use gen_lines::Reached;
 use gen_prepare::Prepared;
 use gen_prepare::prepare;
+use gen_slices::copy_kinds;
+use gen_slices::copy_operands;
 ghost use mathlib.Core.Path.{_≡_};
 ghost use mathlib.Core.List.{List};
 ghost use mathlib.Core.Option.{some};
@@ -17,7 +19,6 @@ ghost use Rattle.lowering.specs.Context.{codegenOf};
 ghost use Rattle.lowering.specs.Function.{genFunction};
 ghost use Rattle.gen_function.specs.Function.{FunctionAsk};
 ghost use Rattle.lowering.specs.Translate.{over};
-ghost use Rattle.gen_passes.specs.Copies.{CopyAsk};
 ghost use Rattle.gen_passes.specs.Passes.{fitted, Answered, Passed};
 ghost use Rattle.gen_passes.specs.Generate.{GenerateAsk};
 
@@ -25,30 +26,6 @@ ghost use Rattle.gen_passes.specs.Generate.{GenerateAsk};
 pub enum Translation {
     Accepted(usize, u64),
     Refused(u64),
-}
-
-// The first `many` kinds of one slice in another.
-fn copy_kinds(from: &[u16], to: &mut [u16], many: usize)
-    requires { ⌜ CopyAsk many (now from) (now to) ⌝ }
-    ensures { λ _. ⌜ now (to .exit) ≡ over (take many (now (from .entry))) (now (to .entry)) ⌝ }
-{
-    let mut i: usize = 0;
-    while i < many {
-        to[i] = from[i];
-        i += 1;
-    }
-}
-
-// The same of operands.
-fn copy_operands(from: &[u64], to: &mut [u64], many: usize)
-    requires { ⌜ CopyAsk many (now from) (now to) ⌝ }
-    ensures { λ _. ⌜ now (to .exit) ≡ over (take many (now (from .entry))) (now (to .entry)) ⌝ }
-{
-    let mut i: usize = 0;
-    while i < many {
-        to[i] = from[i];
-        i += 1;
-    }
 }
 
 // A pass into slices of our own finds every refusal and the number of lines. Those that fit there are copied, others are

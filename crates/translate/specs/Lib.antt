@@ -1,3 +1,2 @@
-pub mod Clear
 pub mod Sound
 pub mod Reply

@@ -15,7 +15,7 @@ use Rattle.gen_lines.specs.Puts.{operandWord}
 use Rattle.gen_passes.specs.Passes.{Answered, room}
 use Rattle.gen_passes.specs.declared.Translation.{Translation}
 use Rattle.gen_passes.specs.declared.Translation.the-variants.{Accepted, Refused}
-use Rattle.translate.specs.Clear.{clear-long}
+use Rattle.gen_slices.specs.Clear.{clear-long}
 
 abbrev pub replyOf : Translation → definition.Translation
 replyOf (Accepted n next) = definition.Translation.accepted n next

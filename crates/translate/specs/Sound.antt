@@ -31,7 +31,7 @@ use Rattle.gen_passes.specs.Passes.{fitted, Answered}
 use Rattle.gen_passes.specs.Generate.{GenerateAsk}
 use Rattle.gen_passes.specs.declared.Translation.{Translation}
 use Rattle.gen_passes.specs.declared.Translation.the-variants.{Refused}
-use Rattle.translate.specs.Clear.{Blank, clear-blank}
+use Rattle.gen_slices.specs.Clear.{Blank, clear-blank}
 
 -- ---- a refusal has a number that is not 0
 module _ {A B : Type 0} where

@@ -3,25 +3,15 @@ use book_check::Verdict;
 use book_check::check_noting;
 use gen_passes::Translation;
 use gen_passes::generate;
+use gen_slices::clear;
 ghost use mathlib.Core.Path.{_≡_};
 ghost use Prim.Native.Nat.{min, _≤_};
 ghost use lib.ListN.{length, replicate, getD};
 ghost use Rattle.lowering.specs.Translate.{generated, translate};
 ghost use Rattle.gen_passes.specs.Passes.{Answered};
-ghost use Rattle.translate.specs.Clear.{Blank};
+ghost use Rattle.gen_slices.specs.Clear.{Blank};
 ghost use Rattle.translate.specs.Reply.{translating};
 ghost use Rattle.translate.specs.Sound.{SoundAsk, BlankAsk};
-
-// All words 0.
-fn clear(work: &mut [u64])
-    ensures { λ _. ⌜ now (work .exit) ≡ replicate (length (now (work .entry))) 0 ⌝ }
-{
-    let mut i: usize = 0;
-    while i < work.len() {
-        work[i] = 0;
-        i += 1;
-    }
-}
 
 // The lines of a book that the check has found sound for `lent` work words. Those that are used are 0 but for the ends of names,
 // which it has noted.

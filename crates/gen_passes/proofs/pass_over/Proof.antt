@@ -9,8 +9,8 @@ use Rattle.gen_passes.proofs.pass_over.Tie as tie
 use Rattle.gen_passes.proofs.pass_over.Reads as reads
 use Rattle.gen_passes.proofs.pass_over.Lts as lts
 use Rattle.gen_function.proofs.gen_function.Reads as gen-function-reads
-use Rattle.gen_passes.proofs.copy_kinds.Reads as copy-kinds-reads
-use Rattle.gen_passes.proofs.copy_operands.Reads as copy-operands-reads
+use Rattle.gen_slices.proofs.copy_kinds.Reads as copy-kinds-reads
+use Rattle.gen_slices.proofs.copy_operands.Reads as copy-operands-reads
 
 gen-function-requires : tie.Need-gen-function-requires
 gen-function-requires c κs = search needs

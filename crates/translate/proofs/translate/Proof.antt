@@ -1,11 +1,11 @@
 -- `translate::translate` meets its contract: the work words are cleared before and after.
 use lib.ListN.{length}
-use Rattle.translate.specs.Clear.{clear-blank}
+use Rattle.gen_slices.specs.Clear.{clear-blank}
 use Rattle.translate.specs.Reply.{reply-cleared}
 use borrow.Author.Needs.{needs}
 use Rattle.translate.proofs.translate.Statement.{statement}
 use Rattle.translate.proofs.translate.Tie as tie
-use Rattle.translate.proofs.clear.Reads as clear-reads
+use Rattle.gen_slices.proofs.clear.Reads as clear-reads
 use Rattle.translate.proofs.translate_sized.Reads as translate-sized-reads
 
 clear-requires : tie.Need-clear-requires
