@@ -16,7 +16,7 @@ use layout_memo::ends::type_end;
 use layout_memo::scalars::pass_scalars;
 use layout_size::size_of;
 ghost use mathlib.Core.Path.{_≡_};
-ghost use Prim.Native.Nat.{_<_, _≤_, _^_};
+ghost use Prim.Native.Nat.{_+_, _<_, _≤_, _^_};
 ghost use lib.ListN.{length};
 ghost use Rattle.book.specs.Entry.{entries};
 ghost use Rattle.layout_memo.specs.Work.{After};
@@ -194,25 +194,65 @@ fn size_for(facts: usize, count: usize) -> usize
     size
 }
 
-// Whether few entries stand before the field: few fields, none of them an array or a struct.
-fn is_near(kinds: &[u64], place: usize, index: u64) -> bool {
-    if 64 <= index {
-        return false;
+// Where 128 entries from the place on end, or the book.
+fn near_stop(length: usize, place: usize) -> usize
+    ensures { λ r. ⌜ r ≤ length ⌝ }
+{
+    if length <= place {
+        return length;
     }
+    if length - place <= 128 {
+        return length;
+    }
+    place + 128
+}
+
+// The lists that are open behind an entry of this kind.
+fn lists_behind(kind: u64, lists: usize) -> usize
+    requires { ⌜ lists + 1 < 2 ^ 64 ⌝ }
+    ensures { λ r. ⌜ r ≤ lists + 1 ⌝ }
+{
+    match kind {
+        0 => {
+            if lists == 0 {
+                return 0;
+            }
+            lists - 1
+        }
+        16 | 17 => lists + 1,
+        _ => lists,
+    }
+}
+
+// The fields that are left behind an entry of this kind: the entry of an array stands before its element's.
+fn left_behind(kind: u64, lists: usize, left: u64) -> u64
+    requires { ⌜ 1 ≤ left ⌝ }
+{
+    if lists != 0 {
+        return left;
+    }
+    match kind {
+        13 | 14 => left,
+        _ => left - 1,
+    }
+}
+
+// Whether the field with this index, of those from the place on, stands among the next 128 entries: it is found without a fact.
+fn is_near(kinds: &[u64], place: usize, index: u64) -> bool {
+    let stop = near_stop(kinds.len(), place);
     let mut at = place;
+    let mut lists: usize = 0;
     let mut left = index;
-    while left != 0 {
-        if kinds.len() <= at {
+    while at < stop {
+        if left == 0 {
             return true;
         }
-        match kinds[at] {
-            13 | 14 | 16 | 17 => return false,
-            _ => {}
-        }
+        let kind = kinds[at];
+        lists = lists_behind(kind, lists);
+        left = left_behind(kind, lists, left);
         at = at + 1;
-        left = left - 1;
     }
-    true
+    left == 0
 }
 
 // How many facts the table has room for, 0 where the field is found without it.
@@ -261,12 +301,23 @@ pub fn known_before(
         return no_fields(place);
     }
     let found = find(book_kinds, book_words, work, names, place, packed, index);
+    let left = index - found.index;
+    if is_near(book_kinds, found.at, left) {
+        return found;
+    }
     let sought = Sought {
         place,
         packed,
         index,
         size: size_for(facts, book_kinds.len()),
     };
-    let level = level_for(index - found.index);
-    note_fields(book_kinds, book_words, work, names, sought, level, found)
+    note_fields(
+        book_kinds,
+        book_words,
+        work,
+        names,
+        sought,
+        level_for(left),
+        found,
+    )
 }
