@@ -1,7 +1,9 @@
-// Where the fields of structs stand, noted in the work words, so that a field is found without passing all fields before it.
+// Where the fields of structs stand, noted in the work words, so that a field is found without passing all fields before it;
+// and alignments of long types.
 // A fact is noted behind j fields where the 2^t fields before it take `size` entries or more, 2^t the largest power of two that
 // divides j; so a field is found by taking set bits off its index from below until a fact is there. What lies between that fact
 // and the field is passed then, and facts are noted on the way.
+pub mod starts;
 pub mod table;
 
 use crate::table::find;
@@ -194,6 +196,14 @@ fn size_for(facts: usize, count: usize) -> usize
     size
 }
 
+// Whether an entry of this kind begins an array or a struct.
+pub fn opens(kind: u64) -> bool {
+    match kind {
+        13 | 14 | 16 | 17 => true,
+        _ => false,
+    }
+}
+
 // Whether few entries stand before the field: few fields, none of them an array or a struct.
 fn is_near(kinds: &[u64], place: usize, index: u64) -> bool {
     if 64 <= index {
@@ -205,9 +215,8 @@ fn is_near(kinds: &[u64], place: usize, index: u64) -> bool {
         if kinds.len() <= at {
             return true;
         }
-        match kinds[at] {
-            13 | 14 | 16 | 17 => return false,
-            _ => {}
+        if opens(kinds[at]) {
+            return false;
         }
         at = at + 1;
         left = left - 1;

@@ -4,6 +4,7 @@ use Rattle.layout_table.proofs.is_near.Statement.{statement}
 use Rattle.layout_table.proofs.is_near.Tie as tie
 use Rattle.layout_table.proofs.is_near.Reads as reads
 use Rattle.layout_table.proofs.is_near.Lts as lts
+use Rattle.layout_table.proofs.opens.Reads as opens-reads
 
 abbrev Inv-loop : tie.InvT-loop
 Inv-loop kinds place index at₀ left₀ at left = Unit {0}
@@ -20,17 +21,17 @@ loop-holds c = search needs
 returns-2 : tie.Need-returns-2 Inv-loop μ-loop
 returns-2 c = search needs
 
-mul-if3 : tie.Need-mul-if3 Inv-loop μ-loop
-mul-if3 c = search needs
+mul-opens : tie.Need-mul-opens Inv-loop μ-loop
+mul-opens c = search needs
 
-shared-slice-read-if3 : tie.Need-shared-slice-read-if3 Inv-loop μ-loop
-shared-slice-read-if3 c = search needs
+shared-slice-read-opens : tie.Need-shared-slice-read-opens Inv-loop μ-loop
+shared-slice-read-opens c = search needs
+
+opens-requires : tie.Need-opens-requires Inv-loop μ-loop
+opens-requires c κs = search needs
 
 returns-3 : tie.Need-returns-3 Inv-loop μ-loop
 returns-3 c = search needs
-
-returns-4 : tie.Need-returns-4 Inv-loop μ-loop
-returns-4 c = search needs
 
 add-at : tie.Need-add-at Inv-loop μ-loop
 add-at c = search needs
@@ -44,8 +45,8 @@ loop-less c = search needs
 loop-again : tie.Need-loop-again Inv-loop μ-loop
 loop-again c = search needs
 
-returns-5 : tie.Need-returns-5 Inv-loop μ-loop
-returns-5 c = search needs
+returns-4 : tie.Need-returns-4 Inv-loop μ-loop
+returns-4 c = search needs
 
 pub is-near-spec : {M : Type 1} → statement M
 is-near-spec =
@@ -56,12 +57,12 @@ is-near-spec =
     returns
     loop-holds
     returns-2
-    mul-if3
-    shared-slice-read-if3
+    mul-opens
+    shared-slice-read-opens
+    opens-requires
     returns-3
-    returns-4
     add-at
     sub-left
     loop-less
     loop-again
-    returns-5)
+    returns-4)
