@@ -92,7 +92,7 @@ table-other m i x j l n lx e = ⊎-elim (λ t. n (omega (arith, t .0, t .1))) (�
 pub table-term : (m i k : ℕ) → 8 * m ≤ k → k < 8 * m + 64 → tableAt m i ≡ k → ⊥
 table-term m i k l h e = ⊎-elim (λ t. omega (arith, t .0, t .1)) (λ t. omega (arith, t .0, t .1)) (table-word m i)
 
--- what a fact says: behind j fields of the struct whose first field stands at p, the fields from q on are left, and `off` bytes are taken
+-- what a fact says. Behind j fields of the struct whose first field stands at p, the fields from q on are left, and `off` bytes are taken
 module _ (m : ℕ) (es : List Entry) where
   pub record FieldFact (packed : Bool) (p j q off : ℕ) : Type 0 where
     pub fields : StartsFields m (drop q es)
@@ -103,10 +103,17 @@ module _ (m : ℕ) (es : List Entry) where
     pub offsets : (i : ℕ) → offsetFrom (alignOf (structsIn m es)) (sizeOf (structsIn m es)) packed (tysOf m (drop p es)) (j + i) 0
         ≡ offsetFrom (alignOf (structsIn m es)) (sizeOf (structsIn m es)) packed (tysOf m (drop q es)) i off
 
-  -- two words of the table: the first is 0 for no fact, or one more than whether the struct is packed, with p in the 20 bits above it and j above p; the
-  -- second has `off` in its lower 25 bits and q above it
+  -- or: the type at the place has this alignment
+  pub record AlignFact (place a : ℕ) : Type 0 where
+    pub aligned : alignOf (structsIn m es) (tyOf m (drop place es)) ≡ ok a
+
+  -- two words of the table. The first is 0 for no fact. Below 2^43 it is, for a field, one more than whether the struct is packed, with p in the 20 bits
+  -- above it and j above p; the second has `off` in its lower 25 bits and q above it. From 2^43 on it is, for an alignment, the place behind 2^43, and the
+  -- second is the alignment
   pub record FactWords (key value : ℕ) : Type 0 where
-    pub right : (key ≡ 0 → ⊥) → FieldFact (eqb ((key - 1) % 2) 1) ((key - 1) / 2 % 1048576) ((key - 1) / 2097152) (value / 33554432) (value % 33554432)
+    pub field : (key ≡ 0 → ⊥) → key < 2 ^ 43
+        → FieldFact (eqb ((key - 1) % 2) 1) ((key - 1) / 2 % 1048576) ((key - 1) / 2097152) (value / 33554432) (value % 33554432)
+    pub align : 2 ^ 43 ≤ key → AlignFact (key - 2 ^ 43) value
 
 -- ---- the words of all names
 module _ (m : ℕ) (es : List Entry) where
@@ -144,7 +151,7 @@ facts-kept work′ r same k = rw (same (2 * k), same (2 * k + 1)) (r .facts k)
 
 -- words that are 0 have none
 pub facts-none : {m : ℕ} {es : List Entry} (key value : ℕ) → key ≡ 0 → FactWords m es key value
-facts-none key value e = record { right = λ z. absurd (z e) }
+facts-none key value e = record { field = λ z l. absurd (z e); align = λ l. absurd (omega arith) }
 
 -- after a measurement
 pub record After (m : ℕ) (es : List Entry) (work work′ : List ℕ) : Type 0 where
@@ -238,15 +245,18 @@ module _ (structs : List StructType) where
   unfolding sizeOf
   size-small t {n} l k = size-of-limit structs t n (k .high 64 l)
 
-  pub align-small : (t : Ty) {n h : ℕ} → h ≤ 64 → Known (aligns structs t) n h → (1 ≤ n) × (n ≤ 8)
-  unfolding alignOf
-  align-small t {n} l k = let a = align-of-natural structs t n (k .high 64 l) in (positive a, natural-most a)
+  pub aligned-small : (t : Ty) {a : ℕ} → alignOf structs t ≡ ok a → (1 ≤ a) × (a ≤ 8)
+  aligned-small t {a} e = let n = align-of-natural structs t a e in (positive n, natural-most n)
     where
       positive : {a : ℕ} → Natural a → 1 ≤ a
       positive one = omega arith
       positive two = omega arith
       positive four = omega arith
       positive eight = omega arith
+
+  pub align-small : (t : Ty) {n h : ℕ} → h ≤ 64 → Known (aligns structs t) n h → (1 ≤ n) × (n ≤ 8)
+  unfolding alignOf
+  align-small t l k = aligned-small t (k .high 64 l)
 
   pub size-remembered : (x w level : ℕ) (r : Measured) → level ≤ 64 → Measures (sizes structs (Ty.namedStruct x)) level r → Remembered structs x w → Remembered structs x (withSize w r)
   size-remembered x w level (Refused e) l m k = k

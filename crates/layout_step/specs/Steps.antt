@@ -16,21 +16,22 @@ use Rattle.book_types.specs.Groups.{typeGroupOf}
 use Rattle.book_types.specs.Laws.{entries-part, within-kinds, within-words}
 use Rattle.book_types.specs.declared.types.TypeGroup.{TypeGroup}
 use Rattle.book_types.specs.declared.types.TypeGroup.the-variants as group
-use Rattle.layout.specs.Layout.{asType, resolve, sizeOf, fieldOffset}
+use Rattle.layout.specs.Layout.{asType, resolve, sizeOf, offsetFrom, fieldOffset}
 use Rattle.layout.specs.Step.{Step as GepStep, constInt, fieldAt, stride, structStep, gepStep}
 use Rattle.layout_memo.specs.Measured.{Measures}
 use Rattle.layout_memo.specs.Front.{Starts, StartsFields, tyOf, tysOf, ShapeOf, shape-at}
 use Rattle.layout_memo.specs.Work.{structsIn, BodyAt, sizes, Ready, After, FieldFact, Outcome, Ask, after-none, after-then}
 use Rattle.layout_memo.specs.Helpers.{gives-at, refused-at}
 use Rattle.layout_memo.specs.Calls.{lent, ask-part, ask-fields, part-type, starts-length}
-use Rattle.layout_field.specs.Offsets.{FieldFound, FieldPlace, AskOffset, OffsetOutcome, offsetOf, offsetResult}
+use Rattle.layout_memo.specs.Fields.{AtFields, at-nil, at-field, at-cons}
+use Rattle.layout_field.specs.Offsets.{FieldFound, FieldPlace, AskStart, StartOutcome, startOf, AskOffset, OffsetOutcome, offsetOf, offsetResult}
 use Rattle.layout_memo.specs.declared.Measured.{Measured}
 use Rattle.layout_memo.specs.declared.Measured.the-variants.{Bytes, Refused}
 use Rattle.layout_field.specs.declared.Offset.{Offset}
 use Rattle.layout_field.specs.declared.Offset.the-variants as offset
 use Rattle.layout_field.specs.declared.Place.{Place}
 use Rattle.layout_field.specs.declared.Place.the-variants as place
-use Rattle.layout_table.specs.Table.{AskFieldsAt}
+use Rattle.layout_table.specs.Table.{AskFieldsAt, fields-below}
 use Rattle.layout_table.specs.Known.{KnownOutcome}
 use Rattle.layout_table.specs.declared.Known.{Known}
 use Rattle.layout_step.specs.declared.Index.{Index}
@@ -47,6 +48,10 @@ module _ (structs : List StructType) where
   unfoldable pub structBy : Bool → Tys → Option ℕ → Result GepStep
   structBy p ts o =
       bind (okOr 14 o) (λ field. bind (okOr 14 (fieldAt ts field)) (λ next. bind (fieldOffset structs (record { packed = p; fields = ts }) field) (λ off. ok (GepStep.const off next))))
+
+  -- the field with an index among those from a place on, behind so many bytes
+  unfoldable pub fieldBy : Bool → Tys → (i off : ℕ) → Result GepStep
+  fieldBy p ts i off = bind (okOr 14 (fieldAt ts i)) (λ next. bind (offsetOf structs p ts i off) (λ start. ok (GepStep.const start next)))
 
   unfoldable pub arrayBy : Ty → Option ℕ → Result GepStep
   arrayBy elem o = bind (sizeOf structs elem) (λ size. ok (stride size elem o))
@@ -80,6 +85,11 @@ pub record AskNameAt (m : ℕ) (es : List Entry) (work : List ℕ) (x : ℕ) : T
   pub name : x < m
   pub ready : Ready m es work
 
+-- fields from a place on, behind so many bytes
+pub record AskBehind (m : ℕ) (es : List Entry) (work : List ℕ) (at off : ℕ) : Type 0 where
+  pub ask : AskFieldsAt m es work at
+  pub small : off ≤ 16777216
+
 -- ---- what is answered
 pub record Stepped (m : ℕ) (es : List Entry) (res : Result GepStep) (by : Ty → GepStep) (p : ℕ) : Type 0 where
   pub answer : res ≡ ok (by (tyOf m (drop p es)))
@@ -94,89 +104,128 @@ pub record StepOutcome (m : ℕ) (es : List Entry) (work work′ : List ℕ) (re
   pub says : Steps m es res r
   pub after : After m es work work′
 
--- ---- a struct
-module _ (m : ℕ) (bk bw : List ℕ) (work : List ℕ) (at : ℕ) (packed : Bool) (i : Index) (k : AskFieldsAt m (entries bk bw) work at) where
+-- ---- a field from a place on
+module _ (m : ℕ) (bk bw : List ℕ) (work : List ℕ) (at off : ℕ) (k : AskBehind m (entries bk bw) work at off) where
   abbrev es : List Entry
   es = entries bk bw
 
   abbrev fields : Tys
   fields = tysOf m (drop at es)
 
+  pub behind-place : AtFields m bk bw at
+  behind-place = record { fields = k .ask .front; there = fields-below (k .ask); few = k .ask .ready .few }
+
+  pub behind-front : StartsFields m (lent bk bw at)
+  behind-front = subst (StartsFields m) (sym (entries-part at bk bw)) (k .ask .front)
+
+  pub behind-ask : AskOffset m (lent bk bw at) es work off
+  behind-ask = record { ask = ask-fields bk bw at (k .ask .front) (k .ask .ready) (omega arith); small = k .small }
+
+  module _ (packed : Bool) where
+    -- the first one
+    abbrev first : Result GepStep
+    first = fieldBy (structsIn m es) packed fields 0 off
+
+    pub first-none : getD bk at 0 ≡ 0 → StepOutcome m es work work first (step.Refused 14)
+    unfolding fieldBy fieldAt bind okOr
+    first-none z = record { says = rw (at-nil behind-place z) refl; after = after-none (k .ask .ready) }
+
+    module _ (z : getD bk at 0 ≡ 0 → ⊥) where
+      front : Starts m (drop at es)
+      front = at-field behind-place z .field
+
+      pub first-ask : AskStart m (drop at es) es work off
+      first-ask = record { ask = record { front = front; ready = k .ask .ready; levels = omega arith }; small = omega (arith, k .small) }
+
+      first-field : fieldAt fields 0 ≡ some (tyOf m (drop at es))
+      unfolding fieldAt
+      first-field = rw (at-cons behind-place z) refl
+
+      first-offset : offsetOf (structsIn m es) packed fields 0 off ≡ startOf (structsIn m es) packed (tyOf m (drop at es)) off
+      unfolding offsetFrom startOf
+      first-offset = rw (at-cons behind-place z) refl
+
+      module _ {work′ : List ℕ} (r : Offset) (o : StartOutcome m es work work′ off (startOf (structsIn m es) packed (tyOf m (drop at es)) off) r) where
+        first-is : offsetOf (structsIn m es) packed fields 0 off ≡ offsetResult r
+        first-is = first-offset ∙ sym (o .answer)
+
+        pub first-refused : (e : ℕ) → r ≡ offset.Refused e → StepOutcome m es work work′ first (step.Refused e)
+        unfolding fieldBy bind okOr
+        first-refused e er = record { says = rw (first-field, first-is ∙ ap offsetResult er) refl; after = o .after }
+
+        pub first-const : (n : ℕ) → r ≡ offset.At n → StepOutcome m es work work′ first (step.Constant n at)
+        unfolding fieldBy bind okOr
+        first-const n er = record { says = record { answer = rw (first-field, first-is ∙ ap offsetResult er) refl; front = front }; after = o .after }
+
+    -- any one
+    module _ (i : ℕ) (q : Place) (found : FieldFound m (lent bk bw at) i q) where
+      abbrev later : Result GepStep
+      later = fieldBy (structsIn m es) packed fields i off
+
+      found-here : FieldFound m (drop at es) i q
+      found-here = subst (λ (x : List Entry). FieldFound m x i q) (entries-part at bk bw) found
+
+      pub later-none : q ≡ place.Nothing → StepOutcome m es work work later (step.Refused 14)
+      unfolding fieldBy bind okOr
+      later-none e =
+          let g : fieldAt fields i ≡ none = subst (FieldFound m (drop at es) i) e found-here in
+          record { says = rw g refl; after = after-none (k .ask .ready) }
+
+      module _ (n : ℕ) (eq : q ≡ place.At n) where
+        field-place : FieldPlace m (drop at es) i n
+        field-place = subst (FieldFound m (drop at es) i) eq found-here
+
+        pub later-fits : at + n + 1 ≤ length bk
+        later-fits = within-kinds (at + n + 1) bk bw (omega (arith, field-place .there, length-drop at es))
+
+        module _ {work′ : List ℕ} (r : Offset) (o : OffsetOutcome m es work work′ (offsetOf (structsIn m es) packed (tysOf m (lent bk bw at)) i off) r) where
+          offset-is : offsetOf (structsIn m es) packed fields i off ≡ offsetResult r
+          offset-is = sym (o .answer ∙ ap (λ (x : List Entry). offsetOf (structsIn m es) packed (tysOf m x) i off) (entries-part at bk bw))
+
+          pub later-refused : (e : ℕ) → r ≡ offset.Refused e → StepOutcome m es work work′ later (step.Refused e)
+          unfolding fieldBy bind okOr
+          later-refused e er = record { says = rw (field-place .field, offset-is ∙ ap offsetResult er) refl; after = o .after }
+
+          pub later-const : (start : ℕ) → r ≡ offset.At start → StepOutcome m es work work′ later (step.Constant start (at + n))
+          unfolding fieldBy bind okOr
+          later-const start er =
+              let d : drop n (drop at es) ≡ drop (at + n) es = drop-drop n at es in
+              record {
+                says = record {
+                  answer = rw (field-place .field, offset-is ∙ ap offsetResult er) (ap (λ (x : List Entry). ok (GepStep.const start (tyOf m x))) d);
+                  front = subst (Starts m) d (field-place .front);
+                };
+                after = o .after;
+              }
+
+-- ---- a struct
+module _ (m : ℕ) (es : List Entry) (work : List ℕ) (at : ℕ) (packed : Bool) (i : Index) where
   abbrev answer : Result GepStep
-  answer = structBy (structsIn m es) packed fields (indexOf i)
+  answer = structBy (structsIn m es) packed (tysOf m (drop at es)) (indexOf i)
 
-  pub struct-varying : i ≡ index.Varying → StepOutcome m es work work answer (step.Refused 14)
+  pub struct-varying : AskFieldsAt m es work at → i ≡ index.Varying → StepOutcome m es work work answer (step.Refused 14)
   unfolding structBy bind okOr
-  struct-varying e = record { says = rw e refl; after = after-none (k .ready) }
+  struct-varying k e = record { says = rw e refl; after = after-none (k .ready) }
 
+  -- the fields behind a fact
   module _ (f : ℕ) (ef : i ≡ index.Constant f) {work′ : List ℕ} (v : Known) (w : KnownOutcome m es work work′ packed at f v) where
     fact : FieldFact m es packed at (v .index) (v .at) (v .offset)
     fact = w .best .fact
 
-    pub known-kinds : v .at ≤ length bk
-    known-kinds = within-kinds (v .at) bk bw (omega (arith, fact .there))
+    pub known-ask : AskBehind m es work′ (v .at) (v .offset)
+    known-ask = record { ask = record { front = fact .fields; there = omega (arith, fact .there); ready = w .after .ready }; small = fact .small }
 
-    pub known-words : v .at ≤ length bw
-    known-words = within-words (v .at) bk bw (omega (arith, fact .there))
+    module _ (left : ℕ) (el : left ≡ f - v .index) where
+      whole : f ≡ v .index + left
+      whole = omega (arith, w .best .before)
 
-    pub known-front : StartsFields m (lent bk bw (v .at))
-    known-front = subst (StartsFields m) (sym (entries-part (v .at) bk bw)) (fact .fields)
+      answer-is : answer ≡ fieldBy (structsIn m es) packed (tysOf m (drop (v .at) es)) left (v .offset)
+      unfolding structBy fieldBy bind okOr fieldOffset
+      answer-is = rw (ef, whole, fact .places left, fact .offsets left) refl
 
-    pub known-ask : AskOffset m (lent bk bw (v .at)) es work′ (v .offset)
-    known-ask = record { ask = ask-fields bk bw (v .at) (fact .fields) (w .after .ready) (omega arith); small = fact .small }
-
-    abbrev left : ℕ
-    left = f - v .index
-
-    whole : v .index + left ≡ f
-    whole = omega (arith, w .best .before)
-
-    place-is : fieldAt fields f ≡ fieldAt (tysOf m (drop (v .at) es)) left
-    place-is = ap (fieldAt fields) (sym whole) ∙ fact .places left
-
-    module _ (q : Place) (found : FieldFound m (lent bk bw (v .at)) left q) where
-      found-here : FieldFound m (drop (v .at) es) left q
-      found-here = subst (λ (x : List Entry). FieldFound m x left q) (entries-part (v .at) bk bw) found
-
-      pub struct-nothing : q ≡ place.Nothing → StepOutcome m es work work′ answer (step.Refused 14)
-      unfolding structBy bind okOr
-      struct-nothing e =
-          let g : fieldAt fields f ≡ none = place-is ∙ subst (FieldFound m (drop (v .at) es) left) e found-here in
-          record { says = rw (ef, g) refl; after = w .after }
-
-      module _ (n : ℕ) (eq : q ≡ place.At n) where
-        field-place : FieldPlace m (drop (v .at) es) left n
-        field-place = subst (FieldFound m (drop (v .at) es) left) eq found-here
-
-        pub struct-fits : v .at + n + 1 ≤ length bk
-        struct-fits = within-kinds (v .at + n + 1) bk bw (omega (arith, field-place .there, length-drop (v .at) es))
-
-        module _ {work″ : List ℕ} (r : Offset) (o : OffsetOutcome m es work′ work″ (offsetOf (structsIn m es) packed (tysOf m (lent bk bw (v .at))) left (v .offset)) r) where
-          offset-is : fieldOffset (structsIn m es) (record { packed = packed; fields = fields }) f ≡ offsetResult r
-          unfolding fieldOffset
-          offset-is =
-              ap (λ (j : ℕ). offsetOf (structsIn m es) packed fields j 0) (sym whole)
-              ∙ fact .offsets left
-              ∙ sym (o .answer ∙ ap (λ (x : List Entry). offsetOf (structsIn m es) packed (tysOf m x) left (v .offset)) (entries-part (v .at) bk bw))
-
-          both-after : After m es work work″
-          both-after = after-then (w .after) (o .after)
-
-          pub struct-refused : (e : ℕ) → r ≡ offset.Refused e → StepOutcome m es work work″ answer (step.Refused e)
-          unfolding structBy bind okOr
-          struct-refused e er =
-              let g : fieldOffset (structsIn m es) (record { packed = packed; fields = fields }) f ≡ err e = offset-is ∙ ap offsetResult er in
-              record { says = rw (ef, place-is ∙ field-place .field, g) refl; after = both-after }
-
-          pub struct-const : (off : ℕ) → r ≡ offset.At off → StepOutcome m es work work″ answer (step.Constant off (v .at + n))
-          unfolding structBy bind okOr
-          struct-const off er =
-              let g : fieldOffset (structsIn m es) (record { packed = packed; fields = fields }) f ≡ ok off = offset-is ∙ ap offsetResult er in
-              let d : drop n (drop (v .at) es) ≡ drop (v .at + n) es = drop-drop n (v .at) es in
-              record {
-                says = record { answer = rw (ef, place-is ∙ field-place .field, g) (ap (λ (x : List Entry). ok (GepStep.const off (tyOf m x))) d); front = subst (Starts m) d (field-place .front) };
-                after = both-after;
-              }
+      pub struct-known : {work″ : List ℕ} {r : Step} → StepOutcome m es work′ work″ (fieldBy (structsIn m es) packed (tysOf m (drop (v .at) es)) left (v .offset)) r
+          → StepOutcome m es work work″ answer r
+      struct-known {r = r} o = record { says = subst (λ (x : Result GepStep). Steps m es x r) (sym answer-is) (o .says); after = after-then (w .after) (o .after) }
 
 -- ---- an array
 module _ (m : ℕ) (bk bw : List ℕ) (work : List ℕ) (at : ℕ) (i : Index) (k : AskAt m (entries bk bw) work at) where

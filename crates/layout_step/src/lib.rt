@@ -9,6 +9,7 @@ use layout_field::field_offset;
 use layout_memo::Measured;
 use layout_size::size_of;
 use layout_table::known_before;
+use layout_table::starts::start_at;
 use numbers::wrap::wrapping_mul;
 ghost use Rattle.book.specs.Entry.{entries};
 ghost use Rattle.book.specs.Ast.{Ty};
@@ -16,7 +17,7 @@ ghost use lib.ListN.{drop};
 ghost use Rattle.layout_memo.specs.Front.{tyOf, tysOf};
 ghost use Rattle.layout_memo.specs.Work.{structsIn};
 ghost use Rattle.layout_table.specs.Table.{AskFieldsAt};
-ghost use Rattle.layout_step.specs.Steps.{AskAt, AskNameAt, StepOutcome, indexOf, stepBy, structBy, arrayBy};
+ghost use Rattle.layout_step.specs.Steps.{AskAt, AskNameAt, AskBehind, StepOutcome, indexOf, stepBy, structBy, fieldBy, arrayBy};
 
 // An index: a constant's two's complement word, or a value that varies.
 pub enum Index {
@@ -30,6 +31,65 @@ pub enum Step {
     Constant(u64, usize),
     Varying(u64, usize),
     Refused(u64),
+}
+
+// The step to the field at the place, behind so many bytes.
+fn field_step(
+    book_kinds: &[u64],
+    book_words: &[u64],
+    work: &mut [u64],
+    names: u64,
+    at: usize,
+    packed: bool,
+    offset: u64,
+) -> Step
+    requires { ⌜ AskBehind names (entries (now «book_kinds») (now «book_words»)) (now work) at offset ⌝ }
+    ensures { λ r. ⌜ StepOutcome names (entries (now («book_kinds» .entry)) (now («book_words» .entry))) (now (work .entry)) (now (work .exit))
+        (fieldBy (structsIn names (entries (now («book_kinds» .entry)) (now («book_words» .entry)))) packed (tysOf names (drop at (entries (now («book_kinds» .entry)) (now («book_words» .entry))))) 0 offset) r ⌝ }
+{
+    if book_kinds[at] == 0 {
+        return Step::Refused(14);
+    }
+    match start_at(book_kinds, book_words, work, names, at, packed, offset) {
+        Offset::Refused(e) => Step::Refused(e),
+        Offset::At(start) => Step::Constant(start, at),
+    }
+}
+
+// The step to the field with this index among those from the place on, behind so many bytes.
+fn later_step(
+    book_kinds: &[u64],
+    book_words: &[u64],
+    work: &mut [u64],
+    names: u64,
+    at: usize,
+    packed: bool,
+    index: u64,
+    offset: u64,
+) -> Step
+    requires { ⌜ AskBehind names (entries (now «book_kinds») (now «book_words»)) (now work) at offset ⌝ }
+    ensures { λ r. ⌜ StepOutcome names (entries (now («book_kinds» .entry)) (now («book_words» .entry))) (now (work .entry)) (now (work .exit))
+        (fieldBy (structsIn names (entries (now («book_kinds» .entry)) (now («book_words» .entry)))) packed (tysOf names (drop at (entries (now («book_kinds» .entry)) (now («book_words» .entry))))) index offset) r ⌝ }
+{
+    let ks = &book_kinds[at..];
+    let ws = &book_words[at..];
+    let Place::At(n) = field_at(ks, ws, names, index) else {
+        return Step::Refused(14);
+    };
+    match field_offset(
+        ks,
+        ws,
+        book_kinds,
+        book_words,
+        work,
+        names,
+        packed,
+        index,
+        offset,
+    ) {
+        Offset::Refused(e) => Step::Refused(e),
+        Offset::At(start) => Step::Constant(start, at + n),
+    }
 }
 
 // The step into a struct whose fields start at the place.
@@ -52,25 +112,20 @@ fn struct_step(
     let known = known_before(book_kinds, book_words, work, names, at, packed, field);
     let from = known.at;
     let left = field - known.index;
-    let ks = &book_kinds[from..];
-    let ws = &book_words[from..];
-    let Place::At(n) = field_at(ks, ws, names, left) else {
-        return Step::Refused(14);
-    };
-    match field_offset(
-        ks,
-        ws,
+    let offset = known.offset;
+    if left == 0 {
+        return field_step(book_kinds, book_words, work, names, from, packed, offset);
+    }
+    later_step(
         book_kinds,
         book_words,
         work,
         names,
+        from,
         packed,
         left,
-        known.offset,
-    ) {
-        Offset::Refused(e) => Step::Refused(e),
-        Offset::At(offset) => Step::Constant(offset, from + n),
-    }
+        offset,
+    )
 }
 
 // The step into an array whose element is at the place.

@@ -1,4 +1,4 @@
--- Facts about the fields of structs in the work words: how they are read and stored.
+-- Facts about the fields of structs and the alignments of types in the work words: how they are read and stored.
 use Prim.Native.Nat.{ℕ, _+_, _-_, _*_, _/_, _%_, _<_, _≤_, _^_}
 use mathlib.Core.Path.{_≡_, refl, sym, ap, _∙_, subst}
 use mathlib.Core.Logic.{_⊎_, inl, inr, ⊎-elim}
@@ -12,8 +12,9 @@ use lib.ListN.{length, getD, drop, set, length-set, length-drop}
 use lib.Seq.{getD-set-same, getD-set-other}
 use borrow.Author.Tests.{eqb-true, eqb-false}
 use Rattle.book.specs.Entry.{Entry}
-use Rattle.layout_memo.specs.Front.{StartsFields, fields-there}
-use Rattle.layout_memo.specs.Work.{Ready, After, after-none, FieldFact, FactWords, Settled, tableAt, table-word, table-other}
+use Rattle.layout_memo.specs.Front.{Starts, StartsFields, fields-there}
+use Rattle.layout_memo.specs.Work.{Ready, After, after-none, FieldFact, AlignFact, FactWords, Settled, tableAt, table-word, table-other}
+use Rattle.layout_memo.specs.Calls.{starts-length}
 use Rattle.layout_table.specs.declared.Known.{Known}
 
 -- what is known of a struct whose first field stands at p
@@ -42,11 +43,12 @@ module _ {m : ℕ} {es : List Entry} {work : List ℕ} {p : ℕ} (k : AskFieldsA
 -- the first word of a fact about a struct
 pub record KeyOf (packed : Bool) (place index key : ℕ) : Type 0 where
   pub some : key ≡ 0 → ⊥
+  pub low : key < 2 ^ 43
   pub packing : eqb ((key - 1) % 2) 1 ≡ packed
   pub start : (key - 1) / 2 % 1048576 ≡ place
   pub field : (key - 1) / 2097152 ≡ index
 
-module _ (place index : ℕ) (l : place < 1048576) where
+module _ (place index : ℕ) (l : place < 1048576) (h : index < 1048576) where
   start-of : (k : ℕ) → k / 2 ≡ index * 1048576 + place → k / 2 % 1048576 ≡ place
   start-of k e = ap (λ (j : ℕ). j % 1048576) e ∙ mul-add-mod-self-right index 1048576 place ∙ mod-eq-of-lt l
 
@@ -54,13 +56,13 @@ module _ (place index : ℕ) (l : place < 1048576) where
   key-packed packed e =
       let x : index * 2097152 + place * 2 + 2 - 1 ≡ 1 + (index * 1048576 + place) * 2 = omega arith in
       let d : (index * 2097152 + place * 2 + 2 - 1) % 2 ≡ 1 = ap (λ (k : ℕ). k % 2) x ∙ add-mul-mod-self-right 1 (index * 1048576 + place) 2 in
-      record { some = λ z. omega arith; packing = rw (d, e) refl; start = start-of _ (omega arith); field = omega arith }
+      record { some = λ z. omega arith; low = omega arith; packing = rw (d, e) refl; start = start-of _ (omega arith); field = omega arith }
 
   pub key-free : (packed : Bool) → packed ≡ false → KeyOf packed place index (index * 2097152 + place * 2 + 1)
   key-free packed e =
       let x : index * 2097152 + place * 2 + 1 - 1 ≡ 0 + (index * 1048576 + place) * 2 = omega arith in
       let d : (index * 2097152 + place * 2 + 1 - 1) % 2 ≡ 0 = ap (λ (k : ℕ). k % 2) x ∙ add-mul-mod-self-right 0 (index * 1048576 + place) 2 in
-      record { some = λ z. omega arith; packing = rw (d, e) refl; start = start-of _ (omega arith); field = omega arith }
+      record { some = λ z. omega arith; low = omega arith; packing = rw (d, e) refl; start = start-of _ (omega arith); field = omega arith }
 
 -- the second word of a fact
 pub record ValueOf (q off value : ℕ) : Type 0 where
@@ -74,7 +76,16 @@ value-is q off l =
 
 -- the two words of a right fact
 pub words-right : (m : ℕ) (es : List Entry) (packed : Bool) (p j q off key value : ℕ) → KeyOf packed p j key → ValueOf q off value → FieldFact m es packed p j q off → FactWords m es key value
-words-right m es packed p j q off key value k v f = record { right = λ z. rw (k .packing, k .start, k .field, v .place, v .offset) f }
+words-right m es packed p j q off key value k v f = record { field = λ z l. rw (k .packing, k .start, k .field, v .place, v .offset) f; align = λ l. absurd (omega (arith, k .low)) }
+
+-- and those of an alignment
+abbrev pub alignKey : ℕ → ℕ
+alignKey place = 2 ^ 43 + place
+
+pub align-words : (m : ℕ) (es : List Entry) (place a key : ℕ) → key ≡ alignKey place → AlignFact m es place a → FactWords m es key a
+align-words m es place a key e f =
+    let d : key - 2 ^ 43 ≡ place = omega arith in
+    record { field = λ z l. absurd (omega arith); align = λ l. rw d f }
 
 -- ---- looking for a fact
 -- a word that stands behind a key in the table, or 0
@@ -104,12 +115,36 @@ module _ {m : ℕ} {es : List Entry} {work : List ℕ} {p index : ℕ} (k : AskF
   pub find-probed : (j key value : ℕ) → KeyOf packed p j key → Probed m work key value → (value ≡ 0 → ⊥) → FieldFact m es packed p j (value / 33554432) (value % 33554432)
   find-probed j key value c (inl z) n = absurd (n z)
   find-probed j key value c (inr f) n =
-      let g = k .ask .ready .facts (f .0) .right (λ z. c .some (sym (f .1 .0) ∙ z)) in
+      let g = k .ask .ready .facts (f .0) .field (λ z. c .some (sym (f .1 .0) ∙ z)) (rw (f .1 .0) (c .low)) in
       rw (f .1 .0, f .1 .1, c .packing, c .start, c .field) at g
 
   pub find-here : (j key value : ℕ) → KeyOf packed p j key → Probed m work key value → (value ≡ 0 → ⊥) → j ≤ index
       → Best m es packed p index (record { index = j; at = value / 33554432; offset = value % 33554432; ended = false })
   find-here j key value c f n l = record { fact = find-probed j key value c f n; before = l }
+
+-- what is asked about the type at a place
+pub record AskTypeAt (m : ℕ) (es : List Entry) (work : List ℕ) (p : ℕ) : Type 0 where
+  pub front : Starts m (drop p es)
+  pub ready : Ready m es work
+
+-- an alignment of the type, or 0
+abbrev pub AlignFound : (m : ℕ) (es : List Entry) (p r : ℕ) → Type 0
+AlignFound m es p r = (r ≡ 0 → ⊥) → AlignFact m es p r
+
+module _ {m : ℕ} {es : List Entry} {work : List ℕ} {p : ℕ} (k : AskTypeAt m es work p) where
+  pub type-below : p < length es
+  type-below = omega (arith, starts-length (k .front), length-drop p es)
+
+  pub type-place : p < 1048576
+  type-place = omega (arith, type-below, k .ready .few)
+
+  pub align-probed : (key r : ℕ) → key ≡ alignKey p → Probed m work key r → AlignFound m es p r
+  align-probed key r e (inl z) n = absurd (n z)
+  align-probed key r e (inr f) n =
+      let d : key - 2 ^ 43 ≡ p = omega arith in
+      let l : 2 ^ 43 ≤ key = omega arith in
+      let g = k .ready .facts (f .0) .align (rw (f .1 .0) l) in
+      rw (f .1 .0, f .1 .1, d) at g
 
 -- the lowest set bit is taken off
 pub bit-less : (j : ℕ) → (j ≡ 0 → ⊥) → bitAnd j (j - 1) < j
@@ -120,6 +155,11 @@ bit-less j z = omega (arith, and-le-r j (j - 1))
 pub record AskNote (m : ℕ) (es : List Entry) (work : List ℕ) (packed : Bool) (p : ℕ) (k : Known) : Type 0 where
   pub ready : Ready m es work
   pub fact : FactOf m es packed p k
+
+-- and to store an alignment
+pub record AskNoteAlign (m : ℕ) (es : List Entry) (work : List ℕ) (p a : ℕ) : Type 0 where
+  pub ask : AskTypeAt m es work p
+  pub fact : AlignFact m es p a
 
 -- ---- slots
 module _ (x n : ℕ) (l : x < 2 ^ 32) (h : n ≤ 2 ^ 32) where
@@ -208,11 +248,17 @@ pub store-both : (m : ℕ) (work : List ℕ) (slot at behind key value : ℕ) �
     → Stored m work (set (set work at key) behind value) key value
 store-both m work slot at behind key value ea eb la lb = inr (record { slot = slot; first = rw (← ea) la; second = rw (← eb) lb; same = rw (ea, eb) refl })
 
-pub stored-after : {m : ℕ} {es : List Entry} {work work′ : List ℕ} {packed : Bool} {p key value : ℕ} (k : Known) → AskNote m es work packed p k → KeyOf packed p (k .index) key
+pub stored-after : {m : ℕ} {es : List Entry} {work work′ : List ℕ} {key value : ℕ} → Ready m es work → FactWords m es key value → Stored m work work′ key value → After m es work work′
+stored-after r f (inl e) = rw e (after-none r)
+stored-after {key = key} {value = value} r f (inr s) = rw (s .same) (after-note (s .slot) key value r f (s .first) (s .second))
+
+pub field-stored : {m : ℕ} {es : List Entry} {work work′ : List ℕ} {packed : Bool} {p key value : ℕ} (k : Known) → AskNote m es work packed p k → KeyOf packed p (k .index) key
     → ValueOf (k .at) (k .offset) value → Stored m work work′ key value → After m es work work′
-stored-after k a c v (inl e) = rw e (after-none (a .ready))
-stored-after {m} {es} {work} {packed = packed} {p = p} {key = key} {value = value} k a c v (inr s) =
-    rw (s .same) (after-note (s .slot) key value (a .ready) (words-right m es packed p (k .index) (k .at) (k .offset) key value c v (a .fact)) (s .first) (s .second))
+field-stored {m} {es} {packed = packed} {p = p} {key = key} {value = value} k a c v s =
+    stored-after (a .ready) (words-right m es packed p (k .index) (k .at) (k .offset) key value c v (a .fact)) s
+
+pub align-stored : {m : ℕ} {es : List Entry} {work work′ : List ℕ} {p a : ℕ} (key : ℕ) → key ≡ alignKey p → AskNoteAlign m es work p a → Stored m work work′ key a → After m es work work′
+align-stored {m} {es} {p = p} {a = a} key e k s = stored-after (k .ask .ready) (align-words m es p a key e (k .fact)) s
 
 module _ {m : ℕ} {es : List Entry} {work : List ℕ} {packed : Bool} {p : ℕ} {k : Known} (a : AskNote m es work packed p k) where
   pub note-place : p < 1048576

@@ -1,7 +1,9 @@
-// Where the fields of structs stand, noted in the work words, so that a field is found without passing all fields before it.
+// Where the fields of structs stand, noted in the work words, so that a field is found without passing all fields before it;
+// and alignments of long types.
 // A fact is noted behind j fields where the 2^t fields before it take `size` entries or more, 2^t the largest power of two that
 // divides j; so a field is found by taking set bits off its index from below until a fact is there. What lies between that fact
 // and the field is passed then, and facts are noted on the way.
+pub mod starts;
 pub mod table;
 
 use crate::table::find;
@@ -192,6 +194,14 @@ fn size_for(facts: usize, count: usize) -> usize
         return 64;
     }
     size
+}
+
+// Whether an entry of this kind begins an array or a struct.
+pub fn opens(kind: u64) -> bool {
+    match kind {
+        13 | 14 | 16 | 17 => true,
+        _ => false,
+    }
 }
 
 // Where 128 entries from the place on end, or the book.

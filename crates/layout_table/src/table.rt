@@ -1,10 +1,11 @@
-// A table of places of fields among the work words. A fact names its struct, so where it stands is no matter of its truth.
+// A table among the work words: of places of fields, and of alignments of types by their place. A fact names its struct or its
+// type, so where it stands is no matter of its truth.
 use crate::Known;
 ghost use mathlib.Core.Path.{_≡_};
 ghost use Prim.Native.Nat.{_<_, _≤_, _^_};
 ghost use Rattle.book.specs.Entry.{entries};
 ghost use Rattle.layout_memo.specs.Work.{After, tableAt};
-ghost use Rattle.layout_table.specs.Table.{KeyOf, ValueOf, Probed, Best, AskFind, AskNote, Stored, noFields};
+ghost use Rattle.layout_table.specs.Table.{KeyOf, ValueOf, Probed, Best, AskFind, AskNote, AskTypeAt, AskNoteAlign, AlignFound, Stored, alignKey, noFields};
 
 // Where the table's word i stands: word 6 of a name, or behind the words of terms.
 fn table_at(names: u64, i: usize) -> usize
@@ -190,6 +191,18 @@ fn store(work: &mut [u64], names: u64, slot: usize, key: u64, value: u64)
     }
 }
 
+// Puts the two words of a fact into a slot, where the table has room.
+fn put(work: &mut [u64], names: u64, key: u64, value: u64)
+    ensures { λ _. ⌜ Stored names (now (work .entry)) (now (work .exit)) key value ⌝ }
+{
+    let facts = room_for(work.len(), names);
+    if facts < 16 {
+        return;
+    }
+    let slot = free_slot(work, names, facts, key);
+    store(work, names, slot, key, value);
+}
+
 // Notes a fact about the struct whose first field stands at the place.
 pub fn note(
     book_kinds: &[u64],
@@ -203,14 +216,50 @@ pub fn note(
     requires { ⌜ AskNote names (entries (now «book_kinds») (now «book_words»)) (now work) packed place fact ⌝ }
     ensures { λ _. ⌜ After names (entries (now («book_kinds» .entry)) (now («book_words» .entry))) (now (work .entry)) (now (work .exit)) ⌝ }
 {
-    let facts = room_for(work.len(), names);
-    if facts < 16 {
-        return;
-    }
     if 1048576 <= fact.index {
         return;
     }
     let key = key_of(place, packed, fact.index);
-    let slot = free_slot(work, names, facts, key);
-    store(work, names, slot, key, value_of(fact.at, fact.offset));
+    put(work, names, key, value_of(fact.at, fact.offset));
+}
+
+// The first word of the fact about the type at the place.
+fn align_key(place: usize) -> u64
+    requires { ⌜ place < 1048576 ⌝ }
+    ensures { λ r. ⌜ r ≡ alignKey place ⌝ }
+{
+    8796093022208 + (place as u64)
+}
+
+// The alignment that is noted for the type at the place, 0 where none is.
+pub fn noted_align(
+    book_kinds: &[u64],
+    book_words: &[u64],
+    work: &[u64],
+    names: u64,
+    place: usize,
+) -> u64
+    requires { ⌜ AskTypeAt names (entries (now «book_kinds») (now «book_words»)) (now work) place ⌝ }
+    ensures { λ r. ⌜ AlignFound names (entries (now («book_kinds» .entry)) (now («book_words» .entry))) place r ⌝ }
+{
+    let facts = room_for(work.len(), names);
+    if facts < 16 {
+        return 0;
+    }
+    probe(work, names, facts, align_key(place))
+}
+
+// Notes the alignment of the type at the place.
+pub fn note_align(
+    book_kinds: &[u64],
+    book_words: &[u64],
+    work: &mut [u64],
+    names: u64,
+    place: usize,
+    align: u64,
+)
+    requires { ⌜ AskNoteAlign names (entries (now «book_kinds») (now «book_words»)) (now work) place align ⌝ }
+    ensures { λ _. ⌜ After names (entries (now («book_kinds» .entry)) (now («book_words» .entry))) (now (work .entry)) (now (work .exit)) ⌝ }
+{
+    put(work, names, align_key(place), align);
 }

@@ -19,13 +19,13 @@ add-result : tie.Need-add-result
 add-result c = search needs
 
 returns : tie.Need-returns
-returns c = laws.key-packed _ _ (c .before .pre .0) _ (c .if1 .taken)
+returns c = laws.key-packed _ _ (c .before .pre .0) (c .before .pre .1) _ (c .if1 .taken)
 
 add-result-2 : tie.Need-add-result-2
 add-result-2 c = search needs
 
 returns-2 : tie.Need-returns-2
-returns-2 c = laws.key-free _ _ (c .before .pre .0) _ (c .if1 .left)
+returns-2 c = laws.key-free _ _ (c .before .pre .0) (c .before .pre .1) _ (c .if1 .left)
 
 pub key-of-spec : {M : Type 1} → statement M
 key-of-spec =
