@@ -138,6 +138,39 @@ fn field_of(ty: &[(u64, u64)], indices: &[u64]) -> Entries {
     [&[(kind::GEP, 2)], ty, &[NULL], &indices.collect::<Vec<_>>(), &[END]].concat()
 }
 
+/// A named struct with these fields, and so many of them asked for, in no order. Name 0 is the struct's, 1 a result's; the others
+/// stand in nothing, but each has work words.
+fn asked(what: &'static str, body: &[(u64, u64)], count: u64, times: u64, names: usize) -> Large {
+    let ask = |number: u64| field_of(&[(kind::NAMED, 0)], &[0, number * 7919 % count]);
+    let body = [&[(kind::NAMED_STRUCT, 0), (kind::STRUCT, 0)], body, &[END]].concat();
+    let asks: Entries = (0..times).flat_map(ask).collect();
+    large::large(what, 0, &[body, unreachable(&asks)].concat(), names)
+}
+
+/// Two named structs: one of a byte and a word, and one of so many of it, which are asked for in no order.
+fn asked_named(what: &'static str, count: u64, times: u64) -> Large {
+    let ask = |number: u64| field_of(&[(kind::NAMED, 1)], &[0, number * 7919 % count]);
+    let inner = [(kind::NAMED_STRUCT, 0), (kind::STRUCT, 0), BYTE, WORD, END];
+    let outer = [vec![(kind::NAMED_STRUCT, 1), (kind::STRUCT, 0)], vec![(kind::NAMED, 0); count as usize], vec![END]].concat();
+    let asks: Entries = (0..times).flat_map(ask).collect();
+    large::large(what, 0, &[&inner[..], &outer, &unreachable(&asks)].concat(), 3)
+}
+
+/// Structs in one another, each with the next in front of so many bytes; the last byte at every depth is asked for.
+fn asked_inward(what: &'static str, depth: u64, count: u64, times: u64) -> Large {
+    let bytes = vec![BYTE; count as usize];
+    let body = (0..depth).fold(vec![], |inner: Entries, _| [&[(kind::STRUCT, 0)], &inner[..], &bytes, &[END]].concat());
+    let named = [&[(kind::NAMED_STRUCT, 0)], &body[..]].concat();
+    let ask = |number: u64| {
+        let down = number % depth;
+        let last = if down + 1 == depth { count - 1 } else { count };
+        let indices: Vec<u64> = std::iter::repeat(0).take(down as usize + 1).chain([last]).collect();
+        field_of(&[(kind::NAMED, 0)], &indices)
+    };
+    let asks: Entries = (0..times).flat_map(ask).collect();
+    large::large(what, 0, &[named, unreachable(&asks)].concat(), 2)
+}
+
 /// Blocks that go to one block of phis, which has a pair for each of them. Name 0 is the function's and the first block's.
 fn phis(what: &'static str, blocks: u64, phis: u64, backwards: bool) -> Large {
     let join = blocks;
@@ -204,6 +237,8 @@ pub fn shapes() -> Vec<Large> {
     let wide = nested(31, &vec![BYTE; ENTRIES - 300]);
     let inner = field_of(&wide, &[0; 32]);
     let last = field_of(&named_struct, &[0, 19_999]);
+    let mixed = [BYTE, WORD].repeat(250_000);
+    let thick = [vec![(kind::STRUCT, 0)], vec![BYTE; 400], vec![END]].concat().repeat(1000);
     let case = [(kind::INTEGER, 7), (kind::TARGET, 0)];
     let cases = [vec![(kind::SWITCH, 0), WORD, NULL, (kind::TARGET, 0)], case.repeat(100_000), vec![END]];
     let select = [(kind::SELECT, 2), (kind::GLOBAL, 0), WORD, (kind::GLOBAL, 0), NULL];
@@ -213,6 +248,12 @@ pub fn shapes() -> Vec<Large> {
         doubling("structs that double, 60 of them", 60, 1),
         fields("a struct of 20,000 fields, measured 60,000 times", 20_000, &freeze(&named_struct), 60_000),
         fields("a struct of 20,000 fields, the last asked for 20,000 times", 20_000, &last, 20_000),
+        asked("a struct of 500,000 fields, 60,000 of them asked for", &mixed, 500_000, 60_000, 2),
+        asked("the same in a book of 5,000 names", &mixed, 500_000, 60_000, 5_000),
+        asked("the same in a book of 131,072 names", &mixed, 500_000, 60_000, NAMES),
+        asked("a struct of 1,000 structs of 400 fields, 60,000 of them asked for", &thick, 1000, 60_000, 2),
+        asked_named("a struct of 500,000 named structs, 60,000 of them asked for", 500_000, 60_000),
+        asked_inward("31 structs in one another, 8,000 bytes behind each, 15,000 asked for", 31, 8000, 15_000),
         fields("a struct of 2,000 fields in 60,000 places", 2000, &place(&named_struct), 60_000),
         large::large("types of 64 levels, measured", 0, &filled(&freeze(&arrays(64))), 2),
         large::large("32 indices that vary", 0, &filled(&varying), 2),

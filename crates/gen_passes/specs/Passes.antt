@@ -1,7 +1,8 @@
 -- A pass that counts and one that writes: together they answer as the definition does.
 use Prim.Native.Nat.{ℕ, _+_, _<_, _≤_, _%_, _^_, min}
-use mathlib.Core.Path.{_≡_, refl, sym, ap, _∙_}
+use mathlib.Core.Path.{_≡_, refl, sym, ap, subst, _∙_}
 use mathlib.Core.Bool.{Bool, true, false, not}
+use mathlib.Core.Logic.{⊎-elim}
 use mathlib.Core.List.{List, _++_, map}
 use native.Mathlib.Omega.{arith}
 use native.Mathlib.Nat.{mod-eq-of-lt}
@@ -20,6 +21,9 @@ use Rattle.lowering.specs.Printable.{take-over}
 use Rattle.lowering.specs.Translate.{over}
 use Rattle.gen_lines.specs.declared.Reached.{Reached}
 use Rattle.gen_lines.specs.Puts.{Puts, Able, After, isRefused, most, operandWord, map-length}
+use Rattle.gen_slices.specs.Fits.{FitOf, fit-lines, fit-refused}
+use Rattle.gen_slices.specs.declared.Fit.{Fit}
+use Rattle.gen_slices.specs.declared.Fit.the-variants as fit
 use Rattle.gen_values.specs.Maps.{Maps}
 use Rattle.gen_prepare.specs.declared.Prepared.{Prepared}
 use Rattle.gen_function.specs.Function.{FunctionHere, Framed, slotsOf}
@@ -88,7 +92,7 @@ module _ (g : Gen) (counter : ℕ) {t : Reached} {ks₀ os₀ ks₁ os₁ : List
   going e = ap not (eq-eqb (t .refused) 0 e)
 
   -- the count found a refusal
-  pub pass-refused : (t .refused ≡ 0 → ⊥) → Answered (fitted (g counter) (room ks os)) (Refused (t .counter)) ks os ks os
+  pass-refused : (t .refused ≡ 0 → ⊥) → Answered (fitted (g counter) (room ks os)) (Refused (t .counter)) ks os ks os
   unfolding bind
   pass-refused e = go (g counter) (pass-after counting)
     where
@@ -97,7 +101,7 @@ module _ (g : Gen) (counter : ℕ) {t : Reached} {ks₀ os₀ ks₁ os₁ : List
       go (err n) b = record { reply = ap Refused (b .number); kinds = refl; operands = refl }
 
   -- the lines do not fit
-  pub pass-short : t .refused ≡ 0 → room ks os < t .at → Answered (fitted (g counter) (room ks os)) (Refused 20) ks os ks os
+  pass-short : t .refused ≡ 0 → room ks os < t .at → Answered (fitted (g counter) (room ks os)) (Refused 20) ks os ks os
   unfolding bind given
   pass-short e l = go (g counter) (pass-after counting)
     where
@@ -106,7 +110,7 @@ module _ (g : Gen) (counter : ℕ) {t : Reached} {ks₀ os₀ ks₁ os₁ : List
       go (err n) b = never (b .refused) (going e)
 
   -- they do, and are copied
-  pub pass-copied : t .refused ≡ 0 → t .at ≤ room ks os → t .at ≤ length ks₀ → length ks₀ ≡ length os₀
+  pass-copied : t .refused ≡ 0 → t .at ≤ room ks os → t .at ≤ length ks₀ → length ks₀ ≡ length os₀
       → (ks′ os′ : List ℕ) → ks′ ≡ over (take (t .at) ks₁) ks → os′ ≡ over (take (t .at) os₁) os → Answered (fitted (g counter) (room ks os)) (Accepted (t .at) (t .counter)) ks os ks′ os′
   unfolding bind given
   pass-copied e l own even ks′ os′ ek eo = go (g counter) (pass-after counting)
@@ -129,7 +133,7 @@ module _ (g : Gen) (counter : ℕ) {t : Reached} {ks₀ os₀ ks₁ os₁ : List
       go (err x) b = never (b .refused) (going e)
 
   -- they do, and are made again
-  pub pass-written : t .refused ≡ 0 → t .at ≤ room ks os → {u : Reached} {ks′ os′ : List ℕ} → Pass g counter u ks os ks′ os′
+  pass-written : t .refused ≡ 0 → t .at ≤ room ks os → {u : Reached} {ks′ os′ : List ℕ} → Pass g counter u ks os ks′ os′
       → Answered (fitted (g counter) (room ks os)) (Accepted (t .at) (t .counter)) ks os ks′ os′
   unfolding bind given
   pass-written e l {u} {ks′} {os′} writing = go (g counter) (pass-after counting) (pass-after writing)
@@ -144,3 +148,25 @@ module _ (g : Gen) (counter : ℕ) {t : Reached} {ks₀ os₀ ks₁ os₁ : List
             operands = v .operands ∙ sets-over os (map operandWord (out .lines)) (omega (arith, map-length operandWord (out .lines)));
           })
       go (err x) b v = never (b .refused) (going e)
+
+  -- the same by what was told of them
+  module _ (r : Fit) (f : FitOf t (length ks) (length os) r) where
+    pub fit-none : (e : ℕ) → r ≡ fit.Refused e → Answered (fitted (g counter) (room ks os)) (Refused e) ks os ks os
+    fit-none e q = ⊎-elim (λ p. rw (p .1) (pass-refused (p .0))) (λ p. rw (p .1 .1) (pass-short (p .0) (p .1 .0))) (fit-refused t (length ks) (length os) r f e q)
+
+    module _ (n : ℕ) (q : r ≡ fit.Lines n) where
+      abbrev told : (t .refused ≡ 0) × ((n ≡ t .at) × (n ≤ room ks os))
+      told = fit-lines t (length ks) (length os) r f n q
+
+      pub fit-copied : n ≤ length ks₀ → length ks₀ ≡ length os₀
+          → (ks′ os′ : List ℕ) → ks′ ≡ over (take n ks₁) ks → os′ ≡ over (take n os₁) os → Answered (fitted (g counter) (room ks os)) (Accepted n (t .counter)) ks os ks′ os′
+      fit-copied own even ks′ os′ ek eo =
+          let e = told .1 .0 in
+          subst (λ (m : ℕ). Answered (fitted (g counter) (room ks os)) (Accepted m (t .counter)) ks os ks′ os′) (sym e)
+          (pass-copied (told .0) (omega (arith, told .1 .1, e)) (omega (arith, own, e)) even ks′ os′
+          (ek ∙ ap (λ (m : ℕ). over (take m ks₁) ks) e) (eo ∙ ap (λ (m : ℕ). over (take m os₁) os) e))
+
+      pub fit-written : {u : Reached} {ks′ os′ : List ℕ} → Pass g counter u ks os ks′ os′ → Answered (fitted (g counter) (room ks os)) (Accepted n (t .counter)) ks os ks′ os′
+      fit-written {ks′ = ks′} {os′ = os′} writing =
+          let e = told .1 .0 in
+          subst (λ (m : ℕ). Answered (fitted (g counter) (room ks os)) (Accepted m (t .counter)) ks os ks′ os′) (sym e) (pass-written (told .0) (omega (arith, told .1 .1, e)) writing)

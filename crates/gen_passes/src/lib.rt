@@ -4,8 +4,10 @@ use gen_function::gen_function;
 use gen_lines::Reached;
 use gen_prepare::Prepared;
 use gen_prepare::prepare;
+use gen_slices::Fit;
 use gen_slices::copy_kinds;
 use gen_slices::copy_operands;
+use gen_slices::lines_fit;
 ghost use mathlib.Core.Path.{_≡_};
 ghost use mathlib.Core.List.{List};
 ghost use mathlib.Core.Option.{some};
@@ -62,32 +64,27 @@ fn pass_over(
         own_operands,
         start,
     );
-    if counted.refused != 0 {
-        return Translation::Refused(counted.counter);
+    match lines_fit(counted, lines.len(), operands.len()) {
+        Fit::Refused(e) => Translation::Refused(e),
+        Fit::Lines(many) => {
+            if many <= own_lines.len() {
+                copy_kinds(own_lines, lines, many);
+                copy_operands(own_operands, operands, many);
+                return Translation::Accepted(many, counted.counter);
+            }
+            gen_function(
+                book_kinds,
+                book_words,
+                head,
+                work,
+                names,
+                lines,
+                operands,
+                start,
+            );
+            Translation::Accepted(many, counted.counter)
+        }
     }
-    let many = counted.at;
-    if lines.len() < many {
-        return Translation::Refused(20);
-    }
-    if operands.len() < many {
-        return Translation::Refused(20);
-    }
-    if many <= own_lines.len() {
-        copy_kinds(own_lines, lines, many);
-        copy_operands(own_operands, operands, many);
-        return Translation::Accepted(many, counted.counter);
-    }
-    gen_function(
-        book_kinds,
-        book_words,
-        head,
-        work,
-        names,
-        lines,
-        operands,
-        start,
-    );
-    Translation::Accepted(many, counted.counter)
 }
 
 // The lines of a function whose work words are filled, by slices of our own of 256 lines.

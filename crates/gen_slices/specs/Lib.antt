@@ -1,2 +1,3 @@
 pub mod Clear
 pub mod Copies
+pub mod Fits
