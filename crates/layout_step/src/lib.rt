@@ -45,7 +45,8 @@ fn field_step(
 ) -> Step
     requires { ⌜ AskBehind names (entries (now «book_kinds») (now «book_words»)) (now work) at offset ⌝ }
     ensures { λ r. ⌜ StepOutcome names (entries (now («book_kinds» .entry)) (now («book_words» .entry))) (now (work .entry)) (now (work .exit))
-        (fieldBy (structsIn names (entries (now («book_kinds» .entry)) (now («book_words» .entry)))) packed (tysOf names (drop at (entries (now («book_kinds» .entry)) (now («book_words» .entry))))) 0 offset) r ⌝ }
+        (fieldBy (structsIn names (entries (now («book_kinds» .entry)) (now («book_words» .entry)))) packed
+        (tysOf names (drop at (entries (now («book_kinds» .entry)) (now («book_words» .entry))))) 0 offset) r ⌝ }
 {
     if book_kinds[at] == 0 {
         return Step::Refused(14);
@@ -69,7 +70,8 @@ fn later_step(
 ) -> Step
     requires { ⌜ AskBehind names (entries (now «book_kinds») (now «book_words»)) (now work) at offset ⌝ }
     ensures { λ r. ⌜ StepOutcome names (entries (now («book_kinds» .entry)) (now («book_words» .entry))) (now (work .entry)) (now (work .exit))
-        (fieldBy (structsIn names (entries (now («book_kinds» .entry)) (now («book_words» .entry)))) packed (tysOf names (drop at (entries (now («book_kinds» .entry)) (now («book_words» .entry))))) index offset) r ⌝ }
+        (fieldBy (structsIn names (entries (now («book_kinds» .entry)) (now («book_words» .entry)))) packed
+        (tysOf names (drop at (entries (now («book_kinds» .entry)) (now («book_words» .entry))))) index offset) r ⌝ }
 {
     let ks = &book_kinds[at..];
     let ws = &book_words[at..];

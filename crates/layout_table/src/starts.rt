@@ -61,7 +61,8 @@ pub fn start_at(
 ) -> Offset
     requires { ⌜ AskStart names (drop place (entries (now «book_kinds») (now «book_words»))) (entries (now «book_kinds») (now «book_words»)) (now work) offset ⌝ }
     ensures { λ r. ⌜ StartOutcome names (entries (now («book_kinds» .entry)) (now («book_words» .entry))) (now (work .entry)) (now (work .exit)) offset
-        (startOf (structsIn names (entries (now («book_kinds» .entry)) (now («book_words» .entry)))) packed (tyOf names (drop place (entries (now («book_kinds» .entry)) (now («book_words» .entry))))) offset) r ⌝ }
+        (startOf (structsIn names (entries (now («book_kinds» .entry)) (now («book_words» .entry)))) packed
+        (tyOf names (drop place (entries (now («book_kinds» .entry)) (now («book_words» .entry))))) offset) r ⌝ }
 {
     if packed {
         return Offset::At(offset);
