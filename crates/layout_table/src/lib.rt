@@ -247,22 +247,23 @@ fn left_behind(kind: u64, lists: usize, left: u64) -> u64
     }
 }
 
-// Whether the field with this index, of those from the place on, stands among the next 128 entries: it is found without a fact.
+// Whether the field with this index, of those from the place on, stands among the next 128 entries, and begins no array or struct,
+// whose alignment may be known: it is found without a fact.
 fn is_near(kinds: &[u64], place: usize, index: u64) -> bool {
     let stop = near_stop(kinds.len(), place);
     let mut at = place;
     let mut lists: usize = 0;
     let mut left = index;
     while at < stop {
-        if left == 0 {
-            return true;
-        }
         let kind = kinds[at];
+        if left == 0 {
+            return opens(kind) == false;
+        }
         lists = lists_behind(kind, lists);
         left = left_behind(kind, lists, left);
         at = at + 1;
     }
-    left == 0
+    false
 }
 
 // How many facts the table has room for, 0 where the field is found without it.

@@ -9,6 +9,7 @@ use Rattle.layout_table.proofs.is_near.Lts as lts
 use Rattle.layout_table.proofs.left_behind.Reads as left-behind-reads
 use Rattle.layout_table.proofs.lists_behind.Reads as lists-behind-reads
 use Rattle.layout_table.proofs.near_stop.Reads as near-stop-reads
+use Rattle.layout_table.proofs.opens.Reads as opens-reads
 
 abbrev Inv-loop : tie.InvT-loop
 Inv-loop kinds place index stop at₀ lists₀ left₀ at lists left = (stop ≤ length kinds) × (lists ≤ at)
@@ -22,14 +23,17 @@ near-stop-requires c κs = search needs
 loop-holds : tie.Need-loop-holds Inv-loop μ-loop
 loop-holds c = search needs
 
-returns : tie.Need-returns Inv-loop μ-loop
-returns c = search needs
-
 mul-kind : tie.Need-mul-kind Inv-loop μ-loop
 mul-kind c = search needs
 
 shared-slice-read-kind : tie.Need-shared-slice-read-kind Inv-loop μ-loop
 shared-slice-read-kind c = search needs
+
+opens-requires : tie.Need-opens-requires Inv-loop μ-loop
+opens-requires c κs = search needs
+
+returns : tie.Need-returns Inv-loop μ-loop
+returns c = search needs
 
 lists-behind-requires : tie.Need-lists-behind-requires Inv-loop μ-loop
 lists-behind-requires c κs = search needs
@@ -57,9 +61,10 @@ is-near-spec =
     μ-loop
     near-stop-requires
     loop-holds
-    returns
     mul-kind
     shared-slice-read-kind
+    opens-requires
+    returns
     lists-behind-requires
     left-behind-requires
     add-at
