@@ -148,23 +148,23 @@ fn asked(what: &'static str, body: &[(u64, u64)], count: u64, times: u64, names:
 }
 
 /// Two named structs: one of a byte and a word, and one of so many of it, which are asked for in no order.
-fn asked_named(what: &'static str, count: u64, times: u64) -> Large {
+fn asked_named(what: &'static str, count: u64, times: u64, names: usize) -> Large {
     let ask = |number: u64| field_of(&[(kind::NAMED, 1)], &[0, number * 7919 % count]);
     let inner = [(kind::NAMED_STRUCT, 0), (kind::STRUCT, 0), BYTE, WORD, END];
     let outer = [vec![(kind::NAMED_STRUCT, 1), (kind::STRUCT, 0)], vec![(kind::NAMED, 0); count as usize], vec![END]].concat();
     let asks: Entries = (0..times).flat_map(ask).collect();
-    large::large(what, 0, &[&inner[..], &outer, &unreachable(&asks)].concat(), 3)
+    large::large(what, 0, &[&inner[..], &outer, &unreachable(&asks)].concat(), names)
 }
 
-/// Structs in one another, each with the next in front of so many bytes; the last byte at every depth is asked for.
-fn asked_inward(what: &'static str, depth: u64, count: u64, times: u64) -> Large {
-    let bytes = vec![BYTE; count as usize];
-    let body = (0..depth).fold(vec![], |inner: Entries, _| [&[(kind::STRUCT, 0)], &inner[..], &bytes, &[END]].concat());
-    let named = [&[(kind::NAMED_STRUCT, 0)], &body[..]].concat();
+/// Structs in one another, each with so many bytes before the next and many behind it; the last byte at every depth is asked for.
+fn asked_inward(what: &'static str, depth: u64, before: u64, behind: u64, times: u64) -> Large {
+    let bytes = |count: u64| vec![BYTE; count as usize];
+    let around = |inner: Entries| [&[(kind::STRUCT, 0)], &bytes(before)[..], &inner, &bytes(behind), &[END]].concat();
+    let named = [vec![(kind::NAMED_STRUCT, 0)], (0..depth).fold(vec![], |inner, _| around(inner))].concat();
     let ask = |number: u64| {
         let down = number % depth;
-        let last = if down + 1 == depth { count - 1 } else { count };
-        let indices: Vec<u64> = std::iter::repeat(0).take(down as usize + 1).chain([last]).collect();
+        let last = before + behind - u64::from(down + 1 == depth);
+        let indices: Vec<u64> = [0].into_iter().chain((0..down).map(|_| before)).chain([last]).collect();
         field_of(&[(kind::NAMED, 0)], &indices)
     };
     let asks: Entries = (0..times).flat_map(ask).collect();
@@ -252,8 +252,10 @@ pub fn shapes() -> Vec<Large> {
         asked("the same in a book of 5,000 names", &mixed, 500_000, 60_000, 5_000),
         asked("the same in a book of 131,072 names", &mixed, 500_000, 60_000, NAMES),
         asked("a struct of 1,000 structs of 400 fields, 60,000 of them asked for", &thick, 1000, 60_000, 2),
-        asked_named("a struct of 500,000 named structs, 60,000 of them asked for", 500_000, 60_000),
-        asked_inward("31 structs in one another, 8,000 bytes behind each, 15,000 asked for", 31, 8000, 15_000),
+        asked_named("a struct of 500,000 named structs, 60,000 of them asked for", 500_000, 60_000, 3),
+        asked_named("the same in a book of 5,000 names", 500_000, 60_000, 5_000),
+        asked_inward("31 structs in one another, 8,000 bytes behind each, 15,000 asked for", 31, 0, 8000, 15_000),
+        asked_inward("the same with a byte before each", 31, 1, 8000, 15_000),
         fields("a struct of 2,000 fields in 60,000 places", 2000, &place(&named_struct), 60_000),
         large::large("types of 64 levels, measured", 0, &filled(&freeze(&arrays(64))), 2),
         large::large("32 indices that vary", 0, &filled(&varying), 2),

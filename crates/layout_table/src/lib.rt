@@ -184,12 +184,13 @@ fn note_fields(
     note_fields(book_kinds, book_words, work, names, sought, level - 1, half)
 }
 
-// The entries that the fields before a fact take at least: enough that the table has room for twice the facts of a book.
+// The entries that the fields before a fact take at least. A book that is structs alone would have twice the facts that the table
+// has room for; one that asks for many fields is half made of that, and one fact that is lost is passed from the one before.
 fn size_for(facts: usize, count: usize) -> usize
     requires { ⌜ (16 ≤ facts) × (count ≤ 1048576) ⌝ }
     ensures { λ r. ⌜ r ≤ 2 ^ 32 ⌝ }
 {
-    let size = 2 * count / facts;
+    let size = count / facts / 2;
     if size < 64 {
         return 64;
     }

@@ -1,5 +1,4 @@
 -- `layout_table::size_for` meets its contract.
-use Prim.Native.Nat.{_*_}
 use native.Mathlib.Nat.{div-le-self}
 use native.Mathlib.Omega.{arith}
 use borrow.Author.Needs.{needs}
@@ -8,9 +7,6 @@ use Rattle.layout_table.proofs.size_for.Tie as tie
 use Rattle.layout_table.proofs.size_for.Reads as reads
 use Rattle.layout_table.proofs.size_for.Lts as lts
 
-mul-size : tie.Need-mul-size
-mul-size c = search needs
-
 div-size : tie.Need-div-size
 div-size c = search needs
 
@@ -18,7 +14,7 @@ returns : tie.Need-returns
 returns c = search needs
 
 returns-2 : tie.Need-returns-2
-returns-2 c = omega (arith, div-le-self (2 * c .before .args .count) (c .before .args .facts))
+returns-2 c = omega (arith, div-le-self (c .before .args .count) (c .before .args .facts))
 
 pub size-for-spec : {M : Type 1} → statement M
-size-for-spec = tie.close (tie.spec mul-size div-size returns returns-2)
+size-for-spec = tie.close (tie.spec div-size returns returns-2)
