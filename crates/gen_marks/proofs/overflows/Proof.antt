@@ -62,14 +62,14 @@ loop-again c =
     let in-loop = c .before .before in
     let at-loop = in-loop .before in
     ⊎-elim
-    (λ w. look-later (at-loop .loop .inv) (in-loop .loop-test .taken) (sym (w .2 .ensures) ∙ w .3 .left))
-    (λ w. look-other (at-loop .loop .inv) (in-loop .loop-test .taken) (w .left))
+    (λ w. look-later (at-loop .loop .inv) (omega (arith, in-loop .loop-test .taken)) (sym (w .2 .ensures) ∙ w .3 .left))
+    (λ w. look-other (at-loop .loop .inv) (omega (arith, in-loop .loop-test .taken)) (w .left))
     (c .if2 .came)
 
 returns-3 : tie.Need-returns-3 Inv-loop μ-loop
 returns-3 c =
     let at-loop = c .before in
-    look-end (at-loop .loop .inv) (c .loop-test .left)
+    look-end (at-loop .loop .inv) (omega (arith, c .loop-test .left))
 
 pub overflows-spec : {M : Type 1} → statement M
 overflows-spec =
