@@ -16,7 +16,7 @@ use uvclang::codegen::access;
 mod copies;
 mod hostile;
 
-pub use hostile::shapes;
+pub use hostile::{asks, few_asks, shapes};
 
 /// The best of so many runs counts.
 const RUNS: usize = 9;

@@ -56,7 +56,7 @@ pub fn within(size: u64) -> Result<(), String> {
 }
 
 fn books() -> Vec<Lent> {
-    let shapes = bench::shapes().into_iter().chain(large::books()).map(|large| large.lent);
+    let shapes = bench::shapes().into_iter().chain(bench::asks()).chain(large::books()).map(|large| large.lent);
     let sheets = cases::books().into_iter().map(|(_, slices)| {
         let names = slices.book.get(1).map_or(0, |names| *names.min(&MOST_NAMES));
         Lent { work: work_needed(names as usize), counter: 0, slices }

@@ -54,9 +54,9 @@ pub fn compare(seed: u64, count: u64) -> Result<(), String> {
     run(&fixed(), seed, count)
 }
 
-/// The shapes of `compare bench`.
+/// The shapes of `compare bench`, fields asked for here and there in shorter books.
 pub fn shapes() -> Result<(), String> {
-    run(&bench::shapes().into_iter().map(|large| (large.what.to_string(), large.lent)).collect::<Vec<_>>(), 0, 0)
+    run(&bench::shapes().into_iter().chain(bench::few_asks()).map(|large| (large.what.to_string(), large.lent)).collect::<Vec<_>>(), 0, 0)
 }
 
 fn run(fixed: &[(String, Lent)], seed: u64, count: u64) -> Result<(), String> {

@@ -36,7 +36,7 @@ pub fn table() -> Result<(), String> {
         "entries", "names", "lines", "answer", "check", "translate", "print", "translate ms", "gen_function ms",
     );
     let sound = large::books().into_iter().filter(|large| large.answer == 0);
-    shapes().into_iter().chain(sound).for_each(|large| row(&large));
+    shapes().into_iter().chain(asks()).chain(sound).for_each(|large| row(&large));
     Ok(())
 }
 
@@ -237,8 +237,6 @@ pub fn shapes() -> Vec<Large> {
     let wide = nested(31, &vec![BYTE; ENTRIES - 300]);
     let inner = field_of(&wide, &[0; 32]);
     let last = field_of(&named_struct, &[0, 19_999]);
-    let mixed = [BYTE, WORD].repeat(250_000);
-    let thick = [vec![(kind::STRUCT, 0)], vec![BYTE; 400], vec![END]].concat().repeat(1000);
     let case = [(kind::INTEGER, 7), (kind::TARGET, 0)];
     let cases = [vec![(kind::SWITCH, 0), WORD, NULL, (kind::TARGET, 0)], case.repeat(100_000), vec![END]];
     let select = [(kind::SELECT, 2), (kind::GLOBAL, 0), WORD, (kind::GLOBAL, 0), NULL];
@@ -248,14 +246,6 @@ pub fn shapes() -> Vec<Large> {
         doubling("structs that double, 60 of them", 60, 1),
         fields("a struct of 20,000 fields, measured 60,000 times", 20_000, &freeze(&named_struct), 60_000),
         fields("a struct of 20,000 fields, the last asked for 20,000 times", 20_000, &last, 20_000),
-        asked("a struct of 500,000 fields, 60,000 of them asked for", &mixed, 500_000, 60_000, 2),
-        asked("the same in a book of 5,000 names", &mixed, 500_000, 60_000, 5_000),
-        asked("the same in a book of 131,072 names", &mixed, 500_000, 60_000, NAMES),
-        asked("a struct of 1,000 structs of 400 fields, 60,000 of them asked for", &thick, 1000, 60_000, 2),
-        asked_named("a struct of 500,000 named structs, 60,000 of them asked for", 500_000, 60_000, 3),
-        asked_named("the same in a book of 5,000 names", 500_000, 60_000, 5_000),
-        asked_inward("31 structs in one another, 8,000 bytes behind each, 15,000 asked for", 31, 0, 8000, 15_000),
-        asked_inward("the same with a byte before each", 31, 1, 8000, 15_000),
         fields("a struct of 2,000 fields in 60,000 places", 2000, &place(&named_struct), 60_000),
         large::large("types of 64 levels, measured", 0, &filled(&freeze(&arrays(64))), 2),
         large::large("32 indices that vary", 0, &filled(&varying), 2),
@@ -274,5 +264,36 @@ pub fn shapes() -> Vec<Large> {
         every_name("131,072 names of 100 bytes, each pushed", long_names(NAMES, 100)),
         every_name("16,384 names of 1,000 bytes, each pushed", long_names(16_384, 1000)),
         named("131,072 names of 1,000 bytes", &unreachable(&[]), long_names(NAMES, 1000)),
+    ]
+}
+
+/// Fields asked for here and there: on most of these the Rust does not end.
+pub fn asks() -> Vec<Large> {
+    let mixed = [BYTE, WORD].repeat(250_000);
+    let thick = [vec![(kind::STRUCT, 0)], vec![BYTE; 400], vec![END]].concat().repeat(1000);
+    vec![
+        asked("a struct of 500,000 fields, 60,000 of them asked for", &mixed, 500_000, 60_000, 2),
+        asked("the same in a book of 5,000 names", &mixed, 500_000, 60_000, 5_000),
+        asked("the same in a book of 131,072 names", &mixed, 500_000, 60_000, NAMES),
+        asked("a struct of 1,000 structs of 400 fields, 60,000 of them asked for", &thick, 1000, 60_000, 2),
+        asked_named("a struct of 500,000 named structs, 60,000 of them asked for", 500_000, 60_000, 3),
+        asked_named("the same in a book of 5,000 names", 500_000, 60_000, 5_000),
+        asked_inward("31 structs in one another, 8,000 bytes behind each, 15,000 asked for", 31, 0, 8000, 15_000),
+        asked_inward("the same with a byte before each", 31, 1, 8000, 15_000),
+    ]
+}
+
+/// The same in books that the Rust ends on, long enough that facts are noted.
+pub fn few_asks() -> Vec<Large> {
+    let mixed = [BYTE, WORD].repeat(10_000);
+    let thick = [vec![(kind::STRUCT, 0)], vec![BYTE; 400], vec![END]].concat().repeat(50);
+    vec![
+        asked("a struct of 20,000 fields, 500 of them asked for", &mixed, 20_000, 500, 2),
+        asked("the same in a book of 300 names", &mixed, 20_000, 500, 300),
+        asked("the same in a book of 5,000 names", &mixed, 20_000, 500, 5_000),
+        asked("a struct of 50 structs of 400 fields, 500 of them asked for", &thick, 50, 500, 200),
+        asked_named("a struct of 20,000 named structs, 500 of them asked for", 20_000, 500, 300),
+        asked_inward("12 structs in one another, 300 bytes behind each, 500 asked for", 12, 0, 300, 500),
+        asked_inward("the same with a byte before each", 12, 1, 300, 500),
     ]
 }
