@@ -157,7 +157,7 @@ fn asked_named(what: &'static str, count: u64, times: u64, names: usize) -> Larg
 }
 
 /// Structs in one another, each with so many bytes before the next and many behind it; the last byte at every depth is asked for.
-fn asked_inward(what: &'static str, depth: u64, before: u64, behind: u64, times: u64) -> Large {
+fn asked_inward(what: &'static str, depth: u64, before: u64, behind: u64, times: u64, names: usize) -> Large {
     let bytes = |count: u64| vec![BYTE; count as usize];
     let around = |inner: Entries| [&[(kind::STRUCT, 0)], &bytes(before)[..], &inner, &bytes(behind), &[END]].concat();
     let named = [vec![(kind::NAMED_STRUCT, 0)], (0..depth).fold(vec![], |inner, _| around(inner))].concat();
@@ -168,7 +168,7 @@ fn asked_inward(what: &'static str, depth: u64, before: u64, behind: u64, times:
         field_of(&[(kind::NAMED, 0)], &indices)
     };
     let asks: Entries = (0..times).flat_map(ask).collect();
-    large::large(what, 0, &[named, unreachable(&asks)].concat(), 2)
+    large::large(what, 0, &[named, unreachable(&asks)].concat(), names)
 }
 
 /// Blocks that go to one block of phis, which has a pair for each of them. Name 0 is the function's and the first block's.
@@ -278,22 +278,24 @@ pub fn asks() -> Vec<Large> {
         asked("a struct of 1,000 structs of 400 fields, 60,000 of them asked for", &thick, 1000, 60_000, 2),
         asked_named("a struct of 500,000 named structs, 60,000 of them asked for", 500_000, 60_000, 3),
         asked_named("the same in a book of 5,000 names", 500_000, 60_000, 5_000),
-        asked_inward("31 structs in one another, 8,000 bytes behind each, 15,000 asked for", 31, 0, 8000, 15_000),
-        asked_inward("the same with a byte before each", 31, 1, 8000, 15_000),
+        asked_inward("31 structs in one another, 8,000 bytes behind each, 15,000 asked for", 31, 0, 8000, 15_000, 2),
+        asked_inward("the same with a byte before each", 31, 1, 8000, 15_000, 2),
     ]
 }
 
-/// The same in books that the Rust ends on, long enough that facts are noted.
+/// The same in books that the Rust is asked about, long enough that facts are noted: in the lent work words, and in those that a
+/// book of more than 16,384 entries has.
 pub fn few_asks() -> Vec<Large> {
-    let mixed = [BYTE, WORD].repeat(10_000);
-    let thick = [vec![(kind::STRUCT, 0)], vec![BYTE; 400], vec![END]].concat().repeat(50);
+    let mixed = [BYTE, WORD].repeat(1250);
+    let long = [BYTE, WORD].repeat(8500);
+    let thick = [vec![(kind::STRUCT, 0)], vec![BYTE; 100], vec![END]].concat().repeat(50);
     vec![
-        asked("a struct of 20,000 fields, 500 of them asked for", &mixed, 20_000, 500, 2),
-        asked("the same in a book of 300 names", &mixed, 20_000, 500, 300),
-        asked("the same in a book of 5,000 names", &mixed, 20_000, 500, 5_000),
-        asked("a struct of 50 structs of 400 fields, 500 of them asked for", &thick, 50, 500, 200),
-        asked_named("a struct of 20,000 named structs, 500 of them asked for", 20_000, 500, 300),
-        asked_inward("12 structs in one another, 300 bytes behind each, 500 asked for", 12, 0, 300, 500),
-        asked_inward("the same with a byte before each", 12, 1, 300, 500),
+        asked("a struct of 2,500 fields, 300 of them asked for", &mixed, 2500, 300, 300),
+        asked("the same in a book of 5,000 names", &mixed, 2500, 300, 5_000),
+        asked("a struct of 17,000 fields, 60 of them asked for", &long, 17_000, 60, 2),
+        asked("a struct of 50 structs of 100 fields, 200 of them asked for", &thick, 50, 200, 300),
+        asked_named("a struct of 2,500 named structs, 200 of them asked for", 2500, 200, 300),
+        asked_inward("12 structs in one another, 90 bytes behind each, 100 asked for", 12, 0, 90, 100, 300),
+        asked_inward("the same with a byte before each", 12, 1, 90, 100, 300),
     ]
 }
