@@ -6,7 +6,6 @@ use crate::clock::best;
 use crate::expect::{expected_of, Expected};
 use crate::lines::{self, Lines, Printer};
 use crate::oracle;
-use crate::proved;
 use crate::runs;
 use std::hint::black_box;
 use std::time::Duration;
@@ -14,8 +13,13 @@ use uvclang::ast::Module;
 use uvclang::codegen::access;
 
 mod copies;
+mod counted;
 mod hostile;
+mod jobs;
 
+use jobs::{Bench, Job};
+
+pub use counted::pass;
 pub use hostile::{asks, few_asks, shapes};
 
 /// The best of so many runs counts.
@@ -59,22 +63,19 @@ enum Meeting {
 
 pub fn bench(seed: u64) -> Result<(), String> {
     let classes: Vec<(&Class, Vec<Subject>)> =
-        CLASSES.iter().map(|class| Ok((class, subjects(class, seed)?))).collect::<Result<_, String>>()?;
+        CLASSES.iter().map(|class| Ok((class, subjects(class, seed, class.books)?))).collect::<Result<_, String>>()?;
     println!("ns an entry; the Rust's gen_function makes the text too; format! and write! make the text of the same lines");
     for (meeting, how) in [
         (Meeting::Again, format!("each book by itself: the best of {RUNS} runs of {CALLS} calls")),
         (Meeting::Anew, format!("each book anew: the best of {RUNS} passes over all of them")),
     ] {
         println!("\n{how}");
-        println!(
-            "{:<8}{:>6}{:>9}{:>9}{:>7}{:>10}{:>7}{:>7}{:>13}{:>8}{:>7}{:>15}{:>10}{:>15}{:>14}",
-            "", "books", "entries", "lines", "check", "translate", "print", "both", "gen_function", "format!", "write!",
-            "gen/translate", "gen/both", "format!/print", "write!/print",
-        );
+        heading();
         for (class, subjects) in &classes {
             row(class, subjects, meeting)?;
         }
     }
+    counted::table(seed)?;
     hostile::table()
 }
 
@@ -88,11 +89,11 @@ pub fn rust_time(lent: &Lent) -> Result<u128, String> {
     Ok(least.as_nanos())
 }
 
-/// The first accepted books of a class.
-fn subjects(class: &Class, seed: u64) -> Result<Vec<Subject>, String> {
+/// The first accepted books of a class, so many of them.
+fn subjects(class: &Class, seed: u64, books: usize) -> Result<Vec<Subject>, String> {
     let mut found = vec![];
     let mut index = 0;
-    while found.len() < class.books {
+    while found.len() < books {
         let mut lent = runs::book(seed, index, false);
         index += 1;
         if !class.entries.contains(&lent.slices.book[0]) {
@@ -112,83 +113,44 @@ fn subjects(class: &Class, seed: u64) -> Result<Vec<Subject>, String> {
     Ok(found)
 }
 
-/// The least time of a call upon all subjects, added.
-fn least<S>(subjects: &[S], meeting: Meeting, mut each: impl FnMut(&S)) -> Duration {
+/// The least time of a job upon all subjects, added.
+fn least(bench: &mut Bench, meeting: Meeting, job: Job) -> Duration {
     match meeting {
-        Meeting::Again => subjects.iter().map(|subject| best(RUNS, || (0..CALLS).for_each(|_| each(subject))).1 / CALLS).sum(),
-        Meeting::Anew => best(RUNS, || subjects.iter().for_each(&mut each)).1,
+        Meeting::Again => {
+            (0..bench.books()).map(|book| best(RUNS, || (0..CALLS).for_each(|_| bench.run(job, book))).1 / CALLS).sum()
+        }
+        Meeting::Anew => best(RUNS, || (0..bench.books()).for_each(|book| bench.run(job, book))).1,
     }
 }
 
-/// Slices as long as the longest of the subjects needs.
-struct Slices {
-    work: Vec<u64>,
-    kinds: Vec<u16>,
-    operands: Vec<u64>,
-    text: Vec<u8>,
+fn heading() {
+    print!("{:<8}{:>6}{:>9}{:>9}", "", "books", "entries", "lines");
+    println!(
+        "{:>7}{:>10}{:>7}{:>7}{:>13}{:>8}{:>7}{:>15}{:>10}{:>15}{:>14}",
+        "check", "translate", "print", "both", "gen_function", "format!", "write!", "gen/translate", "gen/both",
+        "format!/print", "write!/print",
+    );
 }
 
-impl Slices {
-    fn translate(&mut self, lent: &Lent) -> proved::Reply {
-        proved::translate(&lent.slices, lent.counter, &mut self.work[..lent.work], &mut self.kinds, &mut self.operands)
-    }
-
-    fn print(&mut self, lent: &Lent, lines: usize) -> (u64, u64) {
-        let (kinds, operands) = (&self.kinds[..lines], &self.operands[..lines]);
-        proved::print(&lent.slices.book, &lent.slices.names, kinds, operands, &mut self.text)
-    }
+/// A row of a table, from what each job took.
+fn print_row(class: &Class, subjects: &[Subject], took: impl Fn(Job) -> f64) {
+    let sum = |of: fn(&Subject) -> usize| subjects.iter().map(of).sum::<usize>();
+    let (entries, lines) = (sum(|subject| subject.lent.slices.book[0] as usize), sum(|subject| subject.lines.kinds.len()));
+    let each = |job: Job| took(job) / entries as f64;
+    let ratio = |one: Job, two: Job| took(one) / took(two);
+    print!("{:<8}{:>6}{entries:>9}{lines:>9}", class.name, subjects.len());
+    println!(
+        "{:>7.1}{:>10.1}{:>7.1}{:>7.1}{:>13.1}{:>8.1}{:>7.1}{:>15.1}{:>10.1}{:>15.1}{:>14.1}",
+        each(Job::Check), each(Job::Translate), each(Job::Print), each(Job::Both), each(Job::Generate), each(Job::Format),
+        each(Job::Write), ratio(Job::Generate, Job::Translate), ratio(Job::Generate, Job::Both),
+        ratio(Job::Format, Job::Print), ratio(Job::Write, Job::Print),
+    );
 }
 
 fn row(class: &Class, subjects: &[Subject], meeting: Meeting) -> Result<(), String> {
-    let most = |of: fn(&Subject) -> usize| subjects.iter().map(of).max().unwrap_or(0);
-    let lines = most(|subject| subject.lines.kinds.len());
-    let mut slices = Slices {
-        work: vec![0; most(|subject| subject.lent.work)],
-        kinds: vec![0; lines],
-        operands: vec![0; lines],
-        text: vec![0; most(|subject| subject.text)],
-    };
-    let checked = least(subjects, meeting, |subject| {
-        black_box(proved::check(&subject.lent));
-    });
-    let translated = least(subjects, meeting, |subject| {
-        black_box(slices.translate(&subject.lent));
-    });
-    let printed = least(subjects, meeting, |subject| {
-        let Lines { kinds, operands } = &subject.lines;
-        black_box(proved::print(&subject.lent.slices.book, &subject.lent.slices.names, kinds, operands, &mut slices.text));
-    });
-    let mut wrong = None;
-    let both = least(subjects, meeting, |subject| {
-        let reply = slices.translate(&subject.lent);
-        let printed = slices.print(&subject.lent, reply.lines.min(lines as u64) as usize);
-        if reply.refusal != 0 || printed != (0, subject.text as u64) {
-            wrong = Some(format!("{}: {reply:?}, then {printed:?}", class.name));
-        }
-    });
-    if let Some(wrong) = wrong {
-        return Err(wrong);
-    }
-    let generated = least(subjects, meeting, |subject| {
-        let _ = black_box(access::gen_function(&subject.module, &subject.book.function, 0));
-    });
-    let printers: Vec<(Printer, &Lines)> =
-        subjects.iter().map(|subject| (Printer::of_book(&subject.book), &subject.lines)).collect();
-    let formatted = least(&printers, meeting, |(printer, lines)| {
-        black_box(printer.strings(&lines.kinds, &lines.operands));
-    });
-    let written = least(&printers, meeting, |(printer, lines)| {
-        black_box(printer.text(&lines.kinds, &lines.operands));
-    });
-    let sum = |of: fn(&Subject) -> usize| subjects.iter().map(of).sum::<usize>();
-    let (entries, lines) = (sum(|subject| subject.lent.slices.book[0] as usize), sum(|subject| subject.lines.kinds.len()));
-    let each = |time: Duration| time.as_nanos() as f64 / entries as f64;
-    let ratio = |one: Duration, two: Duration| one.as_secs_f64() / two.as_secs_f64();
-    println!(
-        "{:<8}{:>6}{entries:>9}{lines:>9}{:>7.1}{:>10.1}{:>7.1}{:>7.1}{:>13.1}{:>8.1}{:>7.1}{:>15.1}{:>10.1}{:>15.1}{:>14.1}",
-        class.name, subjects.len(), each(checked), each(translated), each(printed), each(both), each(generated),
-        each(formatted), each(written), ratio(generated, translated), ratio(generated, both), ratio(formatted, printed),
-        ratio(written, printed),
-    );
+    let mut bench = Bench::new(subjects);
+    let times = Job::ALL.map(|job| least(&mut bench, meeting, job));
+    bench.right().map_err(|wrong| format!("{}: {wrong}", class.name))?;
+    print_row(class, subjects, |job| times[job as usize].as_nanos() as f64);
     Ok(())
 }

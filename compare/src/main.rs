@@ -145,6 +145,8 @@ fn run(args: &[&str]) -> Result<(), String> {
         #[cfg(translating)]
         ["bench"] => bench::bench(1),
         #[cfg(translating)]
+        ["bench", "pass", seed, class] => bench::pass(number(seed)?, class),
+        #[cfg(translating)]
         ["bench", seed] => bench::bench(number(seed)?),
         #[cfg(translating)]
         ["time"] => {
