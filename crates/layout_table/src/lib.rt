@@ -198,7 +198,7 @@ fn size_for(facts: usize, count: usize) -> usize
 }
 
 // Whether an entry of this kind begins an array or a struct.
-pub fn opens(kind: u64) -> bool {
+fn opens(kind: u64) -> bool {
     match kind {
         13 | 14 | 16 | 17 => true,
         _ => false,
