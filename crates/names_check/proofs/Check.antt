@@ -1,6 +1,6 @@
 -- The check of the names, name by name: what is left of it behind the names that were passed.
 use Prim.Native.Nat.{ℕ, suc, _+_, _-_, _<_, _≤_}
-use mathlib.Core.Path.{_≡_, refl, ap, _∙_}
+use mathlib.Core.Path.{_≡_, refl, sym, ap, _∙_}
 use mathlib.Core.Bool.{Bool, true, false, _&&_, not, and-false}
 use mathlib.Core.List.{List, [], _∷_, _++_}
 use native.Mathlib.Nat.{zero-add, add-zero}
@@ -35,7 +35,7 @@ going-start bs m =
     counts-keep m (ended bs && (everyName (lines bs) && ascending (lines bs))) (lines bs)
     ∙ ap (λ t. (ended bs && t) && eqb (0 + length (lines bs)) m) (from-empty (lines bs))
 
-front-bytes : (bs : List ℕ) → everyByte (front bs) ≡ true
+pub front-bytes : (bs : List ℕ) → everyByte (front bs) ≡ true
 unfolding everyByte front until upTo barred
 front-bytes [] = refl
 front-bytes (b ∷ bs) = step (nameByte b) refl (front-bytes bs)
@@ -133,9 +133,10 @@ module _ (names : List ℕ) (at end : ℕ) (q : end ≡ at + length (front (drop
         rw p
         (ap (λ r. going last r n m) (split-named l e) ∙ named (front (drop at names)) (drop (end + 1) names) last n m (front-bytes (drop at names)))
 
-    pub going-unordered : end < length names → getD names end 0 ≡ 10 → before last part ≡ false → going last (drop at names) n m ≡ false
-    going-unordered l e b = going-named l e ∙ ap (λ t. t && going part (drop (end + 1) names) (n + 1) m) b
+    -- by whether it comes after the last one
+    module _ (l : end < length names) (e : getD names end 0 ≡ 10) (after : Bool) (o : after ≡ before last part) where
+      pub going-unordered : after ≡ false → going last (drop at names) n m ≡ false
+      going-unordered b = going-named l e ∙ ap (λ t. t && going part (drop (end + 1) names) (n + 1) m) (sym o ∙ b)
 
-    pub going-ordered : end < length names → getD names end 0 ≡ 10 → before last part ≡ true
-        → going last (drop at names) n m ≡ going part (drop (end + 1) names) (n + 1) m
-    going-ordered l e b = going-named l e ∙ ap (λ t. t && going part (drop (end + 1) names) (n + 1) m) b
+      pub going-ordered : after ≡ true → going last (drop at names) n m ≡ going part (drop (end + 1) names) (n + 1) m
+      going-ordered b = going-named l e ∙ ap (λ t. t && going part (drop (end + 1) names) (n + 1) m) (sym o ∙ b)

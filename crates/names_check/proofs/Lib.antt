@@ -1,5 +1,6 @@
--- What the loop over the names rests on: what is left of the check behind those that were passed, the range that was found among them,
--- and where they end.
+-- What the loop over the names rests on: what is left of the check behind those that were passed, a name and the one before it, the range
+-- that was found among them, and where they end.
 pub mod Check
+pub mod Found
 pub mod Tally
 pub mod Ends

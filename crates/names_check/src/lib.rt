@@ -2,14 +2,18 @@
 // where each of them ends.
 use names_spelling::END;
 use names_spelling::name_starts;
+use names_words::word_at;
+use names_words::word_front;
+use names_words::word_key;
 ghost use mathlib.Core.Path.{_≡_};
 ghost use mathlib.Core.Bool.{true};
-ghost use Prim.Native.Nat.{_+_, _*_};
+ghost use Prim.Native.Nat.{_+_, _*_, _<_};
 ghost use lib.ListN.{length, drop, set};
 ghost use Rattle.names.specs.Name.{nameByte, before, accepted, lines, front};
 ghost use Rattle.names.specs.Prefix.{firstWith, pastWith};
 ghost use Rattle.names_check.specs.Read.{namesRead};
 ghost use Rattle.names_check.specs.Ends.{Noted};
+ghost use Rattle.names_check.specs.Found.{Kept, Found};
 
 // Whether a byte may stand in a name.
 fn name_byte(b: u8) -> bool
@@ -66,6 +70,51 @@ fn note_end(ends: &mut [u64], x: u64, end: usize)
     }
 }
 
+// The key of no name: that of one with no byte but its end.
+const NO_NAME: u64 = 10 << 56;
+
+// A name that was met: where it ends, its key, and whether it comes after the one before it.
+struct Next {
+    end: usize,
+    key: u64,
+    after: bool,
+}
+
+// The name at `at`, compared with the one that stands from `last` to `past`. Where eight bytes are left they are read as one word,
+// which tells the end of a short name, and its order by one comparison with the other name's key. Two names whose first eight bytes are
+// equal are compared byte by byte, and so are the last names, for which the key is not needed any more.
+fn next_name(names: &[u8], last: usize, past: usize, key: u64, at: usize) -> Next
+    requires { ⌜ at < length (now names) ⌝ }
+    requires { ⌜ Kept (now names) last past key at ⌝ }
+    ensures { λ r. ⌜ Found (now (names .entry)) last past at (r .end) (r .key) (r .after) ⌝ }
+{
+    if names.len() - at < 8 {
+        let end = front_end(names, at);
+        let after = name_before(&names[last..past], &names[at..end]);
+        return Next { end, key, after };
+    }
+    let w = word_at(names, at);
+    let n = word_front(w);
+    if n < 8 {
+        let k = word_key(w, n);
+        return Next {
+            end: at + n,
+            key: k,
+            after: key < k,
+        };
+    }
+    let end = front_end(names, at + 8);
+    if key != w {
+        return Next {
+            end,
+            key: w,
+            after: key < w,
+        };
+    }
+    let after = name_before(&names[last..past], &names[at..end]);
+    Next { end, key, after }
+}
+
 // Whether the bytes are a list of names, and `count` of them, with the range of those that start with the prefix: one pass, in which each
 // name is compared with the one before it, and its end is noted. An empty name fails that comparison, since nothing comes before it. The
 // range ends at the first name behind it, from which on `to` is less than `seen`.
@@ -79,15 +128,17 @@ pub fn read_names(names: &[u8], count: u64, prefix: &[u8], ends: &mut [u64]) -> 
     let mut last: usize = 0;
     let mut last_end: usize = 0;
     let mut at: usize = 0;
+    let mut key = NO_NAME;
     while at < names.len() {
-        let end = front_end(names, at);
+        let next = next_name(names, last, last_end, key, at);
+        let end = next.end;
         if names.len() <= end {
             return Names::Bad;
         }
         if names[end] != END {
             return Names::Bad;
         }
-        if !name_before(&names[last..last_end], &names[at..end]) {
+        if !next.after {
             return Names::Bad;
         }
         if to == seen {
@@ -100,6 +151,7 @@ pub fn read_names(names: &[u8], count: u64, prefix: &[u8], ends: &mut [u64]) -> 
         }
         note_end(ends, seen, end);
         seen += 1;
+        key = next.key;
         last = at;
         last_end = end;
         at = end + 1;

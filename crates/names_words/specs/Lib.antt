@@ -1,0 +1,2 @@
+-- Names by words of eight bytes.
+pub mod Word
