@@ -1,4 +1,4 @@
-// How many entries a block or the function takes at the front of the lent kinds and words, and whether something in it is
+// How many entries the blocks or the function take at the front of the lent kinds and words, and whether something in them is
 // forbidden: a value of kind 37, or a call of a name whose bit is set in `barred`. `names` is the number of the book's names.
 mod calls;
 
@@ -27,8 +27,8 @@ ghost use Rattle.book.specs.Forbidden.{any, otherItem, forbiddenBlock, forbidde
 ghost use Rattle.book_types.specs.Found.{foundOf, pairTest, never};
 ghost use Rattle.book_insts.specs.Rules.{rulesOf};
 
-// The list of blocks, its closing entry with it: one pass over the entries. `need` has the digits of the fields that still belong to
-// the instruction or terminator before, `inside` says whether a block still lacks its terminator.
+// The list of blocks, its closing entry with it, in one loop over the entries. `need` has the digits of the fields that the last
+// instruction or terminator still wants, `inside` says whether a block still lacks its terminator.
 fn scan_blocks(kinds: &[u64], words: &[u64], names: u64, barred: &[u64], rule: &[u64]) -> Found
     requires { ⌜ now rule ≡ rulesOf names ⌝ }
     ensures { λ r. ⌜ r ≡ foundOf (any (forbiddenBlock (bitAt (now (barred .entry))))) (many (basicBlock names) (entries (now (kinds .entry)) (now (words .entry)))) ⌝ }

@@ -229,7 +229,8 @@ pub fn rules(names: u64) -> [u64; 80]
     rule
 }
 
-// Whether the entry is the field of the digit by itself. A field that is more than an entry, a list and an align are not told here.
+// Whether the entry is the field of the digit by itself. A list, an align and what is more than an entry are left to `field_len`. The
+// parts are put together without a branch, since which kind comes next is hard to foresee.
 pub fn one_entry(kind: u64, word: u64, digit: u64, rule: &[u64]) -> bool
     requires { ⌜ length (now rule) ≡ 80 ⌝ }
     requires { ⌜ digit < 16 ⌝ }
