@@ -1,11 +1,12 @@
 -- The callee of a call: whether it may not be called, by the entries and by the definition.
 use Prim.Native.Nat.{ℕ}
 use mathlib.Core.Path.{_≡_, refl, ap, sym, _∙_}
-use mathlib.Core.Bool.{Bool, false, _&&_, _||_}
+use mathlib.Core.Bool.{Bool, false, _&&_, _||_, or-comm}
 use mathlib.Core.Option.{Option, some}
 use mathlib.Core.List.{List, [], _∷_, _++_, append-assoc}
+use native.Mathlib.Nat.{zero-add}
 use native.Mathlib.Omega.{arith}
-use borrow.Author.Tests.{eq-eqb, ne-eqb}
+use borrow.Author.Tests.{ne-eqb}
 use lib.ListN.{drop}
 use lib.Seq.{drop-append-seam}
 use lib.Dec.{eqb}
@@ -22,12 +23,10 @@ use Rattle.book.specs.Forbidden.{any, otherItem, otherInst, otherTerm, barredCa
 use Rattle.book.specs.AgreeTy.{agrees-type}
 use Rattle.book.specs.AgreeInst.{inst-found, agrees-inst}
 use Rattle.book_types.specs.Length.{lenOf, frontOf}
-use Rattle.book_types.specs.Found.{foundOf, allTest, pairTest, never}
+use Rattle.book_types.specs.Found.{foundOf, joined, allTest, pairTest, never}
 use Rattle.book_types.specs.Laws.{entries-part, lentFrom, len-got, len-bad}
-use Rattle.book_types.specs.Passes.{found-got, found-bad}
 use Rattle.book_types.specs.declared.Length.{Length}
 use Rattle.book_types.specs.declared.Length.the-variants as len
-use Rattle.book_types.specs.declared.Found.{Found}
 use Rattle.book_types.specs.declared.Found.the-variants as found
 use Rattle.book_types.specs.declared.Front.{Front}
 use Rattle.book_types.specs.declared.Front.the-variants as front
@@ -94,20 +93,18 @@ module _ (barred : ℕ → Bool) where
     call-is d (InstKind.extractValue v n) rest lim = refl
     call-is d InstKind.fence rest lim = refl
 
-    -- ---- what the code finds
-    pub call-flag : (es : List Entry) (i : Inst) (n : ℕ) → inst m es ≡ got i n → (x y : Bool) → otherInst i ≡ x → y ≡ callBarred barred m es → (x || y) ≡ forbiddenInst barred i
-    call-flag es i n e x y ex ey =
+    call-flag : (es : List Entry) (i : Inst) (n : ℕ) → inst m es ≡ got i n → (otherInst i || callBarred barred m es) ≡ forbiddenInst barred i
+    call-flag es i n e =
         let b = agrees-inst m .sound es i n e in
-        rw (sym ex, ey) (ap (λ c. otherInst i || c) (ap (callBarred barred m) (b .here) ∙ call-is (i .dest) (i .kind) (drop n es) (b .keeps)))
+        ap (λ c. otherInst i || c) (ap (callBarred barred m) (b .here) ∙ call-is (i .dest) (i .kind) (drop n es) (b .keeps))
 
-    pub call-found : (es : List Entry) (r : Found) → r ≡ foundOf otherInst (inst m es) → (n : ℕ) (x : Bool) → r ≡ found.Entries n x → (y : Bool) → y ≡ callBarred barred m es
-        → found.Entries n (x || y) ≡ foundOf (forbiddenInst barred) (inst m es)
-    call-found es r er n x h y ey =
-        let g = found-got otherInst (inst m es) n x (sym er ∙ h) in
-        ap (found.Entries n) (call-flag es (g .0) n (g .1 .0) x y (g .1 .1) ey) ∙ sym (ap (foundOf (forbiddenInst barred)) (g .1 .0))
-
-    pub call-none-found : (es : List Entry) (r : Found) → r ≡ foundOf otherInst (inst m es) → r ≡ found.Bad → found.Bad ≡ foundOf (forbiddenInst barred) (inst m es)
-    call-none-found es r er h = sym (ap (foundOf (forbiddenInst barred)) (found-bad otherInst (inst m es) (sym er ∙ h)))
+    -- so an instruction is forbidden for a value in it or for its callee
+    pub call-also : (es : List Entry) → foundOf (forbiddenInst barred) (inst m es) ≡ joined 0 (callBarred barred m es) (foundOf otherInst (inst m es))
+    call-also es = go (inst m es) refl
+      where
+        go : (r : Read Inst) → inst m es ≡ r → foundOf (forbiddenInst barred) r ≡ joined 0 (callBarred barred m es) (foundOf otherInst r)
+        go (got i n) e = rw (zero-add n) (ap (found.Entries n) (sym (call-flag es i n e) ∙ or-comm (otherInst i) (callBarred barred m es)))
+        go bad e = refl
 
 -- ---- the arms of the code
 module _ (barred : ℕ → Bool) (m : ℕ) where
@@ -119,26 +116,6 @@ module _ (barred : ℕ → Bool) (m : ℕ) where
   behind-arm ks ws r n er h f b ef eb =
       let g = len-got (type m (entries ks ws)) n (sym er ∙ h) in
       eb ∙ ap (calleeBarred barred) (ef ∙ ap frontOf (entries-part n ks ws)) ∙ sym (rw (g .1))
-
-  pub call-none : (es : List Entry) → frontOf es ≡ front.Nothing → false ≡ callBarred barred m es
-  unfolding frontOf callBarred
-  call-none [] h = refl
-  call-none (e ∷ es) h = absurd (let z : _≡_ {A = ℕ} 0 1 = cc in omega arith)
-
-  module _ (es : List Entry) (k w : ℕ) (h : frontOf es ≡ front.Entry k w) where
-    front-call : callBarred barred m es ≡ (eqb k 76 && behindCall barred m (drop 1 es))
-    unfolding frontOf callBarred
-    front-call = go es h
-      where
-        go : (es : List Entry) → frontOf es ≡ front.Entry k w → callBarred barred m es ≡ (eqb k 76 && behindCall barred m (drop 1 es))
-        go [] i = absurd (let z : _≡_ {A = ℕ} 0 1 = cc in omega arith)
-        go (e ∷ es) i = let ik : e .kind ≡ k = cc in ap (λ x. eqb x 76 && behindCall barred m es) ik
-
-    pub call-plain : (k ≡ 76 → ⊥) → false ≡ callBarred barred m es
-    call-plain d = sym (front-call ∙ ap (λ b. b && behindCall barred m (drop 1 es)) (ne-eqb k 76 d))
-
-    pub call-arm : k ≡ 76 → (b : Bool) → b ≡ behindCall barred m (drop 1 es) → b ≡ callBarred barred m es
-    call-arm e b eb = eb ∙ sym (front-call ∙ ap (λ b. b && behindCall barred m (drop 1 es)) (eq-eqb k 76 e))
 
 -- ---- nothing in a parameter is forbidden
 pub no-param : (barred : ℕ → Bool) (f : ℕ × (Ty × (List Param × List BasicBlock)))

@@ -1,18 +1,16 @@
-// How many entries a block or the function takes at the front of the lent kinds and words, and whether something in it is
+// How many entries the blocks or the function take at the front of the lent kinds and words, and whether something in them is
 // forbidden: a value of kind 37, or a call of a name whose bit is set in `barred`. `names` is the number of the book's names.
 mod calls;
 
-use crate::calls::call_len;
-use book_insts::term_len;
+use crate::calls::call_barred;
+use book_insts::Shape;
+use book_insts::field_len;
+use book_insts::fields_behind;
+use book_insts::one_entry;
+use book_insts::rules;
 use book_types::Found;
-use book_types::Front;
-use book_types::ListHead;
-use book_types::Pass;
 use book_types::first_entry;
 use book_types::join_found;
-use book_types::last_pass;
-use book_types::list_head;
-use book_types::next_pass;
 use book_types::plain;
 use book_types::shorter;
 use book_types::types::type_len;
@@ -20,95 +18,74 @@ use book_values::Item;
 use book_values::list_len;
 use book_values::word_len;
 ghost use mathlib.Core.Path.{_≡_};
-ghost use lib.Dec.{leb};
 ghost use Rattle.numbers.specs.Bits.{bitAt};
 ghost use Rattle.book.specs.Entry.{entries};
-ghost use Rattle.book.specs.Read.{closing, isClosing, many, both};
+ghost use Rattle.book.specs.Read.{many, both};
 ghost use Rattle.book.specs.Fields.{Item as BookItem};
-ghost use Rattle.book.specs.Decode.{type as typeReader, item, inst, term, body, basicBlock, function};
-ghost use Rattle.book.specs.Forbidden.{any, otherItem, otherTerm, forbiddenInst, forbiddenBlock, forbiddenFunction};
-ghost use Rattle.book_types.specs.Found.{foundOf, passOf, pairTest, never};
-ghost use Rattle.book_blocks.specs.Calls.{forbiddenBody};
+ghost use Rattle.book.specs.Decode.{type as typeReader, item, basicBlock, function};
+ghost use Rattle.book.specs.Forbidden.{any, otherItem, forbiddenBlock, forbiddenFunction};
+ghost use Rattle.book_types.specs.Found.{foundOf, pairTest, never};
+ghost use Rattle.book_insts.specs.Rules.{rulesOf};
 
-// What comes next in a block: its terminator, or an instruction.
-fn body_step(kinds: &[u64], words: &[u64], names: u64, barred: &[u64]) -> Pass
-    ensures { λ r. ⌜ r ≡ passOf (forbiddenInst (bitAt (now (barred .entry)))) otherTerm (leb 90) (inst names) (term names) (entries (now (kinds .entry)) (now (words .entry))) ⌝ }
+// The list of blocks, its closing entry with it, in one loop over the entries. `need` has the digits of the fields that the last
+// instruction or terminator still wants, `inside` says whether a block still lacks its terminator.
+fn scan_blocks(kinds: &[u64], words: &[u64], names: u64, barred: &[u64], rule: &[u64]) -> Found
+    requires { ⌜ now rule ≡ rulesOf names ⌝ }
+    ensures { λ r. ⌜ r ≡ foundOf (any (forbiddenBlock (bitAt (now (barred .entry))))) (many (basicBlock names) (entries (now (kinds .entry)) (now (words .entry)))) ⌝ }
 {
-    let Front::Entry(kind, _) = first_entry(kinds, words) else {
-        return Pass::Bad;
-    };
-    if 90 <= kind {
-        last_pass(term_len(kinds, words, names))
-    } else {
-        next_pass(call_len(kinds, words, names, barred))
-    }
-}
-
-// The instructions and the terminator of a block.
-fn body_len(kinds: &[u64], words: &[u64], names: u64, barred: &[u64]) -> Found
-    ensures { λ r. ⌜ r ≡ foundOf (forbiddenBody (bitAt (now (barred .entry)))) (body names (entries (now (kinds .entry)) (now (words .entry)))) ⌝ }
-{
+    let end = shorter(kinds, words);
     let mut at: usize = 0;
-    let mut left: usize = shorter(kinds, words);
+    let mut need: u64 = 0;
+    let mut inside = false;
     let mut seen = false;
-    loop {
-        match body_step(&kinds[at..], &words[at..], names, barred) {
-            Pass::Done(n, last) => return Found::Entries(at + n, seen | last),
-            Pass::Bad => return Found::Bad,
-            Pass::Next(n, item) => {
-                if left == 0 {
-                    return Found::Bad;
-                }
-                at = at + n;
-                left = left - 1;
-                seen = seen | item;
+    while at < end {
+        let kind = kinds[at];
+        let word = words[at];
+        if need != 0 {
+            let digit = need % 16;
+            need = need / 16;
+            if one_entry(kind, word, digit, rule) {
+                seen = seen | (kind == 37);
+                at = at + 1;
+                continue;
             }
+            let Found::Entries(n, other) = field_len(&kinds[at..], &words[at..], names, digit)
+            else {
+                return Found::Bad;
+            };
+            seen = seen | other;
+            at = at + n;
+            continue;
         }
+        if inside {
+            let Shape::Known(fields) = fields_behind(kind, word, names) else {
+                return Found::Bad;
+            };
+            need = fields;
+            inside = kind < 90;
+            at = at + 1;
+            if kind == 76 {
+                seen = seen | call_barred(&kinds[at..], &words[at..], names, barred);
+            }
+            continue;
+        }
+        if (kind == 0) & (word == 0) {
+            return Found::Entries(at + 1, seen);
+        }
+        if (kind != 7) | (names <= word) {
+            return Found::Bad;
+        }
+        inside = true;
+        at = at + 1;
     }
-}
-
-// The block at the front.
-fn block_len(kinds: &[u64], words: &[u64], names: u64, barred: &[u64]) -> Found
-    ensures { λ r. ⌜ r ≡ foundOf (forbiddenBlock (bitAt (now (barred .entry)))) (basicBlock names (entries (now (kinds .entry)) (now (words .entry)))) ⌝ }
-{
-    let Found::Entries(n, seen) = plain(word_len(first_entry(kinds, words), 7, names)) else {
-        return Found::Bad;
-    };
-    join_found(n, seen, body_len(&kinds[n..], &words[n..], names, barred))
-}
-
-// What comes next in a list of blocks.
-fn block_step(kinds: &[u64], words: &[u64], names: u64, barred: &[u64]) -> Pass
-    ensures { λ r. ⌜ r ≡ passOf (forbiddenBlock (bitAt (now (barred .entry)))) never isClosing (basicBlock names) closing (entries (now (kinds .entry)) (now (words .entry))) ⌝ }
-{
-    match list_head(first_entry(kinds, words)) {
-        ListHead::Closing => Pass::Done(1, false),
-        ListHead::Item => next_pass(block_len(kinds, words, names, barred)),
-        ListHead::Bad => Pass::Bad,
-    }
+    Found::Bad
 }
 
 // The list of blocks, its closing entry with it.
 fn blocks_len(kinds: &[u64], words: &[u64], names: u64, barred: &[u64]) -> Found
     ensures { λ r. ⌜ r ≡ foundOf (any (forbiddenBlock (bitAt (now (barred .entry))))) (many (basicBlock names) (entries (now (kinds .entry)) (now (words .entry)))) ⌝ }
 {
-    let mut at: usize = 0;
-    let mut left: usize = shorter(kinds, words);
-    let mut seen = false;
-    loop {
-        match block_step(&kinds[at..], &words[at..], names, barred) {
-            Pass::Done(n, last) => return Found::Entries(at + n, seen | last),
-            Pass::Bad => return Found::Bad,
-            Pass::Next(n, item) => {
-                if left == 0 {
-                    return Found::Bad;
-                }
-                at = at + n;
-                left = left - 1;
-                seen = seen | item;
-            }
-        }
-    }
+    scan_blocks(kinds, words, names, barred, &rules(names))
 }
 
 // A function's parameters and blocks.

@@ -4,8 +4,9 @@ use mathlib.Core.Bool.{Bool, true, false}
 use mathlib.Core.Option.{Option, none, some}
 use mathlib.Core.List.{List, [], _∷_}
 use lib.ListN.{getD}
-use lib.Dec.{eqb}
-use Rattle.book.specs.Kinds.{InstTag, TermTag, instKind}
+use lib.Dec.{eqb, leb}
+use Rattle.book.specs.Rule.{pick}
+use Rattle.book.specs.Kinds.{InstTag, TermTag, instKind, instTag, termTag}
 use Rattle.book.specs.Ast.{BinOp, ConvOp, ICmpPred}
 use Rattle.book.specs.Fields as book
 use Rattle.book_insts.specs.declared.InstGroup.{InstGroup}
@@ -104,3 +105,12 @@ termShape term.Br = some (book.termFields TermTag.br)
 termShape term.Switch = some (book.termFields TermTag.switch)
 termShape term.Unreachable = some (book.termFields TermTag.unreachable)
 termShape term.Other = none
+
+-- the fields of a tag
+abbrev pub tagFields : {Tag : Type 0} → (Tag → List book.Field) → Option Tag → Option (List book.Field)
+tagFields fieldsOf none = none
+tagFields fieldsOf (some t) = some (fieldsOf t)
+
+-- the fields behind an entry in a block: a terminator's from kind 90 on, whose word is 0, else an instruction's, whose word is a name + 1 or 0
+abbrev pub fieldsBehind : ℕ → ℕ → ℕ → Option (List book.Field)
+fieldsBehind m k w = pick (leb 90 k) (pick (eqb w 0) (tagFields book.termFields (termTag k)) none) (pick (leb w m) (tagFields book.instFields (instTag k)) none)

@@ -1,2 +1,3 @@
 pub mod Insts
 pub mod InstLaws
+pub mod Rules

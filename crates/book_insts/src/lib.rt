@@ -1,8 +1,6 @@
 // Instructions, kinds 40 to 82, and terminators, kinds 90 to 93: an entry and the fields of its kind.
 use book_types::Found;
-use book_types::Front;
 use book_types::first_entry;
-use book_types::join_found;
 use book_types::plain;
 use book_types::shorter;
 use book_types::types::type_len;
@@ -13,13 +11,16 @@ use book_values::item_len;
 use book_values::list_len;
 use book_values::optional_len;
 ghost use mathlib.Core.Path.{_≡_};
-ghost use Prim.Native.Nat.{_≤_};
+ghost use mathlib.Core.Bool.{true};
+ghost use Prim.Native.Nat.{ℕ, _-_, _≤_, _<_};
+ghost use lib.ListN.{length};
 ghost use Rattle.book.specs.Entry.{entries};
 ghost use Rattle.book.specs.Kinds.{instTag, termTag};
-ghost use Rattle.book.specs.Decode.{inst, term, field as fieldReader, fields as fieldsReader};
-ghost use Rattle.book.specs.Forbidden.{otherField, otherFields, otherInst, otherTerm};
+ghost use Rattle.book.specs.Decode.{field as fieldReader};
+ghost use Rattle.book.specs.Forbidden.{otherField};
 ghost use Rattle.book_types.specs.Found.{foundOf};
-ghost use Rattle.book_insts.specs.Insts.{instGroupOf, termGroupOf, instShape, termShape, shapeFields, fieldOf, fieldsOf};
+ghost use Rattle.book_insts.specs.Insts.{instGroupOf, termGroupOf, instShape, termShape, shapeFields, fieldOf, fieldsBehind};
+ghost use Rattle.book_insts.specs.Rules.{rulesOf, Alone};
 
 // The group of an instruction's kind; the operations and predicates are numbered from 0 in the order of ast.rs.
 pub enum InstGroup {
@@ -168,61 +169,78 @@ pub fn field_len(kinds: &[u64], words: &[u64], names: u64, digit: u64) -> Found
     }
 }
 
-// All fields.
-pub fn fields_len(kinds: &[u64], words: &[u64], names: u64, fields: u64) -> Found
-    ensures { λ r. ⌜ r ≡ foundOf (otherFields (fieldsOf fields)) (fieldsReader names (fieldsOf fields) (entries (now (kinds .entry)) (now (words .entry)))) ⌝ }
+// The fields that follow an entry in a block: those of an instruction, whose word is a name + 1 or 0, or of a terminator, whose word is 0.
+pub fn fields_behind(kind: u64, word: u64, names: u64) -> Shape
+    ensures { λ r. ⌜ shapeFields r ≡ fieldsBehind names kind word ⌝ }
 {
-    let mut at: usize = 0;
-    let mut rest = fields;
-    let mut seen = false;
-    while rest != 0 {
-        let Found::Entries(n, barred) = field_len(&kinds[at..], &words[at..], names, rest % 16)
-        else {
-            return Found::Bad;
-        };
-        at = at + n;
-        rest = rest / 16;
-        seen = seen | barred;
+    if 90 <= kind {
+        if word != 0 {
+            return Shape::Unknown;
+        }
+        return term_fields(term_group(kind));
     }
-    Found::Entries(at, seen)
-}
-
-// The instruction at the front.
-pub fn inst_len(kinds: &[u64], words: &[u64], names: u64) -> Found
-    ensures { λ r. ⌜ r ≡ foundOf otherInst (inst names (entries (now (kinds .entry)) (now (words .entry)))) ⌝ }
-{
-    let Front::Entry(kind, word) = first_entry(kinds, words) else {
-        return Found::Bad;
-    };
     if names < word {
-        return Found::Bad;
+        return Shape::Unknown;
     }
-    let Shape::Known(fields) = inst_fields(inst_group(kind)) else {
-        return Found::Bad;
-    };
-    join_found(
-        1,
-        false,
-        fields_len(&kinds[1..], &words[1..], names, fields),
-    )
+    inst_fields(inst_group(kind))
 }
 
-// The terminator at the front.
-pub fn term_len(kinds: &[u64], words: &[u64], names: u64) -> Found
-    ensures { λ r. ⌜ r ≡ foundOf otherTerm (term names (entries (now (kinds .entry)) (now (words .entry)))) ⌝ }
+// The last of so many names, 0 if there is none.
+fn last_name(names: u64) -> u64
+    ensures { λ r. ⌜ r ≡ names - 1 ⌝ }
 {
-    let Front::Entry(kind, word) = first_entry(kinds, words) else {
-        return Found::Bad;
-    };
-    if word != 0 {
-        return Found::Bad;
+    if names == 0 { 0 } else { names - 1 }
+}
+
+// For each kind below 40 the largest word that an entry of it has where it is a field by itself, and behind these the digits of such
+// fields, a bit for each. The table is made once in a call and lent on.
+pub fn rules(names: u64) -> [u64; 80]
+    ensures { λ r. ⌜ r ≡ rulesOf names ⌝ }
+{
+    let last = last_name(names);
+    let mut rule = [0u64; 80];
+    // The largest words; of any other kind it is 0.
+    rule[11] = 64;
+    rule[15] = last;
+    rule[22] = 0xFFFF_FFFF;
+    rule[23] = last;
+    rule[30] = last;
+    rule[31] = last;
+    rule[32] = 0xFFFF_FFFF_FFFF_FFFF;
+    // The digits of types, of what is absent, of an index, a block's name and values.
+    rule[50] = 0x2;
+    rule[51] = 0x2;
+    rule[52] = 0x2;
+    rule[55] = 0x2;
+    rule[58] = 0x2;
+    rule[59] = 0x2;
+    rule[60] = 0x2;
+    rule[61] = 0x1E0;
+    rule[62] = 0x10;
+    rule[63] = 0x108;
+    rule[70] = 0x84;
+    rule[71] = 0x84;
+    rule[72] = 0x84;
+    rule[73] = 0x84;
+    rule[74] = 0x84;
+    rule[75] = 0x84;
+    rule[76] = 0x84;
+    rule[77] = 0x84;
+    rule
+}
+
+// Whether the entry is the field of the digit by itself. A list, an align and what is more than an entry are left to `field_len`. The
+// parts are put together without a branch, since which kind comes next is hard to foresee.
+pub fn one_entry(kind: u64, word: u64, digit: u64, rule: &[u64]) -> bool
+    requires { ⌜ length (now rule) ≡ 80 ⌝ }
+    requires { ⌜ digit < 16 ⌝ }
+    ensures { λ r. ⌜ ((names : ℕ) → 1 ≤ names → now (rule .entry) ≡ rulesOf names → r ≡ true → Alone names kind word digit) ⌝ }
+{
+    if 39 < kind {
+        return false;
     }
-    let Shape::Known(fields) = term_fields(term_group(kind)) else {
-        return Found::Bad;
-    };
-    join_found(
-        1,
-        false,
-        fields_len(&kinds[1..], &words[1..], names, fields),
-    )
+    let k = kind as usize;
+    (word <= rule[k])
+        & ((rule[k + 40] >> digit) % 2 == 1)
+        & ((kind != 11) | numbers::width::width_ok(word))
 }

@@ -5,7 +5,6 @@ use mathlib.Core.Logic.{_⊎_, inl, inr, ⊎-elim}
 use mathlib.Core.Bool.{Bool, true, false, _&&_, and-false}
 use mathlib.Core.Option.{Option, none, some}
 use mathlib.Core.List.{List, [], _∷_, _++_}
-use native.Mathlib.Numerals.{add-one}
 use native.Mathlib.Omega.{arith}
 use borrow.Author.Tests.{eq-eqb, ne-eqb, le-leb, lt-leb, le-ltb, lt-ltb}
 use lib.ListN.{length, getD, drop, take, length-append, length-drop, length-take, drop-of-length-le}
@@ -26,7 +25,7 @@ use Rattle.book.specs.AgreeBook.{agrees-function, agrees-structType, agrees-str
 use Rattle.book_types.specs.Length.{lenOf, lenIf, frontOf}
 use Rattle.book_types.specs.Groups.{typeGroupOf}
 use Rattle.book_values.specs.Items.{pickLen}
-use Rattle.book_types.specs.Laws.{length-entries, entries-part, within-kinds, lentFrom, len-fits}
+use Rattle.book_types.specs.Laws.{length-entries, entry-at, entries-part, within-kinds, lentFrom, len-fits}
 use Rattle.book_types.specs.declared.Length.{Length}
 use Rattle.book_types.specs.declared.Length.the-variants as len
 use Rattle.book_types.specs.declared.Front.{Front}
@@ -139,14 +138,6 @@ no-structs m = refl
 pub function-ended : (barred named : List ℕ) (r : Read Function) → endFound (functionEnded barred) named r ≡ foundOf (forbiddenFunction (bitAt barred)) r
 function-ended barred named (got f n) = refl
 function-ended barred named bad = refl
-
--- the entry at a place of the slices
-pub entry-at : (ks ws : List ℕ) (i : ℕ) → i < length (entries ks ws) → drop i (entries ks ws) ≡ entry (getD ks i 0) (getD ws i 0) ∷ drop (i + 1) (entries ks ws)
-unfolding entries
-entry-at [] ws i h = absurd (omega arith)
-entry-at (k ∷ ks) [] i h = absurd (omega arith)
-entry-at (k ∷ ks) (w ∷ ws) zero h = refl
-entry-at (k ∷ ks) (w ∷ ws) (suc i) h = rw (add-one (suc i)) (entry-at ks ws i (omega arith) ∙ rw (add-one i))
 
 module _ (barred named : List ℕ) (m n : ℕ) (ks ws : List ℕ) (a left : ℕ) (now : List ℕ)
     (l : Fold structTaken (functionEnded barred) (leb 4) (structType m) (function m) named n ks ws a left now)

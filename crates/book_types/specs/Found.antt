@@ -2,6 +2,7 @@
 use Prim.Native.Nat.{ℕ, _+_, _<_, _^_}
 use mathlib.Core.Bool.{Bool, true, false, _||_}
 use mathlib.Core.List.{List}
+use lib.ListN.{drop}
 use Rattle.book.specs.Entry.{Entry}
 use Rattle.book.specs.Read.{Read, got, bad, Reader, stops}
 use Rattle.book.specs.Forbidden.{any}
@@ -21,6 +22,11 @@ foundOf t bad = found.Bad
 abbrev pub joined : ℕ → Bool → Found → Found
 joined n b (found.Entries k c) = found.Entries (n + k) (b || c)
 joined n b found.Bad = found.Bad
+
+-- a part at the front of the entries, then what is read behind it
+abbrev pub followedBy : Found → (List Entry → Found) → List Entry → Found
+followedBy (found.Entries n b) k es = joined n b (k (drop n es))
+followedBy found.Bad k es = found.Bad
 
 -- a length in which nothing is forbidden
 abbrev pub plainOf : Length → Found

@@ -1,9 +1,10 @@
 -- Laws that the readers' proofs cite: entries of slices and of their parts, and lists of items.
 use Prim.Native.Nat.{ℕ, zero, suc, _+_, _-_, _≤_, _<_, _^_, min}
-use mathlib.Core.Path.{_≡_, refl, ap}
+use mathlib.Core.Path.{_≡_, refl, ap, _∙_}
 use mathlib.Core.Bool.{Bool, true, false}
 use mathlib.Core.List.{List, [], _∷_}
 use native.Mathlib.Nat.{le-of-eq}
+use native.Mathlib.Numerals.{add-one}
 use native.Mathlib.Omega.{arith}
 use lib.ListN.{length, getD, drop, take, length-append, length-drop}
 use lib.Seq.{take-all}
@@ -47,6 +48,14 @@ entries-drop zero ks ws = refl
 entries-drop (suc n) [] ws = refl
 entries-drop (suc n) (k ∷ ks) [] = no-words (drop n ks) [] refl
 entries-drop (suc n) (k ∷ ks) (w ∷ ws) = entries-drop n ks ws
+
+-- the entry at a place of the slices
+pub entry-at : (ks ws : List ℕ) (i : ℕ) → i < length (entries ks ws) → drop i (entries ks ws) ≡ entry (getD ks i 0) (getD ws i 0) ∷ drop (i + 1) (entries ks ws)
+unfolding entries
+entry-at [] ws i h = absurd (omega arith)
+entry-at (k ∷ ks) [] i h = absurd (omega arith)
+entry-at (k ∷ ks) (w ∷ ws) zero h = refl
+entry-at (k ∷ ks) (w ∷ ws) (suc i) h = rw (add-one (suc i)) (entry-at ks ws i (omega arith) ∙ rw (add-one i))
 
 -- the entries of the parts from a on, as the logic has them
 pub entries-part : (a : ℕ) (ks ws : List ℕ) → entries (take (length ks - a) (drop a ks)) (take (length ws - a) (drop a ws)) ≡ drop a (entries ks ws)

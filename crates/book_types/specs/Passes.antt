@@ -25,7 +25,7 @@ use Rattle.book_types.specs.declared.Front.{Front}
 use Rattle.book_types.specs.declared.Front.the-variants as front
 use Rattle.book_types.specs.declared.ListHead.{ListHead}
 use Rattle.book_types.specs.declared.ListHead.the-variants as head
-use Rattle.book_types.specs.Found.{foundOf, joined, plainOf, FoundRoom, nextOf, lastOf, pickPass, passOf, allTest, pairTest, never}
+use Rattle.book_types.specs.Found.{foundOf, joined, followedBy, plainOf, FoundRoom, nextOf, lastOf, pickPass, passOf, allTest, pairTest, never}
 use Rattle.book_types.specs.declared.Found.{Found}
 use Rattle.book_types.specs.declared.Found.the-variants as found
 use Rattle.book_types.specs.declared.Pass.{Pass}
@@ -40,7 +40,7 @@ pub joined-joined : (a b : ℕ) (p q : Bool) (f : Found) → joined a p (joined 
 joined-joined a b p q (found.Entries n r) = rw (or-assoc p q r, add-assoc a b n)
 joined-joined a b p q found.Bad = refl
 
-joined-none : (f : Found) → joined 0 false f ≡ f
+pub joined-none : (f : Found) → joined 0 false f ≡ f
 joined-none (found.Entries n b) = ap (λ k. found.Entries k b) (zero-add n)
 joined-none found.Bad = refl
 
@@ -56,13 +56,6 @@ size-of t bad = refl
 module _ {A : Type 0} (t : A → Bool) {p : Reader A} {w : A → List Entry} {K : A → Type 0} (s : Agrees p w K) where
   pub found-fits : (es : List Entry) (n : ℕ) (b : Bool) → foundOf t (p es) ≡ found.Entries n b → n ≤ length es
   found-fits es n b e = len-fits s es n (sym (size-of t (p es)) ∙ ap sizeOf e)
-
-  pub found-room : (a : ℕ) (es : List Entry) → a + length es < 2 ^ 64 → FoundRoom a (foundOf t (p es))
-  found-room a es h = go (foundOf t (p es)) refl
-    where
-      go : (f : Found) → foundOf t (p es) ≡ f → FoundRoom a f
-      go (found.Entries n b) e = omega (arith, found-fits es n b e)
-      go found.Bad e = tt
 
 -- a length in which nothing is forbidden
 pub plain-found : {A : Type 0} (r : Read A) → plainOf (lenOf r) ≡ foundOf never r
@@ -97,6 +90,27 @@ mapped-found {A} {B} t f p es = go (p es)
     go bad = refl
 
 -- ---- one part after the other
+pub followed-joined : (n : ℕ) (b : Bool) (f : Found) (k : List Entry → Found) (es : List Entry) → followedBy (joined n b f) k es ≡ joined n b (followedBy f k (drop n es))
+followed-joined n b (found.Entries i c) k es = rw (drop-drop i n es) (sym (joined-joined n i b c (k (drop (n + i) es))))
+followed-joined n b found.Bad k es = refl
+
+pub followed-twice : (f : Found) (g k : List Entry → Found) (es : List Entry) → followedBy (followedBy f g es) k es ≡ followedBy f (λ xs. followedBy (g xs) k xs) es
+followed-twice (found.Entries n b) g k es = followed-joined n b (g (drop n es)) k es
+followed-twice found.Bad g k es = refl
+
+pub both-found : {A B : Type 0} (p : Reader A) (q : Reader B) (ta : A → Bool) (tb : B → Bool) (es : List Entry)
+    → foundOf (pairTest ta tb) (both p q es) ≡ followedBy (foundOf ta (p es)) (λ xs. foundOf tb (q xs)) es
+unfolding both
+both-found {A} {B} p q ta tb es = go (p es)
+  where
+    second : (a : A) (n : ℕ) (r : Read B) → foundOf (pairTest ta tb) (andThen {A = B} {B = A × B} r (λ b m. got (a, b) (n + m))) ≡ joined n (ta a) (foundOf tb r)
+    second a n (got b m) = refl
+    second a n bad = refl
+
+    go : (r : Read A) → foundOf (pairTest ta tb) (andThen r (λ a n. andThen {A = B} {B = A × B} (q (drop n es)) (λ b m. got (a, b) (n + m)))) ≡ followedBy (foundOf ta r) (λ xs. foundOf tb (q xs)) es
+    go (got a n) = second a n (q (drop n es))
+    go bad = refl
+
 -- what an answer counts is there
 abbrev pub Within : List Entry → Found → Type 0
 Within es f = (n : ℕ) (b : Bool) → f ≡ found.Entries n b → n ≤ length es
@@ -171,6 +185,24 @@ module _ {A B : Type 0} (ta : A → Bool) (tb : B → Bool) (stop : ℕ → Bool
       go true bad q = refl
       go false r (got a k) = shifted a k (until stop item end n (drop k es))
       go false r bad = refl
+
+  -- the same by the entry in front: an end, or an item and then the others
+  pub until-end : (n : ℕ) (es : List Entry) → stops stop es ≡ true → all n es ≡ foundOf tb (end es)
+  until-end n es t = until-pass n es ∙ ap (λ b. passed n es (pickPass b (lastOf (foundOf tb (end es))) (nextOf (foundOf ta (item es))))) t ∙ go n (foundOf tb (end es))
+    where
+      go : (n : ℕ) (f : Found) → passed n es (lastOf f) ≡ f
+      go zero (found.Entries k b) = refl
+      go zero found.Bad = refl
+      go (suc n) (found.Entries k b) = refl
+      go (suc n) found.Bad = refl
+
+  pub until-item : (n : ℕ) (es : List Entry) → stops stop es ≡ false → all (suc n) es ≡ followedBy (foundOf ta (item es)) (all n) es
+  until-item n es t =
+      until-pass (suc n) es ∙ ap (λ b. passed (suc n) es (pickPass b (lastOf (foundOf tb (end es))) (nextOf (foundOf ta (item es))))) t ∙ go (foundOf ta (item es))
+    where
+      go : (f : Found) → passed (suc n) es (nextOf f) ≡ followedBy f (all n) es
+      go (found.Entries k b) = refl
+      go found.Bad = refl
 
   -- the same step without its test
   abbrev stepOfPass : Pass → Step
