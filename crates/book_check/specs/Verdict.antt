@@ -16,7 +16,7 @@ use Rattle.names.specs.Prefix.{firstWith, pastWith}
 use Rattle.names.specs.Lines.{accepted-iff, names-lines}
 use Rattle.names.specs.Ranges.{range-test, range-order}
 use Rattle.names_check.specs.Read.{namesRead, sorted-read, bad-read}
-use Rattle.names_check.specs.Ends.{Noted}
+use Rattle.names_check.specs.Nexts.{Noted}
 use Rattle.names_check.specs.declared.Names.{Names}
 use Rattle.names_check.specs.declared.Names.the-variants as names
 use Rattle.book.specs.Ast.{Book}
@@ -214,8 +214,9 @@ module _ (s bs : List ℕ) (counter work count : ℕ) (ec : count ≡ getD s 1 0
       ap numberOf (at-count rd false v ev ∙ ap (λ x. verdictOf x false counter (getD s 1 0) work) er)
       ∙ by-book s bs counter work false 0 0 (λ c e f. not-listed s bs counter work c e f (bad-read (accepted bs (getD s 1 0)) (firstWith intrinsic (lines bs)) (pastWith intrinsic (lines bs)) (sym named ∙ h)))
 
-  -- the ends of a list of names
-  pub noted-sorted : (from to : ℕ) → nm ≡ names.Sorted from to → {ends ends′ : List ℕ} → (accepted bs count ≡ true → Noted bs count ends ends′) → Noted bs (getD s 1 0) ends ends′
+  -- what was noted of a list of names
+  pub noted-sorted : (from to : ℕ) → nm ≡ names.Sorted from to → {nexts nexts′ : List ℕ} → (accepted bs count ≡ true → Noted 8 5 bs count nexts nexts′)
+      → Noted 8 5 bs (getD s 1 0) nexts nexts′
   noted-sorted from to h noted = rw ec at (noted (sorted-read (accepted bs count) (firstWith intrinsic (lines bs)) (pastWith intrinsic (lines bs)) from to (sym en ∙ h) .0))
 
   pub unnamed : (rd : Reading) → rd ≡ readingIn (barredRange 0 0) (bookIn s) → (v : Verdict) → v ≡ verdictOf rd false counter count work → v ≡ verdict.Sound → ⊥

@@ -11,7 +11,7 @@ ghost use Rattle.book.specs.Entry.{entries};
 ghost use Rattle.book.specs.Decode.{decode};
 ghost use Rattle.book.specs.Input.{bookIn};
 ghost use Rattle.book.specs.Check.{checked, refusalOf, workFor};
-ghost use Rattle.names_check.specs.Ends.{Noted};
+ghost use Rattle.names_check.specs.Nexts.{Noted};
 ghost use Rattle.book_check.specs.Whole.{there, readingOf, readingIn, barredRange};
 ghost use Rattle.book_check.specs.Verdict.{numberOf, verdictOf};
 
@@ -117,19 +117,19 @@ fn judged(book: Reading, named: bool, counter: u64, count: u64, work: usize) -> 
     }
 }
 
-// The first refusal of 1 to 4 that applies. Where the book is sound, it is noted where its names end.
+// The first refusal of 1 to 4 that applies. Where the book is sound, it is noted in word 5 of each name's eight where the next name starts.
 pub fn check_noting(
     book: &[u64],
     names: &[u8],
     counter: u64,
     work: usize,
-    ends: &mut [u64],
+    nexts: &mut [u64],
 ) -> Verdict
     ensures { λ r. ⌜ numberOf r ≡ refusalOf (checked (now (book .entry)) (now (names .entry)) counter work) ⌝ }
-    ensures { λ r. ⌜ (r ≡ Verdict.Sound → Noted (now (names .entry)) (getD (now (book .entry)) 1 0) (now (ends .entry)) (now (ends .exit))) ⌝ }
+    ensures { λ r. ⌜ (r ≡ Verdict.Sound → Noted 8 5 (now (names .entry)) (getD (now (book .entry)) 1 0) (now (nexts .entry)) (now (nexts .exit))) ⌝ }
 {
     let count = name_count(book);
-    match names_check::read_names(names, count, b"llvm.", ends) {
+    match names_check::read_names(names, count, b"llvm.", nexts, 8, 5) {
         Names::Sorted(from, to) => judged(read_book(book, from, to), true, counter, count, work),
         Names::Bad => judged(read_book(book, 0, 0), false, counter, count, work),
     }
@@ -139,6 +139,6 @@ pub fn check_noting(
 pub fn check(book: &[u64], names: &[u8], counter: u64, work: usize) -> Verdict
     ensures { λ r. ⌜ numberOf r ≡ refusalOf (checked (now (book .entry)) (now (names .entry)) counter work) ⌝ }
 {
-    let mut ends = [0u64; 0];
-    check_noting(book, names, counter, work, &mut ends)
+    let mut nexts = [0u64; 0];
+    check_noting(book, names, counter, work, &mut nexts)
 }

@@ -7,9 +7,8 @@ use mathlib.Core.List.{List, [], _∷_}
 use native.Mathlib.Omega.{arith}
 use lib.Dec.{eqb}
 use lib.ListN.{length, getD, drop, set, length-set}
-use Rattle.names.specs.Name.{lines, namesOf, accepted, nameAt}
+use Rattle.names.specs.Name.{lines, namesOf, accepted, nameAt, startOf}
 use Rattle.names.specs.Lines.{names-lines}
-use Rattle.names_check.specs.Ends.{endOf}
 use Rattle.book.specs.Entry.{Entry, entries}
 use Rattle.book.specs.Ast.{Mark, StructType, Function, Book}
 use Rattle.book.specs.Decode.{decode, member, markName}
@@ -187,13 +186,13 @@ module _ (m : ℕ) (ks ws work₀ work : List ℕ) (a : ℕ) (p : Marking m (ent
         kept = p .kept;
       }
 
--- ---- all of it: the names were accepted and their ends noted, the book is sound, its function's entry stands at the place a
+-- ---- all of it: the names were accepted and noted is where the next of each starts, the book is sound, its function's entry stands at the place a
 pub record MarksAsked (bs : List ℕ) (m : ℕ) (es : List Entry) (work : List ℕ) (a : ℕ) : Type 0 where
   pub names : accepted bs m ≡ true
   pub book : IsBook m es
   pub fn : FunctionAt m es a
   pub room : 8 * m ≤ length work
-  pub ends : (x : ℕ) → x < m → getD work (8 * x + 5) 0 ≡ endOf bs x
+  pub nexts : (x : ℕ) → x < m → getD work (8 * x + 5) 0 ≡ startOf (lines bs) (x + 1)
 
 -- word 5 of each name is its mark, and no other word has changed
 pub record MarksPlaced (m : ℕ) (g : Codegen) (work work′ : List ℕ) : Type 0 where

@@ -1,5 +1,5 @@
--- The pass over all names: word 5 of each by its spelling, in place of its end.
-use Prim.Native.Nat.{ℕ, _+_, _*_, _<_, _≤_}
+-- The pass over all names: word 5 of each by its spelling, in place of the next one's start.
+use Prim.Native.Nat.{ℕ, _+_, _-_, _*_, _<_, _≤_}
 use mathlib.Core.Path.{_≡_, refl, sym, ap, _∙_}
 use mathlib.Core.Bool.{Bool, true, false}
 use mathlib.Core.List.{List}
@@ -12,7 +12,6 @@ use Rattle.names.specs.Name.{lines, accepted, nameAt, nameFrom, startOf}
 use Rattle.names.specs.Spelling.{hasOverflow}
 use Rattle.names.specs.Lines.{Names, names-iff, names-lines, accepted-iff}
 use Rattle.names.specs.Places.{stands, next-start, last-start}
-use Rattle.names_check.specs.Ends.{endOf}
 use Rattle.gen_blocks.specs.Words.{WordsKept, words-none, words-set, words-then}
 use Rattle.gen_marks.specs.Mark.{spelled, withOverflow, plainMark}
 
@@ -25,7 +24,7 @@ pub record Ended (bs : List ℕ) (at end : ℕ) : Type 0 where
 pub record SpellAsked (bs : List ℕ) (m : ℕ) (work : List ℕ) : Type 0 where
   pub names : accepted bs m ≡ true
   pub room : 8 * m ≤ length work
-  pub ends : (x : ℕ) → x < m → getD work (8 * x + 5) 0 ≡ endOf bs x
+  pub nexts : (x : ℕ) → x < m → getD work (8 * x + 5) 0 ≡ startOf (lines bs) (x + 1)
 
 pub record SpellDone (bs : List ℕ) (m : ℕ) (work work′ : List ℕ) : Type 0 where
   pub words : (x : ℕ) → x < m → getD work′ (8 * x + 5) 0 ≡ plainMark (nameAt (lines bs) x)
@@ -38,7 +37,7 @@ pub record Spelling (bs : List ℕ) (m : ℕ) (work₀ work : List ℕ) (at x : 
   pub place : at ≡ startOf (lines bs) x
   pub few : x ≤ m
   pub words : (y : ℕ) → y < x → getD work (8 * y + 5) 0 ≡ plainMark (nameAt (lines bs) y)
-  pub ends : (y : ℕ) → x ≤ y → y < m → getD work (8 * y + 5) 0 ≡ endOf bs y
+  pub nexts : (y : ℕ) → x ≤ y → y < m → getD work (8 * y + 5) 0 ≡ startOf (lines bs) (y + 1)
   pub kept : WordsKept m 5 work₀ work
   pub room : 8 * m ≤ length work
 
@@ -53,7 +52,7 @@ spell-start bs m work k =
       place = refl;
       few = omega arith;
       words = λ y h. absurd (omega arith);
-      ends = λ y _. k .ends y;
+      nexts = λ y _. k .nexts y;
       kept = words-none;
       room = k .room;
     }
@@ -92,14 +91,18 @@ module _ {bs : List ℕ} {m : ℕ} {work₀ work : List ℕ} {at x : ℕ} (s : S
     name-is : nameFrom bs at ≡ nameAt ns x
     name-is = rw (s .place) (stands bs ns (s .names) x here .from)
 
-    -- the word is the end of the name that begins here
-    pub ended-here : Ended bs at (getD work (8 * x + 5) 0)
-    unfolding endOf
+    -- the word is one more than the end of the name that begins here
+    word-next : getD work (8 * x + 5) 0 ≡ at + length (nameFrom bs at) + 1
+    word-next = s .nexts x (omega arith) (spell-more l) ∙ rw (s .place) (sym (next-start bs ns (s .names) x here))
+
+    pub more-than-none : 1 ≤ getD work (8 * x + 5) 0
+    more-than-none = omega (arith, word-next)
+
+    pub ended-here : Ended bs at (getD work (8 * x + 5) 0 - 1)
     ended-here =
-        let e : getD work (8 * x + 5) 0 ≡ at + length (nameAt ns x) = s .ends x (omega arith) (spell-more l) ∙ ap (λ (k : ℕ). k + length (nameAt ns x)) (sym (s .place)) in
         record {
-          ends = e ∙ ap (λ (n : List ℕ). at + length n) (sym name-is);
-          inside = omega (arith, s .place, stands bs ns (s .names) x here .inside);
+          ends = omega (arith, word-next);
+          inside = omega (arith, word-next, s .place, ap length name-is, stands bs ns (s .names) x here .inside);
         }
 
     pub spell-next : {end : ℕ} → Ended bs at end → (v : ℕ) → v ≡ plainMark (nameFrom bs at) → Spelling bs m work₀ (set work (8 * x + 5) v) (end + 1) (x + 1)
@@ -111,7 +114,7 @@ module _ {bs : List ℕ} {m : ℕ} {work₀ work : List ℕ} {at x : ℕ} (s : S
           place = ap (λ (k : ℕ). k + 1) (e .ends ∙ ap (λ (k : ℕ). k + length (nameFrom bs k)) (s .place)) ∙ next-start bs ns (s .names) x here;
           few = omega arith;
           words = λ y h. stored y h (eqb y x) refl;
-          ends = λ y h k. getD-set-other work (8 * x + 5) (8 * y + 5) v 0 (λ z. omega arith) ∙ s .ends y (omega arith) k;
+          nexts = λ y h k. getD-set-other work (8 * x + 5) (8 * y + 5) v 0 (λ z. omega arith) ∙ s .nexts y (omega arith) k;
           kept = words-then (s .kept) (words-set x (8 * x + 5) v q refl);
           room = omega (arith, s .room, length-set work (8 * x + 5) v);
         }

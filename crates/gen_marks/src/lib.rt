@@ -1,6 +1,6 @@
 // Work word 5 of each name: how a global of that name is called. 2 for a name that starts `__uvm_`, 3 for `bcmp` and `memcmp`,
 // 1 for another that is defined here, else 0; and 4 more where the name contains `.with.overflow.`. Until this is placed, the word
-// holds the index of the byte that ends the name, as the check has noted it.
+// holds where the next name starts, as the check has noted it.
 use names_spelling::name_starts;
 ghost use mathlib.Core.Path.{_≡_};
 ghost use Prim.Native.Nat.{ℕ, _<_};
@@ -94,7 +94,7 @@ fn defined(word: u64) -> u64
     if word % 4 == 0 { word + 1 } else { word }
 }
 
-// Every name by its spelling, in place of its end.
+// Every name by its spelling, in place of the next one's start.
 fn spell_marks(names: &[u8], work: &mut [u64], count: u64)
     requires { ⌜ SpellAsked (now names) count (now work) ⌝ }
     ensures { λ _. ⌜ SpellDone (now (names .entry)) count (now (work .entry)) (now (work .exit)) ⌝ }
@@ -103,7 +103,7 @@ fn spell_marks(names: &[u8], work: &mut [u64], count: u64)
     let mut x: usize = 0;
     while at < names.len() {
         let place = 8 * x + 5;
-        let end = work[place] as usize;
+        let end = work[place] as usize - 1;
         work[place] = with_overflow(spelled(names, at, end), overflows(names, at, end));
         x = x + 1;
         at = end + 1;

@@ -291,7 +291,7 @@ fn passes(
     )
 }
 
-// The lines of a sound book's function. The work words are 0 but for the ends of names.
+// The lines of a sound book's function. The work words are 0 but for the starts of names.
 pub fn generate(
     book_kinds: &[u64],
     book_words: &[u64],

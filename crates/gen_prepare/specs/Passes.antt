@@ -63,7 +63,7 @@ module _ {bs : List ℕ} {m : ℕ} (ks ws : List ℕ) {work : List ℕ} (k : Pre
           book = k .book;
           fn = fn;
           room = omega (arith, k .room, s .kept .long);
-          ends = λ x l. s .kept .same (8 * x + 5) (λ y _ e. omega arith) ∙ k .words .ends x l (omega (arith, k .room));
+          nexts = λ x l. s .kept .same (8 * x + 5) (λ y _ e. omega arith) ∙ k .words .nexts x l (omega (arith, k .room));
         }
 
     module _ {work₂ : List ℕ}

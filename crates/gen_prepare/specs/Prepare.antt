@@ -8,7 +8,7 @@ use lib.Dec.{ltb}
 use lib.ListN.{length, drop}
 use Rattle.numbers.specs.Align.{alignUp}
 use Rattle.names.specs.Name.{namesOf, accepted}
-use Rattle.names_check.specs.Ends.{EndsAlone}
+use Rattle.names_check.specs.Nexts.{NextsAlone}
 use Rattle.book.specs.Entry.{Entry}
 use Rattle.book.specs.Ast.{Function, Book}
 use Rattle.book.specs.Decode.{decode}
@@ -36,12 +36,12 @@ preparedOf at blocks f =
       refused = f .refused;
     }
 
--- names, a book, and work words that are 0 but for the ends of the names
+-- names, a book, and work words that are 0 but for where the name behind each one starts
 pub record PrepareAsk (bs : List ℕ) (m : ℕ) (es : List Entry) (work : List ℕ) : Type 0 where
   pub names : accepted bs m ≡ true
   pub book : IsBook m es
   pub room : 8 * m + 64 ≤ length work
-  pub words : EndsAlone bs m work
+  pub words : NextsAlone 8 5 bs m work
 
 -- the work words hold the context's maps, and the answer the rest of it
 pub record SetUp (g : Codegen) (f : Function) (fr : Places) (m : ℕ) (es : List Entry) (work′ : List ℕ) (r : Prepared) : Type 0 where

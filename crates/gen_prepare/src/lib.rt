@@ -1,4 +1,4 @@
-// All passes before any line is generated: they fill the work words, 0 at first but for the ends of names, for the context of the
+// All passes before any line is generated: they fill the work words, 0 at first but for the starts of names, for the context of the
 // book's function.
 use gen_blocks::find_function;
 use gen_blocks::place_function;

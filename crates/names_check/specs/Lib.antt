@@ -1,3 +1,3 @@
 pub mod Read
-pub mod Ends
+pub mod Nexts
 pub mod Found

@@ -1,5 +1,5 @@
 // The names that come with a book: whether they are a list of names as document 01 wants them, which of them start with a prefix, and
-// where each of them ends.
+// where the one behind each of them starts.
 use names_spelling::END;
 use names_spelling::name_starts;
 use names_words::word_at;
@@ -7,12 +7,12 @@ use names_words::word_front;
 use names_words::word_key;
 ghost use mathlib.Core.Path.{_≡_};
 ghost use mathlib.Core.Bool.{true};
-ghost use Prim.Native.Nat.{_+_, _*_, _<_};
+ghost use Prim.Native.Nat.{_+_, _<_, _≤_};
 ghost use lib.ListN.{length, drop, set};
 ghost use Rattle.names.specs.Name.{nameByte, before, accepted, lines, front};
 ghost use Rattle.names.specs.Prefix.{firstWith, pastWith};
 ghost use Rattle.names_check.specs.Read.{namesRead};
-ghost use Rattle.names_check.specs.Ends.{Noted};
+ghost use Rattle.names_check.specs.Nexts.{Noted, placeBehind};
 ghost use Rattle.names_check.specs.Found.{Kept, Found};
 
 // Whether a byte may stand in a name.
@@ -61,13 +61,17 @@ pub enum Names {
     Bad,
 }
 
-// Notes where the name numbered `x` ends: word 5 of its eight, where the slice has that word.
-fn note_end(ends: &mut [u64], x: u64, end: usize)
-    ensures { λ _. ⌜ now (ends .exit) ≡ set (now (ends .entry)) (8 * x + 5) end ⌝ }
+// Notes in the word at `place` where a name starts, and gives the place `step` words on. A place that the slice does not have stays.
+fn note_start(nexts: &mut [u64], place: usize, step: usize, start: usize) -> usize
+    requires { ⌜ step ≤ 8 ⌝ }
+    ensures { λ _. ⌜ now (nexts .exit) ≡ set (now (nexts .entry)) place start ⌝ }
+    ensures { λ r. ⌜ r ≡ placeBehind (length (now (nexts .entry))) step place ⌝ }
 {
-    if x < ((ends.len() + 2) / 8) as u64 {
-        ends[8 * (x as usize) + 5] = end as u64;
+    if place < nexts.len() {
+        nexts[place] = start as u64;
+        return place + step;
     }
+    place
 }
 
 // The key of no name: that of one with no byte but its end.
@@ -116,11 +120,21 @@ fn next_name(names: &[u8], last: usize, past: usize, key: u64, at: usize) -> Nex
 }
 
 // Whether the bytes are a list of names, and `count` of them, with the range of those that start with the prefix: one pass, in which each
-// name is compared with the one before it, and its end is noted. An empty name fails that comparison, since nothing comes before it. The
-// range ends at the first name behind it, from which on `to` is less than `seen`.
-pub fn read_names(names: &[u8], count: u64, prefix: &[u8], ends: &mut [u64]) -> Names
+// name is compared with the one before it, and where the next one starts is noted, for the first name in the word `first`, for each other
+// one `step` words on. An empty name fails that comparison, since nothing comes before it. The range ends at the first name behind it, from
+// which on `to` is less than `seen`.
+pub fn read_names(
+    names: &[u8],
+    count: u64,
+    prefix: &[u8],
+    nexts: &mut [u64],
+    step: usize,
+    first: usize,
+) -> Names
+    requires { ⌜ 0 < step ⌝ }
+    requires { ⌜ step ≤ 8 ⌝ }
     ensures { λ r. ⌜ r ≡ namesRead (accepted (now (names .entry)) count) (firstWith (now (prefix .entry)) (lines (now (names .entry)))) (pastWith (now (prefix .entry)) (lines (now (names .entry)))) ⌝ }
-    ensures { λ _. ⌜ (accepted (now (names .entry)) count ≡ true → Noted (now (names .entry)) count (now (ends .entry)) (now (ends .exit))) ⌝ }
+    ensures { λ _. ⌜ (accepted (now (names .entry)) count ≡ true → Noted step first (now (names .entry)) count (now (nexts .entry)) (now (nexts .exit))) ⌝ }
 {
     let mut seen: u64 = 0;
     let mut from: u64 = 0;
@@ -129,6 +143,7 @@ pub fn read_names(names: &[u8], count: u64, prefix: &[u8], ends: &mut [u64]) -> 
     let mut last_end: usize = 0;
     let mut at: usize = 0;
     let mut key = NO_NAME;
+    let mut place = first;
     while at < names.len() {
         let next = next_name(names, last, last_end, key, at);
         let end = next.end;
@@ -149,12 +164,12 @@ pub fn read_names(names: &[u8], count: u64, prefix: &[u8], ends: &mut [u64]) -> 
                 to += 1;
             }
         }
-        note_end(ends, seen, end);
         seen += 1;
         key = next.key;
         last = at;
         last_end = end;
         at = end + 1;
+        place = note_start(nexts, place, step, at);
     }
     if seen == count {
         Names::Sorted(from, to)

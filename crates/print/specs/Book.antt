@@ -16,13 +16,6 @@ use Rattle.book.specs.Entry.{Entry, entries}
 use lib.Seq.{take-all}
 use lib.ListN.{length-take}
 use native.Mathlib.Nat.{le-of-eq}
-use Rattle.names.specs.Name.{lines, namesOf, counts, accepted}
-use Rattle.names.specs.Lines.{accepted-iff, names-lines}
-use Rattle.names.specs.Text.{bytes}
-use Rattle.names.specs.Prefix.{firstWith, pastWith, PrefixRange}
-use Rattle.names_check.specs.Read.{namesRead, sorted-read, bad-read}
-use Rattle.names_check.specs.declared.Names.{Names}
-use Rattle.names_check.specs.declared.Names.the-variants as names
 use Rattle.book.specs.Rule.{pick}
 use Rattle.book.specs.Read.{got}
 use Rattle.book.specs.Input.{Counted, counted, bookIn, namesIn}
@@ -32,8 +25,7 @@ use Rattle.book_types.specs.Laws.{lentFrom, entries-part, length-entries}
 use Rattle.book_check.specs.Whole as whole
 use Rattle.assembly.specs.Printer.{Printing, refusing, needed, print}
 use Rattle.print_types.specs.Types.{isGot}
-use Rattle.print_types.specs.Starts.{sound}
-use Rattle.print.specs.Passes.{printing, definition, Named}
+use Rattle.print.specs.Passes.{printing, definition, withNames}
 use Rattle.print.specs.Function.{FunctionThere}
 use Rattle.print_forms.specs.Allowed.{isSome}
 use Rattle.print.specs.declared.passes.Printed.the-variants.{Refused}
@@ -295,42 +287,14 @@ module _ (book : List ℕ) (d : Booked book) where
     even = rw (kinds-is, words-is) (omega (arith, length-take (getD book 0 0) (drop 2 book), length-drop 2 book, length-drop (getD book 0 0 + 2) book, s .size));
   }
 
-  module _ (bs kinds operands text : List ℕ) where
-    on : print book bs kinds operands text ≡ needed 2 text (namesIn (getD book 1 0) bs) (λ ns. definition ns theBook kinds operands text)
-    unfolding print needed definition
-    on = rw (s .is)
+  pub book-few : getD book 1 0 ≤ 131072
+  book-few = s .few
 
-    module _ (r : Names) (e : r ≡ namesRead (accepted bs (getD book 1 0)) (firstWith (bytes "__uvm_") (lines bs)) (pastWith (bytes "__uvm_") (lines bs))) where
-      pub booked-names : r ≡ names.Bad → printing (Refused 2) text ≡ print book bs kinds operands text
-      unfolding accepted namesIn needed refusing
-      booked-names f = sym (on ∙ go (counts (getD book 1 0) (namesOf bs)) (bad-read _ _ _ (sym e ∙ f)))
-        where
-          go : (b : Bool) → b ≡ false → needed 2 text (pick b (namesOf bs) none) (λ ns. definition ns theBook kinds operands text) ≡ printing (Refused 2) text
-          go true e = absurd (false≢true (sym e))
-          go false e = refl
-
-      module _ (from to : ℕ) (f : r ≡ names.Sorted from to) where
-        sorted : (accepted bs (getD book 1 0) ≡ true) × (PrefixRange (bytes "__uvm_") (lines bs) from to)
-        sorted = let q = sorted-read _ _ _ from to (sym e ∙ f) in (q .0, record { first = q .1 .0; past = q .1 .1 })
-
-        named : (ns : List (List ℕ)) × (namesOf bs ≡ some ns) × (length ns ≡ getD book 1 0)
-        named = accepted-iff bs (getD book 1 0) .0 (sorted .0)
-
-        pub booked-named : Named bs (getD book 1 0) from to
-        booked-named = record {
-          sound = sound bs (named .0) (named .1) (omega (arith, named .2, s .few));
-          count = sym (ap length (names-lines bs (named .0) (named .1)) ∙ named .2);
-          calls = sorted .1;
-        }
-
-        there : namesIn (getD book 1 0) bs ≡ some (lines bs)
-        unfolding namesIn accepted
-        there = rw (sorted .0) (named .1 ∙ ap some (sym (names-lines bs (named .0) (named .1))))
-
-        pub booked-printed : (g : Printing) → ((b : Book) → decode (getD book 1 0) (entries kindsPart wordsPart) ≡ some b → g ≡ definition (lines bs) b kinds operands text)
-            → g ≡ print book bs kinds operands text
-        unfolding needed
-        booked-printed g p = p theBook decoded-is ∙ sym (on ∙ rw there)
+  pub booked-printed : (bs kinds operands text : List ℕ) (g : Printing)
+      → ((b : Book) → decode (getD book 1 0) (entries kindsPart wordsPart) ≡ some b → g ≡ withNames (getD book 1 0) bs b kinds operands text)
+      → g ≡ print book bs kinds operands text
+  unfolding print withNames needed definition
+  booked-printed bs kinds operands text g p = p theBook decoded-is ∙ rw (s .is)
 
 -- ---- any slice
 module _ (book : List ℕ) (t : Bool) (e : t ≡ whole.there (bookIn book)) where

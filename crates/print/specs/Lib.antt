@@ -1,3 +1,4 @@
 pub mod Passes
+pub mod Names
 pub mod Function
 pub mod Book

@@ -16,6 +16,7 @@ use Rattle.names.specs.Prefix.{PrefixRange}
 use Rattle.book.specs.Ast.{Ty, Book}
 use Rattle.book.specs.Entry.{entries}
 use Rattle.book.specs.Decode.{typeTo}
+use Rattle.book.specs.Input.{namesIn}
 use Rattle.assembly.specs.Line.{Line}
 use Rattle.assembly.specs.Number.{isName}
 use Rattle.assembly.specs.Text.{typeText, texts}
@@ -82,6 +83,10 @@ module _ {bs x y : List ℕ} {q : Pen} (c : Put bs (Counting 0) x y q) where
 -- the printer's part behind the refusals 1 and 2
 unfoldable pub definition : List (List ℕ) → Book → (kinds operands text : List ℕ) → Printing
 definition ns b ks xs x = needed 21 x (linesOf ns b ks xs) (λ ls. writing (texts ns (b .function) ls) x)
+
+-- the part behind the refusal 1, where m names are to be
+unfoldable pub withNames : ℕ → List ℕ → Book → (kinds operands text : List ℕ) → Printing
+withNames m bs b ks xs x = needed 2 x (namesIn m bs) (λ ns. definition ns b ks xs x)
 
 -- what is known of a book's function
 pub record Known (bs ks ws : List ℕ) (function params : ℕ) (b : Book) : Type 0 where

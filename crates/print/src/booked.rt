@@ -1,15 +1,14 @@
 // A book that is sound: where its function stands, and the printing of its lines.
 use crate::function::print_sound;
 use crate::passes::Printed;
-use names_check::Names;
 ghost use mathlib.Core.Path.{_≡_};
 ghost use mathlib.Core.Option.{some};
-ghost use Rattle.names.specs.Name.{lines};
+ghost use Prim.Native.Nat.{_≤_};
 ghost use Rattle.book.specs.Ast.{Book};
 ghost use Rattle.book.specs.Entry.{entries};
 ghost use Rattle.book.specs.Decode.{decode};
 ghost use Rattle.assembly.specs.Printer.{print};
-ghost use Rattle.print.specs.Passes.{printing, Named, definition};
+ghost use Rattle.print.specs.Passes.{printing, withNames};
 ghost use Rattle.print.specs.Book.{firstFive, Decoded, Booked};
 
 // The index of the first entry of kind 5, the function's; the number of entries where there is none.
@@ -26,30 +25,26 @@ fn function_place(kinds: &[u64]) -> usize
     i
 }
 
-// Prints the lines of a book from its kinds and words. The names from `from` up to and without `to` start `__uvm_`.
+// Prints the lines of a book from its kinds and words: refuses with 2, 21 and 20 in this order.
 fn print_entries(
     kinds: &[u64],
     words: &[u64],
     count: u64,
-    from: u64,
-    to: u64,
     names: &[u8],
     line_kinds: &[u16],
     operands: &[u64],
     text: &mut [u8],
 ) -> Printed
     requires { ⌜ Decoded count (now kinds) (now words) ⌝ }
-    requires { ⌜ Named (now names) count from to ⌝ }
+    requires { ⌜ count ≤ 131072 ⌝ }
     ensures { λ r. ⌜ ((b : Book) → decode count (entries (now (kinds .entry)) (now (words .entry))) ≡ some b
-        → printing r (now (text .exit)) ≡ definition (lines (now (names .entry))) b (now («line_kinds» .entry)) (now (operands .entry)) (now (text .entry))) ⌝ }
+        → printing r (now (text .exit)) ≡ withNames count (now (names .entry)) b (now («line_kinds» .entry)) (now (operands .entry)) (now (text .entry))) ⌝ }
 {
     let at = function_place(kinds);
     print_sound(
         &kinds[at..],
         &words[at..],
         count,
-        from,
-        to,
         names,
         line_kinds,
         operands,
@@ -70,17 +65,11 @@ pub fn print_booked(
     ensures { λ r. ⌜ printing r (now (text .exit)) ≡ print (now (book .entry)) (now (names .entry)) (now («line_kinds» .entry)) (now (operands .entry)) (now (text .entry)) ⌝ }
 {
     let count = book[1];
-    let mut ends = [0u64; 0];
-    let Names::Sorted(from, to) = names_check::read_names(names, count, b"__uvm_", &mut ends) else {
-        return Printed::Refused(2);
-    };
     let middle = book[0] as usize + 2;
     print_entries(
         &book[2..middle],
         &book[middle..],
         count,
-        from,
-        to,
         names,
         line_kinds,
         operands,

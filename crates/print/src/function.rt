@@ -7,10 +7,11 @@ use book_types::shorter;
 use book_types::types::type_len;
 use book_values::Item;
 use book_values::list_len;
+use names_check::Names;
 use print_types::starts::note_eighths;
-use print_types::starts::note_every;
 ghost use mathlib.Core.Path.{_≡_};
-ghost use Prim.Native.Nat.{ℕ, _<_};
+ghost use Prim.Native.Nat.{ℕ, _<_, _≤_};
+ghost use lib.ListN.{length};
 ghost use Rattle.names.specs.Name.{lines};
 ghost use Rattle.book.specs.Ast.{Book};
 ghost use Rattle.book.specs.Entry.{entries};
@@ -18,7 +19,7 @@ ghost use Rattle.book.specs.Read.{got, many};
 ghost use Rattle.book.specs.Fields.{Item as BookItem};
 ghost use Rattle.book.specs.Decode.{item, function as functionReader};
 ghost use Rattle.print_types.specs.Starts.{Starts};
-ghost use Rattle.print.specs.Passes.{printing, Named, definition};
+ghost use Rattle.print.specs.Passes.{printing, Named, definition, withNames};
 ghost use Rattle.print.specs.Function.{sixes, There, FunctionThere, readCount, paramsRead};
 
 // How many entries have kind 6.
@@ -71,7 +72,7 @@ fn print_noted(
     line_kinds: &[u16],
     operands: &[u64],
     text: &mut [u8],
-    starts: &[usize],
+    starts: &[u64],
     every: bool,
 ) -> Printed
     requires { ⌜ FunctionThere count (now kinds) (now words) ⌝ }
@@ -99,94 +100,121 @@ fn print_noted(
     )
 }
 
-// The same with the start of every name, of which there are up to 255.
+// Prints the lines of the function at the front with the start of every name. The check of the names notes these in the lent words, behind
+// the first one's, which is 0. Refuses with 2, 21 and 20 in this order.
+fn print_every(
+    kinds: &[u64],
+    words: &[u64],
+    count: u64,
+    names: &[u8],
+    line_kinds: &[u16],
+    operands: &[u64],
+    text: &mut [u8],
+    starts: &mut [u64],
+) -> Printed
+    requires { ⌜ FunctionThere count (now kinds) (now words) ⌝ }
+    requires { ⌜ count ≤ 131072 ⌝ }
+    requires { ⌜ count < length (now starts) ⌝ }
+    ensures { λ r. ⌜ ((b : Book) (n : ℕ) → functionReader count (entries (now (kinds .entry)) (now (words .entry))) ≡ got (b .function) n
+        → printing r (now (text .exit)) ≡ withNames count (now (names .entry)) b (now («line_kinds» .entry)) (now (operands .entry)) (now (text .entry))) ⌝ }
+{
+    starts[0] = 0;
+    let Names::Sorted(from, to) = names_check::read_names(names, count, b"__uvm_", starts, 1, 1)
+    else {
+        return Printed::Refused(2);
+    };
+    print_noted(
+        kinds,
+        words,
+        count,
+        from,
+        to,
+        names,
+        line_kinds,
+        operands,
+        text,
+        starts,
+        true,
+    )
+}
+
+// The same with words for up to 255 names.
 fn few_print(
     kinds: &[u64],
     words: &[u64],
     count: u64,
-    from: u64,
-    to: u64,
     names: &[u8],
     line_kinds: &[u16],
     operands: &[u64],
     text: &mut [u8],
 ) -> Printed
     requires { ⌜ FunctionThere count (now kinds) (now words) ⌝ }
-    requires { ⌜ Named (now names) count from to ⌝ }
     requires { ⌜ count < 256 ⌝ }
     ensures { λ r. ⌜ ((b : Book) (n : ℕ) → functionReader count (entries (now (kinds .entry)) (now (words .entry))) ≡ got (b .function) n
-        → printing r (now (text .exit)) ≡ definition (lines (now (names .entry))) b (now («line_kinds» .entry)) (now (operands .entry)) (now (text .entry))) ⌝ }
+        → printing r (now (text .exit)) ≡ withNames count (now (names .entry)) b (now («line_kinds» .entry)) (now (operands .entry)) (now (text .entry))) ⌝ }
 {
-    let mut starts = [0usize; 256];
-    note_every(names, &mut starts);
-    print_noted(
+    let mut starts = [0u64; 256];
+    print_every(
         kinds,
         words,
         count,
-        from,
-        to,
         names,
         line_kinds,
         operands,
         text,
-        &starts,
-        true,
+        &mut starts,
     )
 }
 
-// The same with the start of every name, of which there are up to 2,047.
+// The same with words for up to 2,047 names.
 fn some_print(
     kinds: &[u64],
     words: &[u64],
     count: u64,
-    from: u64,
-    to: u64,
     names: &[u8],
     line_kinds: &[u16],
     operands: &[u64],
     text: &mut [u8],
 ) -> Printed
     requires { ⌜ FunctionThere count (now kinds) (now words) ⌝ }
-    requires { ⌜ Named (now names) count from to ⌝ }
     requires { ⌜ count < 2048 ⌝ }
     ensures { λ r. ⌜ ((b : Book) (n : ℕ) → functionReader count (entries (now (kinds .entry)) (now (words .entry))) ≡ got (b .function) n
-        → printing r (now (text .exit)) ≡ definition (lines (now (names .entry))) b (now («line_kinds» .entry)) (now (operands .entry)) (now (text .entry))) ⌝ }
+        → printing r (now (text .exit)) ≡ withNames count (now (names .entry)) b (now («line_kinds» .entry)) (now (operands .entry)) (now (text .entry))) ⌝ }
 {
-    let mut starts = [0usize; 2048];
-    note_every(names, &mut starts);
-    print_noted(
+    let mut starts = [0u64; 2048];
+    print_every(
         kinds,
         words,
         count,
-        from,
-        to,
         names,
         line_kinds,
         operands,
         text,
-        &starts,
-        true,
+        &mut starts,
     )
 }
 
-// The same with the start of every 8th name.
+// The same with the start of every 8th name, by a second pass over the names.
 fn many_print(
     kinds: &[u64],
     words: &[u64],
     count: u64,
-    from: u64,
-    to: u64,
     names: &[u8],
     line_kinds: &[u16],
     operands: &[u64],
     text: &mut [u8],
 ) -> Printed
     requires { ⌜ FunctionThere count (now kinds) (now words) ⌝ }
-    requires { ⌜ Named (now names) count from to ⌝ }
+    requires { ⌜ count ≤ 131072 ⌝ }
     ensures { λ r. ⌜ ((b : Book) (n : ℕ) → functionReader count (entries (now (kinds .entry)) (now (words .entry))) ≡ got (b .function) n
-        → printing r (now (text .exit)) ≡ definition (lines (now (names .entry))) b (now («line_kinds» .entry)) (now (operands .entry)) (now (text .entry))) ⌝ }
+        → printing r (now (text .exit)) ≡ withNames count (now (names .entry)) b (now («line_kinds» .entry)) (now (operands .entry)) (now (text .entry))) ⌝ }
 {
-    let mut starts = [0usize; 16384];
+    let mut none = [0u64; 0];
+    let Names::Sorted(from, to) = names_check::read_names(names, count, b"__uvm_", &mut none, 1, 1)
+    else {
+        return Printed::Refused(2);
+    };
+    let mut starts = [0u64; 16384];
     note_eighths(names, &mut starts);
     print_noted(
         kinds,
@@ -203,15 +231,14 @@ fn many_print(
     )
 }
 
-// Prints the lines of the function at the front, where it and the names are sound, with the least room for starts that does, from `room` on.
-// A book that has this function is printed so. A function with a large array touches all of it at each call, and one that is called once
-// becomes a part of its caller, but not of a caller that calls itself: so each room has its function, and this one grows the room by a call.
+// Prints the lines of the function at the front, where it is sound, with the least room for starts that does, from `room` on: refuses with
+// 2, 21 and 20 in this order. A book that has this function is printed so. A function with a large array touches all of it at each call,
+// and one that is called once becomes a part of its caller, but not of a caller that calls itself: so each room has its function, and this
+// one grows the room by a call.
 pub fn print_sound(
     kinds: &[u64],
     words: &[u64],
     count: u64,
-    from: u64,
-    to: u64,
     names: &[u8],
     line_kinds: &[u16],
     operands: &[u64],
@@ -219,31 +246,19 @@ pub fn print_sound(
     room: u64,
 ) -> Printed
     requires { ⌜ FunctionThere count (now kinds) (now words) ⌝ }
-    requires { ⌜ Named (now names) count from to ⌝ }
+    requires { ⌜ count ≤ 131072 ⌝ }
     requires { ⌜ 0 < room ⌝ }
     ensures { λ r. ⌜ ((b : Book) (n : ℕ) → functionReader count (entries (now (kinds .entry)) (now (words .entry))) ≡ got (b .function) n
-        → printing r (now (text .exit)) ≡ definition (lines (now (names .entry))) b (now («line_kinds» .entry)) (now (operands .entry)) (now (text .entry))) ⌝ }
+        → printing r (now (text .exit)) ≡ withNames count (now (names .entry)) b (now («line_kinds» .entry)) (now (operands .entry)) (now (text .entry))) ⌝ }
 {
     if 2048 < room {
-        return many_print(
-            kinds,
-            words,
-            count,
-            from,
-            to,
-            names,
-            line_kinds,
-            operands,
-            text,
-        );
+        return many_print(kinds, words, count, names, line_kinds, operands, text);
     }
     if room <= count {
         return print_sound(
             kinds,
             words,
             count,
-            from,
-            to,
             names,
             line_kinds,
             operands,
@@ -252,27 +267,7 @@ pub fn print_sound(
         );
     }
     if 256 < room {
-        return some_print(
-            kinds,
-            words,
-            count,
-            from,
-            to,
-            names,
-            line_kinds,
-            operands,
-            text,
-        );
+        return some_print(kinds, words, count, names, line_kinds, operands, text);
     }
-    few_print(
-        kinds,
-        words,
-        count,
-        from,
-        to,
-        names,
-        line_kinds,
-        operands,
-        text,
-    )
+    few_print(kinds, words, count, names, line_kinds, operands, text)
 }

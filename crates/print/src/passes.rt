@@ -31,7 +31,7 @@ pub enum Printed {
 // Puts lines whose names are there, or refuses with 20.
 fn put_twice(
     names: &[u8],
-    starts: &[usize],
+    starts: &[u64],
     every: bool,
     function: &[u8],
     kinds: &[u64],
@@ -89,7 +89,7 @@ fn put_twice(
 // Prints the lines of a function whose name, return type and number of parameters are known: refuses with 21, then with 20.
 pub fn print_known(
     names: &[u8],
-    starts: &[usize],
+    starts: &[u64],
     every: bool,
     function: u64,
     count: u64,

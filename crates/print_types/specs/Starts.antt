@@ -1,10 +1,11 @@
 -- The starts of names: of every one, or of every 8th.
-use Prim.Native.Nat.{ℕ, _+_, _-_, _*_, _/_, _%_, _≤_, _<_}
-use mathlib.Core.Path.{_≡_, refl, sym, ap, subst, _∙_}
+use Prim.Native.Nat.{ℕ, zero, suc, _+_, _-_, _*_, _/_, _%_, _≤_, _<_}
+use mathlib.Core.Path.{_≡_, refl, sym, ap, _∙_}
 use mathlib.Core.Logic.{⊎-elim}
 use mathlib.Core.Bool.{Bool, true, false}
 use mathlib.Core.List.{List}
 use mathlib.Core.Option.{some}
+use native.Mathlib.Numerals.{add-one}
 use native.Mathlib.Omega.{arith}
 use lib.ListN.{length, getD, set, take, drop, length-set}
 use lib.Seq.{getD-set-same, getD-set-other}
@@ -12,6 +13,7 @@ use Rattle.numbers.specs.Tests.{lt-or-le, eq-or-ne}
 use Rattle.names.specs.Name.{lines, namesOf, nameAt, nameFrom, startOf}
 use Rattle.names.specs.Lines.{Names, names-iff, names-lines}
 use Rattle.names.specs.Places.{stands, next-start, last-start}
+use Rattle.names_check.specs.Nexts.{Noted}
 
 -- the bytes are names, and no more than a book may have
 pub record Sound (bs : List ℕ) : Type 0 where
@@ -77,34 +79,18 @@ module _ (bs : List ℕ) (s : Sound bs) where
       let k : end - at ≡ length (nameAt ns i) = omega arith in
       rw (k, e) (t .spelled)
 
-pub none-before : (every : Bool) (bs starts : List ℕ) → Before every bs 0 starts
-none-before every bs starts = record { at = λ j h. absurd (omega arith) }
-
--- an index is in the room where its number is
-index-inside : (every : Bool) (j n size : ℕ) → past every n ≤ numberAt every size → numberAt every j < past every n → j < size
-index-inside true j n size r h = omega arith
-index-inside false j n size r h = omega arith
-
-names-past : (every : Bool) (n : ℕ) → n ≤ past every n
-names-past true n = omega arith
-names-past false n = omega arith
-
--- a name between is not noted
-pub before-skip : {bs starts : List ℕ} {i : ℕ} → Before false bs i starts → (i % 8 ≡ 0 → ⊥) → Before false bs (i + 1) starts
-before-skip b h = record { at = λ j l. b .at j (omega (arith, h)) }
-
-module _ {every : Bool} {bs starts : List ℕ} {i : ℕ} (b : Before every bs i starts) where
-  pub before-note : (k at : ℕ) → numberAt every k ≡ i → at ≡ startOf (lines bs) i → k < length starts → Before every bs (i + 1) (set starts k at)
-  before-note k at w e f = record { at = go }
-    where
-      less : (t : Bool) (j : ℕ) → (j ≡ k → ⊥) → numberAt t k ≡ i → numberAt t j < i + 1 → numberAt t j < i
-      less true j q w l = omega (arith, q)
-      less false j q w l = omega (arith, q)
-
-      go : (j : ℕ) → numberAt every j < i + 1 → getD (set starts k at) j 0 ≡ startOf (lines bs) (numberAt every j)
-      go j l = ⊎-elim (λ q. rw q (getD-set-same starts k at 0 f ∙ e ∙ sym (ap (startOf (lines bs)) w)))
-          (λ q. getD-set-other starts k j at 0 q ∙ b .at j (less every j q w l))
-          (eq-or-ne j k)
+-- ---- of every name: what the check has noted from the second word on, and the first name's, which is 0
+pub starts-noted : {bs : List ℕ} {m : ℕ} {starts starts′ : List ℕ} → Noted 1 1 bs m starts starts′ → Sound bs → m ≡ length (lines bs) → m < length starts
+    → getD starts 0 0 ≡ 0 → Starts true bs starts′
+unfolding startOf
+starts-noted {bs} {m} {starts} {starts′} n s e h z = record { sound = s; room = omega (arith, n .long); all = record { at = start } }
+  where
+    start : (j : ℕ) → j < length (lines bs) + 1 → getD starts′ j 0 ≡ startOf (lines bs) j
+    start zero l = n .same 0 (λ x _ e. omega arith) ∙ z
+    start (suc x) l =
+        let next : getD starts′ (1 * x + 1) 0 ≡ startOf (lines bs) (x + 1) = n .words x (omega arith) (omega arith) in
+        let i : 1 * x + 1 ≡ suc x = omega arith in
+        rw (i, add-one x) at next
 
 -- where the start of every name is kept, the name numbered x goes from its own up to the byte before the next
 pub record Between (bs starts : List ℕ) (x : ℕ) : Type 0 where
@@ -124,6 +110,60 @@ between {every} {bs} {starts} x s e h =
     let part : getD starts (x + 1) 0 - 1 - getD starts x 0 ≡ length (nameAt (lines bs) x) = omega arith in
     record { room = omega (arith, kept .room); order = omega arith; inside = omega (arith, name .inside); spelled = rw (part, start) (name .spelled) }
 
+-- ---- of every 8th name: the pass over the names, at the start of the name numbered i, with room for so many starts
+none-before : (bs starts : List ℕ) → Before false bs 0 starts
+none-before bs starts = record { at = λ j h. absurd (omega arith) }
+
+-- a name between is not noted
+before-skip : {bs starts : List ℕ} {i : ℕ} → Before false bs i starts → (i % 8 ≡ 0 → ⊥) → Before false bs (i + 1) starts
+before-skip b h = record { at = λ j l. b .at j (omega (arith, h)) }
+
+before-note : {bs starts : List ℕ} {i : ℕ} → Before false bs i starts → (k at : ℕ) → 8 * k ≡ i → at ≡ startOf (lines bs) i → k < length starts → Before false bs (i + 1) (set starts k at)
+before-note {bs} {starts} {i} b k at w e f = record { at = go }
+  where
+    go : (j : ℕ) → 8 * j < i + 1 → getD (set starts k at) j 0 ≡ startOf (lines bs) (8 * j)
+    go j l = ⊎-elim (λ q. rw q (getD-set-same starts k at 0 f ∙ e ∙ sym (ap (startOf (lines bs)) w)))
+        (λ q. getD-set-other starts k j at 0 q ∙ b .at j (omega (arith, q)))
+        (eq-or-ne j k)
+
+pub record Noting (bs : List ℕ) (size : ℕ) (starts : List ℕ) (at i : ℕ) : Type 0 where
+  pub few : i ≤ length (lines bs)
+  pub wide : length (lines bs) ≤ 8 * size
+  pub room : length starts ≡ size
+  pub there : at ≡ startOf (lines bs) i
+  pub noted : Before false bs i starts
+
+pub noting-start : (bs starts : List ℕ) → length (lines bs) ≤ 8 * length starts → Noting bs (length starts) starts 0 0
+unfolding startOf
+noting-start bs starts r = record { few = omega arith; wide = r; room = refl; there = refl; noted = none-before bs starts }
+
+module _ {bs : List ℕ} {size : ℕ} {starts : List ℕ} {at i : ℕ} (s : Sound bs) (t : Noting bs size starts at i) where
+  noting-inside : at < length bs → i < length (lines bs)
+  noting-inside h = start-inside bs s i (t .few) (rw (t .there) at h)
+
+  -- the index at which a name's start is kept
+  pub noting-index : (k : ℕ) → 8 * k ≡ i → at < length bs → k < length starts
+  noting-index k w h = omega (arith, t .room, t .wide, noting-inside h)
+
+  next : (starts′ : List ℕ) (end : ℕ) → at < length bs → end ≡ at + length (nameFrom bs at) → length starts′ ≡ size → Before false bs (i + 1) starts′
+      → Noting bs size starts′ (end + 1) (i + 1)
+  next starts′ end h f r b =
+      let l = noting-inside h in
+      record { few = omega arith; wide = t .wide; room = r; there = start-further bs s i at end l (t .there) f; noted = b }
+
+  pub noting-note : (k end : ℕ) → 8 * k ≡ i → at < length bs → end ≡ at + length (nameFrom bs at) → Noting bs size (set starts k at) (end + 1) (i + 1)
+  noting-note k end w h f = next (set starts k at) end h f (length-set starts k at ∙ t .room) (before-note (t .noted) k at w (t .there) (noting-index k w h))
+
+  pub noting-skip : (end : ℕ) → at < length bs → end ≡ at + length (nameFrom bs at) → (i % 8 ≡ 0 → ⊥) → Noting bs size starts (end + 1) (i + 1)
+  noting-skip end h f z = next starts end h f (t .room) (before-skip (t .noted) z)
+
+  pub noting-below : (end : ℕ) → at < length bs → end ≡ at + length (nameFrom bs at) → (at ≤ end) × (end < length bs)
+  noting-below end h f = end-below bs s i at end (noting-inside h) (t .there) f
+
+  -- behind the last name
+  pub noting-end : length bs ≤ at → Starts false bs starts
+  noting-end h = let e = start-over bs s i (t .few) (rw (t .there) at h) in record { sound = s; room = omega (arith, t .room, t .wide); all = rw e at (t .noted) }
+
 -- on the way to the name numbered x, with so many names left
 pub record Stepping (bs : List ℕ) (x at left : ℕ) : Type 0 where
   pub few : left ≤ x
@@ -142,62 +182,6 @@ stepping-next {bs} {x} {at} {left} s t h l end f =
 
 pub stepping-end : {bs : List ℕ} {x at left : ℕ} → Stepping bs x at left → left ≤ 0 → at ≡ startOf (lines bs) x
 stepping-end {bs} {x} {at} {left} t h = let e : x - left ≡ x = omega arith in t .there ∙ ap (startOf (lines bs)) e
-
--- the pass over the names, at the start of the name numbered i, with room for so many starts
-pub record Noting (every : Bool) (bs : List ℕ) (size : ℕ) (starts : List ℕ) (at i : ℕ) : Type 0 where
-  pub few : i ≤ length (lines bs)
-  pub wide : past every (length (lines bs)) ≤ numberAt every size
-  pub room : length starts ≡ size
-  pub there : at ≡ startOf (lines bs) i
-  pub noted : Before every bs i starts
-
-pub noting-start : (every : Bool) (bs starts : List ℕ) → past every (length (lines bs)) ≤ numberAt every (length starts) → Noting every bs (length starts) starts 0 0
-unfolding startOf
-noting-start every bs starts r = record { few = omega arith; wide = r; room = refl; there = refl; noted = none-before every bs starts }
-
-module _ {every : Bool} {bs : List ℕ} {size : ℕ} {starts : List ℕ} {at i : ℕ} (s : Sound bs) (t : Noting every bs size starts at i) where
-  noting-inside : at < length bs → i < length (lines bs)
-  noting-inside h = start-inside bs s i (t .few) (rw (t .there) at h)
-
-  -- the index at which a name's start is kept
-  pub noting-index : (k : ℕ) → numberAt every k ≡ i → at < length bs → k < length starts
-  noting-index k w h = rw (t .room) (index-inside every k (length (lines bs)) size (t .wide) (omega (arith, noting-inside h, names-past every (length (lines bs)))))
-
-  next : (starts′ : List ℕ) (end : ℕ) → at < length bs → end ≡ at + length (nameFrom bs at) → length starts′ ≡ size → Before every bs (i + 1) starts′
-      → Noting every bs size starts′ (end + 1) (i + 1)
-  next starts′ end h f r b =
-      let l = noting-inside h in
-      record { few = omega arith; wide = t .wide; room = r; there = start-further bs s i at end l (t .there) f; noted = b }
-
-  pub noting-note : (k end : ℕ) → numberAt every k ≡ i → at < length bs → end ≡ at + length (nameFrom bs at) → Noting every bs size (set starts k at) (end + 1) (i + 1)
-  noting-note k end w h f = next (set starts k at) end h f (length-set starts k at ∙ t .room) (before-note (t .noted) k at w (t .there) (noting-index k w h))
-
-  pub noting-below : (end : ℕ) → at < length bs → end ≡ at + length (nameFrom bs at) → (at ≤ end) × (end < length bs)
-  noting-below end h f = end-below bs s i at end (noting-inside h) (t .there) f
-
-  -- behind the last name
-  noting-over : length bs ≤ at → i ≡ length (lines bs)
-  noting-over h = start-over bs s i (t .few) (rw (t .there) at h)
-
--- every 8th name: one between, and the end
-module _ {bs : List ℕ} {size : ℕ} {starts : List ℕ} {at i : ℕ} (s : Sound bs) (t : Noting false bs size starts at i) where
-  pub noting-skip : (end : ℕ) → at < length bs → end ≡ at + length (nameFrom bs at) → (i % 8 ≡ 0 → ⊥) → Noting false bs size starts (end + 1) (i + 1)
-  noting-skip end h f z = next s t starts end h f (t .room) (before-skip (t .noted) z)
-
-  pub noting-end : length bs ≤ at → Starts false bs starts
-  noting-end h = record { sound = s; room = omega (arith, t .room, t .wide); all = rw (noting-over s t h) at (t .noted) }
-
--- every name: the end of the bytes is noted too
-module _ {bs : List ℕ} {size : ℕ} {starts : List ℕ} {at i : ℕ} (s : Sound bs) (t : Noting true bs size starts at i) where
-  pub last-index : length bs ≤ at → i < length starts
-  last-index h = omega (arith, noting-over s t h, t .room, t .wide)
-
-  pub noting-last : length bs ≤ at → Starts true bs (set starts i at)
-  noting-last h = record {
-    sound = s;
-    room = omega (arith, length-set starts i at, t .room, t .wide);
-    all = subst (λ (n : ℕ). Before true bs (n + 1) (set starts i at)) (noting-over s t h) (before-note (t .noted) i at refl (t .there) (last-index h));
-  }
 
 pub stepping-below : {bs : List ℕ} {x at left : ℕ} (s : Sound bs) → Stepping bs x at left → x < length (lines bs) → 0 < left → (end : ℕ)
     → end ≡ at + length (nameFrom bs at) → (at ≤ end) × (end < length bs)

@@ -81,7 +81,7 @@ pub fn put_type(
     text: &mut [u8],
     pen: Pen,
     names: &[u8],
-    starts: &[usize],
+    starts: &[u64],
     every: bool,
     kinds: &[u64],
     words: &[u64],

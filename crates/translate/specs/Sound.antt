@@ -10,7 +10,7 @@ use lib.ListN.{length, getD, take, drop, replicate, length-take, length-drop, le
 use lib.Dec.{leb}
 use Rattle.names.specs.Name.{namesOf, counts, accepted}
 use Rattle.names.specs.Lines.{accepted-iff}
-use Rattle.names_check.specs.Ends.{Noted, EndsAlone, ends-alone}
+use Rattle.names_check.specs.Nexts.{Noted, NextsAlone, nexts-alone}
 use Rattle.book.specs.Entry.{entries}
 use Rattle.book.specs.Rule.{pick}
 use Rattle.book.specs.Decode.{decode}
@@ -118,7 +118,7 @@ module _ (book names : List ℕ) (counter lent : ℕ) (e : 0 ≡ refusalOf (chec
 pub record SoundAsk (book names : List ℕ) (counter lent : ℕ) (work : List ℕ) : Type 0 where
   pub sound : 0 ≡ refusalOf (checked book names counter lent)
   pub room : 8 * getD book 1 0 + 64 ≤ length work
-  pub words : EndsAlone names (getD book 1 0) work
+  pub words : NextsAlone 8 5 names (getD book 1 0) work
 
 module _ {book names : List ℕ} {counter lent : ℕ} {work : List ℕ} (a : SoundAsk book names counter lent work) where
   abbrev pub s : Sound
@@ -208,7 +208,7 @@ pub blank-own : (book : List ℕ) (lent n : ℕ) → 8 * getD book 1 0 + 64 ≤ 
 blank-own book lent n l = record { blank = clear-blank n (replicate n 0) refl; enough = λ _. omega (arith, l, length-replicate {A = ℕ} n 0) }
 
 -- after the check
-pub sound-ask : (book names : List ℕ) (counter lent : ℕ) {work work′ : List ℕ} → Noted names (getD book 1 0) work work′ → 0 ≡ refusalOf (checked book names counter lent)
+pub sound-ask : (book names : List ℕ) (counter lent : ℕ) {work work′ : List ℕ} → Noted 8 5 names (getD book 1 0) work work′ → 0 ≡ refusalOf (checked book names counter lent)
     → BlankAsk book lent work → SoundAsk book names counter lent work′
 sound-ask book names counter lent n e z =
-    record { sound = e; room = omega (arith, z .enough (sound-room book names counter lent e), n .long); words = ends-alone n (z .blank) }
+    record { sound = e; room = omega (arith, z .enough (sound-room book names counter lent e), n .long); words = nexts-alone n (z .blank) }

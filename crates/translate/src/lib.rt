@@ -13,7 +13,7 @@ ghost use Rattle.gen_slices.specs.Clear.{Blank};
 ghost use Rattle.translate.specs.Reply.{translating};
 ghost use Rattle.translate.specs.Sound.{SoundAsk, BlankAsk};
 
-// The lines of a book that the check has found sound for `lent` work words. Those that are used are 0 but for the ends of names,
+// The lines of a book that the check has found sound for `lent` work words. Those that are used are 0 but for the starts of names,
 // which it has noted.
 fn translate_sound(
     book: &[u64],

@@ -1,4 +1,4 @@
--- `gen_marks::spell_marks` meets its contract: the place goes from the start of each name to the next, by the end that is noted.
+-- `gen_marks::spell_marks` meets its contract: the place goes from the start of each name to the next, by the start that is noted.
 use borrow.Author.Needs.{needs}
 use Prim.Native.Nat.{_-_}
 use lib.ListN.{length}
@@ -53,6 +53,12 @@ slice-read-end c =
     let q = laws.spell-more (at-loop .loop .inv) (in-loop .loop-test .taken) in
     let r = at-loop .loop .inv .room in
     search needs
+
+sub-end : tie.Need-sub-end Inv-loop μ-loop
+sub-end c =
+    let in-loop = c .before in
+    let at-loop = in-loop .before in
+    laws.more-than-none (at-loop .loop .inv) (in-loop .loop-test .taken)
 
 spelled-requires : tie.Need-spelled-requires Inv-loop μ-loop
 spelled-requires c κs =
@@ -139,6 +145,7 @@ spell-marks-spec =
     add-place
     mul-end
     slice-read-end
+    sub-end
     spelled-requires
     overflows-requires
     with-overflow-requires

@@ -1,5 +1,5 @@
 -- `read_names` meets its contract: what is left of the check behind the names that were passed decides, the two numbers tally these, and
--- their ends are noted.
+-- where the next ones start is noted.
 use Prim.Native.Nat.{_-_, _≤_}
 use mathlib.Core.Path.{_≡_, sym, _∙_}
 use mathlib.Core.Bool.{Bool, true, false, false≢true}
@@ -12,24 +12,24 @@ use Rattle.names_check.proofs.Check.{going, going-start, going-over, go
 use Rattle.names_check.specs.Found.{part, Kept}
 use Rattle.names_check.proofs.Found.{kept-none}
 use Rattle.names_check.proofs.Tally.{Passed, lines-past, passed-start, passed-end, passed-hit, passed-skip, passed-stop, passed-behind}
-use Rattle.names_check.proofs.Ends.{Noting, noting-start, noting-next}
+use Rattle.names_check.proofs.Nexts.{Noting, noting-start, noting-next}
 use Rattle.names_check.proofs.read_names.Statement.{statement}
 use Rattle.names_check.proofs.read_names.Tie as tie
 
 abbrev Inv-loop : tie.InvT-loop
-Inv-loop names count prefix ends₀ seen₀ from₀ to₀ last₀ last-end₀ at₀ key₀ ends seen from to last last-end at key =
+Inv-loop names count prefix nexts₀ step first seen₀ from₀ to₀ last₀ last-end₀ at₀ key₀ place₀ nexts seen from to last last-end at key place =
     Kept names last last-end key at × (seen ≤ at) × (at ≤ length names)
     × (accepted names count ≡ going (part names last last-end) (drop at names) seen count)
     × Passed prefix (lines names) seen from to (lines (drop at names))
-    × Noting names ends₀ ends seen at
+    × Noting step first names nexts₀ nexts seen at place
 
 abbrev μ-loop : tie.MeasureT-loop
-μ-loop names count prefix ends₀ seen₀ from₀ to₀ last₀ last-end₀ at₀ key₀ ends seen from to last last-end at key = length names - at
+μ-loop names count prefix nexts₀ step first seen₀ from₀ to₀ last₀ last-end₀ at₀ key₀ place₀ nexts seen from to last last-end at key place = length names - at
 
 loop-holds : tie.Need-loop-holds Inv-loop μ-loop
-loop-holds c = (kept-none _, search needs, search needs, going-start _ _, passed-start _ _, noting-start _ _)
+loop-holds c = (kept-none _, search needs, search needs, going-start _ _, passed-start _ _, noting-start _ _ _ _)
 
--- nothing is said of the ends where the names are not accepted
+-- nothing is said of the words where the names are not accepted
 refused : {A : Type 0} {t : Bool} → t ≡ false → t ≡ true → A
 refused e a = absurd (false≢true (sym e ∙ a))
 
@@ -82,26 +82,29 @@ add-from c = search needs
 add-to-2 : tie.Need-add-to-2 Inv-loop μ-loop
 add-to-2 c = search needs
 
-note-end-requires : tie.Need-note-end-requires Inv-loop μ-loop
-note-end-requires c κs = search needs
-
 add-seen : tie.Need-add-seen Inv-loop μ-loop
 add-seen c = search needs
 
 add-at : tie.Need-add-at Inv-loop μ-loop
 add-at c = search needs
 
+note-start-requires : tie.Need-note-start-requires Inv-loop μ-loop
+note-start-requires c κs = search needs
+
 loop-less : tie.Need-loop-less Inv-loop μ-loop
 loop-less c = search needs
 
 loop-again : tie.Need-loop-again Inv-loop μ-loop
 loop-again c =
-    let after-note-end = c .before .before in
-    let j = after-note-end .before .before in
+    let after-note-start = c .before .before in
+    let j = after-note-start .before .before in
     let e = j .before .before .before in
     let t = e .before .before in
-    let i = t .before .before .before .loop .inv in
+    let at-loop = t .before .before .before in
+    let entry = at-loop .before .before .before .before in
+    let i = at-loop .loop .inv in
     let n = t .before .next-name .ensures in
+    let noted = after-note-start .note-start .ensures in
     let here = line-named _ _ _ (n .reached) (t .if1 .left) (e .if2 .left) in (
       n .kept (t .if1 .left) (e .if2 .left),
       search needs,
@@ -115,7 +118,7 @@ loop-again c =
           (λ w. rw (w .4, w .5) (passed-stop _ _ _ _ _ _ _ _ here (w .0 .taken) (sym (w .1 .ensures) ∙ w .2 .left) (w .3 .left) (i .4)))
           (λ w. rw (w .1, w .2) (passed-behind _ _ _ _ _ _ _ _ here (w .0 .left) (i .4)))))
           (j .if4 .came),
-      rw (after-note-end .note-end .ensures) (noting-next (i .5) here (end-named _ _ _ (n .reached) (t .if1 .left) (e .if2 .left))),
+      rw (noted .0, noted .1) (noting-next _ _ (entry .pre .0) (i .5) here (end-named _ _ _ (n .reached) (t .if1 .left) (e .if2 .left))),
     )
 
 same-length-4 : tie.Need-same-length-4 Inv-loop μ-loop
@@ -155,9 +158,9 @@ read-names-spec =
     add-to
     add-from
     add-to-2
-    note-end-requires
     add-seen
     add-at
+    note-start-requires
     loop-less
     loop-again
     same-length-4

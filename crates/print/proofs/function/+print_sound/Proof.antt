@@ -14,7 +14,7 @@ use Rattle.print.proofs.function.+print_sound.{statement}
 use Rattle.print.proofs.function.+print_sound.Tie.{close}
 
 abbrev μ-print-sound : Measures 6 print-sound-kinds.ps ℕ
-μ-print-sound κs a = 16384 - a .1 .1 .1 .1 .1 .1 .1 .1 .1 .0
+μ-print-sound κs a = 16384 - a .1 .1 .1 .1 .1 .1 .1 .0
 
 abbrev print-sound-at : ℕ → In 6 print-sound-kinds.ps
 print-sound-at t =
@@ -131,7 +131,7 @@ print-sound-some-print-requires t c κs =
     let else2 = c .before .before in
     let else1 = else2 .before in
     let entry = else1 .before .before .before .before .before .before .before in
-    (entry .pre .1 .0, (entry .pre .1 .1 .0, omega (arith, else1 .if1 .left, else2 .if2 .left)))
+    (entry .pre .1 .0, omega (arith, else1 .if1 .left, else2 .if2 .left))
 
 print-sound-same-length-3 : (t : ℕ) → print-sound-lts.Need-same-length-3 (
   many-print-reads.Asked,
@@ -171,7 +171,7 @@ print-sound-few-print-requires t c κs =
     let else3 = c .before in
     let else2 = else3 .before in
     let entry = else2 .before .before .before .before .before .before .before .before in
-    (entry .pre .1 .0, (entry .pre .1 .1 .0, omega (arith, else3 .if3 .left, else2 .if2 .left)))
+    (entry .pre .1 .0, omega (arith, else3 .if3 .left, else2 .if2 .left))
 
 print-sound-same-length-4 : (t : ℕ) → print-sound-lts.Need-same-length-4 (
   many-print-reads.Asked,

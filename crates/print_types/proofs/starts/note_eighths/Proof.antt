@@ -1,6 +1,5 @@
 -- `note_eighths` meets its contract: the pass stands at the start of each name in turn. The measure is what is left of the bytes.
 use native.Mathlib.Omega.{arith}
-use mathlib.Core.Bool.{false}
 use mathlib.Core.Logic.{⊎-elim}
 use Rattle.print_types.specs.Starts.{noting-start, noting-index, noting-below, noting-note, noting-skip, noting-end}
 use borrow.Author.Needs.{needs}
@@ -12,13 +11,13 @@ use Rattle.print_types.proofs.starts.note_eighths.Tie as tie
 use Rattle.names_spelling.proofs.name_end.Reads as name-end-reads
 
 abbrev Inv-loop : tie.InvT-loop
-Inv-loop names starts₀ at₀ i₀ starts at i = Noting false names (length starts₀) starts at i
+Inv-loop names starts₀ at₀ i₀ starts at i = Noting names (length starts₀) starts at i
 
 abbrev μ-loop : tie.MeasureT-loop
 μ-loop names starts₀ at₀ i₀ starts at i = length names - at
 
 loop-holds : tie.Need-loop-holds Inv-loop μ-loop
-loop-holds c = noting-start false _ _ (c .before .before .pre .1)
+loop-holds c = noting-start _ _ (c .before .before .pre .1)
 
 mul-starts : tie.Need-mul-starts Inv-loop μ-loop
 mul-starts c = search needs
