@@ -120,19 +120,13 @@ within t s es f e n b h = found-fits t s es n b (sym e ∙ h)
 
 module _ {A B : Type 0} (p : Reader A) (q : Reader B) (ta : A → Bool) (tb : B → Bool) (ks ws : List ℕ) (r : Found) (er : r ≡ foundOf ta (p (entries ks ws))) where
   pub both-bad : r ≡ found.Bad → found.Bad ≡ foundOf (pairTest ta tb) (both p q (entries ks ws))
-  unfolding both
-  both-bad h = sym (rw (found-bad ta (p (entries ks ws)) (sym er ∙ h)))
+  both-bad h = sym (both-found p q ta tb (entries ks ws) ∙ ap (λ f. followedBy f (λ es. foundOf tb (q es)) (entries ks ws)) (sym er ∙ h))
 
   module _ (n : ℕ) (b : Bool) (h : r ≡ found.Entries n b) where
     pub both-arm : (x y : Found) → x ≡ foundOf tb (q (lentFrom ks ws n)) → y ≡ joined n b x → y ≡ foundOf (pairTest ta tb) (both p q (entries ks ws))
-    unfolding both
     both-arm x y ex ey =
-        let g = found-got ta (p (entries ks ws)) n b (sym er ∙ h) in
-        ey ∙ ap (joined n b) ex ∙ rw (g .1 .0, entries-part n ks ws) (go (g .0) (g .1 .1) (q (drop n (entries ks ws))))
-      where
-        go : (a : A) → ta a ≡ b → (r : Read B) → joined n b (foundOf tb r) ≡ foundOf (pairTest ta tb) (andThen {A = B} {B = A × B} r (λ c m. got (a, c) (n + m)))
-        go a e (got c m) = ap (λ x. found.Entries (n + m) (x || tb c)) (sym e)
-        go a e bad = refl
+        ey ∙ ap (joined n b) (ex ∙ ap (λ es. foundOf tb (q es)) (entries-part n ks ws))
+        ∙ sym (both-found p q ta tb (entries ks ws) ∙ ap (λ f. followedBy f (λ es. foundOf tb (q es)) (entries ks ws)) (sym er ∙ h))
 
     -- the first part is there, and the second leaves room for it
     module _ (w : Within (entries ks ws) r) where
