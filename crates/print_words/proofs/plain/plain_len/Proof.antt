@@ -8,6 +8,8 @@ use Rattle.print_words.specs.Plain.{plain-bare, plain-long}
 use borrow.Author.Needs.{needs}
 use Rattle.print_words.proofs.plain.plain_len.Statement.{statement}
 use Rattle.print_words.proofs.plain.plain_len.Tie as tie
+use Rattle.print_words.proofs.plain.plain_len.Reads as reads
+use Rattle.print_words.proofs.plain.plain_len.Lts as lts
 use Rattle.numbers.proofs.digits.decimal_len.Reads as decimal-len-reads
 use Rattle.print_words.proofs.place.Reads as place-reads
 
@@ -21,31 +23,29 @@ shared-slice-read-place c =
 place-requires : tie.Need-place-requires
 place-requires c κs = search needs
 
-returns : tie.Need-returns
-returns c =
-    let entry = c .before .before .before .before in
-    sym (word-size _ _ _ (entry .pre .0) (entry .pre .1) (c .before .place .ensures)) ∙ ap length (plain-bare _ _ (c .if1 .taken))
-
 decimal-len-requires : tie.Need-decimal-len-requires
 decimal-len-requires c κs = search needs
+
+add-number : tie.Need-add-number
+add-number c =
+    let entry = c .before .before .before .before in
+    omega (arith, c .decimal-len .ensures, length-word (entry .args .x) (search needs))
 
 add-result : tie.Need-add-result
 add-result c =
     let entry = c .before .before .before .before .before in
-    let short = length-word (entry .args .x) (search needs) in
-    omega (arith, c .decimal-len .ensures)
+    omega (arith, c .before .decimal-len .ensures, length-word (entry .args .x) (search needs))
 
-add-result-2 : tie.Need-add-result-2
-add-result-2 c =
+returns : tie.Need-returns
+returns c =
     let entry = c .before .before .before .before .before in
-    let short = length-word (entry .args .x) (search needs) in
-    omega (arith, c .decimal-len .ensures)
+    sym (word-size _ _ _ (entry .pre .0) (entry .pre .1) (c .before .before .place .ensures)) ∙ ap length (plain-bare _ _ (c .if1 .taken))
 
 returns-2 : tie.Need-returns-2
 returns-2 c =
     let entry = c .before .before .before .before .before in
     let size = word-size _ _ _ (entry .pre .0) (entry .pre .1) (c .before .before .place .ensures) in
-    omega (arith, c .decimal-len .ensures, plain-long (entry .args .kind) (entry .args .x) (c .before .if1 .left))
+    omega (arith, c .before .decimal-len .ensures, plain-long (entry .args .kind) (entry .args .x) (c .if1 .left))
 
 pub plain-len-spec : {M : Type 1} → statement M
 plain-len-spec =
@@ -54,8 +54,8 @@ plain-len-spec =
     mul-place
     shared-slice-read-place
     place-requires
-    returns
     decimal-len-requires
+    add-number
     add-result
-    add-result-2
+    returns
     returns-2)
