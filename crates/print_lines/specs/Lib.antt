@@ -1,3 +1,4 @@
 pub mod Lines
 pub mod All
+pub mod Weigh
 pub mod Same

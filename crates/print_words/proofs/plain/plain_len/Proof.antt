@@ -8,8 +8,6 @@ use Rattle.print_words.specs.Plain.{plain-bare, plain-long}
 use borrow.Author.Needs.{needs}
 use Rattle.print_words.proofs.plain.plain_len.Statement.{statement}
 use Rattle.print_words.proofs.plain.plain_len.Tie as tie
-use Rattle.print_words.proofs.plain.plain_len.Reads as reads
-use Rattle.print_words.proofs.plain.plain_len.Lts as lts
 use Rattle.numbers.proofs.digits.decimal_len.Reads as decimal-len-reads
 use Rattle.print_words.proofs.place.Reads as place-reads
 

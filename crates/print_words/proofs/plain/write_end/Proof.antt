@@ -7,8 +7,6 @@ use Rattle.print_words.specs.Plain.{colon-stored, semicolon-stored}
 use borrow.Author.Needs.{needs}
 use Rattle.print_words.proofs.plain.write_end.Statement.{statement}
 use Rattle.print_words.proofs.plain.write_end.Tie as tie
-use Rattle.print_words.proofs.plain.write_end.Reads as reads
-use Rattle.print_words.proofs.plain.write_end.Lts as lts
 use Rattle.print_words.proofs.is_label.Reads as is-label-reads
 
 is-label-requires : tie.Need-is-label-requires

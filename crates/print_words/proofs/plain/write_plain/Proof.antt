@@ -8,8 +8,6 @@ use Rattle.print_words.specs.Plain.{plain-bare, plain-long, plain-word, 
 use borrow.Author.Needs.{needs}
 use Rattle.print_words.proofs.plain.write_plain.Statement.{statement}
 use Rattle.print_words.proofs.plain.write_plain.Tie as tie
-use Rattle.print_words.proofs.plain.write_plain.Reads as reads
-use Rattle.print_words.proofs.plain.write_plain.Lts as lts
 use Rattle.numbers.proofs.digits.put_decimal.Reads as put-decimal-reads
 use Rattle.print_words.proofs.plain.write_end.Reads as write-end-reads
 use Rattle.print_words.proofs.plain.write_short.Reads as write-short-reads

@@ -7,8 +7,6 @@ use Rattle.print_words.specs.Plain.{short-one, short-two}
 use borrow.Author.Needs.{needs}
 use Rattle.print_words.proofs.plain.write_short.Statement.{statement}
 use Rattle.print_words.proofs.plain.write_short.Tie as tie
-use Rattle.print_words.proofs.plain.write_short.Reads as reads
-use Rattle.print_words.proofs.plain.write_short.Lts as lts
 
 add-last : tie.Need-add-last
 add-last c = ⊎-elim (λ w. omega arith) (λ w. omega arith) (c .before .if1 .came)
