@@ -54,7 +54,6 @@ fn put_twice(
     let places = word_places();
     let weighed = weigh_lines(
         text,
-        &letters,
         &places,
         names,
         starts,

@@ -1,21 +1,24 @@
--- The forms of kinds, and the lines of kind 7 or more that may stand, whose operand is a number or none.
-use Prim.Native.Nat.{ℕ, _≤_, _<_}
-use mathlib.Core.Path.{_≡_, refl, sym, _∙_}
+-- The forms of kinds, and which lines may stand: of kind 0, the comment; of kind 1 to 6, which name something; of kind 7 or more, whose operand is a number or none.
+use Prim.Native.Nat.{ℕ, _/_, _≤_, _<_}
+use mathlib.Core.Path.{_≡_, refl}
 use mathlib.Core.Logic.{⊎-elim}
-use mathlib.Core.Bool.{Bool, true, _&&_, _||_, false≢true}
+use mathlib.Core.Bool.{true, false, cond, _&&_, _||_, false≢true}
 use native.Mathlib.Omega.{arith}
-use borrow.Author.Tests.{eqb-true, leb-true, eq-eqb, le-leb, lt-ltb, le-ltb}
+use borrow.Author.Tests.{eqb-true, leb-true, eq-eqb, ne-eqb, le-leb, lt-ltb, le-ltb}
 use lib.Dec.{eqb, leb, ltb}
 use Rattle.numbers.specs.Tests.{lt-or-le}
 use Rattle.names.specs.Tests.{agree}
 use Rattle.book_types.specs.Tables.{From, in-range}
-use Rattle.print_forms.specs.Forms.{numberForm, formOf, allowedBy, mostOf}
-use Rattle.print_forms.specs.declared.Form.{Form}
+use Rattle.print_forms.specs.Forms.{numberForm, nameForm, formOf, allowedBy, mostOf}
 use Rattle.print_forms.specs.declared.Form.the-variants as form
 
 pub bare-form : (k : ℕ) → 21 ≤ k → k < 94 → formOf k ≡ form.Bare
 unfolding formOf
 bare-form k h g = rw (le-leb 21 k h, lt-ltb k 94 g)
+
+comment-form : (k : ℕ) → k < 1 → formOf k ≡ form.Comment
+unfolding formOf nameForm
+comment-form k h = let z : k ≡ 0 = omega arith in rw z
 
 pub unknown-form : (k : ℕ) → 94 ≤ k → formOf k ≡ form.Unknown
 unfolding formOf
@@ -25,9 +28,28 @@ unknown-form k h = let z : 21 ≤ k = omega arith in rw (le-leb 21 k z, le-ltb k
 pub known-form : (k x m function from to : ℕ) → allowedBy (formOf k) x m function from to ≡ true → k < 94
 known-form k x m function from to h = ⊎-elim (λ g. g) (λ g. absurd (false≢true (rw (unknown-form k g) at h))) (lt-or-le k 94)
 
--- what the code tests by the form that it found
-pub form-test : (g : Form) (k x m function from to : ℕ) (t v : Bool) → g ≡ formOf k → t ≡ allowedBy g x m function from to → t ≡ v → allowedBy (formOf k) x m function from to ≡ v
-form-test g k x m function from to t v e f h = rw (← e) (sym f ∙ h)
+-- ---- a line of kind 0
+module _ (k x m function from to : ℕ) (h : k < 1) where
+  pub comment-stands : x ≡ function → allowedBy (formOf k) x m function from to ≡ true
+  comment-stands e = rw (comment-form k h) (eq-eqb x function e)
+
+  pub comment-barred : (x ≡ function → ⊥) → allowedBy (formOf k) x m function from to ≡ false
+  comment-barred e = rw (comment-form k h) (ne-eqb x function e)
+
+-- ---- a line of kind 1 to 6
+module _ (x names function from to : ℕ) where
+  abbrev Name : ℕ → Type 0
+  Name k = (leb (cond (eqb k 6) from 0) (cond (eqb k 5) (x / 256) x) && ltb (cond (eqb k 5) (x / 256) x) (cond (eqb k 6) to names)) ≡ allowedBy (formOf k) x names function from to
+
+  any-name : (y : ℕ) → (leb 0 y && ltb y names) ≡ ltb y names
+  any-name y = rw (le-leb 0 y (omega arith))
+
+  names-named : From Name 1 6
+  unfolding formOf nameForm
+  names-named = (any-name x, (any-name x, (any-name x, (any-name x, (any-name (x / 256), (refl, tt))))))
+
+  pub name-test : (k : ℕ) → 1 ≤ k → k < 7 → Name k
+  name-test k h g = in-range Name 1 6 names-named k h g
 
 -- ---- a line of kind 7 or more
 zero-test : (x : ℕ) → leb x 0 ≡ eqb x 0

@@ -1,7 +1,7 @@
 // Which form a line's kind has: what its operand may be, and what is put for it.
 ghost use mathlib.Core.Path.{_≡_};
 ghost use mathlib.Core.Bool.{cond};
-ghost use Prim.Native.Nat.{ℕ, _≤_};
+ghost use Prim.Native.Nat.{ℕ, _<_, _≤_};
 ghost use Rattle.print_forms.specs.Forms.{formOf, numberForm, nameForm, allowedBy, mostOf};
 ghost use Rattle.print_forms.specs.All.{allowedAll};
 
@@ -89,7 +89,7 @@ pub fn allowed(form: Form, x: u64, names: u64, function: u64, from: u64, to: u64
 }
 
 // One of two numbers that are both there, so that no branch is taken.
-fn pick(first: bool, a: u64, b: u64) -> u64
+pub fn pick(first: bool, a: u64, b: u64) -> u64
     ensures { λ r. ⌜ r ≡ cond first a b ⌝ }
 {
     if first { a } else { b }
@@ -107,7 +107,17 @@ fn most(kind: u16) -> u64
     pick(21 <= kind, 0, pick(kind == 12, 255, slot))
 }
 
-// The same for a line of kind 7 or more, whose operand is a number or none: without a branch, since these are most lines and which
+// Whether a line of kind 1 to 6, which names something, may stand: its name lies in the range that is allowed for it.
+pub fn name_allowed(kind: u16, x: u64, names: u64, from: u64, to: u64) -> bool
+    requires { ⌜ 1 ≤ kind ⌝ }
+    requires { ⌜ kind < 7 ⌝ }
+    ensures { λ r. ⌜ ((function : ℕ) → r ≡ allowedBy (formOf kind) x names function from to) ⌝ }
+{
+    let name = pick(kind == 5, x / 256, x);
+    (pick(kind == 6, from, 0) <= name) & (name < pick(kind == 6, to, names))
+}
+
+// Whether a line of kind 7 or more may stand, whose operand is a number or none: without a branch, since these are most lines and which
 // one comes next is hard to foresee.
 pub fn number_allowed(kind: u16, x: u64) -> bool
     requires { ⌜ 7 ≤ kind ⌝ }

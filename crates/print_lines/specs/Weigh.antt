@@ -14,7 +14,8 @@ use Rattle.print_pen.specs.Pen.{Put, fitting}
 use Rattle.print_pen.specs.declared.Pen.{Pen}
 use Rattle.print_pen.specs.declared.Pen.the-variants.{Counting, Writing, Full}
 use Rattle.print_words.specs.Plain.{plainText}
-use Rattle.print_lines.specs.Lines.{printed, plain-printed}
+use Rattle.print_lines.specs.Lines.{partsText, comment, printed, plain-printed}
+use Rattle.print_lines.specs.Named.{named-printed}
 use Rattle.print_lines.specs.All.{printedAll, no-kind, no-operand, all-step}
 use Rattle.print_lines.specs.declared.weigh.Weight.{Weight}
 use Rattle.print_lines.specs.declared.weigh.Weight.the-variants.{Bytes, Short, Barred}
@@ -147,6 +148,16 @@ module _ {bs x y : List ℕ} {n : ℕ} {q : Pen} (t : Bool) (h : t ≡ true) (c 
 pub number-weighed : (ns : List (List ℕ)) (fname ty : List ℕ) (params k x n : ℕ) (t : Bool) (y : List ℕ) (r : Weight) → 7 ≤ k → r ≡ weight t (n + length (plainText k x)) (length y)
     → Weighed t (n + length (printed ns fname ty params k x)) y y r
 number-weighed ns fname ty params k x n t y r h e = record { is = rw (plain-printed ns fname k x ty params h) at e; text = refl }
+
+-- a line of kind 1 to 6
+pub named-weighed : (ns : List (List ℕ)) (fname ty : List ℕ) (params k x n : ℕ) (t : Bool) (y : List ℕ) (r : Weight) → 1 ≤ k → k < 7
+    → r ≡ weight t (n + length (partsText ns fname k x)) (length y) → Weighed t (n + length (printed ns fname ty params k x)) y y r
+named-weighed ns fname ty params k x n t y r h g e = record { is = rw (named-printed ns fname x ty params k h g) at e; text = refl }
+
+-- a line of kind 0
+pub comment-printed : (ns : List (List ℕ)) (fname ty : List ℕ) (params k x : ℕ) → k < 1 → comment fname ty params ≡ printed ns fname ty params k x
+unfolding printed
+comment-printed ns fname ty params k x h = let z : k ≡ 0 = omega arith in rw z
 
 -- ---- the lines that are left
 module _ (m f a b i : ℕ) (ks xs : List ℕ) (t : Bool) (e : t ≡ allowedAll m f a b (take (length ks - i) (drop i ks)) (take (length xs - i) (drop i xs))) where

@@ -1,11 +1,14 @@
 // What lines weigh before any is written: whether every one may stand (21), and how many bytes they have (20), in one pass.
-use crate::put_line;
-use print_forms::allowed;
+use crate::put_comment;
+use numbers::digits::decimal_len;
 use print_forms::check_lines;
-use print_forms::form_of;
+use print_forms::name_allowed;
 use print_forms::number_allowed;
+use print_forms::pick;
 use print_pen::Pen;
+use print_types::starts::name_of;
 use print_words::plain::plain_len;
+use print_words::plain::word_len;
 ghost use mathlib.Core.Path.{_≡_};
 ghost use mathlib.Core.Bool.{cond};
 ghost use Prim.Native.Nat.{ℕ, _+_, _<_, _≤_};
@@ -13,14 +16,15 @@ ghost use lib.ListN.{length, drop};
 ghost use Rattle.names.specs.Name.{lines};
 ghost use Rattle.book.specs.Entry.{entries};
 ghost use Rattle.book.specs.Decode.{typeTo};
-ghost use Rattle.print_words.specs.Words.{wordPlaces, Tables};
+ghost use Rattle.print_words.specs.Words.{wordPlaces};
 ghost use Rattle.print_words.specs.Plain.{plainText};
 ghost use Rattle.print_types.specs.Starts.{Starts};
 ghost use Rattle.print_types.specs.Types.{typeBytes, Typed};
 ghost use Rattle.print_forms.specs.Forms.{formOf, allowedBy};
 ghost use Rattle.print_forms.specs.All.{Callable, allowedAll};
-ghost use Rattle.print_lines.specs.Lines.{printed};
+ghost use Rattle.print_lines.specs.Lines.{partsText, printed};
 ghost use Rattle.print_lines.specs.All.{printedAll};
+ghost use Rattle.print_lines.specs.Named.{around};
 ghost use Rattle.print_lines.specs.Weigh.{weight, Weighed};
 
 // How many bytes there are; that the text is too short for them; that a line may not stand.
@@ -47,11 +51,70 @@ fn weigh_number(places: &[u16], n: usize, room: usize, kind: u16, x: u64) -> Wei
     Weight::Bytes(n + more)
 }
 
-// Weighs a line behind n bytes. There are `count` names, the function's is `own`; those from `from` up to `to` start with `__uvm_`.
+// One of two lengths that are both there, so that no branch is taken.
+fn pick_len(first: bool, a: usize, b: usize) -> usize
+    ensures { λ r. ⌜ r ≡ cond first a b ⌝ }
+{
+    if first { a } else { b }
+}
+
+// How many bytes a line of kind 1 to 6 has beside the name that it names: its word, the function's name and `__` before a block's, the
+// number of arguments behind a call's, and its end.
+fn around_len(places: &[u16], function: &[u8], kind: u16, x: u64) -> usize
+    requires { ⌜ now places ≡ wordPlaces ⌝ }
+    requires { ⌜ kind < 94 ⌝ }
+    ensures { λ r. ⌜ r ≡ around (length (now (function .entry))) kind x ⌝ }
+{
+    let word = word_len(places, kind);
+    let block = pick_len((2 <= kind) & (kind <= 3), function.len() + 2, 0);
+    let digits = decimal_len(pick(kind == 5, x % 256, 0));
+    let args = pick_len(kind == 5, digits + 2, 0);
+    word + block + args + 2
+}
+
+// Weighs a line of kind 1 to 6 behind n bytes.
+fn weigh_named(
+    places: &[u16],
+    names: &[u8],
+    starts: &[usize],
+    every: bool,
+    function: &[u8],
+    n: usize,
+    room: usize,
+    kind: u16,
+    x: u64,
+    count: u64,
+    from: u64,
+    to: u64,
+) -> Weight
+    requires { ⌜ now places ≡ wordPlaces ⌝ }
+    requires { ⌜ Starts every (now names) (now starts) ⌝ }
+    requires { ⌜ Callable (lines (now names)) count from to ⌝ }
+    requires { ⌜ n ≤ room ⌝ }
+    requires { ⌜ 1 ≤ kind ⌝ }
+    requires { ⌜ kind < 7 ⌝ }
+    ensures { λ r. ⌜ ((own : ℕ) → r ≡ weight (allowedBy (formOf kind) x count own from to) (n + length (partsText (lines (now (names .entry))) (now (function .entry)) kind x)) room) ⌝ }
+{
+    if !name_allowed(kind, x, count, from, to) {
+        return Weight::Barred;
+    }
+    let name = name_of(names, starts, every, pick(kind == 5, x / 256, x)).len();
+    let spelled = name - pick_len(kind == 6, 6, 0);
+    let rest = around_len(places, function, kind, x);
+    let left = room - n;
+    if left < spelled {
+        return Weight::Short;
+    }
+    if left - spelled < rest {
+        return Weight::Short;
+    }
+    Weight::Bytes(n + (spelled + rest))
+}
+
+// Weighs a line behind n bytes; a function's opening comment, of kind 0, is counted as it is written, by a pen. There are `count` names, the function's is `own`; those from `from` up to `to` start with `__uvm_`.
 fn weigh_line(
     text: &mut [u8],
     n: usize,
-    letters: &[u8],
     places: &[u16],
     names: &[u8],
     starts: &[usize],
@@ -67,7 +130,7 @@ fn weigh_line(
     from: u64,
     to: u64,
 ) -> Weight
-    requires { ⌜ Tables (now letters) (now places) ⌝ }
+    requires { ⌜ now places ≡ wordPlaces ⌝ }
     requires { ⌜ Starts every (now names) (now starts) ⌝ }
     requires { ⌜ Typed (length (lines (now names))) 64 (now kinds) (now words) ⌝ }
     requires { ⌜ Callable (lines (now names)) count from to ⌝ }
@@ -77,14 +140,28 @@ fn weigh_line(
     if 7 <= kind {
         return weigh_number(places, n, text.len(), kind, x);
     }
-    if !allowed(form_of(kind), x, count, own, from, to) {
+    if 1 <= kind {
+        return weigh_named(
+            places,
+            names,
+            starts,
+            every,
+            function,
+            n,
+            text.len(),
+            kind,
+            x,
+            count,
+            from,
+            to,
+        );
+    }
+    if x != own {
         return Weight::Barred;
     }
-    match put_line(
+    match put_comment(
         text,
         Pen::Counting(n),
-        letters,
-        places,
         names,
         starts,
         every,
@@ -92,8 +169,6 @@ fn weigh_line(
         kinds,
         words,
         params,
-        kind,
-        x,
     ) {
         Pen::Counting(next) => Weight::Bytes(next),
         Pen::Writing(_) => Weight::Short,
@@ -126,7 +201,6 @@ fn weigh_rest(
 // Weighs as many lines as both slices hold. Nothing is written.
 pub fn weigh_lines(
     text: &mut [u8],
-    letters: &[u8],
     places: &[u16],
     names: &[u8],
     starts: &[usize],
@@ -142,7 +216,7 @@ pub fn weigh_lines(
     from: u64,
     to: u64,
 ) -> Weight
-    requires { ⌜ Tables (now letters) (now places) ⌝ }
+    requires { ⌜ now places ≡ wordPlaces ⌝ }
     requires { ⌜ Starts every (now names) (now starts) ⌝ }
     requires { ⌜ Typed (length (lines (now names))) 64 (now kinds) (now words) ⌝ }
     requires { ⌜ Callable (lines (now names)) count from to ⌝ }
@@ -159,7 +233,6 @@ pub fn weigh_lines(
         match weigh_line(
             text,
             n,
-            letters,
             places,
             names,
             starts,

@@ -14,14 +14,23 @@ ghost use Rattle.print_words.specs.Words.{word, wordPlaces, Tables};
 ghost use Rattle.print_words.specs.Ends.{ending};
 ghost use Rattle.print_words.specs.Plain.{plainText};
 
+// How many bytes the word of a line's kind has.
+pub fn word_len(places: &[u16], kind: u16) -> usize
+    requires { ⌜ now places ≡ wordPlaces ⌝ }
+    requires { ⌜ kind < 94 ⌝ }
+    ensures { λ r. ⌜ r ≡ length (word kind) ⌝ }
+{
+    let k = kind as usize;
+    place(places[k]) % 32
+}
+
 // How many bytes the line has.
 pub fn plain_len(places: &[u16], kind: u16, x: u64) -> usize
     requires { ⌜ now places ≡ wordPlaces ⌝ }
     requires { ⌜ kind < 94 ⌝ }
     ensures { λ r. ⌜ r ≡ length (plainText kind x) ⌝ }
 {
-    let k = kind as usize;
-    let letters = place(places[k]) % 32;
+    let letters = word_len(places, kind);
     let number = decimal_len(x) + 2;
     if 21 <= kind {
         letters

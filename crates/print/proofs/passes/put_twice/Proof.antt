@@ -19,16 +19,11 @@ word-places-requires c κs = search needs
 slice-aggregate-weigh-lines : tie.Need-slice-aggregate-weigh-lines
 slice-aggregate-weigh-lines c = search needs
 
-slice-aggregate-weigh-lines-2 : tie.Need-slice-aggregate-weigh-lines-2
-slice-aggregate-weigh-lines-2 c = search needs
-
 weigh-lines-requires : tie.Need-weigh-lines-requires
 weigh-lines-requires c κs =
-    let after-places = c .before .before .before in
-    let p = after-places .before .before .before .before .before .before .before .before .before .before .pre in (
-      record { letters-are = after-places .before .word-letters .ensures; places-are = after-places .word-places .ensures },
-      (p .0, (p .1 .0, p .1 .1)),
-    )
+    let after-places = c .before .before in
+    let p = after-places .before .before .before .before .before .before .before .before .before .before .pre in
+    (after-places .word-places .ensures, (p .0, (p .1 .0, p .1 .1)))
 
 enum-known-weighed : tie.Need-enum-known-weighed
 enum-known-weighed c = search needs
@@ -42,7 +37,7 @@ slice-aggregate-write-lines-2 c = search needs
 write-lines-requires : tie.Need-write-lines-requires
 write-lines-requires c κs =
     let after-weigh = c .before .before .before .before .before .before .before .before in
-    let after-places = after-weigh .before .before .before .before in
+    let after-places = after-weigh .before .before .before in
     let entry = after-places .before .before .before .before .before .before .before .before .before .before in
     let p = entry .pre in
     let n = passes-count (after-weigh .weigh-lines .ensures) _ (c .before .before .before .before .weighed .given .1) in (
@@ -85,7 +80,6 @@ put-twice-spec =
     word-letters-requires
     word-places-requires
     slice-aggregate-weigh-lines
-    slice-aggregate-weigh-lines-2
     weigh-lines-requires
     enum-known-weighed
     slice-aggregate-write-lines

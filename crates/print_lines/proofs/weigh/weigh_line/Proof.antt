@@ -1,54 +1,45 @@
--- `weigh_line` meets its contract: what may stand is ready to be put, and a counting pen puts it.
+-- `weigh_line` meets its contract by the kind of the line; the comment is counted by a pen.
 use mathlib.Core.Path.{refl}
-use borrow.Author.Tests.{not-true, not-false}
-use Rattle.print_forms.specs.Forms.{formOf}
-use Rattle.print_forms.specs.Kinds.{form-test}
-use Rattle.print_forms.specs.Allowed.{ready-form}
+use Rattle.print_pen.specs.Pen.{put-same}
+use Rattle.print_forms.specs.Kinds.{comment-stands, comment-barred}
 use Rattle.print_lines.specs.All.{put-never}
-use Rattle.print_lines.specs.Weigh.{barred-is, number-weighed, counted-bytes, counted-short}
+use Rattle.print_lines.specs.Weigh.{barred-is, number-weighed, named-weighed, comment-printed, counted-bytes, counted-short}
 use borrow.Author.Needs.{needs}
 use Rattle.print_lines.proofs.weigh.weigh_line.Statement.{statement}
 use Rattle.print_lines.proofs.weigh.weigh_line.Tie as tie
-use Rattle.print_forms.proofs.allowed.Reads as allowed-reads
-use Rattle.print_forms.proofs.form_of.Reads as form-of-reads
-use Rattle.print_lines.proofs.put_line.Reads as put-line-reads
+use Rattle.print_lines.proofs.put_comment.Reads as put-comment-reads
+use Rattle.print_lines.proofs.weigh.weigh_named.Reads as weigh-named-reads
 use Rattle.print_lines.proofs.weigh.weigh_number.Reads as weigh-number-reads
 
 weigh-number-requires : tie.Need-weigh-number-requires
 weigh-number-requires c κs =
-    let entry = c .before .before .before .before .before .before .before .before .before in
-    (entry .pre .0 .places-are, (entry .pre .1 .1 .1 .1, c .if1 .taken))
+    let p = c .before .before .before .before .before .before .before .before .pre in
+    (p .0, (p .1 .1 .1 .1, c .if1 .taken))
 
 returns : tie.Need-returns
 returns c =
-    let entry = c .before .before .before .before .before .before .before .before .before .before in
-    number-weighed _ _ _ _ _ _ _ _ _ _ (c .before .if1 .taken)
-    (c .weigh-number .ensures (entry .args .count) (entry .args .own) (entry .args .from) (entry .args .to))
+    let a = c .before .before .before .before .before .before .before .before .before .args in
+    number-weighed _ _ _ _ _ _ _ _ _ _ (c .before .if1 .taken) (c .weigh-number .ensures (a .count) (a .own) (a .from) (a .to))
 
-form-of-requires : tie.Need-form-of-requires
-form-of-requires c κs = search needs
-
-allowed-requires : tie.Need-allowed-requires
-allowed-requires c κs = search needs
+weigh-named-requires : tie.Need-weigh-named-requires
+weigh-named-requires c κs =
+    let else1 = c .before in
+    let p = else1 .before .before .before .before .before .before .before .before .pre in
+    (p .0, (p .1 .0, (p .1 .1 .1 .0, (p .1 .1 .1 .1, (c .if2 .taken, else1 .if1 .left)))))
 
 returns-2 : tie.Need-returns-2
 returns-2 c =
-    let after-allowed = c .before in
-    let after-form = after-allowed .before in
-    let barred = form-test _ _ _ _ _ _ _ _ _ (after-form .form-of .ensures) (after-allowed .allowed .ensures) (not-true _ (c .if2 .taken)) in
-    record { is = barred-is _ _ _ barred; text = refl }
+    let then2 = c .before in
+    let else1 = then2 .before in
+    let a = else1 .before .before .before .before .before .before .before .before .args in
+    named-weighed _ _ _ _ _ _ _ _ _ _ (then2 .if2 .taken) (else1 .if1 .left) (c .weigh-named .ensures (a .own))
 
-put-line-requires : tie.Need-put-line-requires
-put-line-requires c κs =
-    let else2 = c .before in
-    let after-allowed = else2 .before in
-    let after-form = after-allowed .before in
-    let else1 = after-form .before in
-    let entry = else1 .before .before .before .before .before .before .before .before .before in
-    let p = entry .pre in
-    let a = entry .args in
-    let stands = form-test _ (a .kind) (a .x) (a .count) (a .own) (a .from) (a .to) _ _ (after-form .form-of .ensures) (after-allowed .allowed .ensures) (not-false _ (else2 .if2 .left)) in
-    (p .0, (p .1 .0, (p .1 .1 .0, (ready-form (p .1 .1 .1 .0) (a .own) (formOf (a .kind)) (a .x) stands, else1 .if1 .left))))
+returns-3 : tie.Need-returns-3
+returns-3 c =
+    record { is = barred-is _ _ _ (comment-barred _ _ _ _ _ _ (c .before .if2 .left) (c .if3 .taken)); text = refl }
+
+put-comment-requires : tie.Need-put-comment-requires
+put-comment-requires c κs = search needs
 
 enum-known-next : tie.Need-enum-known-next
 enum-known-next c = search needs
@@ -62,33 +53,31 @@ enum-told-2 c = search needs
 same-length : tie.Need-same-length
 same-length c = search needs
 
-returns-3 : tie.Need-returns-3
-returns-3 c =
-    let after-line = c .before .before .before .before .before in
-    let else2 = after-line .before .before in
-    let after-allowed = else2 .before in
-    let after-form = after-allowed .before in
-    let stands = form-test _ _ _ _ _ _ _ _ _ (after-form .form-of .ensures) (after-allowed .allowed .ensures) (not-false _ (else2 .if2 .left)) in
-    counted-bytes _ stands (after-line .put-line .ensures) _ (c .before .next .given .1)
+returns-4 : tie.Need-returns-4
+returns-4 c =
+    let after-comment = c .before .before .before .before .before in
+    let else3 = after-comment .before .before in
+    let else2 = else3 .before in
+    let text = put-same (comment-printed _ _ _ _ _ _ (else2 .if2 .left)) (after-comment .put-comment .ensures) in
+    counted-bytes _ (comment-stands _ _ _ _ _ _ (else2 .if2 .left) (else3 .if3 .left)) text _ (c .before .next .given .1)
 
 same-length-2 : tie.Need-same-length-2
 same-length-2 c = search needs
 
-returns-4 : tie.Need-returns-4
-returns-4 c =
-    absurd (put-never _ (c .before .before .before .before .put-line .ensures) (c .enum-told .given .1))
+returns-5 : tie.Need-returns-5
+returns-5 c =
+    absurd (put-never _ (c .before .before .before .before .put-comment .ensures) (c .enum-told .given .1))
 
 same-length-3 : tie.Need-same-length-3
 same-length-3 c = search needs
 
-returns-5 : tie.Need-returns-5
-returns-5 c =
-    let after-line = c .before .before .before .before in
-    let else2 = after-line .before .before in
-    let after-allowed = else2 .before in
-    let after-form = after-allowed .before in
-    let stands = form-test _ _ _ _ _ _ _ _ _ (after-form .form-of .ensures) (after-allowed .allowed .ensures) (not-false _ (else2 .if2 .left)) in
-    counted-short _ stands (after-line .put-line .ensures) (c .enum-told2 .given .1)
+returns-6 : tie.Need-returns-6
+returns-6 c =
+    let after-comment = c .before .before .before .before in
+    let else3 = after-comment .before .before in
+    let else2 = else3 .before in
+    let text = put-same (comment-printed _ _ _ _ _ _ (else2 .if2 .left)) (after-comment .put-comment .ensures) in
+    counted-short _ (comment-stands _ _ _ _ _ _ (else2 .if2 .left) (else3 .if3 .left)) text (c .enum-told2 .given .1)
 
 pub weigh-line-spec : {M : Type 1} → statement M
 weigh-line-spec =
@@ -96,16 +85,16 @@ weigh-line-spec =
     (tie.spec
     weigh-number-requires
     returns
-    form-of-requires
-    allowed-requires
+    weigh-named-requires
     returns-2
-    put-line-requires
+    returns-3
+    put-comment-requires
     enum-known-next
     enum-told
     enum-told-2
     same-length
-    returns-3
-    same-length-2
     returns-4
+    same-length-2
+    returns-5
     same-length-3
-    returns-5)
+    returns-6)
