@@ -1,8 +1,7 @@
-// The two passes over the lines: one counts the bytes, the other stores them if they fit.
-use print_forms::check_lines;
-use print_lines::count_lines;
+// The two passes over the lines: one tests them and counts the bytes, the other stores them if they fit.
+use print_lines::weigh::Weight;
+use print_lines::weigh::weigh_lines;
 use print_lines::write_lines;
-use print_pen::Pen;
 use print_types::starts::name_of;
 use print_words::word_letters;
 use print_words::word_places;
@@ -14,13 +13,12 @@ ghost use Rattle.names.specs.Name.{lines};
 ghost use Rattle.book.specs.Ast.{Book};
 ghost use Rattle.book.specs.Entry.{entries};
 ghost use Rattle.book.specs.Decode.{typeTo};
-ghost use Rattle.assembly.specs.Printer.{writing};
 ghost use Rattle.print_types.specs.Starts.{Starts};
 ghost use Rattle.print_types.specs.Types.{typeBytes, Typed};
 ghost use Rattle.print_lines.specs.Lines.{printed};
-ghost use Rattle.print_forms.specs.All.{AllReady};
+ghost use Rattle.print_forms.specs.All.{Callable, allowedAll};
 ghost use Rattle.print_lines.specs.All.{printedAll};
-ghost use Rattle.print.specs.Passes.{printing, Named, Known, definition};
+ghost use Rattle.print.specs.Passes.{printing, passed, Named, Known, definition};
 
 // The bytes put from index 0 on, or a refusal's number.
 pub enum Printed {
@@ -28,7 +26,8 @@ pub enum Printed {
     Refused(u64),
 }
 
-// Puts lines whose names are there, or refuses with 20.
+// Weighs the lines and writes them, or refuses with 21, then with 20. There are `count` names, the function's is `own`; those from
+// `from` up to `to` start with `__uvm_`.
 fn put_twice(
     names: &[u8],
     starts: &[u64],
@@ -40,17 +39,21 @@ fn put_twice(
     line_kinds: &[u16],
     operands: &[u64],
     text: &mut [u8],
+    count: u64,
+    own: u64,
+    from: u64,
+    to: u64,
 ) -> Printed
     requires { ⌜ Starts every (now names) (now starts) ⌝ }
     requires { ⌜ Typed (length (lines (now names))) 64 (now kinds) (now words) ⌝ }
-    requires { ⌜ AllReady (lines (now names)) (now «line_kinds») (now operands) ⌝ }
-    ensures { λ r. ⌜ printing r (now (text .exit)) ≡ writing (printedAll (printed (lines (now (names .entry))) (now (function .entry)) (typeBytes (lines (now (names .entry))) (typeTo (length (lines (now (names .entry)))) 64 (entries (now (kinds .entry)) (now (words .entry))))) params) (now («line_kinds» .entry)) (now (operands .entry))) (now (text .entry)) ⌝ }
+    requires { ⌜ Callable (lines (now names)) count from to ⌝ }
+    ensures { λ r. ⌜ printing r (now (text .exit)) ≡ passed (allowedAll count own from to (now («line_kinds» .entry)) (now (operands .entry)))
+        (printedAll (printed (lines (now (names .entry))) (now (function .entry)) (typeBytes (lines (now (names .entry))) (typeTo (length (lines (now (names .entry)))) 64 (entries (now (kinds .entry)) (now (words .entry))))) params) (now («line_kinds» .entry)) (now (operands .entry))) (now (text .entry)) ⌝ }
 {
     let letters = word_letters();
     let places = word_places();
-    let counted = count_lines(
+    let weighed = weigh_lines(
         text,
-        &letters,
         &places,
         names,
         starts,
@@ -61,9 +64,13 @@ fn put_twice(
         params,
         line_kinds,
         operands,
+        count,
+        own,
+        from,
+        to,
     );
-    match counted {
-        Pen::Counting(n) => {
+    match weighed {
+        Weight::Bytes(n) => {
             write_lines(
                 text,
                 n,
@@ -81,8 +88,8 @@ fn put_twice(
             );
             Printed::Accepted(n)
         }
-        Pen::Writing(_) => Printed::Refused(20),
-        Pen::Full => Printed::Refused(20),
+        Weight::Short => Printed::Refused(20),
+        Weight::Barred => Printed::Refused(21),
     }
 }
 
@@ -109,9 +116,6 @@ pub fn print_known(
     ensures { λ r. ⌜ ((b : Book) → Known (now (names .entry)) (now (kinds .entry)) (now (words .entry)) function params b
         → printing r (now (text .exit)) ≡ definition (lines (now (names .entry))) b (now («line_kinds» .entry)) (now (operands .entry)) (now (text .entry))) ⌝ }
 {
-    if !check_lines(line_kinds, operands, count, function, from, to) {
-        return Printed::Refused(21);
-    }
     put_twice(
         names,
         starts,
@@ -123,5 +127,9 @@ pub fn print_known(
         line_kinds,
         operands,
         text,
+        count,
+        function,
+        from,
+        to,
     )
 }

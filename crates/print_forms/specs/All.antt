@@ -26,6 +26,11 @@ Ready form.Args ns x = Unit {0}
 Ready form.Bare ns x = Unit {0}
 Ready form.Unknown ns x = Unit {0}
 
+-- there are m names, and those from `from` up to `to` have the six bytes `__uvm_` at least
+pub record Callable (ns : List (List ℕ)) (m from to : ℕ) : Type 0 where
+  pub count : m ≡ length ns
+  pub calls : (x : ℕ) → from ≤ x → x < to → (x < length ns) × (6 ≤ length (nameAt ns x))
+
 -- every line may stand
 abbrev pub allowedAll : (names function from to : ℕ) → List ℕ → List ℕ → Bool
 allowedAll n f a b [] xs = true

@@ -2,11 +2,11 @@
 use Prim.Native.Nat.{ℕ, zero, suc, _-_, _/_, _%_, _≤_, _<_}
 use mathlib.Core.Path.{_≡_, refl, sym, ap, _∙_}
 use mathlib.Core.Logic.{_⊎_, ⊎-elim}
-use mathlib.Core.Bool.{Bool, true, false, _&&_, false≢true}
+use mathlib.Core.Bool.{Bool, true, false, _&&_}
 use mathlib.Core.Option.{Option, none, some}
 use mathlib.Core.List.{List, [], _∷_}
 use native.Mathlib.Omega.{arith}
-use borrow.Author.Tests.{ltb-true, le-leb, lt-ltb, le-ltb}
+use borrow.Author.Tests.{ltb-true, leb-true, le-leb, lt-ltb, le-ltb}
 use lib.Dec.{eqb, leb, ltb}
 use lib.ListN.{length, getElem?, getD, length-append}
 use Rattle.numbers.specs.Tests.{lt-or-le}
@@ -24,8 +24,8 @@ use Rattle.assembly.specs.Number.{bins, preds, operations, withOperand, bare, a
 use Rattle.assembly.specs.Printer.{consed, linesOf}
 use Rattle.book_types.specs.Tables.{From, in-range}
 use Rattle.print_forms.specs.Forms.{numberForm, nameForm, formOf, allowedBy}
-use Rattle.print_forms.specs.All.{Ready}
-use Rattle.print_forms.specs.All.{allowedAll, AllReady}
+use Rattle.print_forms.specs.Kinds.{bare-form, unknown-form, known-form}
+use Rattle.print_forms.specs.All.{Ready, Callable, allowedAll, AllReady}
 use Rattle.print_forms.specs.declared.Form.{Form}
 use Rattle.print_forms.specs.declared.Form.the-variants as form
 
@@ -46,10 +46,6 @@ and-true false l = refl
 and-false : (t : Bool) → (t && false) ≡ false
 and-false true = refl
 and-false false = refl
-
-unknown-form : (k : ℕ) → 94 ≤ k → formOf k ≡ form.Unknown
-unfolding formOf
-unknown-form k h = let z : 21 ≤ k = omega arith in rw (le-leb 21 k z, le-ltb k 94 h)
 
 -- ---- lines without an operand
 abbrev everyLine : (Line → Bool) → List Line → Bool
@@ -152,10 +148,6 @@ module _ (ns : List (List ℕ)) (b : Book) where
       ),
     )
 
-    bare-form : (k : ℕ) → 21 ≤ k → k < 94 → formOf k ≡ form.Bare
-    unfolding formOf
-    bare-form k h g = rw (le-leb 21 k h, lt-ltb k 94 g)
-
     -- the code allows what the definition allows
     pub allowed-line : (k x : ℕ) → allowedBy (formOf k) x (length ns) (b .function .name) from to ≡ isSome (lineOf ns b k x)
     allowed-line k x =
@@ -175,55 +167,52 @@ module _ (ns : List (List ℕ)) (b : Book) where
     allowed-lines (k ∷ ks) [] = refl
     allowed-lines (k ∷ ks) (x ∷ xs) = rw (allowed-line k x, allowed-lines ks xs) (consed-is (lineOf ns b k x) (linesOf ns b ks xs))
 
-    -- ---- what is allowed is ready to be put
-    six : length (bytes "__uvm_") ≡ 6
-    unfolding bytes
-    six = refl
+-- ---- what is allowed is ready to be put
+six : length (bytes "__uvm_") ≡ 6
+unfolding bytes
+six = refl
 
-    long-name : (n : List ℕ) → isSyscall n ≡ true → 6 ≤ length n
-    unfolding isSyscall
-    long-name n h =
-        let w = starts-iff (bytes "__uvm_") n .0 h in
-        omega (arith, ap length (w .1), length-append (bytes "__uvm_") (w .0), six)
+long-name : (n : List ℕ) → isSyscall n ≡ true → 6 ≤ length n
+unfolding isSyscall
+long-name n h =
+    let w = starts-iff (bytes "__uvm_") n .0 h in
+    omega (arith, ap length (w .1), length-append (bytes "__uvm_") (w .0), six)
 
-    ready-form : (f : Form) (x : ℕ) → allowedBy f x (length ns) (b .function .name) from to ≡ true → Ready f ns x
-    unfolding isName
-    ready-form form.Comment x h = tt
-    ready-form form.Name x h = ltb-true x (length ns) h
-    ready-form form.Block x h = ltb-true x (length ns) h
-    ready-form form.Call x h = ltb-true (x / 256) (length ns) h
-    ready-form form.Syscall x h =
-        let w = both (ltb x (length ns)) (isSyscall (nameAt ns x)) (sym (range x) ∙ h) in
-        (ltb-true x (length ns) (w .0), long-name (nameAt ns x) (w .1))
-    ready-form form.Count x h = tt
-    ready-form form.Any x h = tt
-    ready-form form.Slot x h = tt
-    ready-form form.Args x h = tt
-    ready-form form.Bare x h = tt
-    ready-form form.Unknown x h = tt
+module _ {ns : List (List ℕ)} {m from to : ℕ} (c : Callable ns m from to) (function : ℕ) where
+  pub ready-form : (f : Form) (x : ℕ) → allowedBy f x m function from to ≡ true → Ready f ns x
+  ready-form form.Comment x h = tt
+  ready-form form.Name x h = omega (arith, ltb-true x m h, c .count)
+  ready-form form.Block x h = omega (arith, ltb-true x m h, c .count)
+  ready-form form.Call x h = omega (arith, ltb-true (x / 256) m h, c .count)
+  ready-form form.Syscall x h =
+      let w = both (leb from x) (ltb x to) h in
+      c .calls x (leb-true from x (w .0)) (ltb-true x to (w .1))
+  ready-form form.Count x h = tt
+  ready-form form.Any x h = tt
+  ready-form form.Slot x h = tt
+  ready-form form.Args x h = tt
+  ready-form form.Bare x h = tt
+  ready-form form.Unknown x h = tt
 
-    known-form : (k x : ℕ) → allowedBy (formOf k) x (length ns) (b .function .name) from to ≡ true → k < 94
-    known-form k x h = ⊎-elim (λ g. g) (λ g. absurd (false≢true (rw (unknown-form k g) at h))) (lt-or-le k 94)
+  allowed-at : (ks xs : List ℕ) → allowedAll m function from to ks xs ≡ true → (i : ℕ) → i < length ks → i < length xs
+      → allowedBy (formOf (getD ks i 0)) (getD xs i 0) m function from to ≡ true
+  allowed-at [] xs h i p q = absurd (omega arith)
+  allowed-at (k ∷ ks) [] h i p q = absurd (omega arith)
+  allowed-at (k ∷ ks) (x ∷ xs) h zero p q = both (allowedBy (formOf k) x m function from to) (allowedAll m function from to ks xs) h .0
+  allowed-at (k ∷ ks) (x ∷ xs) h (suc i) p q =
+      allowed-at ks xs (both (allowedBy (formOf k) x m function from to) (allowedAll m function from to ks xs) h .1) i (omega arith) (omega arith)
 
-    allowed-at : (ks xs : List ℕ) → allowedAll (length ns) (b .function .name) from to ks xs ≡ true → (i : ℕ) → i < length ks → i < length xs
-        → allowedBy (formOf (getD ks i 0)) (getD xs i 0) (length ns) (b .function .name) from to ≡ true
-    allowed-at [] xs h i p q = absurd (omega arith)
-    allowed-at (k ∷ ks) [] h i p q = absurd (omega arith)
-    allowed-at (k ∷ ks) (x ∷ xs) h zero p q = both (allowedBy (formOf k) x (length ns) (b .function .name) from to) (allowedAll (length ns) (b .function .name) from to ks xs) h .0
-    allowed-at (k ∷ ks) (x ∷ xs) h (suc i) p q =
-        allowed-at ks xs (both (allowedBy (formOf k) x (length ns) (b .function .name) from to) (allowedAll (length ns) (b .function .name) from to ks xs) h .1) i (omega arith) (omega arith)
-
-    pub all-ready : (ks xs : List ℕ) → allowedAll (length ns) (b .function .name) from to ks xs ≡ true → AllReady ns ks xs
-    all-ready ks xs h = record {
-      names = λ i p q. ready-form (formOf (getD ks i 0)) (getD xs i 0) (allowed-at ks xs h i p q);
-      known = λ i p q. known-form (getD ks i 0) (getD xs i 0) (allowed-at ks xs h i p q);
-    }
+  pub all-ready : (ks xs : List ℕ) → allowedAll m function from to ks xs ≡ true → AllReady ns ks xs
+  all-ready ks xs h = record {
+    names = λ i p q. ready-form (formOf (getD ks i 0)) (getD xs i 0) (allowed-at ks xs h i p q);
+    known = λ i p q. known-form (getD ks i 0) (getD xs i 0) m function from to (allowed-at ks xs h i p q);
+  }
 
 -- the names from `from` up to `to` are those that start with `__uvm_`
-module _ (bs : List ℕ) (ns : List (List ℕ)) (b : Book) (from to : ℕ) (e : namesOf bs ≡ some ns) (r : PrefixRange (bytes "__uvm_") (lines bs) from to) where
-  pub uvm-range : (x : ℕ) → (leb from x && ltb x to) ≡ (isName ns b x && isSyscall (nameAt ns x))
-  unfolding isName isSyscall
-  uvm-range x =
+module _ (bs : List ℕ) (ns : List (List ℕ)) (from to : ℕ) (e : namesOf bs ≡ some ns) (r : PrefixRange (bytes "__uvm_") (lines bs) from to) where
+  uvm-names : (x : ℕ) → (leb from x && ltb x to) ≡ (ltb x (length ns) && isSyscall (nameAt ns x))
+  unfolding isSyscall
+  uvm-names x =
       ⊎-elim (λ h. rw (lt-ltb x (length ns) h) (range-test (bytes "__uvm_") bs ns from to e r x h))
       (λ h.
       let p = range-order (bytes "__uvm_") (lines bs) in
@@ -231,3 +220,15 @@ module _ (bs : List ℕ) (ns : List (List ℕ)) (b : Book) (from to : ℕ) (e : 
       let z : to ≤ x = omega (arith, r .past) in
       rw (le-ltb x (length ns) h, le-ltb x to z) (and-false (leb from x)))
       (lt-or-le x (length ns))
+
+  pub uvm-range : (b : Book) (x : ℕ) → (leb from x && ltb x to) ≡ (isName ns b x && isSyscall (nameAt ns x))
+  unfolding isName
+  uvm-range b x = uvm-names x
+
+  pub uvm-callable : (m : ℕ) → m ≡ length ns → Callable ns m from to
+  uvm-callable m c = record {
+    count = c;
+    calls = λ x h g.
+        let w = both (ltb x (length ns)) (isSyscall (nameAt ns x)) (sym (uvm-names x) ∙ rw (le-leb from x h, lt-ltb x to g)) in
+        (ltb-true x (length ns) (w .0), long-name (nameAt ns x) (w .1));
+  }

@@ -1,6 +1,6 @@
 -- The form of a line's kind, and what it allows and ends with.
 use Prim.Native.Nat.{ℕ, _/_}
-use mathlib.Core.Bool.{Bool, true, false, _&&_}
+use mathlib.Core.Bool.{Bool, true, false, cond, _&&_, _||_}
 use lib.Dec.{eqb, leb, ltb}
 use Rattle.print_forms.specs.declared.Form.{Form}
 use Rattle.print_forms.specs.declared.Form.the-variants as form
@@ -41,3 +41,7 @@ allowedBy form.Slot x names function from to = leb x 65535
 allowedBy form.Args x names function from to = leb x 255
 allowedBy form.Bare x names function from to = eqb x 0
 allowedBy form.Unknown x names function from to = false
+
+-- the largest operand of a line of kind 7 or more, whose operand is a number or none
+unfoldable pub mostOf : ℕ → ℕ
+mostOf k = cond (leb 21 k) 0 (cond (eqb k 12) 255 (cond ((eqb k 7 || eqb k 10) || eqb k 11) 65535 18446744073709551615))

@@ -1,6 +1,8 @@
 // Which form a line's kind has: what its operand may be, and what is put for it.
 ghost use mathlib.Core.Path.{_≡_};
-ghost use Rattle.print_forms.specs.Forms.{formOf, numberForm, nameForm, allowedBy};
+ghost use mathlib.Core.Bool.{cond};
+ghost use Prim.Native.Nat.{ℕ, _<_, _≤_};
+ghost use Rattle.print_forms.specs.Forms.{formOf, numberForm, nameForm, allowedBy, mostOf};
 ghost use Rattle.print_forms.specs.All.{allowedAll};
 
 // The operand: the function, a name, a block, a call, a syscall, a count of slots, any number, a slot, a number of arguments,
@@ -84,6 +86,44 @@ pub fn allowed(form: Form, x: u64, names: u64, function: u64, from: u64, to: u64
         Form::Bare => x == 0,
         Form::Unknown => false,
     }
+}
+
+// One of two numbers that are both there, so that no branch is taken.
+pub fn pick(first: bool, a: u64, b: u64) -> u64
+    ensures { λ r. ⌜ r ≡ cond first a b ⌝ }
+{
+    if first { a } else { b }
+}
+
+// The largest operand that a line of kind 7 or more may have.
+fn most(kind: u16) -> u64
+    ensures { λ r. ⌜ r ≡ mostOf kind ⌝ }
+{
+    let slot = pick(
+        (kind == 7) | (kind == 10) | (kind == 11),
+        65535,
+        18446744073709551615,
+    );
+    pick(21 <= kind, 0, pick(kind == 12, 255, slot))
+}
+
+// Whether a line of kind 1 to 6, which names something, may stand: its name lies in the range that is allowed for it.
+pub fn name_allowed(kind: u16, x: u64, names: u64, from: u64, to: u64) -> bool
+    requires { ⌜ 1 ≤ kind ⌝ }
+    requires { ⌜ kind < 7 ⌝ }
+    ensures { λ r. ⌜ ((function : ℕ) → r ≡ allowedBy (formOf kind) x names function from to) ⌝ }
+{
+    let name = pick(kind == 5, x / 256, x);
+    (pick(kind == 6, from, 0) <= name) & (name < pick(kind == 6, to, names))
+}
+
+// Whether a line of kind 7 or more may stand, whose operand is a number or none: without a branch, since these are most lines and which
+// one comes next is hard to foresee.
+pub fn number_allowed(kind: u16, x: u64) -> bool
+    requires { ⌜ 7 ≤ kind ⌝ }
+    ensures { λ r. ⌜ ((names function from to : ℕ) → r ≡ allowedBy (formOf kind) x names function from to) ⌝ }
+{
+    (kind < 94) & ((8 <= kind) | (1 <= x)) & (x <= most(kind))
 }
 
 // Whether every line may stand, of as many as both slices hold. `names` is the number of names, `function` the function's name; the

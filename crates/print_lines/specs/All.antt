@@ -22,73 +22,18 @@ printedAll one (k ∷ ks) (x ∷ xs) = one k x ++ printedAll one ks xs
 
 -- ---- over lists
 module _ (one : ℕ → ℕ → List ℕ) where
-  no-kind : (ks xs : List ℕ) → length ks ≡ 0 → printedAll one ks xs ≡ []
+  pub no-kind : (ks xs : List ℕ) → length ks ≡ 0 → printedAll one ks xs ≡ []
   no-kind [] xs h = refl
   no-kind (k ∷ ks) xs h = absurd (omega arith)
 
-  no-operand : (ks xs : List ℕ) → length xs ≡ 0 → printedAll one ks xs ≡ []
+  pub no-operand : (ks xs : List ℕ) → length xs ≡ 0 → printedAll one ks xs ≡ []
   no-operand [] xs h = refl
   no-operand (k ∷ ks) [] h = refl
   no-operand (k ∷ ks) (x ∷ xs) h = absurd (omega arith)
 
-  all-step : (ks xs : List ℕ) (i : ℕ) → i < length ks → i < length xs
+  pub all-step : (ks xs : List ℕ) (i : ℕ) → i < length ks → i < length xs
       → printedAll one (drop i ks) (drop i xs) ≡ one (getD ks i 0) (getD xs i 0) ++ printedAll one (drop (i + 1) ks) (drop (i + 1) xs)
   all-step ks xs i h g = rw (drop-cons ks i 0 h, drop-cons xs i 0 g, add-one i)
-
-nothing-text : (p : Pen) (x : List ℕ) → p ≡ reached (length x) 0 p → Put [] p x x p
-nothing-text p x e = record { says = e; long = refl; text = go p }
-  where
-    go : (p : Pen) → Text p [] x x
-    go (Counting a) = refl
-    go (Writing a) = λ f. refl
-    go Full = refl
-
--- i lines were put
-pub record Putting (one : ℕ → ℕ → List ℕ) (ks xs : List ℕ) (p : Pen) (x : List ℕ) (i : ℕ) (y : List ℕ) (q : Pen) : Type 0 where
-  pub done : List ℕ
-  pub split : done ++ printedAll one (drop i ks) (drop i xs) ≡ printedAll one ks xs
-  pub put : Put done p x y q
-  pub long : length y ≡ length x
-
-pub putting-start : (one : ℕ → ℕ → List ℕ) (ks xs : List ℕ) (p : Pen) (x : List ℕ) → p ≡ reached (length x) 0 p → Putting one ks xs p x 0 x p
-putting-start one ks xs p x e = record { done = []; split = refl; put = nothing-text p x e; long = refl }
-
-module _ {one : ℕ → ℕ → List ℕ} {ks xs : List ℕ} {p : Pen} {x : List ℕ} {i : ℕ} {y : List ℕ} {q : Pen} (s : Putting one ks xs p x i y q) where
-  pub putting-next : (z : List ℕ) (r : Pen) → i < length ks → i < length xs → Put (one (getD ks i 0) (getD xs i 0)) q y z r → Putting one ks xs p x (i + 1) z r
-  putting-next z r h g t = record {
-    done = s .done ++ one (getD ks i 0) (getD xs i 0);
-    split = append-assoc (s .done) (one (getD ks i 0) (getD xs i 0)) (printedAll one (drop (i + 1) ks) (drop (i + 1) xs)) ∙ ap (λ (l : List ℕ). s .done ++ l) (sym (all-step one ks xs i h g)) ∙ s .split;
-    put = then-put (s .put) t;
-    long = t .long ∙ s .long;
-  }
-
-  ended-put : printedAll one (drop i ks) (drop i xs) ≡ [] → Put (printedAll one ks xs) p x y q
-  ended-put e =
-      let f : s .done ≡ printedAll one ks xs = sym (append-nil (s .done)) ∙ ap (λ (l : List ℕ). s .done ++ l) (sym e) ∙ s .split in
-      rw f at (s .put)
-
-  pub putting-kinds : length ks ≤ i → Put (printedAll one ks xs) p x y q
-  putting-kinds h = ended-put (no-kind one (drop i ks) (drop i xs) (omega (arith, length-drop i ks)))
-
-  pub putting-operands : length xs ≤ i → Put (printedAll one ks xs) p x y q
-  putting-operands h = ended-put (no-operand one (drop i ks) (drop i xs) (omega (arith, length-drop i xs)))
-
-  -- where a pen is full nothing more is put
-  pub putting-full : q ≡ Full → Put (printedAll one ks xs) p x y Full
-  putting-full e =
-      let t : Put (s .done) p x y Full = rw e at (s .put) in
-      rw (s .split) at (then-put t (full-more (printedAll one (drop i ks) (drop i xs)) y))
-
-pub count-start : (x : List ℕ) → Counting 0 ≡ reached (length x) 0 (Counting 0)
-count-start x = rw (le-leb 0 (length x) (omega arith))
-
--- what was counted fits
-pub counted-inside : {one : ℕ → ℕ → List ℕ} {ks xs : List ℕ} {x : List ℕ} {i : ℕ} {y : List ℕ} {n : ℕ} → Putting one ks xs (Counting 0) x i y (Counting n) → n ≤ length x
-counted-inside {one} {ks} {xs} {x} {i} {y} {n} s = go (leb (0 + length (s .done)) (length x)) refl (s .put .says)
-  where
-    go : (t : Bool) → leb (0 + length (s .done)) (length x) ≡ t → Counting n ≡ fitting t (Counting (0 + length (s .done))) → n ≤ length x
-    go true e f = let m : n ≡ 0 + length (s .done) = cc in omega (arith, leb-true (0 + length (s .done)) (length x) e)
-    go false e f = absurd (let z : _≡_ {A = ℕ} 0 1 = cc in omega arith)
 
 -- i lines were written, and the others fit
 pub record Written (one : ℕ → ℕ → List ℕ) (ks xs x : List ℕ) (end i : ℕ) (y : List ℕ) (at : ℕ) : Type 0 where

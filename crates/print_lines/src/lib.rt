@@ -1,4 +1,6 @@
 // The text of a line: the word of its kind, what stands for its operand, and its end.
+pub mod weigh;
+
 use print_forms::Form;
 use print_forms::form_of;
 use print_pen::Pen;
@@ -7,7 +9,6 @@ use print_pen::put_clean;
 use print_pen::put_number;
 use print_types::starts::name_of;
 use print_types::types::put_type;
-use print_words::plain::plain_len;
 use print_words::plain::write_plain;
 use print_words::put_block;
 use print_words::put_call;
@@ -207,71 +208,6 @@ fn write_line(
         Pen::Counting(_) => at,
         Pen::Full => at,
     }
-}
-
-// Counts the bytes of as many lines as both slices hold; full where they do not fit.
-pub fn count_lines(
-    text: &mut [u8],
-    letters: &[u8],
-    places: &[u16],
-    names: &[u8],
-    starts: &[u64],
-    every: bool,
-    function: &[u8],
-    kinds: &[u64],
-    words: &[u64],
-    params: u64,
-    line_kinds: &[u16],
-    operands: &[u64],
-) -> Pen
-    requires { ⌜ Tables (now letters) (now places) ⌝ }
-    requires { ⌜ Starts every (now names) (now starts) ⌝ }
-    requires { ⌜ Typed (length (lines (now names))) 64 (now kinds) (now words) ⌝ }
-    requires { ⌜ AllReady (lines (now names)) (now «line_kinds») (now operands) ⌝ }
-    ensures { λ r. ⌜ Put (printedAll (printed (lines (now (names .entry))) (now (function .entry)) (typeBytes (lines (now (names .entry))) (typeTo (length (lines (now (names .entry)))) 64 (entries (now (kinds .entry)) (now (words .entry))))) params) (now («line_kinds» .entry)) (now (operands .entry))) (Pen.Counting 0) (now (text .entry)) (now (text .exit)) r ⌝ }
-{
-    let room = text.len();
-    let mut n: usize = 0;
-    let mut i: usize = 0;
-    while i < line_kinds.len() {
-        if operands.len() <= i {
-            return Pen::Counting(n);
-        }
-        let kind = line_kinds[i];
-        let x = operands[i];
-        if 7 <= kind {
-            let more = plain_len(places, kind, x);
-            if room - n < more {
-                return Pen::Full;
-            }
-            n += more;
-            i += 1;
-            continue;
-        }
-        match put_line(
-            text,
-            Pen::Counting(n),
-            letters,
-            places,
-            names,
-            starts,
-            every,
-            function,
-            kinds,
-            words,
-            params,
-            kind,
-            x,
-        ) {
-            Pen::Counting(next) => {
-                n = next;
-            }
-            Pen::Writing(_) => return Pen::Full,
-            Pen::Full => return Pen::Full,
-        }
-        i += 1;
-    }
-    Pen::Counting(n)
 }
 
 // Writes as many lines as both slices hold, of `end` bytes in all, which fit.

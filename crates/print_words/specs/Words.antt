@@ -145,6 +145,9 @@ word-size places k p t h e =
     let w = rw (← t, ← e) at (word-at k h) in
     ap length (sym (w .is)) ∙ length-take-le (p % 32) (drop (p / 32) wordLetters) (simp length-drop (omega (arith, w .room, w .short, letters-long)))
 
+pub word-short : (k : ℕ) → k < 94 → length (word k) ≤ 24
+word-short k h = omega (arith, word-at k h .short, word-size wordPlaces k (getD wordPlaces k 0) refl h refl)
+
 module _ {letters : List ℕ} {k p : ℕ} (w : Word letters k p) where
   pub word-long : length (word k) ≡ p % 32
   word-long = ap length (sym (w .is)) ∙ length-take-le (p % 32) (drop (p / 32) letters) (simp length-drop (omega (arith, w .room, w .short)))

@@ -8,10 +8,21 @@ ghost use mathlib.Core.Path.{_≡_};
 ghost use Prim.Native.Nat.{_+_, _<_, _≤_};
 ghost use lib.ListN.{length};
 ghost use lib.Seq.{sets};
+ghost use Rattle.numbers.specs.Digits.{decimal};
 ghost use Rattle.print_pen.specs.Write.{Wrote};
 ghost use Rattle.print_words.specs.Words.{word, wordPlaces, Tables};
 ghost use Rattle.print_words.specs.Ends.{ending};
 ghost use Rattle.print_words.specs.Plain.{plainText};
+
+// How many bytes the word of a line's kind has.
+pub fn word_len(places: &[u16], kind: u16) -> usize
+    requires { ⌜ now places ≡ wordPlaces ⌝ }
+    requires { ⌜ kind < 94 ⌝ }
+    ensures { λ r. ⌜ r ≡ length (word kind) ⌝ }
+{
+    let k = kind as usize;
+    place(places[k]) % 32
+}
 
 // How many bytes the line has.
 pub fn plain_len(places: &[u16], kind: u16, x: u64) -> usize
@@ -19,12 +30,13 @@ pub fn plain_len(places: &[u16], kind: u16, x: u64) -> usize
     requires { ⌜ kind < 94 ⌝ }
     ensures { λ r. ⌜ r ≡ length (plainText kind x) ⌝ }
 {
-    let k = kind as usize;
-    let letters = place(places[k]) % 32;
+    let letters = word_len(places, kind);
+    let number = decimal_len(x) + 2;
     if 21 <= kind {
-        return letters;
+        letters
+    } else {
+        letters + number
     }
-    letters + decimal_len(x) + 2
 }
 
 // Writes the word of a line's kind. Where 24 bytes are left, as many are stored, which takes no loop: what is written later stands
@@ -56,20 +68,30 @@ fn write_word(
     at + both % 32
 }
 
+// Writes the digits of a number below 100. It takes no branch: a first digit of 0 is stored too, and the last one over it.
+fn write_short(x: u64, text: &mut [u8], at: usize) -> usize
+    requires { ⌜ x < 100 ⌝ }
+    requires { ⌜ at + length (decimal x) ≤ length (now text) ⌝ }
+    ensures { λ r. ⌜ (r ≡ at + length (decimal x)) × (now (text .exit) ≡ sets (now (text .entry)) at (decimal x)) ⌝ }
+{
+    let last = at + (if x < 10 { 0 } else { 1 });
+    text[at] = 48 + (x / 10) as u8;
+    text[last] = 48 + (x % 10) as u8;
+    last + 1
+}
+
 // Writes what ends a line with an operand.
 fn write_end(text: &mut [u8], at: usize, kind: u16) -> usize
     requires { ⌜ at + 2 ≤ length (now text) ⌝ }
     ensures { λ r. ⌜ (r ≡ at + length (ending kind)) × (now (text .exit) ≡ sets (now (text .entry)) at (ending kind)) ⌝ }
 {
-    if is_label(kind) {
-        copy(b":\n", text, at);
-        return at + 2;
-    }
-    copy(b";\n", text, at);
+    text[at] = if is_label(kind) { 58 } else { 59 };
+    text[at + 1] = 10;
     at + 2
 }
 
-// Writes the line.
+// Writes the line. Behind the word of a line without an operand digits and an end are stored too, where there is room for them, and
+// the answer is chosen: what comes next stands over them, and which lines have an operand is hard to foresee.
 pub fn write_plain(
     text: &mut [u8],
     at: usize,
@@ -86,6 +108,11 @@ pub fn write_plain(
     ensures { λ r. ⌜ Wrote (plainText kind x) at end (now (text .entry)) (now (text .exit)) r ⌝ }
 {
     let next = write_word(text, at, end, letters, places, kind);
+    if (x < 100) & (32 <= end - at) {
+        let number = write_short(x, text, next);
+        let behind = write_end(text, number, kind);
+        return if 21 <= kind { next } else { behind };
+    }
     if 21 <= kind {
         return next;
     }

@@ -1,10 +1,11 @@
 -- `put_twice` meets its contract: the second pass writes what the first has counted.
 use Rattle.print_words.specs.Words.{Tables}
-use Rattle.print.specs.Passes.{passes-count, passes-done, passes-never, passes-full}
+use Rattle.print_forms.specs.Allowed.{all-ready}
+use Rattle.print.specs.Passes.{passes-count, passes-done, passes-short, passes-barred}
 use borrow.Author.Needs.{needs}
 use Rattle.print.proofs.passes.put_twice.Statement.{statement}
 use Rattle.print.proofs.passes.put_twice.Tie as tie
-use Rattle.print_lines.proofs.count_lines.Reads as count-lines-reads
+use Rattle.print_lines.proofs.weigh.weigh_lines.Reads as weigh-lines-reads
 use Rattle.print_lines.proofs.write_lines.Reads as write-lines-reads
 use Rattle.print_words.proofs.word_letters.Reads as word-letters-reads
 use Rattle.print_words.proofs.word_places.Reads as word-places-reads
@@ -15,17 +16,17 @@ word-letters-requires c κs = search needs
 word-places-requires : tie.Need-word-places-requires
 word-places-requires c κs = search needs
 
-slice-aggregate-count-lines : tie.Need-slice-aggregate-count-lines
-slice-aggregate-count-lines c = search needs
+slice-aggregate-weigh-lines : tie.Need-slice-aggregate-weigh-lines
+slice-aggregate-weigh-lines c = search needs
 
-slice-aggregate-count-lines-2 : tie.Need-slice-aggregate-count-lines-2
-slice-aggregate-count-lines-2 c = search needs
+weigh-lines-requires : tie.Need-weigh-lines-requires
+weigh-lines-requires c κs =
+    let after-places = c .before .before in
+    let p = after-places .before .before .before .before .before .before .before .before .before .before .pre in
+    (after-places .word-places .ensures, (p .0, (p .1 .0, p .1 .1)))
 
-count-lines-requires : tie.Need-count-lines-requires
-count-lines-requires c κs = search needs
-
-enum-known-counted : tie.Need-enum-known-counted
-enum-known-counted c = search needs
+enum-known-weighed : tie.Need-enum-known-weighed
+enum-known-weighed c = search needs
 
 slice-aggregate-write-lines : tie.Need-slice-aggregate-write-lines
 slice-aggregate-write-lines c = search needs
@@ -35,12 +36,13 @@ slice-aggregate-write-lines-2 c = search needs
 
 write-lines-requires : tie.Need-write-lines-requires
 write-lines-requires c κs =
-    let after-count = c .before .before .before .before .before .before .before .before in
-    let after-places = c .before .before .before .before .before .before .before .before .before .before .before .before in
+    let after-weigh = c .before .before .before .before .before .before .before .before in
+    let after-places = after-weigh .before .before .before in
     let entry = after-places .before .before .before .before .before .before .before .before .before .before in
-    let n = passes-count (after-count .count-lines .ensures) _ (c .before .before .before .before .counted .given .1) in (
+    let p = entry .pre in
+    let n = passes-count (after-weigh .weigh-lines .ensures) _ (c .before .before .before .before .weighed .given .1) in (
       record { letters-are = after-places .before .word-letters .ensures; places-are = after-places .word-places .ensures },
-      (entry .pre .0, (entry .pre .1 .0, (entry .pre .1 .1, (n .0, n .1)))),
+      (p .0, (p .1 .0, (all-ready (p .1 .1) (entry .args .own) _ _ (n .0), (n .1 .0, n .1 .1)))),
     )
 
 enum-told : tie.Need-enum-told
@@ -54,22 +56,22 @@ same-length c = search needs
 
 returns : tie.Need-returns
 returns c =
-    let after-counted = c .before .before .before .before .before .before .before in
-    passes-done (after-counted .before .before .before .before .count-lines .ensures) _ _ (after-counted .counted .given .1) (c .before .before .write-lines .ensures)
+    let after-weighed = c .before .before .before .before .before .before .before in
+    passes-done _ (after-weighed .before .before .before .before .weigh-lines .ensures) _ _ (after-weighed .weighed .given .1) (c .before .before .write-lines .ensures)
 
 same-length-2 : tie.Need-same-length-2
 same-length-2 c = search needs
 
 returns-2 : tie.Need-returns-2
 returns-2 c =
-    passes-never (c .before .before .before .before .count-lines .ensures) _ (c .enum-told .given .1)
+    passes-short _ (c .before .before .before .before .weigh-lines .ensures) (c .enum-told .given .1)
 
 same-length-3 : tie.Need-same-length-3
 same-length-3 c = search needs
 
 returns-3 : tie.Need-returns-3
 returns-3 c =
-    passes-full (c .before .before .before .before .count-lines .ensures) (c .enum-told2 .given .1)
+    passes-barred _ (c .before .before .before .before .weigh-lines .ensures) (c .enum-told2 .given .1)
 
 pub put-twice-spec : {M : Type 1} → statement M
 put-twice-spec =
@@ -77,10 +79,9 @@ put-twice-spec =
     (tie.spec
     word-letters-requires
     word-places-requires
-    slice-aggregate-count-lines
-    slice-aggregate-count-lines-2
-    count-lines-requires
-    enum-known-counted
+    slice-aggregate-weigh-lines
+    weigh-lines-requires
+    enum-known-weighed
     slice-aggregate-write-lines
     slice-aggregate-write-lines-2
     write-lines-requires

@@ -1,20 +1,25 @@
 -- `write_end` meets its contract by the test of the kind.
-use mathlib.Core.Path.{sym, ap, _∙_}
-use Rattle.print_words.specs.Ends.{ending}
+use mathlib.Core.Path.{sym, _∙_}
+use mathlib.Core.Logic.{⊎-elim}
+use native.Mathlib.Omega.{arith}
+use lib.ListN.{length-set}
+use Rattle.print_words.specs.Plain.{colon-stored, semicolon-stored}
 use borrow.Author.Needs.{needs}
 use Rattle.print_words.proofs.plain.write_end.Statement.{statement}
 use Rattle.print_words.proofs.plain.write_end.Tie as tie
-use Rattle.print_pen.proofs.copy.Reads as copy-reads
 use Rattle.print_words.proofs.is_label.Reads as is-label-reads
 
 is-label-requires : tie.Need-is-label-requires
 is-label-requires c κs = search needs
 
-slice-aggregate-copy : tie.Need-slice-aggregate-copy
-slice-aggregate-copy c = search needs
+slice-write-text : tie.Need-slice-write-text
+slice-write-text c = search needs
 
-copy-requires : tie.Need-copy-requires
-copy-requires c κs = search needs
+add-text : tie.Need-add-text
+add-text c = search needs
+
+slice-write-text-2 : tie.Need-slice-write-text-2
+slice-write-text-2 c = simp length-set (omega arith)
 
 add-result : tie.Need-add-result
 add-result c = search needs
@@ -23,41 +28,18 @@ same-length : tie.Need-same-length
 same-length c = search needs
 
 returns : tie.Need-returns
-unfolding ending
 returns c =
-    let e = sym (c .before .before .before .before .before .before .is-label .ensures) ∙ (c .before .before .before .before .before .if1 .taken) in
-    (rw e, rw e (c .before .before .copy .ensures))
-
-slice-aggregate-copy-2 : tie.Need-slice-aggregate-copy-2
-slice-aggregate-copy-2 c = search needs
-
-copy-requires-2 : tie.Need-copy-requires-2
-copy-requires-2 c κs = search needs
-
-add-result-2 : tie.Need-add-result-2
-add-result-2 c = search needs
-
-same-length-2 : tie.Need-same-length-2
-same-length-2 c = search needs
-
-returns-2 : tie.Need-returns-2
-unfolding ending
-returns-2 c =
-    let e = sym (c .before .before .before .before .before .before .is-label .ensures) ∙ (c .before .before .before .before .before .if1 .left) in
-    (rw e, rw e (c .before .before .copy2 .ensures))
+    let is = sym (c .before .is-label .ensures) in
+    ⊎-elim (λ w. colon-stored _ _ _ _ (is ∙ w .0 .taken) (w .1)) (λ w. semicolon-stored _ _ _ _ (is ∙ w .0 .left) (w .1)) (c .if1 .came)
 
 pub write-end-spec : {M : Type 1} → statement M
 write-end-spec =
     tie.close
     (tie.spec
     is-label-requires
-    slice-aggregate-copy
-    copy-requires
+    slice-write-text
+    add-text
+    slice-write-text-2
     add-result
     same-length
-    returns
-    slice-aggregate-copy-2
-    copy-requires-2
-    add-result-2
-    same-length-2
-    returns-2)
+    returns)
