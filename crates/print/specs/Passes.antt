@@ -3,22 +3,19 @@ use Prim.Native.Nat.{ℕ, _≤_}
 use mathlib.Core.Path.{_≡_, refl, sym, ap, _∙_}
 use mathlib.Core.Bool.{Bool, true, cond}
 use mathlib.Core.Option.{Option, none, some}
-use mathlib.Core.List.{List, [], _++_}
+use mathlib.Core.List.{List, _++_}
 use native.Mathlib.Omega.{arith}
 use borrow.Author.Tests.{le-leb, lt-leb}
-use lib.Dec.{leb}
 use lib.ListN.{length, drop}
 use Rattle.names.specs.Text.{bytes}
-use Rattle.names.specs.Name.{namesOf, nameAt, lines}
+use Rattle.names.specs.Name.{nameAt, lines}
 use Rattle.names.specs.Lines.{names-iff}
-use Rattle.names.specs.Spelling.{isSyscall}
 use Rattle.names.specs.Prefix.{PrefixRange}
-use Rattle.book.specs.Ast.{Ty, Book}
+use Rattle.book.specs.Ast.{Book}
 use Rattle.book.specs.Entry.{entries}
 use Rattle.book.specs.Decode.{typeTo}
 use Rattle.book.specs.Input.{namesIn}
 use Rattle.assembly.specs.Line.{Line}
-use Rattle.assembly.specs.Number.{isName}
 use Rattle.assembly.specs.Text.{typeText, texts}
 use Rattle.assembly.specs.Printer.{Printing, refusing, writing, needed, linesOf}
 use Rattle.assembly.specs.Printer as printer

@@ -4,13 +4,10 @@ use mathlib.Core.Path.{_≡_, refl, sym, ap, _∙_}
 use mathlib.Core.List.{List, [], _∷_, _++_, append-assoc, append-nil}
 use native.Mathlib.Numerals.{add-one}
 use native.Mathlib.Omega.{arith}
-use mathlib.Core.Bool.{Bool, true, false}
-use borrow.Author.Tests.{leb-true, le-leb}
-use lib.Dec.{leb}
 use lib.ListN.{length, getD, take, drop, length-drop, length-append, take-append-drop}
 use lib.Seq.{drop-cons}
-use Rattle.print_pen.specs.Pen.{Put, Text, reached, fitting, then-put}
-use Rattle.print_pen.specs.Write.{Wrote, pen-wrote, full-more, never-writes}
+use Rattle.print_pen.specs.Pen.{Put}
+use Rattle.print_pen.specs.Write.{Wrote, pen-wrote, never-writes}
 use Rattle.print_pen.specs.declared.Pen.{Pen}
 use Rattle.print_pen.specs.declared.Pen.the-variants.{Counting, Writing, Full}
 

@@ -12,7 +12,7 @@ use Rattle.print_forms.specs.Forms.{formOf, allowedBy}
 use Rattle.print_forms.specs.All.{allowedAll, checked-kinds, checked-operands, checked-false, checked-true}
 use Rattle.print_pen.specs.Pen.{Put, fitting}
 use Rattle.print_pen.specs.declared.Pen.{Pen}
-use Rattle.print_pen.specs.declared.Pen.the-variants.{Counting, Writing, Full}
+use Rattle.print_pen.specs.declared.Pen.the-variants.{Counting, Full}
 use Rattle.print_words.specs.Plain.{plainText}
 use Rattle.print_lines.specs.Lines.{partsText, comment, printed, plain-printed}
 use Rattle.print_lines.specs.Named.{named-printed}

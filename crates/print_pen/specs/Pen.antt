@@ -8,7 +8,7 @@ use native.Mathlib.Omega.{arith}
 use native.Mathlib.Nat.{add-zero}
 use borrow.Author.Tests.{leb-true, leb-false, le-leb, lt-leb}
 use lib.ListN.{length, getD, drop, set, length-append, length-set}
-use lib.Seq.{sets, length-sets, drop-cons, drop-length, sets-eq}
+use lib.Seq.{sets, length-sets, drop-cons, drop-length}
 use lib.Dec.{leb}
 use Rattle.names.specs.Spelling.{sanitize, cleanByte}
 use Rattle.names.specs.Tests.{agree}
@@ -222,16 +222,6 @@ clean-end {src} {x} {y} {at} {i} c h =
     let f : drop i src ≡ [] = rw e (drop-length src) in
     let g : sanitize (drop i src) ≡ [] = ap sanitize f ∙ clean-nil in
     rw g at (c .same)
-
--- ---- all of it
--- counting from 0: the number of bytes where they fit
-pub counted : {bs x y : List ℕ} {q : Pen} → Put bs (Counting 0) x y q → (y ≡ x) × (q ≡ fitting (leb (length bs) (length x)) (Counting (length bs)))
-counted {bs} {x} {y} {q} h = let z : 0 + length bs ≡ length bs = omega arith in (h .text, rw z at (h .says))
-
-pub written : {bs x y : List ℕ} {q : Pen} → Put bs (Writing 0) x y q → length bs ≤ length x → y ≡ bs ++ drop (length bs) x
-written {bs} {x} {y} {q} h f =
-    let z : 0 + length bs ≡ length bs = omega arith in
-    h .text (omega arith) ∙ sets-eq bs x 0 (omega arith) ∙ rw z
 
 -- ---- the test and the pen behind it
 pub fits-there : (at n room : ℕ) → at ≤ room → leb n (room - at) ≡ leb (at + n) room

@@ -1,17 +1,17 @@
 -- What writing bytes at a place leaves behind, where it is known that all bytes fit. More than those asked for may be stored, up to an end that is reached in the end:
 -- what is stored later stands over it.
-use Prim.Native.Nat.{ℕ, suc, _+_, _≤_, _<_}
+use Prim.Native.Nat.{ℕ, suc, _+_, _≤_}
 use mathlib.Core.Path.{_≡_, refl, ap, _∙_}
 use mathlib.Core.Bool.{Bool, true, false}
 use mathlib.Core.List.{List, [], _∷_, _++_, append-assoc}
 use native.Mathlib.Omega.{arith}
-use borrow.Author.Tests.{le-leb, lt-leb}
+use borrow.Author.Tests.{le-leb}
 use lib.Dec.{leb}
 use lib.ListN.{length, take, drop, set, length-append}
 use lib.Seq.{sets, length-sets, sets-eq, drop-set-lt, take-length, length-take-le, take-append-le, take-append-add}
 use Rattle.print_pen.specs.Pen.{Put, reached, fitting}
 use Rattle.print_pen.specs.declared.Pen.{Pen}
-use Rattle.print_pen.specs.declared.Pen.the-variants.{Counting, Writing, Full}
+use Rattle.print_pen.specs.declared.Pen.the-variants.{Counting, Writing}
 
 -- the bytes bs were written from the place `at` on into the text x; y is the text then, and r the place behind them
 pub record Wrote (bs : List ℕ) (at end : ℕ) (x y : List ℕ) (r : ℕ) : Type 0 where
@@ -65,20 +65,6 @@ pub pen-wrote : {bs x y : List ℕ} {q : Pen} {at : ℕ} (end : ℕ) → Put bs 
 pen-wrote {bs} {x} {y} {q} {at} end h f g =
     let l : at + length bs ≤ length x = omega arith in
     (h .says ∙ rw (le-leb _ _ l), rw (h .text l) (wrote-all bs x at end f g))
-
--- counting without a text
-pub count-more : (bs x : List ℕ) (a n : ℕ) → n ≡ length bs → a + n ≤ length x → Put bs (Counting a) x x (Counting (a + n))
-count-more bs x a n e h =
-    let f : a + length bs ≤ length x = omega arith in
-    record { says = rw (e, le-leb _ _ f); long = refl; text = refl }
-
-pub count-full : (bs x : List ℕ) (a n : ℕ) → n ≡ length bs → length x < a + n → Put bs (Counting a) x x Full
-count-full bs x a n e h =
-    let f : length x < a + length bs = omega arith in
-    record { says = rw (lt-leb _ _ f); long = refl; text = refl }
-
-pub full-more : (bs x : List ℕ) → Put bs Full x x Full
-full-more bs x = record { says = refl; long = refl; text = refl }
 
 -- a counting pen never writes
 pub never-writes : (q : Pen) (room n a b : ℕ) → q ≡ reached room n (Counting a) → q ≡ Writing b → ⊥
