@@ -9,6 +9,7 @@ use Rattle.names.specs.Text.{bytes, openText}
 use Rattle.names.specs.Name.{namesOf, accepted, join, nameFrom, startOf, openName}
 use Rattle.names.specs.Spelling.{sanitize, isIntrinsic, isSyscall, hasOverflow, isBcmp, isMemcmp, openSpelling}
 use Rattle.names.specs.Prefix.{firstWith, pastWith, openPrefix}
+use Rattle.names.specs.Compare.{Order, order, steps, openCompare}
 
 unfoldable texts : List String → List (List ℕ)
 texts [] = []
@@ -18,7 +19,7 @@ unfoldable given : List String → List ℕ
 given ts = join (texts ts)
 
 unfoldable openCases : Unit {0}
-unfolding openText openName openSpelling openPrefix texts given
+unfolding openText openName openSpelling openPrefix openCompare texts given
 openCases = tt
 
 empty-slice : namesOf [] ≡ some []
@@ -118,3 +119,39 @@ range-first = refl
 range-past : pastWith (bytes "llvm.") (texts ("a" ∷ "llvm.a" ∷ "llvm.b" ∷ "z" ∷ [])) ≡ 3
 unfolding openCases
 range-past = refl
+
+-- a text and a longer one that it begins: one word, no byte pair
+order-shorter : order (bytes "arrayidx") (bytes "arrayidx12") ≡ Order.less
+unfolding openCases
+order-shorter = refl
+
+steps-shorter : steps (bytes "arrayidx") (bytes "arrayidx12") ≡ 1
+unfolding openCases
+steps-shorter = refl
+
+-- the second word differs, in its first byte
+order-second-word : order (bytes "arrayidxcopycopy") (bytes "arrayidxbodybody") ≡ Order.greater
+unfolding openCases
+order-second-word = refl
+
+steps-second-word : steps (bytes "arrayidxcopycopy") (bytes "arrayidxbodybody") ≡ 2
+unfolding openCases
+steps-second-word = refl
+
+-- the same with seven bytes in the second place: a word, and a byte pair
+steps-behind-words : steps (bytes "arrayidxcopycop") (bytes "arrayidxbodybody") ≡ 2
+unfolding openCases
+steps-behind-words = refl
+
+-- as many as there may be: 15 / 8 + 7
+order-equal : order (bytes "arrayidxcopycop") (bytes "arrayidxcopycop") ≡ Order.equal
+unfolding openCases
+order-equal = refl
+
+steps-equal : steps (bytes "arrayidxcopycop") (bytes "arrayidxcopycop") ≡ 8
+unfolding openCases
+steps-equal = refl
+
+steps-none : steps [] (bytes "a") ≡ 0
+unfolding openCases
+steps-none = refl

@@ -7,6 +7,8 @@ pub mod Tests
 pub mod Texts
 pub mod Labels
 pub mod Order
+pub mod Compare
+pub mod Steps
 pub mod Lines
 pub mod Places
 pub mod Ranges

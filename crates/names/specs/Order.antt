@@ -8,7 +8,7 @@ use native.Mathlib.Omega.{arith}
 use native.Mathlib.Nat.{eq-or-lt-of-le}
 use borrow.Author.Tests.{ltb-true, ltb-false, lt-ltb, le-ltb, eqb-true, eq-eqb}
 use lib.Dec.{eqb, ltb}
-use lib.ListN.{length}
+use lib.ListN.{length, take, drop}
 use Rattle.names.specs.Text.{starts}
 use Rattle.names.specs.Name.{before, ascendingFrom, ascending, nameAt}
 use Rattle.names.specs.Tests.{both, either, or-right, is-false, decide}
@@ -71,6 +71,17 @@ total (x ∷ xs) (y ∷ ys) h k = by-first (total xs ys) (compared x y)
         (⊎-elim
         (λ e. rw (e, ih (is-false (before xs ys) (λ r. not-so x y xs ys h (inr (e, r)))) (is-false (before ys xs) (λ r. not-so y x ys xs k (inr (sym e, r))))))
         (λ l. absurd (not-so y x ys xs k (inl l))))
+
+-- behind k bytes that are the same the rest decides
+pub before-behind : (k : ℕ) (a b : List ℕ) → k ≤ length a → k ≤ length b → take k a ≡ take k b → before a b ≡ before (drop k a) (drop k b)
+unfolding before
+before-behind zero a b la lb e = refl
+before-behind (suc k) [] b la lb e = absurd (omega arith)
+before-behind (suc k) (x ∷ xs) [] la lb e = absurd (omega arith)
+before-behind (suc k) (x ∷ xs) (y ∷ ys) la lb e =
+    let f : x ≡ y = cc in
+    let t : take k xs ≡ take k ys = cc in
+    rw (f, le-ltb y y (omega arith), eq-eqb y y refl) (before-behind k xs ys (omega arith) (omega arith) t)
 
 -- a text between two that start with p starts with p
 pub between : (p a b c : List ℕ) → starts p a ≡ true → starts p c ≡ true → before a b ≡ true → before b c ≡ true → starts p b ≡ true

@@ -10,7 +10,7 @@ use borrow.Author.Tests.{lt-ltb, le-ltb, ltb-true, eq-eqb, ne-eqb, leb-true}
 use lib.Dec.{ltb, leb}
 use lib.Arith.{digits-lt}
 use lib.Pow.{pow-pos, pow-add}
-use lib.ListN.{length, getD, take, drop}
+use lib.ListN.{length, getD, take}
 use Rattle.names.specs.Text.{within}
 use Rattle.names.specs.Name.{nameByte, everyByte, before}
 use Rattle.names.specs.Tests.{both, agree}
@@ -89,16 +89,16 @@ word-order (suc k) [] (y ∷ ys) oa ob d = sym (lt-ltb 0 (word (suc k) (y ∷ ys
 word-order (suc k) (x ∷ xs) (y ∷ ys) oa ob d =
     by-first k x y xs ys xs ys (λ i. oa (suc i)) (λ i. ob (suc i)) (λ e. word-order k xs ys (λ i. oa (suc i)) (λ i. ob (suc i)) (λ w. d (rw (e, w))))
 
--- and behind equal words the rest does
-pub word-equal : (k : ℕ) (a b : List ℕ) → Octets a → Octets b → k ≤ length a → k ≤ length b → word k a ≡ word k b → before a b ≡ before (drop k a) (drop k b)
-unfolding word before
-word-equal zero a b oa ob la lb e = refl
-word-equal (suc k) [] b oa ob la lb e = absurd (omega arith)
-word-equal (suc k) (x ∷ xs) [] oa ob la lb e = absurd (omega arith)
-word-equal (suc k) (x ∷ xs) (y ∷ ys) oa ob la lb e =
+-- and words that are equal have the same bytes
+pub word-same : (k : ℕ) (a b : List ℕ) → Octets a → Octets b → k ≤ length a → k ≤ length b → word k a ≡ word k b → take k a ≡ take k b
+unfolding word
+word-same zero a b oa ob la lb e = refl
+word-same (suc k) [] b oa ob la lb e = absurd (omega arith)
+word-same (suc k) (x ∷ xs) [] oa ob la lb e = absurd (omega arith)
+word-same (suc k) (x ∷ xs) (y ∷ ys) oa ob la lb e =
     ⊎-elim (λ l. absurd (omega (arith, word-first k x y xs ys l (λ i. oa (suc i)))))
     (⊎-elim
-    (λ s. rw (s, le-ltb y y (omega arith), eq-eqb y y refl) (word-equal k xs ys (λ i. oa (suc i)) (λ i. ob (suc i)) (omega arith) (omega arith) (omega (arith, rw s at e))))
+    (λ s. rw (s, word-same k xs ys (λ i. oa (suc i)) (λ i. ob (suc i)) (omega arith) (omega arith) (omega (arith, rw s at e))))
     (λ l. absurd (omega (arith, word-first k y x ys xs l (λ i. ob (suc i))))))
     (compared x y)
 
