@@ -1,34 +1,19 @@
 -- The name at a place: where it ends, its key, and its order with the one before it.
-use Prim.Native.Nat.{ℕ, zero, suc, _+_, _-_, _*_, _^_, _<_, _≤_, min}
+use Prim.Native.Nat.{ℕ, _+_, _-_, _*_, _^_, _<_, _≤_}
 use mathlib.Core.Path.{_≡_, refl, sym, ap, _∙_}
-use mathlib.Core.Bool.{Bool, true, false}
+use mathlib.Core.Bool.{Bool}
 use mathlib.Core.List.{List, [], _∷_, _++_}
 use native.Mathlib.Numerals.{add-one}
 use native.Mathlib.Omega.{arith}
 use lib.Dec.{ltb}
-use lib.ListN.{length, getD, take, drop, length-take, length-drop}
-use lib.Seq.{take-append-le, take-take, take-suc, getD-drop, drop-drop}
-use Rattle.names.specs.Name.{barred, everyByte, before, upTo, until, front}
+use lib.ListN.{length, getD, take, drop, length-drop}
+use lib.Seq.{take-append-le, take-take, take-suc, getD-drop}
+use Rattle.names.specs.Name.{barred, everyByte, before, front}
 use Rattle.names_spelling.proofs.Scan.{until-part, passed}
 use Rattle.names_words.specs.Word.{word, keyOf, Octets, word-take, key-order}
 use Rattle.names_check.specs.Found.{part, Kept, Found}
 use Rattle.names_check.proofs.Check.{front-bytes}
-
-front-le : (bs : List ℕ) → length (front bs) ≤ length bs
-unfolding front
-front-le bs = omega (arith, ap length (until-part barred bs), length-take (length (until barred bs)) bs)
-
--- bytes that may all stand in a name are passed
-front-over : (k : ℕ) (bs : List ℕ) → k ≤ length (front bs) → length (front bs) ≡ k + length (front (drop k bs))
-unfolding front until upTo
-front-over zero bs l = omega arith
-front-over (suc k) [] l = absurd (omega arith)
-front-over (suc k) (b ∷ bs) l = step (barred b) (front-over k bs) l
-  where
-    step : (t : Bool) → (k ≤ length (until barred bs) → length (until barred bs) ≡ k + length (until barred (drop k bs)))
-        → suc k ≤ length (upTo t b (until barred bs)) → length (upTo t b (until barred bs)) ≡ suc k + length (until barred (drop k bs))
-    step true ih m = absurd (omega arith)
-    step false ih m = omega (arith, ih (omega arith))
+use Rattle.names_check.proofs.Words.{front-le, WordRead, room, end-short, end-long}
 
 -- the key of a name that ends among eight bytes, and of one that does not
 key-ended : (n : ℕ) (bs : List ℕ) → n ≡ length (front bs) → n < length bs → getD bs n 0 ≡ 10 → word 8 (take (n + 1) bs) ≡ keyOf (front bs)
@@ -72,58 +57,42 @@ module _ (names : List ℕ) (at end : ℕ) (r : end ≡ at + length (front (drop
           };
         }
 
--- the word at `at`, with the number of its bytes up to the first that may not stand in a name
-pub record WordRead (names : List ℕ) (at w n : ℕ) : Type 0 where
-  pub octets : Octets (drop at names)
-  pub long : 8 ≤ length (drop at names)
-  pub same : w ≡ word 8 (drop at names)
-  pub counted : n ≡ min 8 (length (front (drop at names)))
+-- the name at `at`, whose bytes in front of `from` may all stand in a name; its key, where there are eight bytes
+pub record Passing (names : List ℕ) (at from key : ℕ) : Type 0 where
+  pub starts : at ≤ from
+  pub inside : from ≤ length names
+  pub ends : from + length (front (drop from names)) ≡ at + length (front (drop at names))
+  pub keyed : at + 8 ≤ length names → key ≡ keyOf (front (drop at names))
 
-pub word-read : (names : List ℕ) (at w n : ℕ) → Octets names → 8 ≤ length names - at → w ≡ word 8 (drop at names)
-    → ((bs : List ℕ) → Octets bs → 8 ≤ length bs → w ≡ word 8 bs → n ≡ min 8 (length (front bs))) → WordRead names at w n
-word-read names at w n o l e f =
-    let o′ : Octets (drop at names) = λ i. rw getD-drop (o (at + i)) in
-    let l′ : 8 ≤ length (drop at names) = rw length-drop (omega arith) in
-    record { octets = o′; long = l′; same = e; counted = f (drop at names) o′ l′ e }
+pub passing-none : (names : List ℕ) (at key : ℕ) → at < length names → length names - at < 8 → Passing names at at key
+passing-none names at key l m = record { starts = omega arith; inside = omega arith; ends = refl; keyed = λ h. absurd (omega arith) }
 
 module _ {names : List ℕ} {at w n : ℕ} (d : WordRead names at w n) where
-  room : at + 8 ≤ length names
-  room = omega (arith, d .long, length-drop at names)
+  pub passing-word : 8 ≤ n → Passing names at (at + 8) w
+  passing-word l =
+      record {
+        starts = omega arith;
+        inside = room d;
+        ends = end-long d _ l refl;
+        keyed = λ h. d .same ∙ key-over (drop at names) (omega (arith, d .counted));
+      }
 
-  -- where the name ends if it goes on behind the word
-  pub end-long : (end : ℕ) → 8 ≤ n → end ≡ at + 8 + length (front (drop (at + 8) names)) → end ≡ at + length (front (drop at names))
-  end-long end l q = omega (arith, d .counted, front-over 8 (drop at names) (omega (arith, d .counted)), ap (λ (r : List ℕ). length (front r)) (drop-drop 8 at names))
+  -- a name that ends among the word's bytes is ordered by the keys
+  pub found-short : {last past key : ℕ} → Kept names last past key at → (key′ : ℕ) → n < 8
+      → ((bs : List ℕ) → Octets bs → w ≡ word 8 bs → key′ ≡ word 8 (take (n + 1) bs)) → Found names last past at (at + n) key′ (ltb key key′)
+  found-short {last} {past} {key} k key′ l f =
+      found names at (at + n) (end-short d l) (omega (arith, room d)) last past (ltb key key′) key′ (λ m e. ordered (keyed e)) (λ m e. keyed e)
+    where
+      keyed : getD names (at + n) 0 ≡ 10 → key′ ≡ keyOf (front (drop at names))
+      keyed e = f (drop at names) (d .octets) (d .same) ∙ key-ended n (drop at names) (omega (arith, d .counted)) (omega (arith, d .long)) (rw getD-drop e)
 
-  key-long : 8 ≤ n → w ≡ keyOf (front (drop at names))
-  key-long l = d .same ∙ key-over (drop at names) (omega (arith, d .counted))
+      ordered : key′ ≡ keyOf (front (drop at names)) → ltb key key′ ≡ before (part names last past) (part names at (at + n))
+      ordered q =
+          rw (part-front names at (at + n) (end-short d l), k .keyed (room d), q)
+          (sym (key-order (part names last past) (front (drop at names)) (k .bytes) (front-bytes (drop at names)) (λ _. omega (arith, d .counted))))
 
-  module _ {last past key : ℕ} (k : Kept names last past key at) where
-    -- the order by the keys
-    order-keys : (end key′ : ℕ) → end ≡ at + length (front (drop at names)) → key′ ≡ keyOf (front (drop at names))
-        → (key ≡ key′ → length (front (drop at names)) < 8) → ltb key key′ ≡ before (part names last past) (part names at end)
-    order-keys end key′ r q s =
-        let p = k .keyed room in
-        rw (part-front names at end r, p, q) (sym (key-order (part names last past) (front (drop at names)) (k .bytes) (front-bytes (drop at names)) (λ e. s (p ∙ e ∙ sym q))))
-
-    -- a name that ends among the word's bytes
-    pub found-short : (key′ : ℕ) → n < 8 → ((bs : List ℕ) → Octets bs → w ≡ word 8 bs → key′ ≡ word 8 (take (n + 1) bs))
-        → Found names last past at (at + n) key′ (ltb key key′)
-    found-short key′ l f =
-        found names at (at + n) ends (omega (arith, room)) last past (ltb key key′) key′ (λ m e. order-keys (at + n) key′ ends (keyed e) (λ _. omega (arith, d .counted)))
-        (λ m e. keyed e)
-      where
-        ends : at + n ≡ at + length (front (drop at names))
-        ends = omega (arith, d .counted)
-
-        keyed : getD names (at + n) 0 ≡ 10 → key′ ≡ keyOf (front (drop at names))
-        keyed e = f (drop at names) (d .octets) (d .same) ∙ key-ended n (drop at names) (omega (arith, d .counted)) (omega (arith, d .long)) (rw getD-drop e)
-
-    -- one that goes on behind them
-    module _ (end : ℕ) (l : 8 ≤ n) (r : end ≡ at + 8 + length (front (drop (at + 8) names))) where
-      pub found-differ : (key ≡ w → ⊥) → Found names last past at end w (ltb key w)
-      found-differ u =
-          found names at end (end-long end l r) (omega (arith, room)) last past (ltb key w) w (λ m e. order-keys end w (end-long end l r) (key-long l) (λ v. absurd (u v)))
-          (λ m e. key-long l)
-
-      pub found-same : key ≡ w → (after : Bool) → after ≡ before (part names last past) (part names at end) → Found names last past at end key after
-      found-same u after o = found names at end (end-long end l r) (omega (arith, room)) last past after key (λ m e. o) (λ m e. u ∙ key-long l)
+-- one that was compared with the name before it
+pub found-compared : {names : List ℕ} {at from key : ℕ} → Passing names at from key → (end : ℕ) → end ≡ from + length (front (drop from names)) → at < length names
+    → (last past : ℕ) (after : Bool) → after ≡ before (part names last past) (part names at end) → Found names last past at end key after
+found-compared {names} {at} {from} {key} p end r l last past after o =
+    found names at end (r ∙ p .ends) l last past after key (λ m e. o) (λ m e. p .keyed (omega (arith, p .starts, r)))

@@ -1,5 +1,7 @@
 // The names that come with a book: whether they are a list of names as document 01 wants them, which of them start with a prefix, and
 // where the one behind each of them starts.
+use names_compare::Ordering;
+use names_compare::compare;
 use names_spelling::END;
 use names_spelling::name_starts;
 use names_words::word_at;
@@ -22,8 +24,8 @@ fn name_byte(b: u8) -> bool
     (32 <= b) & (b <= 126)
 }
 
-// The index of the first byte from `at` on that may not stand in a name, or the number of bytes.
-fn front_end(names: &[u8], at: usize) -> usize
+// The index of the first byte from `at` on that may not stand in a name, or the number of bytes; byte by byte.
+fn bytes_end(names: &[u8], at: usize) -> usize
     ensures { λ r. ⌜ r ≡ at + length (front (drop at (now (names .entry)))) ⌝ }
 {
     let mut i = at;
@@ -36,23 +38,34 @@ fn front_end(names: &[u8], at: usize) -> usize
     i
 }
 
+// The same by words while eight bytes remain.
+fn front_end(names: &[u8], at: usize) -> usize
+    requires { ⌜ at ≤ length (now names) ⌝ }
+    ensures { λ r. ⌜ r ≡ at + length (front (drop at (now (names .entry)))) ⌝ }
+{
+    let mut i = at;
+    while 8 <= names.len() - i {
+        let w = word_at(names, i);
+        let n = word_front(w);
+        if n < 8 {
+            return i + n;
+        }
+        i += 8;
+    }
+    bytes_end(names, i)
+}
+
 // Whether one name comes strictly before another bytewise.
 pub fn name_before(a: &[u8], b: &[u8]) -> bool
     ensures { λ r. ⌜ r ≡ before (now (a .entry)) (now (b .entry)) ⌝ }
 {
-    let mut i: usize = 0;
-    while i < a.len() {
-        if b.len() <= i {
-            return false;
-        }
-        let x = a[i];
-        let y = b[i];
-        if x != y {
-            return x < y;
-        }
-        i += 1;
+    let compared = compare(a, b);
+    let order = compared.order;
+    match order {
+        Ordering::Less => true,
+        Ordering::Equal => false,
+        Ordering::Greater => false,
     }
-    i < b.len()
 }
 
 // The names of a slice: a list of names, with the range of those that start with a prefix; or no such list.
@@ -85,38 +98,36 @@ struct Next {
 }
 
 // The name at `at`, compared with the one that stands from `last` to `past`. Where eight bytes are left they are read as one word,
-// which tells the end of a short name, and its order by one comparison with the other name's key. Two names whose first eight bytes are
-// equal are compared byte by byte, and so are the last names, for which the key is not needed any more.
+// which tells the end of a short name, and its order by one comparison with the other name's key. A longer name's end is searched behind
+// that word; then the two names are compared, and so are the last ones, for which the key is not needed any more.
 fn next_name(names: &[u8], last: usize, past: usize, key: u64, at: usize) -> Next
     requires { ⌜ at < length (now names) ⌝ }
     requires { ⌜ Kept (now names) last past key at ⌝ }
     ensures { λ r. ⌜ Found (now (names .entry)) last past at (r .end) (r .key) (r .after) ⌝ }
 {
-    if names.len() - at < 8 {
-        let end = front_end(names, at);
-        let after = name_before(&names[last..past], &names[at..end]);
-        return Next { end, key, after };
+    let mut first = key;
+    let mut from = at;
+    if 8 <= names.len() - at {
+        let w = word_at(names, at);
+        let n = word_front(w);
+        if n < 8 {
+            let k = word_key(w, n);
+            return Next {
+                end: at + n,
+                key: k,
+                after: key < k,
+            };
+        }
+        first = w;
+        from = at + 8;
     }
-    let w = word_at(names, at);
-    let n = word_front(w);
-    if n < 8 {
-        let k = word_key(w, n);
-        return Next {
-            end: at + n,
-            key: k,
-            after: key < k,
-        };
-    }
-    let end = front_end(names, at + 8);
-    if key != w {
-        return Next {
-            end,
-            key: w,
-            after: key < w,
-        };
-    }
+    let end = front_end(names, from);
     let after = name_before(&names[last..past], &names[at..end]);
-    Next { end, key, after }
+    Next {
+        end,
+        key: first,
+        after,
+    }
 }
 
 // Whether the bytes are a list of names, and `count` of them, with the range of those that start with the prefix: one pass, in which each

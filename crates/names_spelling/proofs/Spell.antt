@@ -1,39 +1,16 @@
--- The questions about a spelling and the order of two names, at a place of the bytes.
+-- The questions about a spelling, at a place of the bytes.
 use Prim.Native.Nat.{ℕ, suc, _+_, _-_, _<_, _≤_}
 use mathlib.Core.Path.{_≡_, refl, sym, ap, _∙_}
-use mathlib.Core.Bool.{true, false, or-false, false≢true}
+use mathlib.Core.Bool.{true, false, false≢true}
 use mathlib.Core.List.{List, [], _∷_}
 use native.Mathlib.Omega.{arith}
-use borrow.Author.Tests.{le-ltb, lt-ltb, eq-eqb, ne-eqb, eqb-true}
-use lib.Dec.{eqb, ltb, eqb·suc-suc}
-use lib.ListN.{length, getD, drop, drop-of-length-le, length-drop}
+use borrow.Author.Tests.{eq-eqb, ne-eqb, eqb-true}
+use lib.Dec.{eqb, eqb·suc-suc}
+use lib.ListN.{length, getD, drop, drop-of-length-le}
 use Rattle.names.specs.Text.{same, starts, contains}
-use Rattle.names.specs.Name.{isEnd, before, line, nameFrom}
+use Rattle.names.specs.Name.{isEnd, line, nameFrom}
 use Rattle.names.specs.Tests.{both, is-false}
 use Rattle.names_spelling.proofs.Scan.{from-place, until-past, until-stop, until-pass}
-
--- the order of two names from the place i on
-module _ (a b : List ℕ) (i : ℕ) where
-  pub before-short : length b ≤ i → before (drop i a) (drop i b) ≡ false
-  unfolding before
-  before-short h = rw (drop-of-length-le b h)
-
-  pub before-over : length a ≤ i → before (drop i a) (drop i b) ≡ ltb i (length b)
-  unfolding before
-  before-over h = rw (drop-of-length-le a h) (front (drop i b) (length-drop i b))
-    where
-      front : (r : List ℕ) → length r ≡ length b - i → before [] r ≡ ltb i (length b)
-      front [] e = sym (le-ltb i (length b) (omega arith))
-      front (y ∷ ys) e = sym (lt-ltb i (length b) (omega arith))
-
-  module _ (la : i < length a) (lb : i < length b) where
-    pub before-equal : getD a i 0 ≡ getD b i 0 → before (drop i a) (drop i b) ≡ before (drop (i + 1) a) (drop (i + 1) b)
-    unfolding before
-    before-equal e = rw (from-place a i la, from-place b i lb, e, le-ltb (getD b i 0) (getD b i 0) (omega arith), eq-eqb (getD b i 0) (getD b i 0) refl)
-
-    pub before-differ : (getD a i 0 ≡ getD b i 0 → ⊥) → before (drop i a) (drop i b) ≡ ltb (getD a i 0) (getD b i 0)
-    unfolding before
-    before-differ d = rw (from-place a i la, from-place b i lb, ne-eqb _ _ d) (or-false (ltb (getD a i 0) (getD b i 0)))
 
 -- the name from the place j on
 module _ (names : List ℕ) (j : ℕ) where

@@ -1,65 +1,30 @@
--- `name_before` meets its contract: up to the place that is reached the two names are equal, so the rest decides.
-use Prim.Native.Nat.{_-_, _≤_}
-use mathlib.Core.Path.{_≡_, sym, _∙_}
-use lib.ListN.{length, drop}
+-- `name_before` meets its contract: one of the three orders is the one asked for.
+use mathlib.Core.Path.{sym, ap, _∙_}
 use borrow.Author.Needs.{needs}
-use Rattle.names.specs.Name.{before}
-use Rattle.names_spelling.proofs.Spell.{before-short, before-over, before-equal, before-differ}
+use Rattle.names_compare.specs.Ordering.{isLess, less-before}
 use Rattle.names_check.proofs.name_before.Statement.{statement}
 use Rattle.names_check.proofs.name_before.Tie as tie
 
-abbrev Inv-loop : tie.InvT-loop
-Inv-loop a b i₀ i = (i ≤ length a) × (i ≤ length b) × (before a b ≡ before (drop i a) (drop i b))
+compare-requires : tie.Need-compare-requires
+compare-requires c κs = search needs
 
-abbrev μ-loop : tie.MeasureT-loop
-μ-loop a b i₀ i = length a - i
+enum-told : tie.Need-enum-told
+enum-told c = search needs
 
-loop-holds : tie.Need-loop-holds Inv-loop μ-loop
-loop-holds c = search needs
+enum-told-2 : tie.Need-enum-told-2
+enum-told-2 c = search needs
 
-returns : tie.Need-returns Inv-loop μ-loop
-returns c = sym (c .before .before .loop .inv .2 ∙ before-short _ _ _ (c .if1 .taken))
+enum-told-3 : tie.Need-enum-told-3
+enum-told-3 c = search needs
 
-shared-slice-read-x : tie.Need-shared-slice-read-x Inv-loop μ-loop
-shared-slice-read-x c = search needs
+returns : tie.Need-returns
+returns c = sym (ap isLess (c .enum-told .given .1)) ∙ less-before _ _ _ (c .before .before .compare .ensures .0)
 
-shared-slice-read-y : tie.Need-shared-slice-read-y Inv-loop μ-loop
-shared-slice-read-y c = search needs
+returns-2 : tie.Need-returns-2
+returns-2 c = sym (ap isLess (c .enum-told2 .given .1)) ∙ less-before _ _ _ (c .before .before .compare .ensures .0)
 
-returns-2 : tie.Need-returns-2 Inv-loop μ-loop
-returns-2 c =
-    let t = c .before .before .before in
-    sym (t .before .before .loop .inv .2 ∙ before-differ _ _ _ (t .before .loop-test .taken) (t .if1 .left) (c .if2 .taken))
-
-add-i : tie.Need-add-i Inv-loop μ-loop
-add-i c = search needs
-
-loop-less : tie.Need-loop-less Inv-loop μ-loop
-loop-less c = search needs
-
-loop-again : tie.Need-loop-again Inv-loop μ-loop
-loop-again c =
-    let t = c .before .before .before in (
-      search needs,
-      search needs,
-      t .before .before .loop .inv .2 ∙ before-equal _ _ _ (t .before .loop-test .taken) (t .if1 .left) (c .if2 .left),
-    )
-
-returns-3 : tie.Need-returns-3 Inv-loop μ-loop
-returns-3 c = sym (c .before .loop .inv .2 ∙ before-over _ _ _ (c .loop-test .left))
+returns-3 : tie.Need-returns-3
+returns-3 c = sym (ap isLess (c .enum-told3 .given .1)) ∙ less-before _ _ _ (c .before .before .compare .ensures .0)
 
 pub name-before-spec : {M : Type 1} → statement M
-name-before-spec =
-    tie.close
-    (tie.spec
-    Inv-loop
-    μ-loop
-    loop-holds
-    returns
-    shared-slice-read-x
-    shared-slice-read-y
-    returns-2
-    add-i
-    loop-less
-    loop-again
-    returns-3)
+name-before-spec = tie.close (tie.spec compare-requires enum-told enum-told-2 enum-told-3 returns returns-2 returns-3)
