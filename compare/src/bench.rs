@@ -16,11 +16,13 @@ mod copies;
 mod counted;
 mod hostile;
 mod jobs;
+mod names;
 
 use jobs::{Bench, Job};
 
 pub use counted::pass;
 pub use hostile::{asks, few_asks, shapes};
+pub use names::table as names;
 
 /// The best of so many runs counts.
 const RUNS: usize = 9;
@@ -76,6 +78,7 @@ pub fn bench(seed: u64) -> Result<(), String> {
         }
     }
     counted::table(seed)?;
+    names::table()?;
     hostile::table()
 }
 

@@ -1,8 +1,9 @@
 //! Compares the proved check of a book with `check.rs`: books at the large limits, random books, damaged copies of each,
-//! and all books one change away from some.
+//! all books one change away from some, and lists of long names.
 use crate::book::Lent;
 use crate::check::{check, Verdict};
 use crate::large;
+use crate::names;
 use crate::neighbours::neighbours;
 use crate::proved;
 use crate::runs;
@@ -75,7 +76,7 @@ fn owed(lent: &Lent) -> u64 {
 
 pub fn compare(seed: u64, count: u64) -> Result<(), String> {
     large_books()?;
-    let (mut books, mut copies, mut near) = (Run::default(), Run::default(), Run::default());
+    let [mut books, mut copies, mut near, mut lists] = [(); 4].map(|()| Run::default());
     for index in 0..count {
         let lent = runs::book(seed, index, true);
         books.add(&lent, || format!("seed {seed}, book {index}"));
@@ -83,6 +84,7 @@ pub fn compare(seed: u64, count: u64) -> Result<(), String> {
             let copy = runs::copy(&lent, seed, index, number);
             copies.add(&copy, || format!("seed {seed}, book {index}, copy {number}"));
         }
+        lists.add(&names::list(seed, index), || format!("seed {seed}, list of names {index}"));
         if index % STRIDE == 0 && lent.slices.book[0] <= SMALL {
             neighbours(&lent, |other, what, place| {
                 near.add(other, || format!("seed {seed}, book {index}, {what} at {place}"));
@@ -92,7 +94,8 @@ pub fn compare(seed: u64, count: u64) -> Result<(), String> {
     books.print("random books");
     copies.print("damaged copies");
     near.print("books one change away");
-    books.result().and(copies.result()).and(near.result())
+    lists.print("lists of long names");
+    books.result().and(copies.result()).and(near.result()).and(lists.result())
 }
 
 /// Prints the time of each, the best of three.

@@ -17,6 +17,7 @@ mod hash;
 mod large;
 mod lines;
 mod measure;
+mod names;
 #[cfg(proved)]
 mod neighbours;
 mod oracle;
@@ -65,6 +66,11 @@ const USAGE: &str = "usage:
                                      one of these as a file
   compare definitions SEED COUNT [--damaged | --faulty]
                                      whether the definition in crates/lowering answers as the Rust does, by computation
+  compare definitions names SEED COUNT
+                                     whether the definition in crates/names orders two names as Rust does, in the steps of card 4
+  compare names SEED COUNT COMMAND.. whether a program like `try_compare` does
+  compare names cases SEED COUNT FOLDER
+                                     what such a program reads and writes, as crates/try_compare has it
   compare runs SEED COUNT            whether a function's run by the manual and the run of its lines on the machine agree, by
                                      two interpreters and by computation of the definitions, on random functions
   compare table SEED COUNT FILE      random books with the Rust's answers as a checked table of crates/lowering
@@ -77,6 +83,7 @@ const USAGE: &str = "usage:
                                      books, damaged copies, faulty statements and books at the limits; built in as above
   compare translator shapes          the same of the shapes that `compare bench` times
   compare bench [SEED]               times of the proved translator and printer beside the Rust's; built in as above
+  compare bench names                the table of the names' check alone
   compare time < BOOK                the nanoseconds that the Rust's `gen_function` takes for a book; built in as above
   compare stack                      the stack that the proved check, translator and printer need; built in as above
   compare test                       tests of this program";
@@ -131,6 +138,9 @@ fn run(args: &[&str]) -> Result<(), String> {
             let slices = written::faulty::lent(number(seed)?, number(index)?).slices;
             std::io::stdout().write_all(&slices.to_file()).map_err(|error| error.to_string())
         }
+        ["names", "cases", seed, count, folder] => names::write(number(seed)?, number(count)?, folder),
+        ["names", seed, count, command @ ..] if !command.is_empty() => names::compare(number(seed)?, number(count)?, command),
+        ["definitions", "names", seed, count] => names::definitions(number(seed)?, number(count)?),
         ["runs", seed, count] => two_runs::compare(number(seed)?, number(count)?),
         ["written", folder] => written::write(folder),
         ["table", seed, count, file] => table::write(number(seed)?, number(count)?, file),
@@ -144,6 +154,8 @@ fn run(args: &[&str]) -> Result<(), String> {
         ["translator", seed, count] => translator::compare(number(seed)?, number(count)?),
         #[cfg(translating)]
         ["bench"] => bench::bench(1),
+        #[cfg(translating)]
+        ["bench", "names"] => bench::names(),
         #[cfg(translating)]
         ["bench", "pass", seed, class] => bench::pass(number(seed)?, class),
         #[cfg(translating)]

@@ -42,7 +42,7 @@ fn reply(file: &[u8]) -> Result<Option<String>, String> {
     })
 }
 
-fn run(command: &[&str], file: &[u8]) -> Result<String, String> {
+pub fn run(command: &[&str], file: &[u8]) -> Result<String, String> {
     let mut child = Command::new(command[0])
         .args(&command[1..])
         .stdin(Stdio::piped())

@@ -220,7 +220,7 @@ fn short_names() -> Vec<String> {
 }
 
 /// Names that are alike but for their ends.
-fn long_names(count: usize, length: usize) -> Vec<String> {
+pub fn long_names(count: usize, length: usize) -> Vec<String> {
     (0..count).map(|number| format!("{}{number:06}", "a".repeat(length - 6))).collect()
 }
 
