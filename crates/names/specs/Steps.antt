@@ -19,35 +19,33 @@ use Rattle.names.specs.Compare.{Order, orderBy, order, byteSteps, wordSt
 not-both : (a b : List ℕ) → before a b ≡ true → before b a ≡ false
 not-both a b h = is-false (before b a) (λ k. false≢true (sym (irreflexive a) ∙ transitive a b a h k))
 
-by-less : (p q : Bool) → orderBy p q ≡ Order.less → p ≡ true
-unfolding orderBy
-by-less true q e = refl
-by-less false true e = absurd (let z : _≡_ {A = ℕ} 0 1 = cc in omega arith)
-by-less false false e = absurd (let z : _≡_ {A = ℕ} 0 1 = cc in omega arith)
+-- what an order says of the two tests that it is made of
+abbrev Says : Order → Bool → Bool → Type 0
+Says Order.less p q = p ≡ true
+Says Order.equal p q = (p ≡ false) × (q ≡ false)
+Says Order.greater p q = q ≡ true
 
-by-greater : (p q : Bool) → orderBy p q ≡ Order.greater → q ≡ true
+says : (p q : Bool) → Says (orderBy p q) p q
 unfolding orderBy
-by-greater true q e = absurd (let z : _≡_ {A = ℕ} 0 1 = cc in omega arith)
-by-greater false true e = refl
-by-greater false false e = absurd (let z : _≡_ {A = ℕ} 0 1 = cc in omega arith)
+says true q = refl
+says false true = refl
+says false false = (refl, refl)
 
-by-equal : (p q : Bool) → orderBy p q ≡ Order.equal → (p ≡ false) × (q ≡ false)
-unfolding orderBy
-by-equal true q e = absurd (let z : _≡_ {A = ℕ} 0 1 = cc in omega arith)
-by-equal false true e = absurd (let z : _≡_ {A = ℕ} 0 1 = cc in omega arith)
-by-equal false false e = (refl, refl)
+told : (a b : List ℕ) (o : Order) → order a b ≡ o → Says o (before a b) (before b a)
+unfolding order
+told a b o e = rw e at (says (before a b) (before b a))
 
 pub order-less : (a b : List ℕ) → (order a b ≡ Order.less) ↔ (before a b ≡ true)
 unfolding order orderBy
-order-less a b = (by-less (before a b) (before b a), λ h. rw h)
+order-less a b = (told a b Order.less, λ h. rw h)
 
 pub order-greater : (a b : List ℕ) → (order a b ≡ Order.greater) ↔ (before b a ≡ true)
 unfolding order orderBy
-order-greater a b = (by-greater (before a b) (before b a), λ h. rw (h, not-both b a h))
+order-greater a b = (told a b Order.greater, λ h. rw (h, not-both b a h))
 
 pub order-equal : (a b : List ℕ) → (order a b ≡ Order.equal) ↔ (a ≡ b)
 unfolding order orderBy
-order-equal a b = (λ e. let n = by-equal (before a b) (before b a) e in total a b (n .0) (n .1), λ e. rw (e, irreflexive b))
+order-equal a b = (λ e. let n = told a b Order.equal e in total a b (n .0) (n .1), λ e. rw (e, irreflexive b))
 
 -- ---- the steps
 
@@ -73,35 +71,28 @@ byte-steps (x ∷ a) (y ∷ b) = step (eqb x y) (byte-steps a b)
     step true ih = omega (arith, ih)
     step false ih = omega arith
 
--- where the first k bytes of both are equal, so many more are alike
-same-alike : (k : ℕ) (a b : List ℕ) → k ≤ length a → k ≤ length b → same (take k a) (take k b) ≡ true → alike a b ≡ k + alike (drop k a) (drop k b)
-unfolding same alike
-same-alike zero a b la lb h = omega arith
-same-alike (suc k) [] b la lb h = absurd (omega arith)
-same-alike (suc k) (x ∷ a) [] la lb h = absurd (omega arith)
-same-alike (suc k) (x ∷ a) (y ∷ b) la lb h = step (eqb x y) h (same-alike k a b (omega arith) (omega arith))
-  where
-    step : (t : Bool) → (t && same (take k a) (take k b)) ≡ true → (same (take k a) (take k b) ≡ true → alike a b ≡ k + alike (drop k a) (drop k b))
-        → cond t (suc (alike a b)) 0 ≡ suc k + alike (drop k a) (drop k b)
-    step true e ih = omega (arith, ih e)
-    step false e ih = absurd (false≢true e)
+-- n bytes are alike: the first k and the rest, or fewer than k
+abbrev Split : Bool → ℕ → ℕ → ℕ → Type 0
+Split true k n rest = n ≡ k + rest
+Split false k n rest = n < k
 
--- where they are not, the first difference is among them
-differ-alike : (k : ℕ) (a b : List ℕ) → k ≤ length a → k ≤ length b → same (take k a) (take k b) ≡ false → alike a b < k
+-- by whether the first k bytes of both are the same
+alike-split : (k : ℕ) (a b : List ℕ) → k ≤ length a → k ≤ length b → Split (same (take k a) (take k b)) k (alike a b) (alike (drop k a) (drop k b))
 unfolding same alike
-differ-alike zero a b la lb h = absurd (false≢true (sym h))
-differ-alike (suc k) [] b la lb h = absurd (omega arith)
-differ-alike (suc k) (x ∷ a) [] la lb h = absurd (omega arith)
-differ-alike (suc k) (x ∷ a) (y ∷ b) la lb h = step (eqb x y) h (differ-alike k a b (omega arith) (omega arith))
+alike-split zero a b la lb = omega arith
+alike-split (suc k) [] b la lb = absurd (omega arith)
+alike-split (suc k) (x ∷ a) [] la lb = absurd (omega arith)
+alike-split (suc k) (x ∷ a) (y ∷ b) la lb = step (eqb x y) (same (take k a) (take k b)) (alike-split k a b (omega arith) (omega arith))
   where
-    step : (t : Bool) → (t && same (take k a) (take k b)) ≡ false → (same (take k a) (take k b) ≡ false → alike a b < k) → cond t (suc (alike a b)) 0 < suc k
-    step true e ih = omega (arith, ih e)
-    step false e ih = omega arith
+    step : (t u : Bool) → Split u k (alike a b) (alike (drop k a) (drop k b)) → Split (t && u) (suc k) (cond t (suc (alike a b)) 0) (alike (drop k a) (drop k b))
+    step true true h = omega (arith, h)
+    step true false h = omega (arith, h)
+    step false u h = omega arith
 
 word-steps : (w r : ℕ) (a b : List ℕ) → shorter a b ≡ 8 * w + r → wordSteps w a b ≡ stepsTo w r (alike a b)
 unfolding wordSteps stepsTo
 word-steps zero r a b e = rw (le-ltb (alike a b) 0 (omega arith)) (omega (arith, byte-steps a b))
-word-steps (suc w) r a b e = step (same (take 8 a) (take 8 b)) refl (word-steps w r (drop 8 a) (drop 8 b) left)
+word-steps (suc w) r a b e = step (same (take 8 a) (take 8 b)) (alike-split 8 a b (omega arith) (omega arith)) (word-steps w r (drop 8 a) (drop 8 b) left)
   where
     left : shorter (drop 8 a) (drop 8 b) ≡ 8 * w + r
     left = omega (arith, length-drop 8 a, length-drop 8 b)
@@ -113,12 +104,10 @@ word-steps (suc w) r a b e = step (same (take 8 a) (take 8 b)) refl (word-steps 
         go true f = rw (lt-ltb c (8 * suc w) (omega (arith, ltb-true d (8 * w) f))) (omega arith)
         go false f = rw (le-ltb c (8 * suc w) (omega (arith, ltb-false d (8 * w) f))) (omega arith)
 
-    step : (t : Bool) → same (take 8 a) (take 8 b) ≡ t → wordSteps w (drop 8 a) (drop 8 b) ≡ stepsTo w r (alike (drop 8 a) (drop 8 b))
+    step : (t : Bool) → Split t 8 (alike a b) (alike (drop 8 a) (drop 8 b)) → wordSteps w (drop 8 a) (drop 8 b) ≡ stepsTo w r (alike (drop 8 a) (drop 8 b))
         → suc (cond t (wordSteps w (drop 8 a) (drop 8 b)) 0) ≡ stepsTo (suc w) r (alike a b)
-    step true f ih = ap suc ih ∙ on (alike a b) (alike (drop 8 a) (drop 8 b)) (same-alike 8 a b (omega arith) (omega arith) f)
-    step false f ih =
-        let l = differ-alike 8 a b (omega arith) (omega arith) f in
-        rw (lt-ltb (alike a b) (8 * suc w) (omega arith)) (omega arith)
+    step true h ih = ap suc ih ∙ on (alike a b) (alike (drop 8 a) (drop 8 b)) h
+    step false h ih = rw (lt-ltb (alike a b) (8 * suc w) (omega (arith, h))) (omega (arith, h))
 
 -- exactly as many as there are words and byte pairs up to and with the first that differs
 pub steps-exact : (a b : List ℕ) → steps a b ≡ stepsTo (shorter a b / 8) (shorter a b % 8) (alike a b)

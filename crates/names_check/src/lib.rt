@@ -56,7 +56,7 @@ fn front_end(names: &[u8], at: usize) -> usize
 }
 
 // Whether one name comes strictly before another bytewise.
-pub fn name_before(a: &[u8], b: &[u8]) -> bool
+fn name_before(a: &[u8], b: &[u8]) -> bool
     ensures { λ r. ⌜ r ≡ before (now (a .entry)) (now (b .entry)) ⌝ }
 {
     let compared = compare(a, b);

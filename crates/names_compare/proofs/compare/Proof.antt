@@ -1,8 +1,7 @@
 -- `compare` meets its contract: up to the place that is reached the words are equal, with a step for each, and byte pairs tell the rest.
-use Prim.Native.Nat.{_-_, _≤_, min}
-use mathlib.Core.Path.{_≡_, sym, ap, _∙_}
+use Prim.Native.Nat.{_-_, _≤_}
+use mathlib.Core.Path.{sym, ap, _∙_}
 use native.Mathlib.Omega.{arith}
-use lib.ListN.{length}
 use borrow.Author.Needs.{needs}
 use Rattle.names.specs.Compare.{order, steps}
 use Rattle.names_compare.specs.Ordering.{ordering}
@@ -11,7 +10,7 @@ use Rattle.names_compare.proofs.compare.Statement.{statement}
 use Rattle.names_compare.proofs.compare.Tie as tie
 
 abbrev Inv-loop : tie.InvT-loop
-Inv-loop a b n i₀ words₀ i words = (n ≡ min (length a) (length b)) × (i ≤ n) × (words ≤ i) × Words a b (order a b) (steps a b) n i words
+Inv-loop a b n i₀ words₀ i words = (i ≤ n) × (words ≤ i) × Words a b (order a b) (steps a b) n i words
 
 abbrev μ-loop : tie.MeasureT-loop
 μ-loop a b n i₀ words₀ i words = n - i
@@ -41,16 +40,16 @@ shorter-requires : tie.Need-shorter-requires Inv-loop μ-loop
 shorter-requires c κs = search needs
 
 loop-holds : tie.Need-loop-holds Inv-loop μ-loop
-loop-holds c = (c .shorter .ensures, omega arith, omega arith, rw (c .shorter .ensures) (words-start _ _))
+loop-holds c = (omega arith, omega arith, rw (c .shorter .ensures) (words-start _ _))
 
 sub-loop : tie.Need-sub-loop Inv-loop μ-loop
 sub-loop c = search needs
 
 word-at-requires : tie.Need-word-at-requires Inv-loop μ-loop
-word-at-requires c κs = omega (arith, c .loop-test .taken, c .before .loop .inv .0)
+word-at-requires c κs = omega (arith, c .loop-test .taken, c .before .before .shorter .ensures)
 
 word-at-requires-2 : tie.Need-word-at-requires-2 Inv-loop μ-loop
-word-at-requires-2 c κs = let at-test = c .before in omega (arith, at-test .loop-test .taken, at-test .before .loop .inv .0)
+word-at-requires-2 c κs = let at-test = c .before in omega (arith, at-test .loop-test .taken, at-test .before .before .shorter .ensures)
 
 add-i : tie.Need-add-i Inv-loop μ-loop
 add-i c = search needs
@@ -64,7 +63,7 @@ order-of-requires c κs = search needs
 returns : tie.Need-returns Inv-loop μ-loop
 returns c =
     let after-words = c .before .before in
-    let told = words-differ _ (after-words .before .before .before .loop .inv .3) (read after-words) (c .before .if1 .taken) in
+    let told = words-differ _ (after-words .before .before .before .loop .inv .2) (read after-words) (c .before .if1 .taken) in
     (c .order-of .ensures ∙ ap ordering (sym (told .ordered)), sym (told .counted))
 
 loop-less : tie.Need-loop-less Inv-loop μ-loop
@@ -75,15 +74,18 @@ loop-again c =
     let after-words = c .before in
     let at-test = after-words .before .before in
     let going = at-test .before .loop .inv in
-    (going .0, omega (arith, at-test .loop-test .taken), omega (arith, going .2), words-on _ (going .3) (read after-words) (c .if1 .left))
+    (omega (arith, at-test .loop-test .taken), omega (arith, going .1), words-on _ (going .2) (read after-words) (c .if1 .left))
 
 compare-bytes-requires : tie.Need-compare-bytes-requires Inv-loop μ-loop
-compare-bytes-requires c κs = let going = c .before .loop .inv in (omega (arith, going), (omega (arith, going), omega (arith, going)))
+compare-bytes-requires c κs =
+    let at-loop = c .before in
+    let n = at-loop .before .shorter .ensures in
+    (omega (arith, at-loop .loop .inv, n), (omega (arith, at-loop .loop .inv, n), omega (arith, at-loop .loop .inv)))
 
 returns-2 : tie.Need-returns-2 Inv-loop μ-loop
 returns-2 c =
     let after-loop = c .before in
-    let left = words-over _ (after-loop .before .loop .inv .3) (omega (arith, after-loop .loop-test .left)) in
+    let left = words-over _ (after-loop .before .loop .inv .2) (omega (arith, after-loop .loop-test .left)) in
     (c .compare-bytes .ensures .0 ∙ ap ordering (sym (left .ordered)), c .compare-bytes .ensures .1 ∙ sym (left .counted))
 
 pub compare-spec : {M : Type 1} → statement M

@@ -1,9 +1,9 @@
 -- `compare_bytes` meets its contract: up to the place that is reached the bytes are equal, with a step for each pair.
-use Prim.Native.Nat.{_+_, _-_, _≤_, min}
-use mathlib.Core.Path.{_≡_, refl, sym, ap, _∙_}
+use Prim.Native.Nat.{_+_, _-_, _≤_}
+use mathlib.Core.Path.{refl, sym, ap, _∙_}
 use native.Mathlib.Omega.{arith}
 use mir.Facts.{fits-widen}
-use lib.ListN.{length, drop}
+use lib.ListN.{drop}
 use borrow.Author.Needs.{needs}
 use Rattle.names.specs.Compare.{order, byteSteps}
 use Rattle.names_compare.specs.Ordering.{ordering}
@@ -13,7 +13,7 @@ use Rattle.names_compare.proofs.compare_bytes.Tie as tie
 
 abbrev Inv-loop : tie.InvT-loop
 Inv-loop a b at words n i₀ steps₀ i steps =
-    (n ≡ min (length a) (length b)) × (i ≤ n) × (steps ≤ i) × Bytes a b (order (drop at a) (drop at b)) (words + byteSteps (drop at a) (drop at b)) i steps
+    (i ≤ n) × (steps ≤ i) × Bytes a b (order (drop at a) (drop at b)) (words + byteSteps (drop at a) (drop at b)) i steps
 
 abbrev μ-loop : tie.MeasureT-loop
 μ-loop a b at words n i₀ steps₀ i steps = n - i
@@ -24,13 +24,13 @@ shorter-requires c κs = search needs
 loop-holds : tie.Need-loop-holds Inv-loop μ-loop
 loop-holds c =
     let pre = c .before .before .before .pre in
-    (c .shorter .ensures, omega (arith, c .shorter .ensures, pre), omega (arith, pre), record { ordered = refl; counted = refl })
+    (omega (arith, c .shorter .ensures, pre), omega (arith, pre), record { ordered = refl; counted = refl })
 
 shared-slice-read-x : tie.Need-shared-slice-read-x Inv-loop μ-loop
-shared-slice-read-x c = let at-test = c .before in omega (arith, at-test .loop-test .taken, at-test .before .loop .inv .0)
+shared-slice-read-x c = let at-test = c .before in omega (arith, at-test .loop-test .taken, at-test .before .before .shorter .ensures)
 
 shared-slice-read-y : tie.Need-shared-slice-read-y Inv-loop μ-loop
-shared-slice-read-y c = let at-test = c .before .before in omega (arith, at-test .loop-test .taken, at-test .before .loop .inv .0)
+shared-slice-read-y c = let at-test = c .before .before in omega (arith, at-test .loop-test .taken, at-test .before .before .shorter .ensures)
 
 add-i : tie.Need-add-i Inv-loop μ-loop
 add-i c = search needs
@@ -51,8 +51,7 @@ returns : tie.Need-returns Inv-loop μ-loop
 returns c =
     let at-read = c .before .before in
     let at-test = at-read .before .before in
-    let going = at-test .before .loop .inv in
-    let told = bytes-differ (going .3) (omega (arith, at-test .loop-test .taken, going .0)) (omega (arith, at-test .loop-test .taken, going .0))
+    let told = bytes-differ (at-test .before .loop .inv .2) (shared-slice-read-x (at-read .before)) (shared-slice-read-y at-read)
     (λ i. at-read .before .shared-slice-known3 .given i .fits) (λ i. at-read .shared-slice-known4 .given i .fits) (c .before .if1 .taken) in
     (c .order-of .ensures ∙ ap ordering (sym (told .ordered)), sym (told .counted))
 
@@ -61,12 +60,12 @@ loop-less c = search needs
 
 loop-again : tie.Need-loop-again Inv-loop μ-loop
 loop-again c =
-    let at-test = c .before .before .before in
+    let at-read = c .before in
+    let at-test = at-read .before .before in
     let going = at-test .before .loop .inv in (
-      going .0,
       omega (arith, at-test .loop-test .taken),
-      omega (arith, going .2),
-      bytes-on (going .3) (omega (arith, at-test .loop-test .taken, going .0)) (omega (arith, at-test .loop-test .taken, going .0)) (c .if1 .left),
+      omega (arith, going .1),
+      bytes-on (going .2) (shared-slice-read-x (at-read .before)) (shared-slice-read-y at-read) (c .if1 .left),
     )
 
 order-of-requires-2 : tie.Need-order-of-requires-2 Inv-loop μ-loop
@@ -75,8 +74,8 @@ order-of-requires-2 c κs = search needs
 returns-2 : tie.Need-returns-2 Inv-loop μ-loop
 returns-2 c =
     let at-end = c .before in
-    let going = at-end .before .loop .inv in
-    let told = bytes-over (going .3) (omega (arith, at-end .loop-test .left, going .0, going .1)) in
+    let at-loop = at-end .before in
+    let told = bytes-over (at-loop .loop .inv .2) (omega (arith, at-end .loop-test .left, at-loop .loop .inv .0, at-loop .before .shorter .ensures)) in
     (c .order-of2 .ensures ∙ ap ordering (sym (told .ordered)), sym (told .counted))
 
 pub compare-bytes-spec : {M : Type 1} → statement M
