@@ -213,7 +213,7 @@ fn long_names(rng: &mut Rng) -> Vec<Name> {
     names
 }
 
-/// Their bytes with a fault or two, or with none. What a fault does is for the checks to say.
+/// Their bytes, three times in four changed in one way or two. What a change does is for the checks to say.
 #[cfg(proved)]
 fn damaged(rng: &mut Rng, mut names: Vec<Name>) -> Vec<u8> {
     let (one, two) = (rng.below(names.len()), rng.below(names.len()));

@@ -57,7 +57,7 @@ fn mangled() -> Vec<String> {
     })
 }
 
-/// Names of values as clang writes them without debug builds: numbers.
+/// Names of values where clang keeps none: numbers.
 fn numbered() -> Vec<String> {
     let mut number = 0;
     sorted(|| {
