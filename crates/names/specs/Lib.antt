@@ -1,5 +1,6 @@
 -- Definitions of names as document 01 has them, and the laws about them.
 pub mod Text
+pub mod Utf8
 pub mod Name
 pub mod Spelling
 pub mod Prefix

@@ -1,7 +1,7 @@
 -- Cutting bytes into names and joining names are inverse: the bytes are names exactly when they are a joined list of names by the rules.
 use Prim.Native.Nat.{ℕ, suc, _<_}
 use mathlib.Core.Path.{_≡_, refl, sym, ap, _∙_}
-use mathlib.Core.Logic.{_↔_}
+use mathlib.Core.Logic.{_↔_, ⊎-elim}
 use mathlib.Core.Bool.{Bool, true, false, _&&_, false≢true}
 use mathlib.Core.List.{List, [], _∷_, _++_}
 use mathlib.Core.Option.{Option, none, some}
@@ -10,8 +10,9 @@ use borrow.Author.Tests.{eqb-true, eq-eqb, ne-eqb, leb-true}
 use lib.Dec.{eqb, leb}
 use lib.ListN.{length, drop}
 use Rattle.names.specs.Text.{within}
-use Rattle.names.specs.Name.{nameByte, everyByte, filled, allowed, everyName, ascending, cut, lines, lastOr, ended, sound, keep, namesOf, counts, accepted, join, upTo, until, isEnd, line}
-use Rattle.names.specs.Tests.{both}
+use Rattle.names.specs.Name.{plainByte, nameByte, spelled, everyByte, filled, allowed, everyName, ascending, cut, lines, lastOr, ended, sound, keep, namesOf, counts, accepted, join, upTo, until, isEnd, line}
+use Rattle.names.specs.Utf8.{wellFormed}
+use Rattle.names.specs.Tests.{both, either}
 
 -- the first line of some bytes, and the lines behind the byte that ends it
 pub lines-first : (bs : List ℕ) → 0 < length bs → lines bs ≡ line bs ∷ lines (drop (suc (length (line bs))) bs)
@@ -31,8 +32,10 @@ lines-first (b ∷ c ∷ bs) h = more (isEnd b) (lines-first (c ∷ bs) (omega a
 
 -- a byte of a name ends none
 pub no-end : (b : ℕ) → nameByte b ≡ true → isEnd b ≡ false
-unfolding nameByte within isEnd
-no-end b h = ne-eqb b 10 (λ e. let l = leb-true 32 b (both (leb 32 b) (leb b 126) h .0) in omega arith)
+unfolding nameByte plainByte within isEnd
+no-end b h =
+    ne-eqb b 10 (λ e. ⊎-elim (λ k. let l = leb-true 32 b (both (leb 32 b) (leb b 126) k .0) in omega arith) (λ k. let l = leb-true 128 b (both (leb 128 b) (leb b 255) k .0) in omega arith)
+    (either (within 32 126 b) (within 128 255 b) h))
 
 pub line-of : (n r : List ℕ) → everyByte n ≡ true → line (n ++ (10 ∷ r)) ≡ n
 unfolding everyByte line until upTo isEnd
@@ -45,8 +48,8 @@ lines-of [] r h = refl
 lines-of (b ∷ n) r h = let h′ = both (nameByte b) (everyByte n) h in rw (no-end b (h′ .0), lines-of n r (h′ .1))
 
 pub allowed-bytes : (n : List ℕ) → allowed n ≡ true → everyByte n ≡ true
-unfolding allowed
-allowed-bytes n h = both (filled n) (everyByte n) h .1
+unfolding allowed spelled
+allowed-bytes n h = both (everyByte n) (wellFormed n) (both (filled n) (spelled n) h .1) .0
 
 pub lines-join : (ns : List (List ℕ)) → everyName ns ≡ true → lines (join ns) ≡ ns
 unfolding lines join everyName

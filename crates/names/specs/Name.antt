@@ -1,5 +1,6 @@
--- Names, after document 01, "The book": "Names are bytes: each 1 or more of 32 to 126, ended by byte 10, strictly ascending
--- bytewise; a name's number is its position from 0."
+-- Names, after document 01, "The book": "Names are bytes: each 1 or more [..], ended by byte 10, strictly ascending bytewise; a name's
+-- number is its position from 0", and card 6 of document 02: "Names become well-formed UTF-8 as RFC 3629 defines it, still without control
+-- characters 0 to 31 and 127, still ascending bytewise."
 use Prim.Native.Nat.{ℕ, zero, suc, _+_}
 use mathlib.Core.Bool.{Bool, true, false, _&&_, _||_, not}
 use mathlib.Core.List.{List, [], _∷_, _++_}
@@ -7,14 +8,15 @@ use mathlib.Core.Option.{Option, none, some}
 use lib.ListN.{length, getD, drop}
 use lib.Dec.{eqb, ltb}
 use Rattle.names.specs.Text.{within}
+use Rattle.names.specs.Utf8.{wellFormed, openUtf8}
 
--- a byte that may stand in a name
+-- a byte that is a character of a name by itself
+unfoldable pub plainByte : ℕ → Bool
+plainByte b = within 32 126 b
+
+-- a byte that may stand in a name: "without control characters 0 to 31 and 127"
 unfoldable pub nameByte : ℕ → Bool
-nameByte b = within 32 126 b
-
--- a byte that may not
-unfoldable pub barred : ℕ → Bool
-barred b = not (nameByte b)
+nameByte b = plainByte b || within 128 255 b
 
 -- the byte that ends a name
 unfoldable pub isEnd : ℕ → Bool
@@ -30,9 +32,13 @@ unfoldable pub filled : List ℕ → Bool
 filled [] = false
 filled (b ∷ bs) = true
 
--- "each 1 or more of 32 to 126"
+-- "well-formed UTF-8 [..] without control characters"
+unfoldable pub spelled : List ℕ → Bool
+spelled n = everyByte n && wellFormed n
+
+-- a name by these rules
 unfoldable pub allowed : List ℕ → Bool
-allowed n = filled n && everyByte n
+allowed n = filled n && spelled n
 
 -- every name is allowed
 unfoldable pub everyName : List (List ℕ) → Bool
@@ -126,9 +132,13 @@ until stops (b ∷ bs) = upTo (stops b) b (until stops bs)
 unfoldable pub line : List ℕ → List ℕ
 line bs = until isEnd bs
 
--- the bytes in front of the first that may not stand in a name
+-- a byte that is no character of a name by itself
+unfoldable pub special : ℕ → Bool
+special b = not (plainByte b)
+
+-- the bytes in front of the first such
 unfoldable pub front : List ℕ → List ℕ
-front bs = until barred bs
+front bs = until special bs
 
 -- the bytes from the place `at` up to the next 10 or the end
 unfoldable pub nameFrom : List ℕ → ℕ → List ℕ
@@ -136,5 +146,5 @@ nameFrom bs at = line (drop at bs)
 
 -- opens every definition of this file, for an example that computes
 unfoldable pub openName : Unit {0}
-unfolding nameByte barred isEnd everyByte filled allowed everyName before ascendingFrom ascending cut lines lastOr ended sound keep namesOf counts accepted join nameAt startOf upTo until line front nameFrom
+unfolding openUtf8 plainByte nameByte isEnd everyByte filled spelled allowed everyName before ascendingFrom ascending cut lines lastOr ended sound keep namesOf counts accepted join nameAt startOf upTo until line special front nameFrom
 openName = tt
