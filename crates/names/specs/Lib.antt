@@ -5,6 +5,7 @@ pub mod Name
 pub mod Spelling
 pub mod Prefix
 pub mod Tests
+pub mod Lead
 pub mod Texts
 pub mod Labels
 pub mod Order

@@ -1,7 +1,10 @@
 -- Facts about tests that are joined.
+use Prim.Native.Nat.{ℕ, zero, suc, _<_}
 use mathlib.Core.Path.{_≡_, refl, sym}
-use mathlib.Core.Logic.{_⊎_, inl, inr}
+use mathlib.Core.Logic.{_⊎_, inl, inr, ⊎-elim}
 use mathlib.Core.Bool.{Bool, true, false, _&&_, _||_, false≢true}
+use native.Mathlib.Omega.{arith}
+use native.Mathlib.Nat.{eq-or-lt-of-le}
 
 pub both : (a b : Bool) → (a && b) ≡ true → (a ≡ true) × (b ≡ true)
 both true b h = (refl, h)
@@ -28,3 +31,15 @@ pub agree : (a b : Bool) → (a ≡ true → b ≡ true) → (b ≡ true → a �
 agree true b f g = sym (f refl)
 agree false true f g = g refl
 agree false false f g = refl
+
+-- every number below n passes
+unfoldable pub everyBelow : (ℕ → Bool) → ℕ → Bool
+everyBelow p zero = true
+everyBelow p (suc n) = p n && everyBelow p n
+
+pub below-each : (p : ℕ → Bool) (n : ℕ) → everyBelow p n ≡ true → (i : ℕ) → i < n → p i ≡ true
+unfolding everyBelow
+below-each p zero e i l = absurd (omega arith)
+below-each p (suc n) e i l =
+    let h = both (p n) (everyBelow p n) e in
+    ⊎-elim (λ (d : i ≡ n). rw d (h .0)) (λ m. below-each p n (h .1) i m) (eq-or-lt-of-le {n = i} {m = n} (omega arith))
