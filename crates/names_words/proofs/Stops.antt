@@ -1,10 +1,9 @@
--- The bytes of a word that may not stand in a name: each has its top bit set in a word that the code makes, and no other bit is set there.
+-- The bytes of a word that are no characters of a name by themselves: each has its top bit set in a word that the code makes, and no other bit is set there.
 use Prim.Native.Nat.{ℕ, zero, suc, _+_, _-_, _*_, _/_, _^_, _<_, _≤_, min}
 use mathlib.Core.Path.{_≡_, refl, ap, ap₂, _∙_}
-use mathlib.Core.Bool.{Bool, true, false, not, cond, _&&_}
-use mathlib.Core.Logic.{⊎-elim}
+use mathlib.Core.Bool.{Bool, true, false, not, cond}
 use mathlib.Core.List.{List, [], _∷_}
-use native.Mathlib.Nat.{add-mul, eq-or-lt-of-le}
+use native.Mathlib.Nat.{add-mul}
 use native.Mathlib.Omega.{arith}
 use borrow.Author.Tests.{eqb-true}
 use lib.Dec.{eqb}
@@ -13,8 +12,8 @@ use lib.Bits.{bitAnd, bitOr, and-block, or-block, and-le-r, or-lt}
 use lib.Count.{leadingZeros, leading-unique}
 use lib.ListN.{length}
 use Rattle.names.specs.Text.{within}
-use Rattle.names.specs.Name.{nameByte, barred, upTo, until, front}
-use Rattle.names.specs.Tests.{both}
+use Rattle.names.specs.Name.{plainByte, special, upTo, until, front}
+use Rattle.names.specs.Tests.{everyBelow, below-each}
 use Rattle.names_words.specs.Word.{word, Octets, power-next, word-lt}
 
 -- k bytes that are x
@@ -90,25 +89,14 @@ module _ (k b r : ℕ) (h : b < 256) (l : r < 2 ^ (8 * k)) where
 
 -- ---- one byte
 
-everyBelow : (ℕ → Bool) → ℕ → Bool
-everyBelow p zero = true
-everyBelow p (suc n) = p n && everyBelow p n
-
-below-each : (p : ℕ → Bool) (n : ℕ) → everyBelow p n ≡ true → (i : ℕ) → i < n → p i ≡ true
-unfolding everyBelow
-below-each p zero e i l = absurd (omega arith)
-below-each p (suc n) e i l =
-    let h = both (p n) (everyBelow p n) e in
-    ⊎-elim (λ (d : i ≡ n). rw d (h .0)) (λ m. below-each p n (h .1) i m) (eq-or-lt-of-le {n = i} {m = n} (omega arith))
-
 rightByte : ℕ → Bool
-rightByte b = eqb (stopByte b) (cond (nameByte b) 0 128)
+rightByte b = eqb (stopByte b) (cond (plainByte b) 0 128)
 
 bytes-right : everyBelow rightByte 256 ≡ true
-unfolding everyBelow rightByte nameByte within
+unfolding everyBelow rightByte plainByte within
 bytes-right = refl
 
-stop-byte : (b : ℕ) → b < 256 → stopByte b ≡ cond (nameByte b) 0 128
+stop-byte : (b : ℕ) → b < 256 → stopByte b ≡ cond (plainByte b) 0 128
 unfolding rightByte
 stop-byte b h = eqb-true (stopByte b) _ (below-each rightByte 256 bytes-right b h)
 
@@ -122,14 +110,14 @@ pub record Stopped (k n s : ℕ) : Type 0 where
   pub reached : 2 ^ long ≤ 2 * s + 1
 
 stopped : (k : ℕ) (bs : List ℕ) → Octets bs → k ≤ length bs → Stopped k (min k (length (front bs))) (stops k (word k bs))
-unfolding word copies front until barred upTo
+unfolding word copies front until special upTo
 stopped zero bs o l = record { long = 0; behind = omega arith; above = omega arith; reached = omega arith }
 stopped (suc k) [] o l = absurd (omega arith)
 stopped (suc k) (b ∷ bs) o l =
-    rw (stops-step k b (word k bs) (o 0) (word-lt k bs (λ i. o (suc i))), stop-byte b (o 0)) (step (nameByte b) refl (stopped k bs (λ i. o (suc i)) (omega arith)))
+    rw (stops-step k b (word k bs) (o 0) (word-lt k bs (λ i. o (suc i))), stop-byte b (o 0)) (step (plainByte b) refl (stopped k bs (λ i. o (suc i)) (omega arith)))
   where
-    step : (t : Bool) → nameByte b ≡ t → Stopped k (min k (length (until barred bs))) (stops k (word k bs))
-        → Stopped (suc k) (min (suc k) (length (upTo (barred b) b (until barred bs)))) (cond t 0 128 * 2 ^ (8 * k) + stops k (word k bs))
+    step : (t : Bool) → plainByte b ≡ t → Stopped k (min k (length (until special bs))) (stops k (word k bs))
+        → Stopped (suc k) (min (suc k) (length (upTo (special b) b (until special bs)))) (cond t 0 128 * 2 ^ (8 * k) + stops k (word k bs))
     step true e s =
         rw e record { long = s .long; behind = omega (arith, s .behind); above = omega (arith, s .above); reached = omega (arith, s .reached) }
     step false e s =

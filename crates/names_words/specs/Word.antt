@@ -12,8 +12,8 @@ use lib.Arith.{digits-lt}
 use lib.Pow.{pow-pos, pow-add}
 use lib.ListN.{length, getD, take}
 use Rattle.names.specs.Text.{within}
-use Rattle.names.specs.Name.{nameByte, everyByte, before}
-use Rattle.names.specs.Tests.{both, agree}
+use Rattle.names.specs.Name.{plainByte, nameByte, everyByte, before}
+use Rattle.names.specs.Tests.{both, either, agree}
 use Rattle.names.specs.Order.{compared}
 
 -- the first k bytes as a number, the first of them highest; 0 in place of each that there is not
@@ -104,9 +104,14 @@ word-same (suc k) (x ∷ xs) (y ∷ ys) oa ob la lb e =
 
 -- ---- the order of keys is that of names
 
-byte-range : (b : ℕ) → nameByte b ≡ true → (32 ≤ b) × (b ≤ 126)
-unfolding nameByte within
-byte-range b h = let h′ = both (leb 32 b) (leb b 126) h in (leb-true 32 b (h′ .0), leb-true b 126 (h′ .1))
+byte-range : (b : ℕ) → nameByte b ≡ true → (32 ≤ b) × (b ≤ 255)
+unfolding nameByte plainByte within
+byte-range b h =
+    ⊎-elim (λ k. let r = in-within 32 126 k in (r .0, omega (arith, r .1))) (λ k. let r = in-within 128 255 k in (omega (arith, r .0), r .1))
+    (either (within 32 126 b) (within 128 255 b) h)
+  where
+    in-within : (low high : ℕ) → within low high b ≡ true → (low ≤ b) × (b ≤ high)
+    in-within low high k = let k′ = both (leb low b) (leb b high) k in (leb-true low b (k′ .0), leb-true b high (k′ .1))
 
 octets-closed : (n : List ℕ) → everyByte n ≡ true → Octets (closed n)
 unfolding everyByte

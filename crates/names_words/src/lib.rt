@@ -22,7 +22,7 @@ pub fn word_at(names: &[u8], at: usize) -> u64
                             | (((part[6] as u64) << 8) | (part[7] as u64)))))))
 }
 
-// How many bytes of a word may stand in a name, up to the first that may not. Each byte is tested by its top bit: that of 159 less the
+// How many bytes of a word are characters of a name by themselves, up to the first that is none. Each byte is tested by its top bit: that of 159 less the
 // byte's lower seven bits is set where these are below 32, that of one more than these where they are 127, and its own from 128 on. No
 // byte's sum or difference reaches into its neighbour.
 pub fn word_front(w: u64) -> usize
