@@ -1,17 +1,18 @@
 -- Cutting bytes into names and joining names are inverse: the bytes are names exactly when they are a joined list of names by the rules.
-use Prim.Native.Nat.{ℕ, suc, _<_}
+use Prim.Native.Nat.{ℕ, suc, _<_, _≤_}
 use mathlib.Core.Path.{_≡_, refl, sym, ap, _∙_}
 use mathlib.Core.Logic.{_↔_, ⊎-elim}
 use mathlib.Core.Bool.{Bool, true, false, _&&_, false≢true}
 use mathlib.Core.List.{List, [], _∷_, _++_}
 use mathlib.Core.Option.{Option, none, some}
 use native.Mathlib.Omega.{arith}
-use borrow.Author.Tests.{eqb-true, eq-eqb, ne-eqb, leb-true}
-use lib.Dec.{eqb, leb}
+use borrow.Author.Tests.{eqb-true, eq-eqb, ne-eqb}
+use lib.Dec.{eqb}
 use lib.ListN.{length, drop}
 use Rattle.names.specs.Text.{within}
 use Rattle.names.specs.Name.{plainByte, nameByte, spelled, everyByte, filled, allowed, everyName, ascending, cut, lines, lastOr, ended, sound, keep, namesOf, counts, accepted, join, upTo, until, isEnd, line}
 use Rattle.names.specs.Utf8.{wellFormed}
+use Rattle.names.specs.Texts.{in-within}
 use Rattle.names.specs.Tests.{both, either}
 
 -- the first line of some bytes, and the lines behind the byte that ends it
@@ -30,12 +31,16 @@ lines-first (b ∷ c ∷ bs) h = more (isEnd b) (lines-first (c ∷ bs) (omega a
     more true ih = refl
     more false ih = ap (cut false b) ih
 
--- a byte of a name ends none
+-- a byte of a name is none that ends one
+pub byte-range : (b : ℕ) → nameByte b ≡ true → (32 ≤ b) × (b ≤ 255)
+unfolding nameByte plainByte
+byte-range b h =
+    ⊎-elim (λ k. let r = in-within 32 126 b k in (r .0, omega (arith, r .1))) (λ k. let r = in-within 128 255 b k in (omega (arith, r .0), r .1))
+    (either (plainByte b) (within 128 255 b) h)
+
 pub no-end : (b : ℕ) → nameByte b ≡ true → isEnd b ≡ false
-unfolding nameByte plainByte within isEnd
-no-end b h =
-    ne-eqb b 10 (λ e. ⊎-elim (λ k. let l = leb-true 32 b (both (leb 32 b) (leb b 126) k .0) in omega arith) (λ k. let l = leb-true 128 b (both (leb 128 b) (leb b 255) k .0) in omega arith)
-    (either (within 32 126 b) (within 128 255 b) h))
+unfolding isEnd
+no-end b h = ne-eqb b 10 (λ e. omega (arith, byte-range b h))
 
 pub line-of : (n r : List ℕ) → everyByte n ≡ true → line (n ++ (10 ∷ r)) ≡ n
 unfolding everyByte line until upTo isEnd

@@ -1,13 +1,17 @@
 -- What the questions about a spelling mean.
-use Prim.Native.Nat.{ℕ}
+use Prim.Native.Nat.{ℕ, _≤_}
 use mathlib.Core.Path.{_≡_, refl, sym, ap, _∙_}
 use mathlib.Core.Logic.{_↔_, ⊎-elim}
 use mathlib.Core.Bool.{true, false≢true}
 use mathlib.Core.List.{List, [], _∷_, _++_}
-use borrow.Author.Tests.{eqb-true, eq-eqb}
-use lib.Dec.{eqb}
-use Rattle.names.specs.Text.{same, starts, contains}
+use borrow.Author.Tests.{eqb-true, eq-eqb, leb-true}
+use lib.Dec.{eqb, leb}
+use Rattle.names.specs.Text.{within, same, starts, contains}
 use Rattle.names.specs.Tests.{both, either, or-right}
+
+pub in-within : (low high b : ℕ) → within low high b ≡ true → (low ≤ b) × (b ≤ high)
+unfolding within
+in-within low high b h = let h′ = both (leb low b) (leb b high) h in (leb-true low b (h′ .0), leb-true b high (h′ .1))
 
 same-sound : (a b : List ℕ) → same a b ≡ true → a ≡ b
 unfolding same

@@ -1,9 +1,12 @@
 // The names that come with a book: where each of them ends, and what their spelling says.
+pub mod utf8;
+
 ghost use mathlib.Core.Path.{_≡_};
 ghost use Prim.Native.Nat.{_+_};
 ghost use lib.ListN.{length};
 ghost use Rattle.names.specs.Text.{within as textWithin, same, starts, contains};
 ghost use Rattle.names.specs.Name.{nameFrom};
+ghost use Rattle.names.specs.Utf8.{isTail};
 ghost use Rattle.names.specs.Spelling.{wordByte, cleanByte};
 
 // The byte that ends a name.
@@ -93,4 +96,11 @@ pub fn clean_byte(b: u8) -> u8
     ensures { λ r. ⌜ r ≡ cleanByte b ⌝ }
 {
     if word_byte(b) { b } else { b'_' }
+}
+
+// Whether a byte is one of a character's behind its first.
+pub fn is_tail(b: u8) -> bool
+    ensures { λ r. ⌜ r ≡ isTail b ⌝ }
+{
+    within(0x80, 0xbf, b)
 }

@@ -6,14 +6,14 @@ use mathlib.Core.Logic.{⊎-elim}
 use mathlib.Core.List.{List, [], _∷_, _++_}
 use native.Mathlib.Omega.{arith}
 use native.Mathlib.Nat.{le-of-lt}
-use borrow.Author.Tests.{lt-ltb, le-ltb, ltb-true, eq-eqb, ne-eqb, leb-true}
-use lib.Dec.{ltb, leb}
+use borrow.Author.Tests.{lt-ltb, le-ltb, ltb-true, eq-eqb, ne-eqb}
+use lib.Dec.{ltb}
 use lib.Arith.{digits-lt}
 use lib.Pow.{pow-pos, pow-add}
 use lib.ListN.{length, getD, take}
-use Rattle.names.specs.Text.{within}
-use Rattle.names.specs.Name.{plainByte, nameByte, everyByte, before}
-use Rattle.names.specs.Tests.{both, either, agree}
+use Rattle.names.specs.Name.{nameByte, everyByte, before}
+use Rattle.names.specs.Lines.{byte-range}
+use Rattle.names.specs.Tests.{both, agree}
 use Rattle.names.specs.Order.{compared}
 
 -- the first k bytes as a number, the first of them highest; 0 in place of each that there is not
@@ -103,15 +103,6 @@ word-same (suc k) (x ∷ xs) (y ∷ ys) oa ob la lb e =
     (compared x y)
 
 -- ---- the order of keys is that of names
-
-byte-range : (b : ℕ) → nameByte b ≡ true → (32 ≤ b) × (b ≤ 255)
-unfolding nameByte plainByte within
-byte-range b h =
-    ⊎-elim (λ k. let r = in-within 32 126 k in (r .0, omega (arith, r .1))) (λ k. let r = in-within 128 255 k in (omega (arith, r .0), r .1))
-    (either (within 32 126 b) (within 128 255 b) h)
-  where
-    in-within : (low high : ℕ) → within low high b ≡ true → (low ≤ b) × (b ≤ high)
-    in-within low high k = let k′ = both (leb low b) (leb b high) k in (leb-true low b (k′ .0), leb-true b high (k′ .1))
 
 octets-closed : (n : List ℕ) → everyByte n ≡ true → Octets (closed n)
 unfolding everyByte
