@@ -6,6 +6,7 @@ pub mod Spelling
 pub mod Prefix
 pub mod Tests
 pub mod Lead
+pub mod Characters
 pub mod Texts
 pub mod Labels
 pub mod Order
