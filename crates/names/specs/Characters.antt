@@ -4,13 +4,14 @@ use mathlib.Core.Path.{_≡_, refl, sym, _∙_}
 use mathlib.Core.Bool.{Bool, true, false, _&&_, cond, false≢true, and-assoc}
 use mathlib.Core.List.{List, [], _∷_, _++_}
 use native.Mathlib.Omega.{arith}
-use borrow.Author.Tests.{leb-true, le-leb}
+use borrow.Author.Tests.{leb-true, le-leb, lt-ltb}
 use lib.Dec.{leb}
 use lib.ListN.{length, take, drop}
 use Rattle.names.specs.Utf8.{Range, to, tail, table, has, opens, others, begins, behind, follow, wellFormed, fills, charLength}
 use Rattle.names.specs.Text.{within}
 use Rattle.names.specs.Name.{plainByte, nameByte, everyByte}
 use Rattle.names.specs.Texts.{in-within}
+use Rattle.names.specs.Lead.{lead-behind, lead-begins}
 use Rattle.names.specs.Tests.{both, or-right, is-false}
 
 -- the bytes are one of each of the ranges
@@ -44,6 +45,11 @@ pub char-first : (p q : List ℕ) → isChar p ≡ true → wellFormed (p ++ q) 
 unfolding wellFormed isChar follow
 char-first [] q h = absurd (false≢true h)
 char-first (b ∷ p) q h = let k = both (begins table b) (exactly (behind table b) p) h in rw (k .0) (follow-exactly (behind table b) p q (k .1))
+
+-- an ASCII character is one byte
+pub char-ascii : (b : ℕ) → b < 0x80 → isChar (b ∷ []) ≡ true
+unfolding isChar exactly
+char-ascii b h = rw (lead-begins b (omega arith), lead-behind b (omega arith), lt-ltb b 0x80 h, lt-ltb b 0xC2 (omega arith))
 
 -- ---- its bytes may stand in a name where the first one may
 

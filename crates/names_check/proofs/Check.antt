@@ -1,17 +1,19 @@
 -- The check of the names, name by name: what is left of it behind the names that were passed.
 use Prim.Native.Nat.{ℕ, suc, _+_, _-_, _<_, _≤_}
 use mathlib.Core.Path.{_≡_, refl, sym, ap, _∙_}
-use mathlib.Core.Bool.{Bool, true, false, _&&_, not, and-false}
+use mathlib.Core.Bool.{Bool, true, false, _&&_, and-false}
 use mathlib.Core.List.{List, [], _∷_, _++_}
 use native.Mathlib.Nat.{zero-add, add-zero}
 use native.Mathlib.Omega.{arith}
-use borrow.Author.Tests.{ne-eqb, not-true}
 use lib.Dec.{eqb}
-use lib.ListN.{length, getD, take, drop, length-append, length-drop, drop-of-length-le}
-use Rattle.names.specs.Name.{nameByte, barred, isEnd, everyByte, filled, allowed, everyName, before, ascendingFrom, ascending, lines, lastOr, ended, sound, keep, namesOf, counts, accepted, upTo, until, line, front, nameFrom}
+use lib.ListN.{length, getD, drop, length-drop, drop-of-length-le}
+use lib.Seq.{split-at, take-all, length-take-le, getD-drop, drop-drop}
+use Rattle.names.specs.Utf8.{follow, wellFormed}
+use Rattle.names.specs.Name.{nameByte, isEnd, everyByte, spelled, filled, allowed, everyName, before, ascendingFrom, ascending, lines, lastOr, ended, sound, keep, namesOf, counts, accepted, line, nameFrom}
 use Rattle.names.specs.Tests.{both}
 use Rattle.names.specs.Lines.{lines-first, line-of, lines-of, no-end, ended-behind}
-use Rattle.names_spelling.proofs.Scan.{reach, reach-split, reach-next, reach-all, passed}
+use Rattle.names_spelling.proofs.Spell.{name-ended}
+use Rattle.names_check.specs.Found.{part, Spelled}
 
 -- whether the bytes that are left are names that ascend from `last` and are, with n that were passed, m
 unfoldable pub going : List ℕ → List ℕ → ℕ → ℕ → Bool
@@ -35,15 +37,6 @@ going-start bs m =
     counts-keep m (ended bs && (everyName (lines bs) && ascending (lines bs))) (lines bs)
     ∙ ap (λ t. (ended bs && t) && eqb (0 + length (lines bs)) m) (from-empty (lines bs))
 
-pub front-bytes : (bs : List ℕ) → everyByte (front bs) ≡ true
-unfolding everyByte front until upTo barred
-front-bytes [] = refl
-front-bytes (b ∷ bs) = step (nameByte b) refl (front-bytes bs)
-  where
-    step : (t : Bool) → nameByte b ≡ t → everyByte (until barred bs) ≡ true → everyByte (upTo (not t) b (until barred bs)) ≡ true
-    step true e ih = rw e ih
-    step false e ih = refl
-
 -- bytes of a name with no end
 last-inside : (b : ℕ) (bs : List ℕ) → everyByte (b ∷ bs) ≡ true → isEnd (lastOr b bs) ≡ false
 unfolding everyByte lastOr
@@ -55,18 +48,10 @@ unfolding going ended isEnd lastOr
 open-refused [] last n m h l = absurd (omega arith)
 open-refused (b ∷ f) last n m h l = rw (last-inside b f h)
 
--- a name with a byte that may not stand in it
-line-barred : (f r : List ℕ) (x : ℕ) → everyByte f ≡ true → nameByte x ≡ false → isEnd x ≡ false → everyByte (line (f ++ (x ∷ r))) ≡ false
-unfolding everyByte line until upTo
-line-barred [] r x h b e = rw (e, b)
-line-barred (y ∷ f) r x h b e =
-    let h′ = both (nameByte y) (everyByte f) h in
-    rw (no-end y (h′ .0), h′ .0) (line-barred f r x (h′ .1) b e)
-
-barred-refused : (f r last : List ℕ) (x n m : ℕ) → everyByte f ≡ true → nameByte x ≡ false → isEnd x ≡ false → going last (f ++ (x ∷ r)) n m ≡ false
+-- a name with a character that may not stand in it
+misspelled : (rest last : List ℕ) (n m : ℕ) → 0 < length rest → spelled (line rest) ≡ false → going last rest n m ≡ false
 unfolding going everyName allowed
-barred-refused f r last x n m h b e =
-    simp (lines-first (f ++ (x ∷ r)) (omega (arith, length-append f (x ∷ r))), line-barred f r x h b e, and-false)
+misspelled rest last n m l h = simp (lines-first rest l, h, and-false)
 
 -- a name with its end
 regroup : (e a b c q : Bool) → ((e && (a && (b && c))) && q) ≡ (b && ((e && (a && c)) && q))
@@ -75,11 +60,11 @@ regroup false a false c q = refl
 regroup true false false c q = refl
 regroup true true false c q = refl
 
-named : (f r last : List ℕ) (n m : ℕ) → everyByte f ≡ true → going last (f ++ (10 ∷ r)) n m ≡ (before last f && going f r (n + 1) m)
+named : (f r last : List ℕ) (n m : ℕ) → everyByte f ≡ true → spelled f ≡ true → going last (f ++ (10 ∷ r)) n m ≡ (before last f && going f r (n + 1) m)
 unfolding going everyName allowed filled ascendingFrom before
-named [] r last n m h = simp (lines-of [] r h, ended-behind [] r, and-false)
-named (b ∷ f) r last n m h =
-    rw (lines-of (b ∷ f) r h, ended-behind (b ∷ f) r, h, count-on)
+named [] r last n m h g = simp (lines-of [] r h, ended-behind [] r, and-false)
+named (b ∷ f) r last n m h g =
+    rw (lines-of (b ∷ f) r h, ended-behind (b ∷ f) r, g, count-on)
     (regroup (ended r) (everyName (lines r)) (before last (b ∷ f)) (ascendingFrom (b ∷ f) (lines r)) (eqb (n + 1 + length (lines r)) m))
   where
     count-on : n + suc (length (lines r)) ≡ n + 1 + length (lines r)
@@ -89,54 +74,53 @@ pub going-over : (last names : List ℕ) (at n m : ℕ) → length names ≤ at 
 unfolding going ended lastOr everyName ascendingFrom lines
 going-over last names at n m h = rw (drop-of-length-le names h, add-zero)
 
--- the name at `at`, whose bytes end at `end`
-module _ (names : List ℕ) (at end : ℕ) (q : end ≡ at + length (front (drop at names))) where
-  split-named : end < length names → getD names end 0 ≡ 10 → drop at names ≡ front (drop at names) ++ (10 ∷ drop (end + 1) names)
-  unfolding front
-  split-named l e = rw (← q, e) at (reach-split barred names at (rw q at l))
+-- the name at `at`, whose characters end at `end`
+module _ (names : List ℕ) (at end : ℕ) (q : Spelled names at end) where
+  module _ (l : end < length names) (e : getD names end 0 ≡ 10) where
+    split-named : drop at names ≡ part names at end ++ (10 ∷ drop (end + 1) names)
+    split-named = rw (getD-drop, drop-drop, there, e, behind) at (split-at (drop at names) (end - at) 0 (omega (arith, q .through .starts, length-drop at names)))
+      where
+        there : at + (end - at) ≡ end
+        there = omega (arith, q .through .starts)
 
-  -- it is the line that stands there
-  name-front : end < length names → getD names end 0 ≡ 10 → nameFrom names at ≡ front (drop at names)
-  unfolding nameFrom
-  name-front l e = ap line (split-named l e) ∙ line-of (front (drop at names)) (drop (end + 1) names) (front-bytes (drop at names))
+        behind : at + suc (end - at) ≡ end + 1
+        behind = omega (arith, q .through .starts)
 
-  pub end-named : end < length names → getD names end 0 ≡ 10 → end ≡ at + length (nameFrom names at)
-  end-named l e = rw (name-front l e) q
+    -- it is the line that stands there
+    name-part : nameFrom names at ≡ part names at end
+    unfolding nameFrom
+    name-part = ap line split-named ∙ line-of (part names at end) (drop (end + 1) names) (q .through .bytes)
 
-  pub line-named : end < length names → getD names end 0 ≡ 10 → lines (drop at names) ≡ nameFrom names at ∷ lines (drop (end + 1) names)
-  line-named l e = rw (name-front l e) (ap lines (split-named l e) ∙ lines-of (front (drop at names)) (drop (end + 1) names) (front-bytes (drop at names)))
+    pub end-named : end ≡ at + length (nameFrom names at)
+    end-named = rw name-part (omega (arith, length-take-le (end - at) (drop at names) (omega (arith, length-drop at names)), q .through .starts))
+
+    pub line-named : lines (drop at names) ≡ nameFrom names at ∷ lines (drop (end + 1) names)
+    line-named = rw name-part (ap lines split-named ∙ lines-of (part names at end) (drop (end + 1) names) (q .through .bytes))
+
+    -- and one by the rules
+    spelled-part : spelled (part names at end) ≡ true
+    unfolding spelled everyByte wellFormed follow
+    spelled-part = ap spelled (sym name-part) ∙ q .through .rest ∙ ap spelled (name-ended names end l e)
 
   module _ (last : List ℕ) (n m : ℕ) where
     pub going-open : at < length names → length names ≤ end → going last (drop at names) n m ≡ false
-    unfolding front
     going-open l h =
-        let all = reach-all barred names at (rw q at h) in
-        rw all (open-refused (front (drop at names)) last n m (front-bytes (drop at names)) (omega (arith, ap length all, length-drop at names)))
+        let all : part names at end ≡ drop at names = take-all (end - at) (drop at names) (omega (arith, length-drop at names)) in
+        open-refused (drop at names) last n m (ap everyByte (sym all) ∙ q .through .bytes) (omega (arith, length-drop at names))
 
     pub going-barred : end < length names → (getD names end 0 ≡ 10 → ⊥) → going last (drop at names) n m ≡ false
-    unfolding front barred isEnd
-    going-barred l d =
-        let l′ : reach barred names at < length names = rw q at l in
-        rw (reach-split barred names at l′)
-        (barred-refused (front (drop at names)) (drop (reach barred names at + 1) names) last (getD names (reach barred names at) 0) n m
-        (front-bytes (drop at names)) (not-true _ (reach-next barred names at l′)) (ne-eqb _ 10 (rw q at d)))
-
-    -- its bytes, as a part of all
-    abbrev part : List ℕ
-    part = take (end - at) (drop at names)
-
-    going-named : end < length names → getD names end 0 ≡ 10
-        → going last (drop at names) n m ≡ (before last part && going part (drop (end + 1) names) (n + 1) m)
-    unfolding front
-    going-named l e =
-        let p : part ≡ front (drop at names) = rw (← q) at (passed barred names at) in
-        rw p
-        (ap (λ r. going last r n m) (split-named l e) ∙ named (front (drop at names)) (drop (end + 1) names) last n m (front-bytes (drop at names)))
+    unfolding nameFrom
+    going-barred l d = misspelled (drop at names) last n m (omega (arith, q .through .starts, length-drop at names)) (q .through .rest ∙ q .stuck l d)
 
     -- by whether it comes after the last one
-    module _ (l : end < length names) (e : getD names end 0 ≡ 10) (after : Bool) (o : after ≡ before last part) where
-      pub going-unordered : after ≡ false → going last (drop at names) n m ≡ false
-      going-unordered b = going-named l e ∙ ap (λ t. t && going part (drop (end + 1) names) (n + 1) m) (sym o ∙ b)
+    module _ (l : end < length names) (e : getD names end 0 ≡ 10) (after : Bool) (o : after ≡ before last (part names at end)) where
+      going-named : going last (drop at names) n m ≡ (after && going (part names at end) (drop (end + 1) names) (n + 1) m)
+      going-named =
+          rw o
+          (ap (λ r. going last r n m) (split-named l e) ∙ named (part names at end) (drop (end + 1) names) last n m (q .through .bytes) (spelled-part l e))
 
-      pub going-ordered : after ≡ true → going last (drop at names) n m ≡ going part (drop (end + 1) names) (n + 1) m
-      going-ordered b = going-named l e ∙ ap (λ t. t && going part (drop (end + 1) names) (n + 1) m) (sym o ∙ b)
+      pub going-unordered : after ≡ false → going last (drop at names) n m ≡ false
+      going-unordered b = going-named ∙ ap (λ t. t && going (part names at end) (drop (end + 1) names) (n + 1) m) b
+
+      pub going-ordered : after ≡ true → going last (drop at names) n m ≡ going (part names at end) (drop (end + 1) names) (n + 1) m
+      going-ordered b = going-named ∙ ap (λ t. t && going (part names at end) (drop (end + 1) names) (n + 1) m) b

@@ -1,32 +1,20 @@
--- The bytes that may stand in a name, by words.
-use Prim.Native.Nat.{ℕ, zero, suc, _+_, _-_, _<_, _≤_, min}
-use mathlib.Core.Path.{_≡_, ap}
-use mathlib.Core.Bool.{Bool, true, false}
-use mathlib.Core.List.{List, [], _∷_}
+-- ASCII characters, by words.
+use Prim.Native.Nat.{ℕ, _+_, _-_, _<_, _≤_, min}
+use mathlib.Core.Path.{_≡_}
+use mathlib.Core.List.{List}
+use mathlib.Core.Bool.{false}
 use native.Mathlib.Omega.{arith}
-use lib.ListN.{length, drop, length-take, length-drop}
-use lib.Seq.{getD-drop, drop-drop}
-use Rattle.names.specs.Name.{barred, upTo, until, front}
-use Rattle.names_spelling.proofs.Scan.{until-part}
+use borrow.Author.Tests.{lt-leb, not-true}
+use lib.ListN.{length, getD, drop, length-drop}
+use lib.Seq.{getD-drop}
+use Rattle.names.specs.Text.{within}
+use Rattle.names.specs.Name.{plainByte, nameByte, special, until, front}
+use Rattle.names_spelling.proofs.Scan.{until-next}
 use Rattle.names_words.specs.Word.{word, Octets}
+use Rattle.names_check.specs.Found.{Through, Spelled}
+use Rattle.names_check.proofs.Through.{through-front, stuck-byte}
 
-pub front-le : (bs : List ℕ) → length (front bs) ≤ length bs
-unfolding front
-front-le bs = omega (arith, ap length (until-part barred bs), length-take (length (until barred bs)) bs)
-
--- bytes that may all stand in a name are passed
-front-over : (k : ℕ) (bs : List ℕ) → k ≤ length (front bs) → length (front bs) ≡ k + length (front (drop k bs))
-unfolding front until upTo
-front-over zero bs l = omega arith
-front-over (suc k) [] l = absurd (omega arith)
-front-over (suc k) (b ∷ bs) l = step (barred b) (front-over k bs) l
-  where
-    step : (t : Bool) → (k ≤ length (until barred bs) → length (until barred bs) ≡ k + length (until barred (drop k bs)))
-        → suc k ≤ length (upTo t b (until barred bs)) → length (upTo t b (until barred bs)) ≡ suc k + length (until barred (drop k bs))
-    step true ih m = absurd (omega arith)
-    step false ih m = omega (arith, ih (omega arith))
-
--- the word at `at`, with the number of its bytes up to the first that may not stand in a name
+-- the word at `at`, with the number of its bytes up to the first that is no ASCII character of a name
 pub record WordRead (names : List ℕ) (at w n : ℕ) : Type 0 where
   pub octets : Octets (drop at names)
   pub long : 8 ≤ length (drop at names)
@@ -40,14 +28,32 @@ word-read names at w n o l e f =
     let l′ : 8 ≤ length (drop at names) = rw length-drop (omega arith) in
     record { octets = o′; long = l′; same = e; counted = f (drop at names) o′ l′ e }
 
+low-name : (b : ℕ) → b < 128 → plainByte b ≡ false → nameByte b ≡ false
+unfolding nameByte within
+low-name b h e = rw (e, lt-leb 128 b h)
+
 module _ {names : List ℕ} {at w n : ℕ} (d : WordRead names at w n) where
   pub room : at + 8 ≤ length names
   room = omega (arith, d .long, length-drop at names)
 
-  -- where the bytes end if they do within the word
-  pub end-short : n < 8 → at + n ≡ at + length (front (drop at names))
-  end-short l = omega (arith, d .counted)
+  -- the word's bytes up to the first that is no ASCII character are passed
+  pub word-through : Through names at (at + n)
+  word-through = through-front names at n (omega (arith, room)) (omega (arith, d .counted))
 
-  -- and if it goes on behind the word
-  pub end-long : (end : ℕ) → 8 ≤ n → end ≡ at + 8 + length (front (drop (at + 8) names)) → end ≡ at + length (front (drop at names))
-  end-long end l q = omega (arith, d .counted, front-over 8 (drop at names) (omega (arith, d .counted)), ap (λ (r : List ℕ). length (front r)) (drop-drop 8 at names))
+  -- a byte below 128 behind them is no character of a name
+  pub word-stuck : n < 8 → getD names (at + n) 0 < 128 → Spelled names at (at + n)
+  unfolding front special
+  word-stuck l h = record { through = word-through; stuck = λ m d. stuck-byte names (at + n) m (low-name (getD names (at + n) 0) h no-plain) d }
+    where
+      short : length (until special (drop at names)) ≡ n
+      short = omega (arith, d .counted)
+
+      no-plain : plainByte (getD names (at + n) 0) ≡ false
+      no-plain = not-true _ (rw (short, getD-drop) at (until-next special (drop at names) (omega (arith, short, d .long))))
+
+  -- all of them
+  pub word-whole : 8 ≤ n → Through names at (at + 8)
+  word-whole l = rw whole at word-through
+    where
+      whole : n ≡ 8
+      whole = omega (arith, d .counted)

@@ -4,55 +4,66 @@ use names_compare::Ordering;
 use names_compare::compare;
 use names_spelling::END;
 use names_spelling::name_starts;
+use names_spelling::utf8::char_len;
 use names_words::word_at;
 use names_words::word_front;
 use names_words::word_key;
 ghost use mathlib.Core.Path.{_≡_};
 ghost use mathlib.Core.Bool.{true};
 ghost use Prim.Native.Nat.{_+_, _<_, _≤_};
-ghost use lib.ListN.{length, drop, set};
-ghost use Rattle.names.specs.Name.{nameByte, before, accepted, lines, front};
+ghost use lib.ListN.{length, set};
+ghost use Rattle.names.specs.Name.{nameByte, before, accepted, lines};
 ghost use Rattle.names.specs.Prefix.{firstWith, pastWith};
 ghost use Rattle.names_check.specs.Read.{namesRead};
 ghost use Rattle.names_check.specs.Nexts.{Noted, placeBehind};
-ghost use Rattle.names_check.specs.Found.{Kept, Found};
+ghost use Rattle.names_check.specs.Found.{Spelled, Kept, Found};
 
-// Whether a byte may stand in a name.
+// Whether a byte may stand in a name: it is no control character.
 fn name_byte(b: u8) -> bool
     ensures { λ r. ⌜ r ≡ nameByte b ⌝ }
 {
-    (32 <= b) & (b <= 126)
+    ((32 <= b) & (b <= 126)) | (128 <= b)
 }
 
-// The index of the first byte from `at` on that may not stand in a name, or the number of bytes; byte by byte.
-fn bytes_end(names: &[u8], at: usize) -> usize
-    ensures { λ r. ⌜ r ≡ at + length (front (drop at (now (names .entry)))) ⌝ }
+// The index behind the characters from `at` on that may stand in a name; one by one.
+fn chars_end(names: &[u8], at: usize) -> usize
+    requires { ⌜ at ≤ length (now names) ⌝ }
+    ensures { λ r. ⌜ Spelled (now (names .entry)) at r ⌝ }
 {
     let mut i = at;
     while i < names.len() {
         if !name_byte(names[i]) {
             return i;
         }
-        i += 1;
+        let n = char_len(names, i);
+        if n == 0 {
+            return i;
+        }
+        i += n;
     }
     i
 }
 
-// The same by words while eight bytes remain.
+// The same by words of ASCII characters while eight bytes remain. Behind such a word the next one is read at once, without waiting for
+// the number of its bytes.
 fn front_end(names: &[u8], at: usize) -> usize
     requires { ⌜ at ≤ length (now names) ⌝ }
-    ensures { λ r. ⌜ r ≡ at + length (front (drop at (now (names .entry)))) ⌝ }
+    ensures { λ r. ⌜ Spelled (now (names .entry)) at r ⌝ }
 {
     let mut i = at;
     while 8 <= names.len() - i {
         let w = word_at(names, i);
         let n = word_front(w);
         if n < 8 {
-            return i + n;
+            i += n;
+            if names[i] < 128 {
+                return i;
+            }
+            break;
         }
         i += 8;
     }
-    bytes_end(names, i)
+    chars_end(names, i)
 }
 
 // Whether one name comes strictly before another bytewise.
@@ -98,31 +109,38 @@ struct Next {
 }
 
 // The name at `at`, compared with the one that stands from `last` to `past`. Where eight bytes are left they are read as one word,
-// which tells the end of a short name, and its order by one comparison with the other name's key. A longer name's end is searched behind
-// that word; then the two names are compared, and so are the last ones, for which the key is not needed any more.
+// which tells the end of a short ASCII name, and its order by one comparison with the other name's key. The end of any other is searched
+// behind the word's ASCII characters; then the two names are compared, and so are the last ones, for which the key is not needed any more.
 fn next_name(names: &[u8], last: usize, past: usize, key: u64, at: usize) -> Next
     requires { ⌜ at < length (now names) ⌝ }
     requires { ⌜ Kept (now names) last past key at ⌝ }
     ensures { λ r. ⌜ Found (now (names .entry)) last past at (r .end) (r .key) (r .after) ⌝ }
 {
-    let mut first = key;
+    let mut first: u64 = 0;
     let mut from = at;
     if 8 <= names.len() - at {
-        let w = word_at(names, at);
-        let n = word_front(w);
+        first = word_at(names, at);
+        let n = word_front(first);
         if n < 8 {
-            let k = word_key(w, n);
-            return Next {
-                end: at + n,
-                key: k,
-                after: key < k,
-            };
+            from = at + n;
+            if names[from] == END {
+                let k = word_key(first, n);
+                return Next {
+                    end: from,
+                    key: k,
+                    after: key < k,
+                };
+            }
+        } else {
+            from = at + 8;
         }
-        first = w;
-        from = at + 8;
     }
     let end = front_end(names, from);
     let after = name_before(&names[last..past], &names[at..end]);
+    let long = end - at;
+    if long < 8 {
+        first = word_key(first, long);
+    }
     Next {
         end,
         key: first,

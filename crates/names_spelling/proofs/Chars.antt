@@ -1,7 +1,7 @@
 -- The character at a place of the bytes, by its first byte and by the ranges of the others.
 use Prim.Native.Nat.{ℕ, zero, suc, _+_, _-_, _<_, _≤_}
-use mathlib.Core.Path.{_≡_, refl, sym, ap, _∙_}
-use mathlib.Core.Bool.{Bool, true, false, _&&_, _||_, cond, and-false}
+use mathlib.Core.Path.{_≡_, refl, ap, _∙_}
+use mathlib.Core.Bool.{true, false, _&&_, _||_, cond, and-false}
 use mathlib.Core.List.{List, [], _∷_}
 use native.Mathlib.Nat.{add-assoc}
 use native.Mathlib.Numerals.{add-one}
@@ -9,8 +9,8 @@ use native.Mathlib.Omega.{arith}
 use borrow.Author.Tests.{lt-ltb, le-ltb}
 use lib.Dec.{ltb}
 use lib.ListN.{length, getD, drop, replicate, length-drop, length-replicate, drop-of-length-le}
-use Rattle.names.specs.Utf8.{Range, to, tail, table, has, isTail, begins, behind, fills, charLength}
-use Rattle.names.specs.Lead.{tails, lowest, highest, ranges, leads, lead-behind, lead-begins}
+use Rattle.names.specs.Utf8.{Range, to, tail, has, isTail, fills, charLength}
+use Rattle.names.specs.Lead.{tails, lowest, highest, ranges, lead-behind, lead-begins}
 use Rattle.names_spelling.proofs.Scan.{from-place}
 
 ranges-long : (n : ℕ) (r : Range) → length (ranges n r) ≡ n

@@ -1,7 +1,7 @@
 -- The bytes of a word that are no characters of a name by themselves: each has its top bit set in a word that the code makes, and no other bit is set there.
 use Prim.Native.Nat.{ℕ, zero, suc, _+_, _-_, _*_, _/_, _^_, _<_, _≤_, min}
 use mathlib.Core.Path.{_≡_, refl, ap, ap₂, _∙_}
-use mathlib.Core.Bool.{Bool, true, false, not, cond}
+use mathlib.Core.Bool.{Bool, true, false, cond}
 use mathlib.Core.List.{List, [], _∷_}
 use native.Mathlib.Nat.{add-mul}
 use native.Mathlib.Omega.{arith}
