@@ -1,9 +1,16 @@
 -- The spelling of a label.
-use Prim.Native.Nat.{ℕ}
-use mathlib.Core.Path.{_≡_, refl}
-use mathlib.Core.Bool.{Bool, true, false, cond}
+use Prim.Native.Nat.{ℕ, _+_, _/_, _≤_, _<_}
+use mathlib.Core.Path.{_≡_, refl, sym, ap, _∙_}
+use mathlib.Core.Bool.{Bool, true, false, _&&_, cond}
+use mathlib.Core.List.{List, [], _∷_, _++_, map}
+use native.Mathlib.Omega.{arith}
+use borrow.Author.Tests.{lt-ltb, le-leb, lt-leb, ne-eqb}
+use lib.Dec.{leb, ltb}
 use Rattle.names.specs.Text.{within}
-use Rattle.names.specs.Spelling.{wordByte, cleanByte}
+use Rattle.names.specs.Utf8.{to, tail, has, isTail, scalar, six, encode, everyScalar, encodes}
+use Rattle.names.specs.Spelling.{wordByte, cleanByte, sanitize}
+use Rattle.names.specs.Tests.{both}
+use Rattle.names.specs.Encoding.{by-range, encode-one, encode-two, encode-three, encode-four, six-tail, by-scalar}
 
 underscore : wordByte 95 ≡ true
 unfolding wordByte within
@@ -17,3 +24,59 @@ clean-word b = kept (wordByte b) refl
     kept : (t : Bool) → wordByte b ≡ t → wordByte (cond t b 95) ≡ true
     kept true e = e
     kept false e = underscore
+
+unfoldable pub everyWord : List ℕ → Bool
+everyWord [] = true
+everyWord (b ∷ bs) = wordByte b && everyWord bs
+
+pub sanitize-words : (s : List ℕ) → everyWord (sanitize s) ≡ true
+unfolding sanitize everyWord
+sanitize-words [] = refl
+sanitize-words (b ∷ s) = given (isTail b) (sanitize-words s)
+  where
+    given : (t : Bool) → everyWord (sanitize s) ≡ true → everyWord (cond t (sanitize s) (cleanByte b ∷ sanitize s)) ≡ true
+    given true h = h
+    given false h = rw (clean-word b) h
+
+-- a character outside ASCII is one `_`
+pub clean-outside : (c : ℕ) → 0x7F < c → cleanByte c ≡ 95
+unfolding cleanByte wordByte within
+clean-outside c l =
+    rw (le-leb 48 c (omega arith), lt-leb c 57 (omega arith), le-leb 65 c (omega arith), lt-leb c 90 (omega arith), le-leb 97 c (omega arith), lt-leb c 122 (omega arith), ne-eqb c 95 (omega arith))
+
+-- the first byte of a character is no tail, and the others are
+under-tail : (b : ℕ) → b < 0x80 → isTail b ≡ false
+unfolding isTail has tail to within
+under-tail b h = rw (lt-leb 0x80 b h)
+
+over-tail : (b : ℕ) → 0xBF < b → isTail b ≡ false
+unfolding isTail has tail to within
+over-tail b h = rw (le-leb 0x80 b (omega arith), lt-leb b 0xBF h)
+
+sanitize-lead : (b : ℕ) (q : List ℕ) → 0xBF < b → sanitize (b ∷ q) ≡ 95 ∷ sanitize q
+unfolding sanitize
+sanitize-lead b q h = rw (over-tail b h, clean-outside b (omega arith))
+
+sanitize-six : (x : ℕ) (q : List ℕ) → sanitize (six x ∷ q) ≡ sanitize q
+unfolding sanitize isTail
+sanitize-six x q = rw (six-tail x)
+
+sanitize-low : (b : ℕ) (q : List ℕ) → b < 0x80 → sanitize (b ∷ q) ≡ cleanByte b ∷ sanitize q
+unfolding sanitize
+sanitize-low b q h = rw (under-tail b h)
+
+-- one character of a name is one of its label
+sanitize-char : (c : ℕ) (q : List ℕ) → sanitize (encode c ++ q) ≡ cleanByte c ∷ sanitize q
+sanitize-char c q =
+    by-range c (λ h. rw (encode-one c h) (sanitize-low c q (omega arith)))
+    (λ l h. rw (encode-two c l h, clean-outside c l) (sanitize-lead (0xC0 + c / 0x40) _ (omega arith) ∙ ap (λ t. 95 ∷ t) (sanitize-six c q)))
+    (λ l h. rw (encode-three c l h, clean-outside c (omega arith))
+    (sanitize-lead (0xE0 + c / 0x1000) _ (omega arith) ∙ ap (λ t. 95 ∷ t) (sanitize-six (c / 0x40) _ ∙ sanitize-six c q)))
+    (λ l. rw (encode-four c l, clean-outside c (omega arith))
+    (sanitize-lead (0xF0 + c / 0x40000) _ (omega arith) ∙ ap (λ t. 95 ∷ t) (sanitize-six (c / 0x1000) _ ∙ sanitize-six (c / 0x40) _ ∙ sanitize-six c q)))
+
+-- a label has one character for each character of the name
+pub sanitize-encoded : (cs : List ℕ) → everyScalar cs ≡ true → sanitize (encodes cs) ≡ map cleanByte cs
+unfolding sanitize encodes everyScalar
+sanitize-encoded [] h = refl
+sanitize-encoded (c ∷ cs) h = sanitize-char c (encodes cs) ∙ ap (λ t. cleanByte c ∷ t) (sanitize-encoded cs (both (scalar c) (everyScalar cs) h .1))
