@@ -1,22 +1,22 @@
 -- The spelling of a label.
-use Prim.Native.Nat.{ℕ, _+_, _/_, _≤_, _<_}
-use mathlib.Core.Path.{_≡_, refl, sym, ap, _∙_}
-use mathlib.Core.Bool.{Bool, true, false, _&&_, cond}
+use Prim.Native.Nat.{ℕ, zero, suc, _+_, _/_, _<_}
+use mathlib.Core.Path.{_≡_, refl, ap, _∙_}
+use mathlib.Core.Bool.{Bool, true, false, cond}
 use mathlib.Core.List.{List, [], _∷_, _++_, map}
 use native.Mathlib.Omega.{arith}
-use borrow.Author.Tests.{lt-ltb, le-leb, lt-leb, ne-eqb}
-use lib.Dec.{leb, ltb}
+use borrow.Author.Tests.{le-leb, lt-leb, ne-eqb}
+use lib.ListN.{length, getD}
 use Rattle.names.specs.Text.{within}
 use Rattle.names.specs.Utf8.{to, tail, has, isTail, scalar, six, encode, everyScalar, encodes}
 use Rattle.names.specs.Spelling.{wordByte, cleanByte, sanitize}
 use Rattle.names.specs.Tests.{both}
-use Rattle.names.specs.Encoding.{by-range, encode-one, encode-two, encode-three, encode-four, six-tail, by-scalar}
+use Rattle.names.specs.Encoding.{by-range, encode-one, encode-two, encode-three, encode-four, six-tail}
 
 underscore : wordByte 95 ≡ true
 unfolding wordByte within
 underscore = refl
 
--- every byte of a label is a letter, a digit or `_`
+-- a character of a label is a letter, a digit or `_`
 pub clean-word : (b : ℕ) → wordByte (cleanByte b) ≡ true
 unfolding cleanByte
 clean-word b = kept (wordByte b) refl
@@ -25,18 +25,17 @@ clean-word b = kept (wordByte b) refl
     kept true e = e
     kept false e = underscore
 
-unfoldable pub everyWord : List ℕ → Bool
-everyWord [] = true
-everyWord (b ∷ bs) = wordByte b && everyWord bs
-
-pub sanitize-words : (s : List ℕ) → everyWord (sanitize s) ≡ true
-unfolding sanitize everyWord
-sanitize-words [] = refl
-sanitize-words (b ∷ s) = given (isTail b) (sanitize-words s)
+-- and so is every byte of it
+pub sanitize-word : (s : List ℕ) (i : ℕ) → i < length (sanitize s) → wordByte (getD (sanitize s) i 0) ≡ true
+unfolding sanitize
+sanitize-word [] i l = absurd (omega arith)
+sanitize-word (b ∷ s) i l = behind-first (isTail b) (sanitize-word s) i l
   where
-    given : (t : Bool) → everyWord (sanitize s) ≡ true → everyWord (cond t (sanitize s) (cleanByte b ∷ sanitize s)) ≡ true
-    given true h = h
-    given false h = rw (clean-word b) h
+    behind-first : (t : Bool) → ((j : ℕ) → j < length (sanitize s) → wordByte (getD (sanitize s) j 0) ≡ true)
+        → (j : ℕ) → j < length (cond t (sanitize s) (cleanByte b ∷ sanitize s)) → wordByte (getD (cond t (sanitize s) (cleanByte b ∷ sanitize s)) j 0) ≡ true
+    behind-first true f j m = f j m
+    behind-first false f zero m = clean-word b
+    behind-first false f (suc j) m = f j (omega arith)
 
 -- a character outside ASCII is one `_`
 pub clean-outside : (c : ℕ) → 0x7F < c → cleanByte c ≡ 95
@@ -80,3 +79,9 @@ pub sanitize-encoded : (cs : List ℕ) → everyScalar cs ≡ true → sanitize 
 unfolding sanitize encodes everyScalar
 sanitize-encoded [] h = refl
 sanitize-encoded (c ∷ cs) h = sanitize-char c (encodes cs) ∙ ap (λ t. cleanByte c ∷ t) (sanitize-encoded cs (both (scalar c) (everyScalar cs) h .1))
+
+-- an ASCII name keeps its length, and every byte its place
+pub sanitize-ascii : (s : List ℕ) → ((i : ℕ) → i < length s → getD s i 0 < 0x80) → sanitize s ≡ map cleanByte s
+unfolding sanitize
+sanitize-ascii [] h = refl
+sanitize-ascii (b ∷ s) h = sanitize-low b s (h 0 (omega arith)) ∙ ap (λ t. cleanByte b ∷ t) (sanitize-ascii s (λ i l. h (suc i) (omega arith)))
