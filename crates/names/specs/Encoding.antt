@@ -3,54 +3,22 @@
 use Prim.Native.Nat.{ℕ, suc, _+_, _-_, _*_, _/_, _≤_, _<_}
 use mathlib.Core.Path.{_≡_, refl, sym, ap, ap₂, _∙_}
 use mathlib.Core.Logic.{_↔_, _≢_, ⊎-elim}
-use mathlib.Core.Bool.{Bool, true, false, _&&_, cond, false≢true, and-assoc}
+use mathlib.Core.Bool.{Bool, true, false, _&&_, cond, false≢true}
 use mathlib.Core.List.{List, [], _∷_, _++_}
 use native.Mathlib.Omega.{arith}
 use borrow.Author.Tests.{eqb-true, eqb-false, leb-true, leb-false, le-leb, lt-leb, ltb-true, ltb-false, lt-ltb, le-ltb}
 use lib.Dec.{eqb, leb, ltb}
-use lib.ListN.{length, getD, drop, replicate}
+use lib.ListN.{getD, drop, replicate}
 use Rattle.names.specs.Text.{within}
-use Rattle.names.specs.Utf8.{Range, to, tail, table, has, begins, behind, follow, wellFormed, fills, scalar, six, encode, everyScalar, encodes}
+use Rattle.names.specs.Utf8.{Range, to, tail, table, has, begins, behind, follow, wellFormed, scalar, six, encode, everyScalar, encodes}
 use Rattle.names.specs.Tests.{both, either, or-right, decide}
+use Rattle.names.specs.Texts.{in-within}
 use Rattle.names.specs.Lead.{tails, lowest, highest, ranges, lead-behind, lead-begins, lead-octet}
-
--- ---- characters one behind the other
-
--- a character that was begun is ended, then others follow
-pub follow-fills : (rs : List Range) (bs : List ℕ) → follow rs bs ≡ (fills rs bs && follow [] (drop (length rs) bs))
-unfolding follow fills
-follow-fills [] bs = refl
-follow-fills (r ∷ rs) [] = refl
-follow-fills (r ∷ rs) (b ∷ bs) = rw (follow-fills rs bs) (sym (and-assoc (has r b) (fills rs bs) _))
-
--- the bytes are one of each of the ranges
-unfoldable pub exactly : List Range → List ℕ → Bool
-exactly [] [] = true
-exactly [] (b ∷ bs) = false
-exactly (r ∷ rs) [] = false
-exactly (r ∷ rs) (b ∷ bs) = has r b && exactly rs bs
-
--- UTF8-char: the bytes are one character
-unfoldable pub isChar : List ℕ → Bool
-isChar [] = false
-isChar (b ∷ bs) = begins table b && exactly (behind table b) bs
-
-follow-exactly : (rs : List Range) (p q : List ℕ) → exactly rs p ≡ true → follow rs (p ++ q) ≡ follow [] q
-unfolding follow exactly
-follow-exactly [] [] q h = refl
-follow-exactly [] (b ∷ p) q h = absurd (false≢true h)
-follow-exactly (r ∷ rs) [] q h = absurd (false≢true h)
-follow-exactly (r ∷ rs) (b ∷ p) q h = let k = both (has r b) (exactly rs p) h in rw (k .0) (follow-exactly rs p q (k .1))
-
--- a character in front changes nothing
-pub char-first : (p q : List ℕ) → isChar p ≡ true → wellFormed (p ++ q) ≡ wellFormed q
-unfolding wellFormed isChar follow
-char-first [] q h = absurd (false≢true h)
-char-first (b ∷ p) q h = let k = both (begins table b) (exactly (behind table b) p) h in rw (k .0) (follow-exactly (behind table b) p q (k .1))
+use Rattle.names.specs.Characters.{exactly, isChar, char-first}
 
 -- ---- the encoding, by the range of the number
 
--- as many bytes as the number asks for
+-- what holds in each of the four ranges of section 3's table holds
 pub by-range : (c : ℕ) {P : Type 0} → (c ≤ 0x7F → P) → (0x7F < c → c ≤ 0x7FF → P) → (0x7FF < c → c ≤ 0xFFFF → P) → (0xFFFF < c → P) → P
 by-range c one two three four =
     ⊎-elim (λ e. one (leb-true c 0x7F e))
@@ -76,8 +44,8 @@ encode-four c l = rw (lt-leb c 0x7F (omega arith), lt-leb c 0x7FF (omega arith),
 
 -- a range in comparisons
 in-range : (l h b : ℕ) → has (to l h) b ≡ true → (l ≤ b) × (b ≤ h)
-unfolding has to within
-in-range l h b e = let k = both (leb l b) (leb b h) e in (leb-true l b (k .0), leb-true b h (k .1))
+unfolding has to
+in-range l h b e = in-within l h b e
 
 to-range : (l h b : ℕ) → l ≤ b → b ≤ h → has (to l h) b ≡ true
 unfolding has to within
@@ -103,18 +71,19 @@ to-scalar c h past =
     (decide (leb c 0xD7FF))
 
 pub by-scalar : (c : ℕ) {P : Type 0} → scalar c ≡ true → (c ≤ 0xD7FF → P) → (0xE000 ≤ c → c ≤ 0x10FFFF → P) → P
-unfolding scalar has to
+unfolding scalar
 by-scalar c e low high =
-    ⊎-elim (λ f. low (in-range 0 0xD7FF c f .1)) (λ f. let k = in-range 0xE000 0x10FFFF c f in high (k .0) (k .1))
+    ⊎-elim (λ f. low (in-within 0 0xD7FF c f .1)) (λ f. let k = in-within 0xE000 0x10FFFF c f in high (k .0) (k .1))
     (either (within 0 0xD7FF c) (within 0xE000 0x10FFFF c) e)
 
 -- ---- one character: the grammar takes the encodings
 
--- the others behind a first byte, where there are n + 1 of them
+-- the ranges of the others behind a first byte, where there are n + 1
 char-many : (b n : ℕ) (p : List ℕ) → b < 256 → tails b ≡ suc n → isChar (b ∷ p) ≡ exactly (to (lowest b) (highest b) ∷ replicate n tail) p
 unfolding isChar
 char-many b n p l e = rw (lead-begins b l, lead-behind b l, e, lt-ltb 0 (suc n) (omega arith), or-right (ltb b 0x80) true refl)
 
+-- a byte below 128 has none behind it
 char-alone : (b : ℕ) (p : List ℕ) → b < 0x80 → isChar (b ∷ p) ≡ exactly [] p
 unfolding isChar
 char-alone b p h = rw (lead-begins b (omega arith), lead-behind b (omega arith), lt-ltb b 0x80 h, lt-ltb b 0xC2 (omega arith))

@@ -1,5 +1,5 @@
--- The spelling of a label.
-use Prim.Native.Nat.{ℕ, zero, suc, _+_, _/_, _<_}
+-- The spelling of a label: one character for each character of the name, and each a letter, a digit or `_`.
+use Prim.Native.Nat.{ℕ, zero, suc, _+_, _/_, _≤_, _<_}
 use mathlib.Core.Path.{_≡_, refl, ap, _∙_}
 use mathlib.Core.Bool.{Bool, true, false, cond}
 use mathlib.Core.List.{List, [], _∷_, _++_, map}
@@ -36,6 +36,16 @@ sanitize-word (b ∷ s) i l = behind-first (isTail b) (sanitize-word s) i l
     behind-first true f j m = f j m
     behind-first false f zero m = clean-word b
     behind-first false f (suc j) m = f j (omega arith)
+
+-- a label is no longer than its name
+pub sanitize-length : (s : List ℕ) → length (sanitize s) ≤ length s
+unfolding sanitize
+sanitize-length [] = omega arith
+sanitize-length (b ∷ s) = behind-first (isTail b) (sanitize-length s)
+  where
+    behind-first : (t : Bool) → length (sanitize s) ≤ length s → length (cond t (sanitize s) (cleanByte b ∷ sanitize s)) ≤ suc (length s)
+    behind-first true h = omega arith
+    behind-first false h = omega arith
 
 -- a character outside ASCII is one `_`
 pub clean-outside : (c : ℕ) → 0x7F < c → cleanByte c ≡ 95
