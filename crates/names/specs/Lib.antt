@@ -7,6 +7,7 @@ pub mod Prefix
 pub mod Tests
 pub mod Lead
 pub mod Characters
+pub mod Encoding
 pub mod Texts
 pub mod Labels
 pub mod Order
