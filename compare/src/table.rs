@@ -27,7 +27,7 @@ pub fn write(seed: u64, count: u64, file: &str) -> Result<(), String> {
         if wanted.iter().all(|left| *left == 0) {
             break;
         }
-        let mut lent = runs::book(seed, index, false);
+        let mut lent = runs::plain(seed, index);
         lent.counter = 0;
         if !ENTRIES.contains(&lent.slices.book[0]) || lent.slices.names.iter().any(|byte| b"\"\\".contains(byte)) {
             continue;
