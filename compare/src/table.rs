@@ -96,7 +96,9 @@ unfoldable pub {name} : List Sheet
 fn sheet(table: &mut String, title: &str, slices: &Slices, says: &str) {
     let count = slices.book[0] as usize;
     let entries: Vec<String> = (0..count).map(|place| format!("({}, {})", slices.book[2 + place], slices.book[2 + count + place])).collect();
-    let names = String::from_utf8_lossy(&slices.names);
+    // The definitions read a quoted text as one byte for each character.
+    assert!(slices.names.is_ascii(), "{title}: a table's names are in ASCII");
+    let names = std::str::from_utf8(&slices.names).expect("ASCII");
     let names = strings(names.lines());
     let _ = write!(
         table,
