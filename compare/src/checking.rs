@@ -1,7 +1,7 @@
-//! Compares the proved check of a book with `check.rs`: books at the large limits, random books, damaged copies of each,
+//! Compares the proved check of a book, and the printer's, with `check.rs`: books at the large limits, random books, damaged copies of each,
 //! all books one change away from some, lists of long names, and names of every first and second byte.
 use crate::book::Lent;
-use crate::check::{check, Verdict};
+use crate::check::{check, Verdict, HIGHEST_COUNTER};
 use crate::large;
 use crate::names;
 use crate::neighbours::neighbours;
@@ -38,6 +38,10 @@ impl Run {
         self.answers[owed as usize] += 1;
         if found != owed {
             self.differ(lent, format!("{}: {owed} by check.rs, {found} by the proved check", place()));
+        }
+        let printed = proved::print(&lent.slices.book, &lent.slices.names, &[], &[], &mut []);
+        if lent.counter <= HIGHEST_COUNTER && printed != (if owed < 3 { owed } else { 0 }, 0) {
+            self.differ(lent, format!("{}: {owed} by check.rs, {printed:?} by the proved printer for no lines", place()));
         }
     }
 

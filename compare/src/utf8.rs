@@ -119,7 +119,8 @@ use Rattle.names.specs.Spelling.{sanitize, openSpelling}
 /// Up to some twenty bytes, none of them 10: a first byte with others at the bounds behind it, or characters with ill-formed bytes among them.
 fn bytes(rng: &mut Rng) -> Vec<u8> {
     let mut bytes = vec![];
-    for _ in 0..rng.below(5) {
+    let parts = if rng.chance(20) { 0 } else { rng.range(1, 5) };
+    for _ in 0..parts {
         match rng.below(8) {
             0..=1 => {
                 let least = *rng.pick(&[0, 0xbf, 0xbf, 0xe0, 0xf0]);
@@ -141,7 +142,7 @@ fn equations(bytes: &[u8]) -> Vec<String> {
     let (here, line) = (list(bytes), list(&[bytes, b"\n"].concat()));
     let (formed, named) = (text.is_some(), check::name(bytes).is_some());
     let tests = format!("_≡_ {{A = Bool × Bool}} (wellFormed ({here}), accepted ({line}) 1) ({formed}, {named})");
-    let spelling = text.map(|text| format!("sanitize ({here}) ≡ {}", list(sanitize(text).as_bytes())));
+    let spelling = text.map(|text| format!("sanitize ({here}) ≡ ({})", list(sanitize(text).as_bytes())));
     [tests].into_iter().chain(spelling).collect()
 }
 
