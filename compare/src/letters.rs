@@ -7,8 +7,8 @@ pub const LETTERS: [char; 38] = [
     'Ř', 'Š', 'Ť', 'Ú', 'Ů', 'Ý', 'Ž', 'Ö', 'Ő', 'Ü', 'Ű',
 ];
 
-/// The first and the last character of each row of RFC 3629's table, those with control characters of other alphabets as their second byte,
-/// digits, ends of lines, marks and spaces that are none in ASCII.
+/// The first and the last character of each row of RFC 3629's table; U+0085 and others whose later bytes are 128 to 159; what is a digit, a
+/// space, an accent or the end of a line elsewhere.
 const CORNERS: [char; 36] = [
     '\u{80}', '\u{85}', '\u{9f}', '\u{a0}', '\u{ad}', '\u{bf}', '\u{c0}', '\u{ff}', '\u{100}', '\u{301}', '\u{661}', '\u{7ff}', '\u{800}',
     '\u{fff}', '\u{1000}', '\u{2028}', '\u{200b}', '\u{3000}', '\u{7fff}', '\u{8000}', '\u{cfff}', '\u{d000}', '\u{d7ff}', '\u{e000}',

@@ -23,9 +23,9 @@ const TAILS: [&[u8]; 12] = [
     b"", b"\x80", b"\xbf", b"\x7f", b"\xc0", b"\x80\x80", b"\xbf\xbf", b"\x80\x7f", b"\xbf\xc0", b"\xc0\x80", b"\xbf\x80A", b"\x80\x80\x80",
 ];
 
-/// Bytes of a name in front of a sequence, up to the word that it begins in.
+/// The code reads so many bytes at once.
 #[cfg(proved)]
-const OFFSETS: std::ops::Range<usize> = 0..8;
+const WORD: usize = 8;
 
 #[cfg(proved)]
 fn every_pair() -> impl Iterator<Item = Vec<u8>> {
@@ -50,8 +50,8 @@ fn every_character() -> impl Iterator<Item = Vec<u8>> {
     ('\u{80}'..=char::MAX).map(|c| c.to_string().into_bytes())
 }
 
-/// Puts a sequence into a name, so far behind a word's beginning; the rest is drawn: how long the name is, names in front and behind, and
-/// now and then that its end is missing.
+/// Puts a sequence into a name, at this offset in one of its words. The rest is drawn: how long the name is, other names before and after
+/// it, and now and then that its end is missing.
 #[cfg(proved)]
 fn place(lent: &mut Lent, rng: &mut Rng, offset: usize, sequence: &[u8]) {
     let Slices { book, names } = &mut lent.slices;
@@ -62,7 +62,7 @@ fn place(lent: &mut Lent, rng: &mut Rng, offset: usize, sequence: &[u8]) {
         names.push(b'\n');
         book[1] += 1;
     }
-    let before = offset + 8 * *rng.pick(&[0, 0, 1, 3]);
+    let before = offset + WORD * *rng.pick(&[0, 0, 1, 3]);
     let letters = rng.below(before / 2 + 1) * rng.below(2);
     names.extend("é".repeat(letters).bytes());
     names.resize(names.len() + before - 2 * letters, b'a');
@@ -79,18 +79,18 @@ fn place(lent: &mut Lent, rng: &mut Rng, offset: usize, sequence: &[u8]) {
     }
 }
 
-/// Hands on a book for each sequence and offset, whose names have the sequence in one of them.
+/// Hands on each sequence with a book that has it in one of its names.
 #[cfg(proved)]
 pub fn every(seed: u64, mut each: impl FnMut(&Lent, &[u8])) {
     let mut rng = Rng::new(seed ^ 0x75_7466, 0);
     let mut lent = Lent { slices: Slices::new(&unreachable(&[]), &["a"]), counter: 0, work: work_needed(3) };
     for sequence in every_pair().chain(every_character()) {
-        let offset = rng.below(OFFSETS.end);
+        let offset = rng.below(WORD);
         place(&mut lent, &mut rng, offset, &sequence);
         each(&lent, &sequence);
     }
     for sequence in every_bound() {
-        for offset in OFFSETS {
+        for offset in 0..WORD {
             place(&mut lent, &mut rng, offset, &sequence);
             each(&lent, &sequence);
         }
