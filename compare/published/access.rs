@@ -9,6 +9,11 @@ pub fn gen_function<'a>(module: &'a Module, function: &'a Function, counter: usi
     Ok((codegen.buf, codegen.label_counter))
 }
 
+/// A name as labels have it.
+pub fn sanitize(name: &str) -> String {
+    super::sanitize(name)
+}
+
 /// The names that the book's writer marks as reserved.
 pub fn is_reserved(name: &str) -> bool {
     is_float_builtin(name)

@@ -97,7 +97,7 @@ fn subjects(class: &Class, seed: u64, books: usize) -> Result<Vec<Subject>, Stri
     let mut found = vec![];
     let mut index = 0;
     while found.len() < books {
-        let mut lent = runs::book(seed, index, false);
+        let mut lent = runs::plain(seed, index);
         index += 1;
         if !class.entries.contains(&lent.slices.book[0]) {
             continue;

@@ -137,6 +137,19 @@ fn conversion(kind: u64, from: u64, to: u64) -> Slices {
     with_insts(&[(kind, Q + 1), (11, from), (30, PARAM), (11, to)])
 }
 
+/// `[2 x %Ž€😀] @árie()` with one block `č`: calls of `zpěv` and of a syscall, a store of the address of `Ž€😀`, a jump to itself.
+fn outside() -> Slices {
+    let call = |name: u64| [(76, 0), (10, 0), (31, name), (0, 0)];
+    let head = [(1, 1), (5, 2), (13, 2), (15, 4), (0, 0), (7, 3)];
+    let rest = [(72, 0), (12, 0), (31, 4), (33, 0), (21, 0), (91, 0), (21, 0), (23, 3), (21, 0), (0, 0)];
+    Slices::new(&[&head[..], &call(1), &call(0), &rest].concat(), &["__uvm_říct", "zpěv", "árie", "č", "Ž€😀"])
+}
+
+/// add1 with other bytes for the last of its names.
+fn last_name(name: &[u8]) -> Slices {
+    Slices { book: add1().book, names: [b"a\nadd1\nentry\n", name, b"\n"].concat() }
+}
+
 /// The cases marked M in document 01.
 fn sheets() -> Vec<Sheet> {
     let mut sheets = vec![];
@@ -182,6 +195,10 @@ fn sheets() -> Vec<Sheet> {
         with_block(&[(92, 0), (11, 8), (30, Q), (23, BLOCK), (0, 0)]),
         vec!["# void @f(1 params)", "f:", "f__e:", "jmp f__e;", ""]);
     sheet("no block", Slices::new(&[(5, 0), (15, 1), (0, 0), (0, 0)], &["a.b", "c d"]), vec!["# %c d @a.b(0 params)", "a_b:", ""]);
+    sheet("letters outside ASCII", outside(), vec![
+        "# [2 x %Ž€😀] @árie(0 params)", "_rie:", "_rie___:", "call zp_v, 0;", "pop;", "syscall říct;", "push 0;", "push ___;", "store_u64;",
+        "jmp _rie___;", "",
+    ]);
     sheets
 }
 
@@ -285,6 +302,22 @@ fn broken() -> Vec<(&'static str, u8, Slices)> {
         ("a name too many", 2, bytes(b"a\nadd1\nentry\nr\ns\n")),
         ("byte 31", 2, bytes(b"\x1f\nadd1\nentry\nr\n")),
         ("byte 127", 2, bytes(b"a\nadd1\nentry\n\x7f\n")),
+        ("byte 31 behind a letter", 2, last_name(b"\xc3\xa9\x1f")),
+        ("byte 127 behind a letter", 2, last_name(b"\xc3\xa9\x7f")),
+        ("no letter before its end", 2, last_name(b"\xc3")),
+        ("no letter before the slice's end", 2, bytes(b"a\nadd1\nentry\n\xf0\x9f\x98")),
+        ("letters backwards", 2, Slices::new(ADD1, &["a", "add1", "š", "č"])),
+        ("a later byte alone", 2, last_name(b"r\x80")),
+        ("two bytes for U+0000", 2, last_name(b"\xc0\x80")),
+        ("two bytes for U+007F", 2, last_name(b"\xc1\xbf")),
+        ("three bytes for U+07FF", 2, last_name(b"\xe0\x9f\xbf")),
+        ("four bytes for U+FFFF", 2, last_name(b"\xf0\x8f\xbf\xbf")),
+        ("U+D800", 2, last_name(b"\xed\xa0\x80")),
+        ("U+DFFF", 2, last_name(b"\xed\xbf\xbf")),
+        ("U+110000", 2, last_name(b"\xf4\x90\x80\x80")),
+        ("byte 245", 2, last_name(b"\xf5\x80\x80\x80")),
+        ("five bytes", 2, last_name(b"\xf8\x88\x80\x80\x80")),
+        ("byte 255", 2, last_name(b"\xff")),
     ]
 }
 
@@ -395,6 +428,15 @@ fn limits() -> Vec<(&'static str, Option<u8>, Slices)> {
         ("32 indices into 31 arrays", None, indices_into(31, 32)),
         ("32 indices into 30 arrays", Some(14), indices_into(30, 32)),
         ("33 indices into 30 arrays", Some(1), indices_into(30, 33)),
+        ("U+0080", None, last_name(b"\xc2\x80")),
+        ("U+0085", None, last_name(b"\xc2\x85")),
+        ("U+07FF", None, last_name(b"\xdf\xbf")),
+        ("U+0800", None, last_name(b"\xe0\xa0\x80")),
+        ("U+D7FF", None, last_name(b"\xed\x9f\xbf")),
+        ("U+E000", None, last_name(b"\xee\x80\x80")),
+        ("U+FFFF", None, last_name(b"\xef\xbf\xbf")),
+        ("U+10000", None, last_name(b"\xf0\x90\x80\x80")),
+        ("U+10FFFF", None, last_name(b"\xf4\x8f\xbf\xbf")),
     ]
 }
 

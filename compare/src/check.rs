@@ -72,20 +72,23 @@ fn split_entries(book: &[u64]) -> Read<(Vec<(u64, u64)>, usize)> {
     Ok((kinds.iter().copied().zip(words.iter().copied()).collect(), *names as usize))
 }
 
-/// The names, where each is well-formed and they ascend.
+/// The characters of a name, where the bytes are well-formed UTF-8 and none of them a control character.
+pub fn name(bytes: &[u8]) -> Option<&str> {
+    let name = std::str::from_utf8(bytes).ok()?;
+    (!name.is_empty() && !name.bytes().any(|byte| byte.is_ascii_control())).then_some(name)
+}
+
+/// The names, where each is one and they ascend.
 fn split_names(bytes: &[u8]) -> Option<Vec<String>> {
     let mut names: Vec<String> = vec![];
     let mut rest = bytes;
     while !rest.is_empty() {
         let end = rest.iter().position(|byte| *byte == 10)?;
-        let name = &rest[..end];
-        if name.is_empty() || !name.iter().all(|byte| (32..=126).contains(byte)) {
+        let name = name(&rest[..end])?;
+        if names.last().is_some_and(|last| last.as_bytes() >= name.as_bytes()) {
             return None;
         }
-        if names.last().is_some_and(|last| last.as_bytes() >= name) {
-            return None;
-        }
-        names.push(String::from_utf8(name.to_vec()).unwrap());
+        names.push(name.to_string());
         rest = &rest[end + 1..];
     }
     Some(names)

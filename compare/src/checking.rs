@@ -1,12 +1,14 @@
-//! Compares the proved check of a book with `check.rs`: books at the large limits, random books, damaged copies of each,
-//! all books one change away from some, and lists of long names.
+//! Compares the proved check of a book, and the printer's, with `check.rs`: books at the large limits, random books, damaged copies of each,
+//! all books one change away from some, lists of long names, and names of every first and second byte.
 use crate::book::Lent;
-use crate::check::{check, Verdict};
+use crate::check::{check, Verdict, HIGHEST_COUNTER};
 use crate::large;
 use crate::names;
 use crate::neighbours::neighbours;
 use crate::proved;
 use crate::runs;
+use crate::show;
+use crate::utf8;
 use std::time::{Duration, Instant};
 
 const COPIES: u64 = 4;
@@ -37,6 +39,10 @@ impl Run {
         if found != owed {
             self.differ(lent, format!("{}: {owed} by check.rs, {found} by the proved check", place()));
         }
+        let printed = proved::print(&lent.slices.book, &lent.slices.names, &[], &[], &mut []);
+        if lent.counter <= HIGHEST_COUNTER && printed != (if owed < 3 { owed } else { 0 }, 0) {
+            self.differ(lent, format!("{}: {owed} by check.rs, {printed:?} by the proved printer for no lines", place()));
+        }
     }
 
     fn differ(&mut self, lent: &Lent, what: String) {
@@ -44,9 +50,9 @@ impl Run {
         let size = 8 * lent.slices.book.len() + lent.slices.names.len();
         if self.smallest.as_ref().is_none_or(|(smallest, _)| size < *smallest) {
             let words = &lent.slices.book;
-            let names = String::from_utf8_lossy(&lent.slices.names);
+            let names = show::bytes(&lent.slices.names);
             let lengths = format!("counter {}, work {}", lent.counter, lent.work);
-            self.smallest = Some((size, format!("{what}\nbook {words:?}\nnames {names:?}\n{lengths}")));
+            self.smallest = Some((size, format!("{what}\nbook {words:?}\nnames {names}\n{lengths}")));
         }
     }
 
@@ -76,7 +82,7 @@ fn owed(lent: &Lent) -> u64 {
 
 pub fn compare(seed: u64, count: u64) -> Result<(), String> {
     large_books()?;
-    let [mut books, mut copies, mut near, mut lists] = [(); 4].map(|()| Run::default());
+    let [mut books, mut copies, mut near, mut lists, mut bytes] = [(); 5].map(|()| Run::default());
     for index in 0..count {
         let lent = runs::book(seed, index, true);
         books.add(&lent, || format!("seed {seed}, book {index}"));
@@ -91,11 +97,13 @@ pub fn compare(seed: u64, count: u64) -> Result<(), String> {
             });
         }
     }
+    utf8::every(seed, |lent, sequence| bytes.add(lent, || format!("bytes {sequence:x?}")));
     books.print("random books");
     copies.print("damaged copies");
     near.print("books one change away");
     lists.print("lists of long names");
-    books.result().and(copies.result()).and(near.result()).and(lists.result())
+    bytes.print("every first and second byte, every character");
+    [books, copies, near, lists, bytes].into_iter().try_for_each(Run::result)
 }
 
 /// Prints the time of each, the best of three.

@@ -1,5 +1,6 @@
 //! Damaged copies of a book: what a translator may be lent by mistake. `check` gives the verdict; some copies stay sound.
 use crate::book::{kind, Lent, Slices};
+use crate::letters::{ill_formed, letter};
 use crate::rng::Rng;
 
 /// A copy with one to three changes.
@@ -116,7 +117,7 @@ fn change_names(slices: &mut Slices, rng: &mut Rng) {
         return;
     }
     let at = rng.below(names.len());
-    match rng.below(8) {
+    match rng.below(12) {
         0 => names[at] = *rng.pick(&[0, 9, 10, 13, 31, 32, 126, 127, 128, 255]),
         1 => names[at] = rng.range(32, 126) as u8,
         2 => {
@@ -125,7 +126,10 @@ fn change_names(slices: &mut Slices, rng: &mut Rng) {
         3 => names.insert(at, rng.range(32, 126) as u8),
         4 => names.insert(at, 10),
         5 => names.truncate(at),
-        6 => {
+        6 => names[at] = rng.range(128, 255) as u8,
+        7..=8 => insert(names, at, &ill_formed(rng)),
+        9 => insert(names, at, letter(rng).to_string().as_bytes()),
+        10 => {
             // Two names trade places.
             let mut lines: Vec<Vec<u8>> = names.split_inclusive(|byte| *byte == 10).map(<[u8]>::to_vec).collect();
             let (one, two) = (rng.below(lines.len()), rng.below(lines.len()));
@@ -147,6 +151,10 @@ fn change_names(slices: &mut Slices, rng: &mut Rng) {
             }
         }
     }
+}
+
+fn insert(names: &mut Vec<u8>, at: usize, bytes: &[u8]) {
+    names.splice(at..at, bytes.iter().copied());
 }
 
 fn change_lengths(lent: &mut Lent, rng: &mut Rng) {

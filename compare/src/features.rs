@@ -2,6 +2,7 @@
 use crate::book::*;
 use crate::hash::Set;
 use crate::measure::Measure;
+use crate::oracle::sanitize;
 use crate::random::leading_phis;
 
 pub const FEATURES: &[(&str, fn(&Book) -> bool)] = &[
@@ -163,6 +164,28 @@ pub const FEATURES: &[(&str, fn(&Book) -> bool)] = &[
         terms(book).any(|term| matches!(term, Terminator::Br { cond: None, if_false: Some(_), .. }))
     }),
     ("switch without cases", |book| terms(book).any(|term| matches!(term, Terminator::Switch { cases, .. } if cases.is_empty()))),
+    ("a name outside ASCII", |book| book.names.iter().any(|name| outside(name))),
+    ("names in ASCII alone", |book| book.names.iter().all(|name| name.is_ascii())),
+    ("a name all outside ASCII", |book| book.names.iter().any(|name| !name.bytes().any(|byte| byte.is_ascii()))),
+    ("characters of two, three and four bytes", |book| {
+        (2..=4).all(|bytes| book.names.iter().flat_map(|name| name.chars()).any(|c| c.len_utf8() == bytes))
+    }),
+    ("two names that print alike and differ outside ASCII", |book| twice(labels(book).iter().map(String::as_str))),
+    ("function named outside ASCII", |book| outside(&book.function.name)),
+    ("struct named outside ASCII in the function's comment", |book| returned(&book.function.ret_ty).is_some_and(outside)),
+    ("struct named outside ASCII", |book| book.structs.iter().any(|(name, _)| outside(name))),
+    ("block named outside ASCII", |book| book.function.blocks.iter().any(|block| outside(&block.label))),
+    ("parameter named outside ASCII", |book| {
+        book.function.params.iter().any(|param| param.name.as_deref().is_some_and(outside))
+    }),
+    ("result named outside ASCII", |book| results(book).any(outside)),
+    ("mark of a name outside ASCII", |book| book.marks.iter().any(|(_, name)| outside(name))),
+    ("global operand outside ASCII", |book| operands(book, outside)),
+    ("call of a name outside ASCII", |book| calls(book).any(|(_, name, _)| outside(name) && !name.starts_with("__uvm_"))),
+    ("syscall outside ASCII", |book| calls(book).any(|(_, name, _)| outside(name) && name.starts_with("__uvm_"))),
+    ("call of a name outside ASCII with .with.overflow.", |book| {
+        calls(book).any(|(_, name, _)| outside(name) && name.contains(".with.overflow."))
+    }),
     ("about 65,535 slots", |book| results(book).count() > 65_000),
 ];
 
@@ -186,6 +209,24 @@ fn first_stride(book: &Book, size: u64) -> bool {
         }
         _ => false,
     })
+}
+
+fn outside(name: &str) -> bool {
+    !name.is_ascii()
+}
+
+/// The names outside ASCII as labels have them.
+fn labels(book: &Book) -> Vec<String> {
+    book.names.iter().filter(|name| outside(name)).map(|name| sanitize(name)).collect()
+}
+
+/// The named struct that a type's text has.
+fn returned(ty: &Type) -> Option<&str> {
+    match ty {
+        Type::NamedStruct(name) => Some(name),
+        Type::Array { elem, .. } => returned(elem),
+        _ => None,
+    }
 }
 
 fn twice<'a>(mut names: impl Iterator<Item = &'a str>) -> bool {

@@ -195,6 +195,11 @@ fn named(what: &'static str, answer: u64, count: usize, names: Vec<u8>) -> Large
 fn names() -> Vec<Large> {
     let alike = |number: usize| [vec![b'a'; 10_000], format!("{number:03}\n").into_bytes()].concat();
     let one = [vec![b'a'; 1 << 24], vec![b'\n']].concat();
+    let outside = "é".repeat(1 << 23) + "\n";
+    let mut cut = outside.clone().into_bytes();
+    cut.remove((1 << 24) - 1);
+    let single = ('\u{10000}'..).take(NAMES).flat_map(|c| format!("{c}\n").into_bytes()).collect();
+    let accents = |number: usize| format!("{}{}\n", "ř".repeat(5000), char::from_u32(0x700 + number as u32).expect("a character"));
     vec![
         named("131,072 names counted and 131,071 there", 2, NAMES, names_of(0..NAMES - 1)),
         named("131,072 names counted and 131,073 there", 2, NAMES, names_of(0..NAMES + 1)),
@@ -203,6 +208,10 @@ fn names() -> Vec<Large> {
         named("a name of 16,777,216 bytes, not ended", 2, 1, one[..1 << 24].to_vec()),
         named("1,000 names that differ in their ends", 0, 1000, (0..1000).flat_map(alike).collect()),
         named("1,000 names that differ in their ends, backwards", 2, 1000, (0..1000).rev().flat_map(alike).collect()),
+        named("a name of 8,388,608 characters of two bytes", 0, 1, outside.into_bytes()),
+        named("a name of 8,388,608 characters of two bytes, the last cut off", 2, 1, cut),
+        named("131,072 names of one character of four bytes", 0, NAMES, single),
+        named("1,000 names outside ASCII that differ in their ends", 0, 1000, (0..1000).flat_map(|number| accents(number).into_bytes()).collect()),
         named("16,777,216 ends of names", 2, NAMES, vec![b'\n'; 1 << 24]),
     ]
 }

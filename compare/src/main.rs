@@ -15,6 +15,7 @@ mod features;
 mod hash;
 #[cfg(proved)]
 mod large;
+mod letters;
 mod lines;
 mod measure;
 mod names;
@@ -39,6 +40,7 @@ mod table;
 #[cfg(translating)]
 mod translator;
 mod two_runs;
+mod utf8;
 mod vectors;
 mod visit;
 mod written;
@@ -68,6 +70,9 @@ const USAGE: &str = "usage:
                                      whether the definition in crates/lowering answers as the Rust does, by computation
   compare definitions names SEED COUNT
                                      whether the definition in crates/names orders two names as Rust does, in the steps of card 4
+  compare definitions utf8 SEED COUNT
+                                     whether the definition in crates/names takes the byte lists for UTF-8 and for names that Rust
+                                     and our check do, and spells them as the Rust does
   compare names SEED COUNT COMMAND.. whether a program like `try_compare` does
   compare names cases SEED COUNT FOLDER
                                      what such a program reads and writes, as crates/try_compare has it
@@ -141,6 +146,7 @@ fn run(args: &[&str]) -> Result<(), String> {
         ["names", "cases", seed, count, folder] => names::write(number(seed)?, number(count)?, folder),
         ["names", seed, count, command @ ..] if !command.is_empty() => names::compare(number(seed)?, number(count)?, command),
         ["definitions", "names", seed, count] => names::definitions(number(seed)?, number(count)?),
+        ["definitions", "utf8", seed, count] => utf8::definitions(number(seed)?, number(count)?),
         ["runs", seed, count] => two_runs::compare(number(seed)?, number(count)?),
         ["written", folder] => written::write(folder),
         ["table", seed, count, file] => table::write(number(seed)?, number(count)?, file),

@@ -6,6 +6,8 @@ use crate::book::{Lent, Slices};
 use crate::check::work_needed;
 #[cfg(proved)]
 use crate::large::unreachable;
+#[cfg(proved)]
+use crate::letters::{character, ill_formed};
 use crate::program;
 use crate::rng::Rng;
 use crate::scratch::{numbers, Scratch};
@@ -199,18 +201,19 @@ pub fn definitions(seed: u64, count: u64) -> Result<(), String> {
 
 // ---- lists
 
-/// Names that share much of their beginnings, in order.
+/// Names that share much of their beginnings, in order; of some lists a few characters are outside ASCII, of some most.
 #[cfg(proved)]
 fn long_names(rng: &mut Rng) -> Vec<Name> {
-    let mut names: Vec<Name> = vec![];
+    let outside = *rng.pick(&[0, 0, 30, 800]);
+    let mut names: Vec<Vec<char>> = vec![];
     for _ in 0..rng.range(1, 10) {
-        let alike = names.last().map_or(vec![], |name| name[..rng.range(0, name.len())].to_vec());
-        let rest = (0..rng.range(1, 30)).map(|_| rng.range(32, 126) as u8).collect();
-        names.push([alike, rest].concat());
+        let mut name = names.last().map_or(vec![], |name| name[..rng.range(0, name.len())].to_vec());
+        name.extend((0..rng.range(1, 30)).map(|_| character(rng, outside)));
+        names.push(name);
     }
     names.sort_unstable();
     names.dedup();
-    names
+    names.into_iter().map(|name| name.into_iter().collect::<String>().into_bytes()).collect()
 }
 
 /// Their bytes, three times in four changed in one way or two. What a change does is for the checks to say.
@@ -225,10 +228,12 @@ fn damaged(rng: &mut Rng, mut names: Vec<Name>) -> Vec<u8> {
     }
     let mut bytes = input(&names);
     let place = rng.below(bytes.len());
-    match rng.below(6) {
+    match rng.below(8) {
         0 => bytes[place] = *rng.pick(&[0, 9, 10, 11, 31, 32, 126, 127, 128, 255]),
         1 => bytes.truncate(place),
         2 => bytes[place] = bytes[place].wrapping_add(1),
+        3 => bytes.splice(place..place, ill_formed(rng)).for_each(drop),
+        4 => drop(bytes.remove(place)),
         _ => {}
     }
     bytes

@@ -6,7 +6,7 @@ use std::panic::{self, AssertUnwindSafe};
 use uvclang::ast::Module;
 use uvclang::codegen::access;
 
-pub use access::is_reserved;
+pub use access::{is_reserved, sanitize};
 
 pub enum Answer {
     Accepted(Accepted),

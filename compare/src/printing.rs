@@ -1,6 +1,7 @@
 //! Compares the proved printer with a printer written from docs/LINES.md, on random lines of every kind, and times both.
 use crate::book::{kind, Type};
 use crate::clock::best;
+use crate::letters::character;
 use crate::lines::Printer;
 use crate::proved;
 use crate::rng::Rng;
@@ -8,31 +9,36 @@ use crate::rng::Rng;
 /// The best of so many calls is printed.
 const CALLS: usize = 5;
 
+/// How many characters of a name in a thousand are outside ASCII, a row for each.
+const OUTSIDE: [usize; 3] = [0, 100, 900];
+
 struct Made {
     names: Vec<String>,
     function: u64,
+    /// The number of the struct that the function returns.
+    returned: u64,
     kinds: Vec<u16>,
     operands: Vec<u64>,
 }
 
-/// Names of every printable byte; one in sixteen is a syscall's.
-fn names(rng: &mut Rng, count: usize) -> Vec<String> {
+/// Names of every character in ASCII, and so many in a thousand outside it; one name in sixteen is a syscall's.
+fn names(rng: &mut Rng, count: usize, outside: usize) -> Vec<String> {
     let mut names: Vec<String> = (0..count)
         .map(|index| {
             let start = if index % 16 == 0 { "__uvm_" } else { "" };
-            let bytes = (0..rng.range(1, 12)).map(|_| (32 + rng.below(95) as u8) as char);
-            format!("{start}{}{index}", bytes.collect::<String>())
+            let characters = (0..rng.range(1, 12)).map(|_| character(rng, outside));
+            format!("{start}{}{index}", characters.collect::<String>())
         })
         .collect();
     names.sort_by(|a, b| a.as_bytes().cmp(b.as_bytes()));
     names
 }
 
-fn lines(seed: u64, count: usize, many: usize) -> Made {
+fn lines(seed: u64, count: usize, many: usize, outside: usize) -> Made {
     let mut rng = Rng::new(seed, 0);
-    let names = names(&mut rng, many);
+    let names = names(&mut rng, many, outside);
     let calls: Vec<usize> = (0..many).filter(|&x| names[x].starts_with("__uvm_")).collect();
-    let function = rng.below(many) as u64;
+    let [function, returned] = [(); 2].map(|()| rng.below(many) as u64);
     let (mut kinds, mut operands) = (vec![], vec![]);
     for _ in 0..count {
         let line = rng.below(94) as u16;
@@ -51,25 +57,30 @@ fn lines(seed: u64, count: usize, many: usize) -> Made {
         });
         kinds.push(line);
     }
-    Made { names, function, kinds, operands }
+    Made { names, function, returned, kinds, operands }
 }
 
 impl Made {
-    /// `void` function without parameters, with one empty block.
+    /// A function that returns a struct, without parameters, with one empty block.
     fn book(&self) -> Vec<u64> {
-        let kinds = [kind::FUNCTION, kind::VOID, kind::END, kind::BLOCK, kind::UNREACHABLE, kind::END];
-        let words = [self.function, 0, 0, 0, 0, 0];
+        let kinds = [kind::FUNCTION, kind::NAMED, kind::END, kind::BLOCK, kind::UNREACHABLE, kind::END];
+        let words = [self.function, self.returned, 0, 0, 0, 0];
         [&[6, self.names.len() as u64][..], &kinds, &words].concat()
     }
 
     fn text(&self) -> String {
-        let printer = Printer::new(&self.names, self.function, &Type::Void, 0);
+        let returned = Type::NamedStruct(self.names[self.returned as usize].clone());
+        let printer = Printer::new(&self.names, self.function, &returned, 0);
         printer.text(&self.kinds, &self.operands).expect("every line is one of docs/LINES.md")
     }
 }
 
 pub fn compare(seed: u64, count: u64, many: u64) -> Result<(), String> {
-    let lines = lines(seed, count as usize, many.max(1) as usize);
+    OUTSIDE.into_iter().try_for_each(|outside| row(seed, count, many, outside))
+}
+
+fn row(seed: u64, count: u64, many: u64, outside: usize) -> Result<(), String> {
+    let lines = lines(seed, count as usize, many.max(1) as usize, outside);
     let (book, names) = (lines.book(), lines.names.iter().map(|name| format!("{name}\n")).collect::<String>());
     let (owed, written) = best(CALLS, || lines.text());
     let mut text = vec![b'!'; owed.len() + 1];
@@ -77,7 +88,8 @@ pub fn compare(seed: u64, count: u64, many: u64) -> Result<(), String> {
         best(CALLS, || proved::print(&book, names.as_bytes(), &lines.kinds, &lines.operands, &mut text));
     let room = owed.len() - 1;
     let short = proved::print(&book, names.as_bytes(), &lines.kinds, &lines.operands, &mut text[..room]);
-    println!("{count} lines, {many} names, {} bytes: {printed:?} proved, {written:?} by std's formatting", owed.len());
+    let share = outside / 10;
+    println!("{count} lines, {many} names, {share} % of their characters outside ASCII, {} bytes: {printed:?} proved, {written:?} by std's formatting", owed.len());
     if answer != (0, owed.len() as u64) || &text[..owed.len()] != owed.as_bytes() || text[owed.len()] != b'!' {
         return Err(format!("the texts differ: the proved printer answers {answer:?}"));
     }

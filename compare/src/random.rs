@@ -11,6 +11,7 @@ mod function;
 mod insts;
 mod loosen;
 mod names;
+mod respell;
 mod spoil;
 mod types;
 mod values;
@@ -23,8 +24,13 @@ const WILD: usize = 60;
 /// How many in a hundred thousand have more than 65,000 slots. They take a hundred times as long as the others.
 const MANY_SLOTS: usize = 400;
 
-/// The book of this index. Without `large` none has tens of thousands of entries.
+/// The book of this index, its names perhaps in letters outside ASCII. Without `large` none has tens of thousands of entries.
 pub fn book(seed: u64, index: u64, large: bool) -> Book {
+    respell::respelled(plain(seed, index, large), &mut Rng::new(seed ^ 0x6c65_7474, index))
+}
+
+/// The same book with names in ASCII.
+pub fn plain(seed: u64, index: u64, large: bool) -> Book {
     let mut maker = Maker::new(Rng::new(seed, index));
     let sort = maker.rng.below(1000);
     maker.loose = sort < LOOSE || maker.rng.chance(150);

@@ -1,5 +1,5 @@
 //! The books of a run: random ones, and damaged copies of them. A seed, an index and a copy's number name each.
-use crate::book::{encode, Lent};
+use crate::book::{encode, Book, Lent};
 use crate::check::work_needed;
 use crate::damage::damage;
 use crate::random;
@@ -9,9 +9,17 @@ const COUNTERS: [u64; 4] = [0, 7, 0, 1 << 32];
 
 /// The random book of this index, lent with the shortest work slice.
 pub fn book(seed: u64, index: u64, large: bool) -> Lent {
-    let book = random::book(seed, index, large);
+    lent(&random::book(seed, index, large), index)
+}
+
+/// The same book with names in ASCII, none of the largest.
+pub fn plain(seed: u64, index: u64) -> Lent {
+    lent(&random::plain(seed, index, false), index)
+}
+
+fn lent(book: &Book, index: u64) -> Lent {
     let counter = COUNTERS[index as usize % COUNTERS.len()];
-    Lent { slices: encode(&book), counter, work: work_needed(book.names.len()) }
+    Lent { slices: encode(book), counter, work: work_needed(book.names.len()) }
 }
 
 /// A damaged copy of the book of this index.

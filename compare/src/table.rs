@@ -27,7 +27,7 @@ pub fn write(seed: u64, count: u64, file: &str) -> Result<(), String> {
         if wanted.iter().all(|left| *left == 0) {
             break;
         }
-        let mut lent = runs::book(seed, index, false);
+        let mut lent = runs::plain(seed, index);
         lent.counter = 0;
         if !ENTRIES.contains(&lent.slices.book[0]) || lent.slices.names.iter().any(|byte| b"\"\\".contains(byte)) {
             continue;
@@ -96,7 +96,9 @@ unfoldable pub {name} : List Sheet
 fn sheet(table: &mut String, title: &str, slices: &Slices, says: &str) {
     let count = slices.book[0] as usize;
     let entries: Vec<String> = (0..count).map(|place| format!("({}, {})", slices.book[2 + place], slices.book[2 + count + place])).collect();
-    let names = String::from_utf8_lossy(&slices.names);
+    // The definitions read a quoted text as one byte for each character.
+    assert!(slices.names.is_ascii(), "{title}: a table's names are in ASCII");
+    let names = std::str::from_utf8(&slices.names).expect("ASCII");
     let names = strings(names.lines());
     let _ = write!(
         table,

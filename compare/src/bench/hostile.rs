@@ -219,9 +219,9 @@ fn short_names() -> Vec<String> {
     names
 }
 
-/// Names that are alike but for their ends.
-pub fn long_names(count: usize, length: usize) -> Vec<String> {
-    (0..count).map(|number| format!("{}{number:06}", "a".repeat(length - 6))).collect()
+/// Names of so many bytes that are alike but for their ends.
+pub fn long_names(letter: &str, count: usize, length: usize) -> Vec<String> {
+    (0..count).map(|number| format!("{}{number:06}", letter.repeat((length - 6) / letter.len()))).collect()
 }
 
 pub fn shapes() -> Vec<Large> {
@@ -261,9 +261,10 @@ pub fn shapes() -> Vec<Large> {
         phis("one phi of 20,000 pairs", 20_000, 1, false),
         phis("one phi of 20,000 pairs, backwards", 20_000, 1, true),
         every_name("131,072 names of one to three bytes, each pushed", short_names()),
-        every_name("131,072 names of 100 bytes, each pushed", long_names(NAMES, 100)),
-        every_name("16,384 names of 1,000 bytes, each pushed", long_names(16_384, 1000)),
-        named("131,072 names of 1,000 bytes", &unreachable(&[]), long_names(NAMES, 1000)),
+        every_name("131,072 names of 100 bytes, each pushed", long_names("a", NAMES, 100)),
+        every_name("16,384 names of 1,000 bytes, each pushed", long_names("a", 16_384, 1000)),
+        every_name("131,072 names of 100 bytes outside ASCII, each pushed", long_names("ř", NAMES, 100)),
+        named("131,072 names of 1,000 bytes", &unreachable(&[]), long_names("a", NAMES, 1000)),
     ]
 }
 

@@ -3,6 +3,7 @@ use crate::book::{Lent, Slices};
 use crate::check::{work_needed, MOST_NAMES};
 use crate::clock::best;
 use crate::large::unreachable;
+use crate::letters::letter;
 use crate::proved;
 use crate::rng::Rng;
 use std::collections::BTreeSet;
@@ -18,6 +19,12 @@ const CALLS: usize = 15;
 const WORDS: &[&str] = &[
     "opera", "surtitle", "screen", "cue", "detail", "allocator", "basic_string", "vector", "char_traits", "line_breaker", "timer",
     "unordered_map", "glyph_table", "operator_preview", "stage", "iterator",
+];
+
+/// What a cue is called.
+const CUES: &[&str] = &[
+    "předehra", "dějství", "opona", "jeviště", "zpěvačka", "světlo", "výstup", "dveře", "závěr", "titulek", "nyitány", "felvonás", "függöny",
+    "színpad", "énekesnő", "fény", "jelenés", "ajtó", "zárókép", "felirat",
 ];
 
 /// What an argument list is made of.
@@ -76,9 +83,22 @@ fn locals() -> Vec<String> {
     })
 }
 
+/// Names of cues as Czech and Hungarian houses have them: two words and a number.
+fn cues() -> Vec<String> {
+    let mut rng = Rng::new(6, 0);
+    sorted(|| format!("{}_{}_{}", rng.pick(CUES), rng.pick(CUES), rng.below(10_000)))
+}
+
+/// Names of four to twelve characters, none of them in ASCII.
+fn outside() -> Vec<String> {
+    let mut rng = Rng::new(6, 1);
+    sorted(|| (0..rng.range(4, 12)).map(|_| letter(&mut rng)).collect())
+}
+
 /// Whether the bytes are names, as one writes it in Rust: `<` goes by the library's comparison of memory.
 fn plain(names: &[u8], count: usize) -> bool {
-    let allowed = |name: &[u8]| !name.is_empty() && name.iter().all(|byte| (32..=126).contains(byte));
+    let control = |name: &str| name.bytes().any(|byte| byte.is_ascii_control());
+    let allowed = |name: &[u8]| !name.is_empty() && std::str::from_utf8(name).is_ok_and(|name| !control(name));
     let Some((10, body)) = names.split_last() else { return count == 0 && names.is_empty() };
     let (mut last, mut seen): (&[u8], usize) = (&[], 0);
     for name in body.split(|byte| *byte == 10) {
@@ -115,5 +135,8 @@ pub fn table() -> Result<(), String> {
     row("numbers", &numbered())?;
     row("values of C", &locals())?;
     row("C++, 8 to 200 bytes", &mangled())?;
-    row("alike but for their ends, 1,000 bytes", &super::hostile::long_names(NAMES, 1000))
+    row("alike but for their ends, 1,000 bytes", &super::hostile::long_names("a", NAMES, 1000))?;
+    row("Czech and Hungarian words", &cues())?;
+    row("outside ASCII, 4 to 12 characters", &outside())?;
+    row("alike but for their ends, 1,000 bytes, outside ASCII", &super::hostile::long_names("ř", NAMES, 1000))
 }

@@ -3,7 +3,7 @@ use super::Maker;
 use crate::book::Type;
 
 /// Spellings that matter somewhere, or that print alike.
-const SPELLINGS: &[&str] = &[
+pub const SPELLINGS: &[&str] = &[
     "llvm.x", "llvm.", "llvm", "llvm.umul.with.overflow.i32", "x.with.overflow.y", ".with.overflow.", "with.overflow.",
     "__uvm_print", "__uvm_", "__uvm", "__uvm_memcmp", "__uvm_a b", "__uvm_x.with.overflow.y", "bcmp", "memcmp", "bcmp.1",
     "sinf", "pow", "sqrt", "trunc", "roundf", "fmin", "sinf.1", "0", "7", "00", "18446744073709551615", "-1", "main", "entry",

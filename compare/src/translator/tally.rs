@@ -4,6 +4,7 @@ use super::lend::{Difference, Found};
 use super::smaller::smaller;
 use super::{Examiner, Sort, SORTS};
 use crate::book::Lent;
+use crate::show;
 use std::collections::BTreeMap;
 use std::time::Duration;
 
@@ -111,12 +112,12 @@ impl Tally {
             let shorter = smaller(&mut examiner, &smallest.lent, smallest.seed, *sort);
             let note = if shorter.is_some() { ", with entries and names left out" } else { "" };
             let (lent, (_, what)) = shorter.unwrap_or_else(|| (smallest.lent.clone(), smallest.found.clone()));
-            let (words, names) = (&lent.slices.book, String::from_utf8_lossy(&lent.slices.names).into_owned());
+            let (words, names) = (&lent.slices.book, show::bytes(&lent.slices.names));
             let head = format!("\n\n{} in {} books; the smallest is {}{note}: ", sort.says(), smallest.count, smallest.place);
             message.push_str(&head);
             message.push_str(&what);
             if size(&lent) < 100_000 {
-                message.push_str(&format!("\nbook {words:?}\nnames {names:?}"));
+                message.push_str(&format!("\nbook {words:?}\nnames {names}"));
             }
         }
         Err(message)

@@ -87,19 +87,19 @@ impl Maker {
 
     /// What the function may name: structs, functions, globals, syscalls.
     fn outside(&mut self) {
-        self.own = self.name(&["f", "act.", "scene "]);
+        self.own = self.name(&["f", "act.", "scene ", "dějství"]);
         for _ in 0..self.rng.below(3) {
-            let name = self.name(&["s", "struct."]);
+            let name = self.name(&["s", "struct.", "část"]);
             let body = self.body(1);
             self.structs.push((name, body));
         }
-        for hints in [&["g", "data."], &["go", "x.with.overflow.y"]] {
+        for hints in [&["g", "data.", "függöny"], &["go", "x.with.overflow.y", "ő.with.overflow.\u{85}"]] {
             let name = self.name(hints);
             self.globals.push(name);
         }
         self.functions = vec![self.own.clone(), self.globals[1].clone()];
         for _ in 0..2 {
-            let name = self.name(&["__uvm_put", "__uvm_take a", "__uvm_"]);
+            let name = self.name(&["__uvm_put", "__uvm_take a", "__uvm_", "__uvm_řekni"]);
             let shape = Shape { args: self.rng.below(4), replies: self.rng.chance(500) };
             self.shapes.insert(name["__uvm_".len()..].to_string(), shape);
         }
@@ -109,7 +109,7 @@ impl Maker {
         let ret_ty = self.result_type();
         let params = (0..self.rng.range(1, 4)).map(|_| self.param()).collect();
         let count = if self.rng.below(5000) < self.risk { 0 } else { self.rng.range(2, 8) };
-        let labels: Vec<String> = (0..count).map(|_| self.name(&["b", "for.", "if-"])).collect();
+        let labels: Vec<String> = (0..count).map(|_| self.name(&["b", "for.", "if-", "ž", "€😀"])).collect();
         let flow = Flow::new(&mut self.rng, count);
 
         let mut blocks: Vec<Option<BasicBlock>> = (0..count).map(|_| None).collect();
@@ -141,13 +141,13 @@ impl Maker {
         if self.rng.chance(30) {
             return Param { ty, name: None };
         }
-        let name = self.name(&["p", "p."]);
+        let name = self.name(&["p", "p.", "č"]);
         self.locals.push(Local { name: name.clone(), ty: ty.clone(), block: None });
         Param { ty, name: Some(name) }
     }
 
     fn new_result(&mut self) -> String {
-        self.name(&["v", "v", "v", "v.", "v-"])
+        self.name(&["v", "v", "v", "v.", "v-", "ű"])
     }
 
     pub fn result(&mut self, ty: Type) -> Option<String> {
