@@ -47,9 +47,13 @@ char-first [] q h = absurd (false≢true h)
 char-first (b ∷ p) q h = let k = both (begins table b) (exactly (behind table b) p) h in rw (k .0) (follow-exactly (behind table b) p q (k .1))
 
 -- an ASCII character is one byte
+pub char-alone : (b : ℕ) (p : List ℕ) → b < 0x80 → isChar (b ∷ p) ≡ exactly [] p
+unfolding isChar
+char-alone b p h = rw (lead-begins b (omega arith), lead-behind b (omega arith), lt-ltb b 0x80 h, lt-ltb b 0xC2 (omega arith))
+
 pub char-ascii : (b : ℕ) → b < 0x80 → isChar (b ∷ []) ≡ true
-unfolding isChar exactly
-char-ascii b h = rw (lead-begins b (omega arith), lead-behind b (omega arith), lt-ltb b 0x80 h, lt-ltb b 0xC2 (omega arith))
+unfolding exactly
+char-ascii b h = char-alone b [] h
 
 -- ---- its bytes may stand in a name where the first one may
 

@@ -1,5 +1,5 @@
 -- UTF-8 by its grammar is UTF-8 by its encoding: the bytes that section 4 of RFC 3629 takes are exactly the encodings by section 3 of
--- the character numbers U+0000 to U+D7FF and U+E000 to U+10FFFF, and bytes have one reading only.
+-- the character numbers U+0000 to U+D7FF and U+E000 to U+10FFFF.
 use Prim.Native.Nat.{ℕ, suc, _+_, _-_, _*_, _/_, _≤_, _<_}
 use mathlib.Core.Path.{_≡_, refl, sym, ap, ap₂, _∙_}
 use mathlib.Core.Logic.{_↔_, _≢_, ⊎-elim}
@@ -8,13 +8,13 @@ use mathlib.Core.List.{List, [], _∷_, _++_}
 use native.Mathlib.Omega.{arith}
 use borrow.Author.Tests.{eqb-true, eqb-false, leb-true, leb-false, le-leb, lt-leb, ltb-true, ltb-false, lt-ltb, le-ltb}
 use lib.Dec.{eqb, leb, ltb}
-use lib.ListN.{getD, drop, replicate}
+use lib.ListN.{replicate}
 use Rattle.names.specs.Text.{within}
 use Rattle.names.specs.Utf8.{Range, to, tail, table, has, begins, behind, follow, wellFormed, scalar, six, encode, everyScalar, encodes}
 use Rattle.names.specs.Tests.{both, either, or-right, decide}
 use Rattle.names.specs.Texts.{in-within}
-use Rattle.names.specs.Lead.{tails, lowest, highest, ranges, lead-behind, lead-begins, lead-octet}
-use Rattle.names.specs.Characters.{exactly, isChar, char-first}
+use Rattle.names.specs.Lead.{tails, lowest, highest, lead-behind, lead-begins, lead-octet}
+use Rattle.names.specs.Characters.{exactly, isChar, char-first, char-alone, char-ascii}
 
 -- ---- the encoding, by the range of the number
 
@@ -83,18 +83,13 @@ char-many : (b n : ℕ) (p : List ℕ) → b < 256 → tails b ≡ suc n → isC
 unfolding isChar
 char-many b n p l e = rw (lead-begins b l, lead-behind b l, e, lt-ltb 0 (suc n) (omega arith), or-right (ltb b 0x80) true refl)
 
--- a byte below 128 has none behind it
-char-alone : (b : ℕ) (p : List ℕ) → b < 0x80 → isChar (b ∷ p) ≡ exactly [] p
-unfolding isChar
-char-alone b p h = rw (lead-begins b (omega arith), lead-behind b (omega arith), lt-ltb b 0x80 h, lt-ltb b 0xC2 (omega arith))
-
-tails-two : (b : ℕ) → 0xC2 ≤ b → b < 0xE0 → tails b ≡ 1
+pub tails-two : (b : ℕ) → 0xC2 ≤ b → b < 0xE0 → tails b ≡ 1
 tails-two b l h = rw (le-ltb b 0xC2 l, lt-ltb b 0xE0 h)
 
-tails-three : (b : ℕ) → 0xE0 ≤ b → b < 0xF0 → tails b ≡ 2
+pub tails-three : (b : ℕ) → 0xE0 ≤ b → b < 0xF0 → tails b ≡ 2
 tails-three b l h = rw (le-ltb b 0xC2 (omega arith), le-ltb b 0xE0 l, lt-ltb b 0xF0 h)
 
-tails-four : (b : ℕ) → 0xF0 ≤ b → b < 0xF5 → tails b ≡ 3
+pub tails-four : (b : ℕ) → 0xF0 ≤ b → b < 0xF5 → tails b ≡ 3
 tails-four b l h = rw (le-ltb b 0xC2 (omega arith), le-ltb b 0xE0 (omega arith), le-ltb b 0xF0 l, lt-ltb b 0xF5 h)
 
 -- where the second byte may lie, by the first
@@ -109,10 +104,6 @@ by-highest b ed f4 other =
     ⊎-elim (λ e. ed (eqb-true b 0xED e) (rw e))
     (λ (e : eqb b 0xED ≡ false). ⊎-elim (λ f. f4 (eqb-true b 0xF4 f) (rw (e, f))) (λ f. other (eqb-false b 0xED e) (eqb-false b 0xF4 f) (rw (e, f))) (decide (eqb b 0xF4)))
     (decide (eqb b 0xED))
-
-char-one : (b : ℕ) → b < 0x80 → isChar (b ∷ []) ≡ true
-unfolding exactly
-char-one b h = char-alone b [] h
 
 char-two : (b s : ℕ) → 0xC2 ≤ b → b < 0xE0 → lowest b ≤ s → s ≤ highest b → isChar (b ∷ s ∷ []) ≡ true
 unfolding exactly
@@ -152,7 +143,7 @@ module _ (c : ℕ) (e : scalar c ≡ true) where
       (by-lowest b (omega arith) (omega arith) (omega arith)) (by-highest b (omega arith) (omega arith) (omega arith)) (six-tail (c / 0x40)) (six-tail c))
 
   pub encoded-char : isChar (encode c) ≡ true
-  encoded-char = by-range c (λ h. rw (encode-one c h) (char-one c (omega arith))) encoded-two encoded-three encoded-four
+  encoded-char = by-range c (λ h. rw (encode-one c h) (char-ascii c (omega arith))) encoded-two encoded-three encoded-four
 
 -- ---- one character: what the grammar takes is an encoding
 
@@ -161,13 +152,13 @@ abbrev pub Encoded : List ℕ → Type 0
 Encoded p = (c : ℕ) × (scalar c ≡ true) × (encode c ≡ p)
 
 -- the number that bytes say
-abbrev two : ℕ → ℕ → ℕ
+abbrev pub two : ℕ → ℕ → ℕ
 two b s = (b - 0xC0) * 0x40 + (s - 0x80)
 
-abbrev three : ℕ → ℕ → ℕ → ℕ
+abbrev pub three : ℕ → ℕ → ℕ → ℕ
 three b s t = (b - 0xE0) * 0x1000 + (s - 0x80) * 0x40 + (t - 0x80)
 
-abbrev four : ℕ → ℕ → ℕ → ℕ → ℕ
+abbrev pub four : ℕ → ℕ → ℕ → ℕ → ℕ
 four b s t u = (b - 0xF0) * 0x40000 + (s - 0x80) * 0x1000 + (t - 0x80) * 0x40 + (u - 0x80)
 
 -- every second byte is a tail
@@ -292,61 +283,3 @@ wellFormed-encodes bs e =
 -- the grammar takes exactly the encodings of the numbers U+0000 to U+D7FF and U+E000 to U+10FFFF
 pub utf8-iff : (bs : List ℕ) → (wellFormed bs ≡ true) ↔ ((cs : List ℕ) × (everyScalar cs ≡ true) × (encodes cs ≡ bs))
 utf8-iff bs = (wellFormed-encodes bs, λ x. rw (x .2) at (encodes-wellFormed (x .0) (x .1)))
-
--- ---- one reading
-
--- the number of the character that the bytes begin with
-abbrev number : ℕ → ℕ → ℕ → ℕ → ℕ
-number b s t u = cond (ltb b 0x80) b (cond (ltb b 0xE0) (two b s) (cond (ltb b 0xF0) (three b s t) (four b s t u)))
-
-first : List ℕ → ℕ
-first bs = number (getD bs 0 0) (getD bs 1 0) (getD bs 2 0) (getD bs 3 0)
-
--- the bytes behind it
-rest : List ℕ → List ℕ
-rest bs = drop (suc (tails (getD bs 0 0))) bs
-
-module _ (c : ℕ) (e : scalar c ≡ true) (q : List ℕ) where
-  first-four : 0xFFFF < c → first (encode c ++ q) ≡ c
-  unfolding first six
-  first-four l =
-      let b = 0xF0 + c / 0x40000 in
-      let m : c / 0x1000 ≡ c / 0x40 / 0x40 = omega arith in
-      let n : c / 0x40000 ≡ c / 0x1000 / 0x40 = omega arith in
-      rw (encode-four c l, le-ltb b 0x80 (omega arith), le-ltb b 0xE0 (omega arith), le-ltb b 0xF0 (omega arith)) (omega arith)
-
-  first-of : first (encode c ++ q) ≡ c
-  unfolding first six
-  first-of =
-      by-range c (λ h. rw (encode-one c h, lt-ltb c 0x80 (omega arith)))
-      (λ l h. let b = 0xC0 + c / 0x40 in rw (encode-two c l h, le-ltb b 0x80 (omega arith), lt-ltb b 0xE0 (omega arith)) (omega arith))
-      (λ l h. let b = 0xE0 + c / 0x1000 in rw (encode-three c l h, le-ltb b 0x80 (omega arith), le-ltb b 0xE0 (omega arith), lt-ltb b 0xF0 (omega arith)) (omega arith))
-      first-four
-
-  rest-of : rest (encode c ++ q) ≡ q
-  unfolding rest
-  rest-of =
-      let most : c ≤ 0x10FFFF = by-scalar c e (omega arith) (omega arith) in
-      by-range c (λ h. rw (encode-one c h, lt-ltb c 0xC2 (omega arith)))
-      (λ l h. rw (encode-two c l h, tails-two (0xC0 + c / 0x40) (omega arith) (omega arith)))
-      (λ l h. rw (encode-three c l h, tails-three (0xE0 + c / 0x1000) (omega arith) (omega arith)))
-      (λ l. rw (encode-four c l, tails-four (0xF0 + c / 0x40000) (omega arith) (omega arith)))
-
--- a character has bytes
-char-filled : (p q : List ℕ) → isChar p ≡ true → [] ≡ p ++ q → ⊥
-unfolding isChar
-char-filled [] q h e = false≢true h
-char-filled (b ∷ p) q h e = let z : _≡_ {A = ℕ} 0 1 = cc in omega arith
-
--- bytes are the encoding of one text only
-pub encodes-once : (cs ds : List ℕ) → everyScalar cs ≡ true → everyScalar ds ≡ true → encodes cs ≡ encodes ds → cs ≡ ds
-unfolding everyScalar encodes
-encodes-once [] [] h k e = refl
-encodes-once [] (d ∷ ds) h k e = absurd (char-filled (encode d) (encodes ds) (encoded-char d (both (scalar d) (everyScalar ds) k .0)) e)
-encodes-once (c ∷ cs) [] h k e = absurd (char-filled (encode c) (encodes cs) (encoded-char c (both (scalar c) (everyScalar cs) h .0)) (sym e))
-encodes-once (c ∷ cs) (d ∷ ds) h k e =
-    let h′ = both (scalar c) (everyScalar cs) h in
-    let k′ = both (scalar d) (everyScalar ds) k in
-    let f = sym (first-of c (h′ .0) (encodes cs)) ∙ ap first e ∙ first-of d (k′ .0) (encodes ds) in
-    let r = sym (rest-of c (h′ .0) (encodes cs)) ∙ ap rest e ∙ rest-of d (k′ .0) (encodes ds) in
-    ap₂ (λ x xs. x ∷ xs) f (encodes-once cs ds (h′ .1) (k′ .1) r)

@@ -7,9 +7,8 @@ use native.Mathlib.Omega.{arith}
 use borrow.Author.Tests.{le-leb, lt-leb, ne-eqb}
 use lib.ListN.{length, getD}
 use Rattle.names.specs.Text.{within}
-use Rattle.names.specs.Utf8.{to, tail, has, isTail, scalar, six, encode, everyScalar, encodes}
+use Rattle.names.specs.Utf8.{to, tail, has, isTail, six, encode, encodes}
 use Rattle.names.specs.Spelling.{wordByte, cleanByte, sanitize}
-use Rattle.names.specs.Tests.{both}
 use Rattle.names.specs.Encoding.{by-range, encode-one, encode-two, encode-three, encode-four, six-tail}
 
 underscore : wordByte 95 ≡ true
@@ -85,10 +84,10 @@ sanitize-char c q =
     (sanitize-lead (0xF0 + c / 0x40000) _ (omega arith) ∙ ap (λ t. 95 ∷ t) (sanitize-six (c / 0x1000) _ ∙ sanitize-six (c / 0x40) _ ∙ sanitize-six c q)))
 
 -- a label has one character for each character of the name
-pub sanitize-encoded : (cs : List ℕ) → everyScalar cs ≡ true → sanitize (encodes cs) ≡ map cleanByte cs
-unfolding sanitize encodes everyScalar
-sanitize-encoded [] h = refl
-sanitize-encoded (c ∷ cs) h = sanitize-char c (encodes cs) ∙ ap (λ t. cleanByte c ∷ t) (sanitize-encoded cs (both (scalar c) (everyScalar cs) h .1))
+pub sanitize-encoded : (cs : List ℕ) → sanitize (encodes cs) ≡ map cleanByte cs
+unfolding sanitize encodes
+sanitize-encoded [] = refl
+sanitize-encoded (c ∷ cs) = sanitize-char c (encodes cs) ∙ ap (λ t. cleanByte c ∷ t) (sanitize-encoded cs)
 
 -- an ASCII name keeps its length, and every byte its place
 pub sanitize-ascii : (s : List ℕ) → ((i : ℕ) → i < length s → getD s i 0 < 0x80) → sanitize s ≡ map cleanByte s

@@ -8,6 +8,7 @@ pub mod Tests
 pub mod Lead
 pub mod Characters
 pub mod Encoding
+pub mod Reading
 pub mod Texts
 pub mod Labels
 pub mod Order
@@ -17,3 +18,4 @@ pub mod Lines
 pub mod Places
 pub mod Ranges
 pub mod Cases
+pub mod Utf8Cases
