@@ -155,5 +155,3 @@ steps-equal = refl
 steps-none : steps [] (bytes "a") ≡ 0
 unfolding openCases
 steps-none = refl
-
--- ---- UTF-8
