@@ -331,6 +331,21 @@ fn every_byte() {
     );
 }
 
+// Names with characters of one to four bytes, of a struct, a function that is its own block, and a syscall.
+fn every_length() {
+    let book: [u64; 18] = [
+        8, 3, 3, 4, 5, 15, 0, 7, 93, 0, 2, 0, 1, 2, 0, 1, 0, 0,
+    ];
+    let mut text = [b'!'; 112];
+    show_lent(
+        &book,
+        b"__uvm_a\xc4\x8d\xe2\x82\xac\xf0\x9f\x8e\xad\na\xc5\xb1\xe2\x82\xac\xf0\x9f\x8e\xad\n\xc5\xa0\xc3\xa1rka\n",
+        &[0, 1, 2, 3, 4, 5, 6],
+        &[1, 1, 1, 1, 2, 513, 0],
+        &mut text,
+    );
+}
+
 fn main() {
     every_kind();
     names();
@@ -339,4 +354,5 @@ fn main() {
     rooms();
     orders();
     every_byte();
+    every_length();
 }
