@@ -336,7 +336,7 @@ fn every_length() {
     let book: [u64; 18] = [
         8, 3, 3, 4, 5, 15, 0, 7, 93, 0, 2, 0, 1, 2, 0, 1, 0, 0,
     ];
-    let mut text = [b'!'; 112];
+    let mut text = [b'!'; 115];
     show_lent(
         &book,
         b"__uvm_a\xc4\x8d\xe2\x82\xac\xf0\x9f\x8e\xad\na\xc5\xb1\xe2\x82\xac\xf0\x9f\x8e\xad\n\xc5\xa0\xc3\xa1rka\n",
