@@ -7,7 +7,7 @@ ghost use lib.ListN.{length};
 ghost use Rattle.names.specs.Text.{within as textWithin, same, starts, contains};
 ghost use Rattle.names.specs.Name.{nameFrom};
 ghost use Rattle.names.specs.Utf8.{isTail};
-ghost use Rattle.names.specs.Spelling.{wordByte, cleanByte};
+ghost use Rattle.names.specs.Spelling.{wordByte, cleanByte, sanitize};
 
 // The byte that ends a name.
 pub const END: u8 = 10;
@@ -103,4 +103,19 @@ pub fn is_tail(b: u8) -> bool
     ensures { λ r. ⌜ r ≡ isTail b ⌝ }
 {
     within(0x80, 0xbf, b)
+}
+
+// How many bytes a label spells a name with: one for each character.
+pub fn clean_len(name: &[u8]) -> usize
+    ensures { λ r. ⌜ r ≡ length (sanitize (now (name .entry))) ⌝ }
+{
+    let mut n: usize = 0;
+    let mut i: usize = 0;
+    while i < name.len() {
+        if !is_tail(name[i]) {
+            n += 1;
+        }
+        i += 1;
+    }
+    n
 }

@@ -11,7 +11,6 @@ use Rattle.numbers.specs.Digits.{decimal}
 use Rattle.names.specs.Text.{bytes}
 use Rattle.names.specs.Name.{nameAt}
 use Rattle.names.specs.Spelling.{sanitize}
-use Rattle.names.specs.Labels.{sanitize-length}
 use Rattle.book_types.specs.Tables.{From, in-range}
 use Rattle.print_forms.specs.Forms.{formOf, nameForm}
 use Rattle.print_forms.specs.All.{Ready}
@@ -24,11 +23,11 @@ use Rattle.print_lines.specs.Lines.{operandText, partsText, printed}
 unfoldable pub namedBy : (k x : ℕ) → ℕ
 namedBy k x = cond (eqb k 5) (x / 256) x
 
--- how many of its bytes are left out
-unfoldable pub skipped : ℕ → ℕ
-skipped k = cond (eqb k 6) 6 0
+-- how many bytes it has in the line: a syscall's all but the first six, the others' as a label spells them
+unfoldable pub spelled : (k : ℕ) (n : List ℕ) → ℕ
+spelled k n = cond (eqb k 6) (length n - 6) (length (sanitize n))
 
--- the bytes around it, where the function's name has f
+-- the bytes around it, where the function's label has f
 unfoldable pub around : (f k x : ℕ) → ℕ
 around f k x = length (word k) + cond (leb 2 k && leb k 3) (f + 2) 0 + cond (eqb k 5) (length (decimal (cond (eqb k 5) (x % 256) 0)) + 2) 0 + 2
 
@@ -42,7 +41,7 @@ comma = refl
 
 module _ (ns : List (List ℕ)) (fname : List ℕ) (x : ℕ) where
   abbrev Long : ℕ → Type 0
-  Long k = length (partsText ns fname k x) ≡ (length (nameAt ns (namedBy k x)) - skipped k) + around (length fname) k x
+  Long k = length (partsText ns fname k x) ≡ spelled k (nameAt ns (namedBy k x)) + around (length (sanitize fname)) k x
 
   parts-long : (k : ℕ) → length (partsText ns fname k x) ≡ length (word k) + length (operandText ns fname (formOf k) x) + 2
   unfolding partsText
@@ -54,37 +53,34 @@ module _ (ns : List (List ℕ)) (fname : List ℕ) (x : ℕ) where
         end-long k,
       )
 
-  block-long : (n : List ℕ) → length (sanitize fname ++ (bytes "__" ++ sanitize n)) ≡ length fname + 2 + length n
+  block-long : (n : List ℕ) → length (sanitize fname ++ (bytes "__" ++ sanitize n)) ≡ length (sanitize fname) + 2 + length (sanitize n)
   block-long n =
       omega (
         arith,
         length-append (sanitize fname) (bytes "__" ++ sanitize n),
         length-append (bytes "__") (sanitize n),
-        sanitize-length fname,
-        sanitize-length n,
         two,
       )
 
-  call-long : (n : List ℕ) (a : ℕ) → length (sanitize n ++ (bytes ", " ++ decimal a)) ≡ length n + 2 + length (decimal a)
+  call-long : (n : List ℕ) (a : ℕ) → length (sanitize n ++ (bytes ", " ++ decimal a)) ≡ length (sanitize n) + 2 + length (decimal a)
   call-long n a =
       omega (
         arith,
         length-append (sanitize n) (bytes ", " ++ decimal a),
         length-append (bytes ", ") (decimal a),
-        sanitize-length n,
         comma,
       )
 
   kinds-long : From Long 1 6
-  unfolding formOf nameForm namedBy skipped around
+  unfolding formOf nameForm namedBy spelled around
   kinds-long = (
-    omega (arith, parts-long 1, sanitize-length (nameAt ns x)),
+    omega (arith, parts-long 1),
     (
       omega (arith, parts-long 2, block-long (nameAt ns x)),
       (
         omega (arith, parts-long 3, block-long (nameAt ns x)),
         (
-          omega (arith, parts-long 4, sanitize-length (nameAt ns x)),
+          omega (arith, parts-long 4),
           (
             omega (arith, parts-long 5, call-long (nameAt ns (x / 256)) (x % 256)),
             (omega (arith, parts-long 6, length-drop 6 (nameAt ns x)), tt),
@@ -97,20 +93,6 @@ module _ (ns : List (List ℕ)) (fname : List ℕ) (x : ℕ) where
   pub named-long : (k : ℕ) → 1 ≤ k → k < 7 → Long k
   named-long k h g = in-range Long 1 6 kinds-long k h g
 
-  -- the name is there, and has the bytes that are left out
-  abbrev There : ℕ → Type 0
-  There k = Ready (formOf k) ns x → (namedBy k x < length ns) × (skipped k ≤ length (nameAt ns (namedBy k x)))
-
-  kinds-there : From There 1 6
-  unfolding formOf nameForm namedBy skipped
-  kinds-there = (
-    λ r. (r, omega arith),
-    (λ r. (r, omega arith), (λ r. (r, omega arith), (λ r. (r, omega arith), (λ r. (r, omega arith), (λ r. r, tt))))),
-  )
-
-  pub named-there : (k : ℕ) → 1 ≤ k → k < 7 → There k
-  named-there k h g = in-range There 1 6 kinds-there k h g
-
   -- it is the line's text
   pub named-printed : (ty : List ℕ) (params k : ℕ) → 1 ≤ k → k < 7 → partsText ns fname k x ≡ printed ns fname ty params k x
   unfolding printed
@@ -118,22 +100,41 @@ module _ (ns : List (List ℕ)) (fname : List ℕ) (x : ℕ) where
       let low : k < 21 = omega arith in
       rw (lt-leb 21 k low, ne-eqb k 0 (λ z. omega arith))
 
+-- the name is there
+module _ (ns : List (List ℕ)) (x : ℕ) where
+  abbrev There : ℕ → Type 0
+  There k = Ready (formOf k) ns x → namedBy k x < length ns
+
+  kinds-there : From There 1 6
+  unfolding formOf nameForm namedBy
+  kinds-there = (λ r. r, (λ r. r, (λ r. r, (λ r. r, (λ r. r, (λ r. r .0, tt))))))
+
+  named-there : (k : ℕ) → 1 ≤ k → k < 7 → There k
+  named-there k h g = in-range There 1 6 kinds-there k h g
+
+  -- a syscall's has the bytes that are left out
+  syscall-there : Ready (formOf 6) ns x → 6 ≤ length (nameAt ns (namedBy 6 x))
+  unfolding formOf nameForm namedBy
+  syscall-there r = r .1
+
 -- ---- as the code finds it
 pub pick-most : (t : Bool) (a : ℕ) → cond t a 0 ≤ a
 pick-most true a = omega arith
 pick-most false a = omega arith
 
--- the name of number y, of which s bytes are left out
-module _ (ns : List (List ℕ)) (fname : List ℕ) (k x : ℕ) (h : 1 ≤ k) (g : k < 7) (y : ℕ) (e : y ≡ cond (eqb k 5) (x / 256) x) where
+-- the name of number y
+module _ (ns : List (List ℕ)) (k x : ℕ) (h : 1 ≤ k) (g : k < 7) (y : ℕ) (e : y ≡ cond (eqb k 5) (x / 256) x) where
   pub name-inside : Ready (formOf k) ns x → y < length ns
   unfolding namedBy
-  name-inside r = rw e (named-there ns fname x k h g r .0)
+  name-inside r = rw e (named-there ns x k h g r)
 
-  module _ (name : List ℕ) (f : name ≡ nameAt ns y) (s : ℕ) (d : s ≡ cond (eqb k 6) 6 0) where
-    pub skip-fits : Ready (formOf k) ns x → s ≤ length name
-    unfolding namedBy skipped
-    skip-fits r = rw (f, d, e) (named-there ns fname x k h g r .1)
+  module _ (name : List ℕ) (f : name ≡ nameAt ns y) where
+    pub skip-fits : Ready (formOf k) ns x → k ≡ 6 → 6 ≤ length name
+    unfolding namedBy
+    skip-fits r z = rw (f, e, z) (syscall-there ns x (rw z at r))
 
-    pub line-long : (rest : ℕ) → rest ≡ around (length fname) k x → length (partsText ns fname k x) ≡ (length name - s) + rest
-    unfolding namedBy skipped
-    line-long rest i = rw (f, d, e, i) (named-long ns fname x k h g)
+    -- its bytes and those around it
+    pub line-long : (fname : List ℕ) (label s rest : ℕ) → label ≡ length (sanitize fname) → s ≡ spelled k name → rest ≡ around label k x
+        → length (partsText ns fname k x) ≡ s + rest
+    unfolding namedBy
+    line-long fname label s rest l d i = rw (d, i, l, f, e) (named-long ns fname x k h g)

@@ -1,5 +1,6 @@
 // What lines weigh before any is written: whether every one may stand (21), and how many bytes they have (20), in one pass.
 use crate::put_comment;
+use names_spelling::clean_len;
 use numbers::digits::decimal_len;
 use print_forms::check_lines;
 use print_forms::name_allowed;
@@ -11,9 +12,11 @@ use print_words::plain::plain_len;
 use print_words::plain::word_len;
 ghost use mathlib.Core.Path.{_≡_};
 ghost use mathlib.Core.Bool.{cond};
+ghost use mathlib.Core.List.{List};
 ghost use Prim.Native.Nat.{ℕ, _+_, _<_, _≤_};
 ghost use lib.ListN.{length, drop};
 ghost use Rattle.names.specs.Name.{lines};
+ghost use Rattle.names.specs.Spelling.{sanitize};
 ghost use Rattle.book.specs.Entry.{entries};
 ghost use Rattle.book.specs.Decode.{typeTo};
 ghost use Rattle.print_words.specs.Words.{wordPlaces};
@@ -24,7 +27,7 @@ ghost use Rattle.print_forms.specs.Forms.{formOf, allowedBy};
 ghost use Rattle.print_forms.specs.All.{Callable, allowedAll};
 ghost use Rattle.print_lines.specs.Lines.{partsText, printed};
 ghost use Rattle.print_lines.specs.All.{printedAll};
-ghost use Rattle.print_lines.specs.Named.{around};
+ghost use Rattle.print_lines.specs.Named.{spelled, around};
 ghost use Rattle.print_lines.specs.Weigh.{weight, Weighed};
 
 // How many bytes there are; that the text is too short for them; that a line may not stand.
@@ -58,27 +61,39 @@ fn pick_len(first: bool, a: usize, b: usize) -> usize
     if first { a } else { b }
 }
 
-// How many bytes a line of kind 1 to 6 has beside the name that it names: its word, the function's name and `__` before a block's, the
+// How many bytes a line has of the name that it names: a syscall's all but the first six, the others' as a label spells them.
+fn spelled_len(name: &[u8], kind: u16) -> usize
+    requires { ⌜ (kind ≡ 6 → 6 ≤ length (now name)) ⌝ }
+    ensures { λ r. ⌜ r ≡ spelled kind (now (name .entry)) ⌝ }
+{
+    if kind == 6 {
+        return name.len() - 6;
+    }
+    clean_len(name)
+}
+
+// How many bytes a line of kind 1 to 6 has beside the name that it names: its word, the function's label and `__` before a block's, the
 // number of arguments behind a call's, and its end.
-fn around_len(places: &[u16], function: &[u8], kind: u16, x: u64) -> usize
+fn around_len(places: &[u16], label: usize, kind: u16, x: u64) -> usize
     requires { ⌜ now places ≡ wordPlaces ⌝ }
+    requires { ⌜ label < 9223372036854775808 ⌝ }
     requires { ⌜ kind < 94 ⌝ }
-    ensures { λ r. ⌜ r ≡ around (length (now (function .entry))) kind x ⌝ }
+    ensures { λ r. ⌜ r ≡ around label kind x ⌝ }
 {
     let word = word_len(places, kind);
-    let block = pick_len((2 <= kind) & (kind <= 3), function.len() + 2, 0);
+    let block = pick_len((2 <= kind) & (kind <= 3), label + 2, 0);
     let digits = decimal_len(pick(kind == 5, x % 256, 0));
     let args = pick_len(kind == 5, digits + 2, 0);
     word + block + args + 2
 }
 
-// Weighs a line of kind 1 to 6 behind n bytes.
+// Weighs a line of kind 1 to 6 behind n bytes, where a label spells the function's name with `label`.
 fn weigh_named(
     places: &[u16],
     names: &[u8],
     starts: &[u64],
     every: bool,
-    function: &[u8],
+    label: usize,
     n: usize,
     room: usize,
     kind: u16,
@@ -90,17 +105,18 @@ fn weigh_named(
     requires { ⌜ now places ≡ wordPlaces ⌝ }
     requires { ⌜ Starts every (now names) (now starts) ⌝ }
     requires { ⌜ Callable (lines (now names)) count from to ⌝ }
+    requires { ⌜ label < 9223372036854775808 ⌝ }
     requires { ⌜ n ≤ room ⌝ }
     requires { ⌜ 1 ≤ kind ⌝ }
     requires { ⌜ kind < 7 ⌝ }
-    ensures { λ r. ⌜ ((own : ℕ) → r ≡ weight (allowedBy (formOf kind) x count own from to) (n + length (partsText (lines (now (names .entry))) (now (function .entry)) kind x)) room) ⌝ }
+    ensures { λ r. ⌜ ((own : ℕ) (fname : List ℕ) → label ≡ length (sanitize fname) → r ≡ weight (allowedBy (formOf kind) x count own from to) (n + length (partsText (lines (now (names .entry))) fname kind x)) room) ⌝ }
 {
     if !name_allowed(kind, x, count, from, to) {
         return Weight::Barred;
     }
-    let name = name_of(names, starts, every, pick(kind == 5, x / 256, x)).len();
-    let spelled = name - pick_len(kind == 6, 6, 0);
-    let rest = around_len(places, function, kind, x);
+    let name = name_of(names, starts, every, pick(kind == 5, x / 256, x));
+    let spelled = spelled_len(name, kind);
+    let rest = around_len(places, label, kind, x);
     let left = room - n;
     if left < spelled {
         return Weight::Short;
@@ -111,7 +127,8 @@ fn weigh_named(
     Weight::Bytes(n + (spelled + rest))
 }
 
-// Weighs a line behind n bytes; a function's opening comment, of kind 0, is counted as it is written, by a pen. There are `count` names, the function's is `own`; those from `from` up to `to` start with `__uvm_`.
+// Weighs a line behind n bytes; a function's opening comment, of kind 0, is counted as it is written, by a pen. There are `count` names, the
+// function's is `own`, spelled with `label` bytes in a label; those from `from` up to `to` start with `__uvm_`.
 fn weigh_line(
     text: &mut [u8],
     n: usize,
@@ -120,6 +137,7 @@ fn weigh_line(
     starts: &[u64],
     every: bool,
     function: &[u8],
+    label: usize,
     kinds: &[u64],
     words: &[u64],
     params: u64,
@@ -135,6 +153,7 @@ fn weigh_line(
     requires { ⌜ Typed (length (lines (now names))) 64 (now kinds) (now words) ⌝ }
     requires { ⌜ Callable (lines (now names)) count from to ⌝ }
     requires { ⌜ n ≤ length (now text) ⌝ }
+    requires { ⌜ label ≡ length (sanitize (now function)) ⌝ }
     ensures { λ r. ⌜ Weighed (allowedBy (formOf kind) x count own from to) (n + length (printed (lines (now (names .entry))) (now (function .entry)) (typeBytes (lines (now (names .entry))) (typeTo (length (lines (now (names .entry)))) 64 (entries (now (kinds .entry)) (now (words .entry))))) params kind x)) (now (text .entry)) (now (text .exit)) r ⌝ }
 {
     if 7 <= kind {
@@ -146,7 +165,7 @@ fn weigh_line(
             names,
             starts,
             every,
-            function,
+            label,
             n,
             text.len(),
             kind,
@@ -224,6 +243,7 @@ pub fn weigh_lines(
         (length (printedAll (printed (lines (now (names .entry))) (now (function .entry)) (typeBytes (lines (now (names .entry))) (typeTo (length (lines (now (names .entry)))) 64 (entries (now (kinds .entry)) (now (words .entry))))) params) (now («line_kinds» .entry)) (now (operands .entry))))
         (now (text .entry)) (now (text .exit)) r ⌝ }
 {
+    let label = clean_len(function);
     let mut n: usize = 0;
     let mut i: usize = 0;
     while i < line_kinds.len() {
@@ -238,6 +258,7 @@ pub fn weigh_lines(
             starts,
             every,
             function,
+            label,
             kinds,
             words,
             params,

@@ -10,8 +10,10 @@ use borrow.Author.Tests.{leb-true, leb-false, le-leb, lt-leb}
 use lib.ListN.{length, getD, drop, set, length-append, length-set}
 use lib.Seq.{sets, length-sets, drop-cons, drop-length}
 use lib.Dec.{leb}
+use Rattle.names.specs.Utf8.{isTail}
 use Rattle.names.specs.Spelling.{sanitize, cleanByte}
 use Rattle.names.specs.Tests.{agree}
+use Rattle.names_spelling.proofs.Spell.{clean-over, clean-tail, clean-more}
 use Rattle.print_pen.specs.declared.Pen.{Pen}
 use Rattle.print_pen.specs.declared.Pen.the-variants.{Counting, Writing, Full}
 
@@ -189,39 +191,34 @@ copy-end {src} {x} {y} {at} {i} c h =
     let f : drop i src ≡ [] = rw e (drop-length src) in
     rw f at (c .same)
 
--- the same over the bytes as a label spells them
-pub record Cleaned (src x : List ℕ) (at : ℕ) (y : List ℕ) (i : ℕ) : Type 0 where
-  pub inside : i ≤ length src
+-- the same over the bytes as a label spells them, of which the next one stands at `to`
+pub record Cleaned (src x : List ℕ) (at : ℕ) (y : List ℕ) (i to : ℕ) : Type 0 where
   pub long : length y ≡ length x
-  pub same : sets y (at + i) (sanitize (drop i src)) ≡ sets x at (sanitize src)
+  pub rest : to + length (sanitize (drop i src)) ≡ at + length (sanitize src)
+  pub same : sets y to (sanitize (drop i src)) ≡ sets x at (sanitize src)
 
-pub clean-start : (src x : List ℕ) (at : ℕ) → Cleaned src x at x 0
-clean-start src x at = record { inside = omega arith; long = refl; same = rw (add-zero at) }
+pub clean-start : (src x : List ℕ) (at : ℕ) → Cleaned src x at x 0 at
+clean-start src x at = record { long = refl; rest = refl; same = refl }
 
-pub clean-step : {src x y : List ℕ} {at i b : ℕ} → Cleaned src x at y i → i < length src → b ≡ cleanByte (getD src i 0) → Cleaned src x at (set y (at + i) b) (i + 1)
-unfolding sanitize
-clean-step {src} {x} {y} {at} {i} {b} c h e = record {
-  inside = omega arith;
-  long = length-set y (at + i) b ∙ c .long;
-  same = step;
-}
-  where
-    one : at + (i + 1) ≡ suc (at + i)
-    one = omega arith
+module _ {src x y : List ℕ} {at i to : ℕ} (c : Cleaned src x at y i to) where
+  module _ (h : i < length src) (f : isTail (getD src i 0) ≡ false) where
+    pub clean-room : at + length (sanitize src) ≤ length x → to < length y
+    clean-room g = omega (arith, c .long, c .rest, ap length (clean-more src i h f))
 
-    step : sets (set y (at + i) b) (at + (i + 1)) (sanitize (drop (i + 1) src)) ≡ sets x at (sanitize src)
-    step = rw (one, add-one i, e) (rw (drop-cons src i 0 h) at (c .same))
+    -- a byte that gives one
+    pub clean-step : {b : ℕ} → b ≡ cleanByte (getD src i 0) → Cleaned src x at (set y to b) (i + 1) (to + 1)
+    clean-step {b} e = record {
+      long = length-set y to b ∙ c .long;
+      rest = omega (arith, c .rest, ap length (clean-more src i h f));
+      same = rw (add-one to, e) (rw (clean-more src i h f) at (c .same));
+    }
 
-clean-nil : sanitize [] ≡ []
-unfolding sanitize
-clean-nil = refl
+  -- a byte that gives none
+  pub clean-skip : i < length src → isTail (getD src i 0) ≡ true → Cleaned src x at y (i + 1) to
+  clean-skip h f = record { long = c .long; rest = rw (clean-tail src i h f) at (c .rest); same = rw (clean-tail src i h f) at (c .same) }
 
-pub clean-end : {src x y : List ℕ} {at i : ℕ} → Cleaned src x at y i → length src ≤ i → y ≡ sets x at (sanitize src)
-clean-end {src} {x} {y} {at} {i} c h =
-    let e : i ≡ length src = omega (arith, c .inside) in
-    let f : drop i src ≡ [] = rw e (drop-length src) in
-    let g : sanitize (drop i src) ≡ [] = ap sanitize f ∙ clean-nil in
-    rw g at (c .same)
+  pub clean-end : length src ≤ i → y ≡ sets x at (sanitize src)
+  clean-end h = rw (clean-over src i h) at (c .same)
 
 -- ---- the test and the pen behind it
 pub fits-there : (at n room : ℕ) → at ≤ room → leb n (room - at) ≡ leb (at + n) room

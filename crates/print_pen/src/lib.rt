@@ -62,12 +62,17 @@ pub fn copy(src: &[u8], text: &mut [u8], at: usize)
 
 // Stores bytes as a label spells them.
 fn copy_clean(src: &[u8], text: &mut [u8], at: usize)
-    requires { ⌜ at + length (now src) ≤ length (now text) ⌝ }
+    requires { ⌜ at + length (sanitize (now src)) ≤ length (now text) ⌝ }
     ensures { λ r. ⌜ now (text .exit) ≡ sets (now (text .entry)) at (sanitize (now (src .entry))) ⌝ }
 {
     let mut i: usize = 0;
+    let mut to = at;
     while i < src.len() {
-        text[at + i] = names_spelling::clean_byte(src[i]);
+        let b = src[i];
+        if !names_spelling::is_tail(b) {
+            text[to] = names_spelling::clean_byte(b);
+            to += 1;
+        }
         i += 1;
     }
 }
@@ -91,10 +96,11 @@ pub fn put_bytes(text: &mut [u8], pen: Pen, src: &[u8]) -> Pen
 pub fn put_clean(text: &mut [u8], pen: Pen, src: &[u8]) -> Pen
     ensures { λ r. ⌜ Put (sanitize (now (src .entry))) pen (now (text .entry)) (now (text .exit)) r ⌝ }
 {
-    let next = reach(pen, text.len(), src.len());
+    let n = names_spelling::clean_len(src);
+    let next = reach(pen, text.len(), n);
     match next {
         Pen::Writing(end) => {
-            copy_clean(src, text, end - src.len());
+            copy_clean(src, text, end - n);
             next
         }
         Pen::Counting(_) => next,

@@ -333,9 +333,7 @@ fn every_byte() {
 
 // Names with characters of one to four bytes, of a struct, a function that is its own block, and a syscall.
 fn every_length() {
-    let book: [u64; 18] = [
-        8, 3, 3, 4, 5, 15, 0, 7, 93, 0, 2, 0, 1, 2, 0, 1, 0, 0,
-    ];
+    let book: [u64; 18] = [8, 3, 3, 4, 5, 15, 0, 7, 93, 0, 2, 0, 1, 2, 0, 1, 0, 0];
     let mut text = [b'!'; 115];
     show_lent(
         &book,

@@ -1,9 +1,8 @@
 -- `around_len` meets its contract, one part after the other.
-use Prim.Native.Nat.{_+_}
+use Prim.Native.Nat.{_+_, _<_}
 use mathlib.Core.Bool.{_&&_}
 use native.Mathlib.Omega.{arith}
 use lib.Dec.{eqb, leb}
-use lib.ListN.{length}
 use Rattle.numbers.specs.Digits.{length-word}
 use Rattle.print_words.specs.Words.{word-short}
 use Rattle.print_lines.specs.Named.{around, pick-most}
@@ -36,38 +35,40 @@ add-pick-len-2 c = omega (arith, c .decimal-len .ensures, length-word (c .before
 pick-len-requires-2 : tie.Need-pick-len-requires-2
 pick-len-requires-2 c κs = search needs
 
+-- the parts are short
+fits : (c : tie.After-pick-len2)
+    → c .before .before .before .before .word-len .result + c .before .before .before .pick-len .result + c .pick-len2 .result + 2 < 18446744073709551616
+fits c =
+    let after-digits = c .before in
+    let after-pick = after-digits .before in
+    let after-block = after-pick .before in
+    let after-word = after-block .before in
+    let entry = after-word .before .before in
+    let short = word-short (entry .args .kind) (entry .pre .1 .1) in
+    let most = pick-most (leb 2 (entry .args .kind) && leb (entry .args .kind) 3) (entry .args .label + 2) in
+    let few = pick-most (eqb (entry .args .kind) 5) (after-digits .decimal-len .result + 2) in
+    let digits = length-word (after-pick .pick .result) (search needs) in
+    omega (
+      arith,
+      after-word .word-len .ensures,
+      short,
+      after-block .pick-len .ensures,
+      most,
+      c .pick-len2 .ensures,
+      few,
+      digits,
+      after-digits .decimal-len .ensures,
+      entry .pre .1 .0,
+    )
+
 add-result : tie.Need-add-result
-add-result c =
-    let entry = c .before .before .before .before .before .before .before in
-    let word = c .before .before .before .before .word-len .ensures in
-    let short = word-short (entry .args .kind) (entry .pre .1) in
-    let block = c .before .before .before .pick-len .ensures in
-    let most = pick-most (leb 2 (entry .args .kind) && leb (entry .args .kind) 3) (length (entry .args .function .now) + 2) in
-    omega (arith, word, short, block, most, entry .good)
+add-result c = omega (arith, fits c)
 
 add-result-2 : tie.Need-add-result-2
-add-result-2 c =
-    let entry = c .before .before .before .before .before .before .before in
-    let word = c .before .before .before .before .word-len .ensures in
-    let short = word-short (entry .args .kind) (entry .pre .1) in
-    let block = c .before .before .before .pick-len .ensures in
-    let most = pick-most (leb 2 (entry .args .kind) && leb (entry .args .kind) 3) (length (entry .args .function .now) + 2) in
-    let args = c .pick-len2 .ensures in
-    let few = pick-most (eqb (entry .args .kind) 5) (c .before .decimal-len .result + 2) in
-    let digits = length-word (c .before .before .pick .result) (search needs) in
-    omega (arith, word, short, block, most, args, few, digits, c .before .decimal-len .ensures, entry .good)
+add-result-2 c = omega (arith, fits c)
 
 add-result-3 : tie.Need-add-result-3
-add-result-3 c =
-    let entry = c .before .before .before .before .before .before .before in
-    let word = c .before .before .before .before .word-len .ensures in
-    let short = word-short (entry .args .kind) (entry .pre .1) in
-    let block = c .before .before .before .pick-len .ensures in
-    let most = pick-most (leb 2 (entry .args .kind) && leb (entry .args .kind) 3) (length (entry .args .function .now) + 2) in
-    let args = c .pick-len2 .ensures in
-    let few = pick-most (eqb (entry .args .kind) 5) (c .before .decimal-len .result + 2) in
-    let digits = length-word (c .before .before .pick .result) (search needs) in
-    omega (arith, word, short, block, most, args, few, digits, c .before .decimal-len .ensures, entry .good)
+add-result-3 c = omega (arith, fits c)
 
 returns : tie.Need-returns
 unfolding around

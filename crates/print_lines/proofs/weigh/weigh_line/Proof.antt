@@ -1,5 +1,8 @@
 -- `weigh_line` meets its contract by the kind of the line; the comment is counted by a pen.
+use Prim.Native.Nat.{_<_}
 use mathlib.Core.Path.{refl}
+use native.Mathlib.Omega.{arith}
+use Rattle.names.specs.Labels.{sanitize-length}
 use Rattle.print_pen.specs.Pen.{put-same}
 use Rattle.print_forms.specs.Kinds.{comment-stands, comment-barred}
 use Rattle.print_lines.specs.All.{put-never}
@@ -14,7 +17,7 @@ use Rattle.print_lines.proofs.weigh.weigh_number.Reads as weigh-number-
 weigh-number-requires : tie.Need-weigh-number-requires
 weigh-number-requires c κs =
     let p = c .before .before .before .before .before .before .before .before .pre in
-    (p .0, (p .1 .1 .1 .1, c .if1 .taken))
+    (p .0, (p .1 .1 .1 .1 .0, c .if1 .taken))
 
 returns : tie.Need-returns
 returns c =
@@ -24,15 +27,18 @@ returns c =
 weigh-named-requires : tie.Need-weigh-named-requires
 weigh-named-requires c κs =
     let else1 = c .before in
-    let p = else1 .before .before .before .before .before .before .before .before .pre in
-    (p .0, (p .1 .0, (p .1 .1 .1 .0, (p .1 .1 .1 .1, (c .if2 .taken, else1 .if1 .left)))))
+    let entry = else1 .before .before .before .before .before .before .before .before in
+    let p = entry .pre in
+    let short : entry .args .label < 9223372036854775808 = omega (arith, p .1 .1 .1 .1 .1, sanitize-length (entry .args .function .now), entry .good) in
+    (p .0, (p .1 .0, (p .1 .1 .1 .0, (short, (p .1 .1 .1 .1 .0, (c .if2 .taken, else1 .if1 .left))))))
 
 returns-2 : tie.Need-returns-2
 returns-2 c =
     let then2 = c .before in
     let else1 = then2 .before in
-    let a = else1 .before .before .before .before .before .before .before .before .args in
-    named-weighed _ _ _ _ _ _ _ _ _ _ (then2 .if2 .taken) (else1 .if1 .left) (c .weigh-named .ensures (a .own))
+    let entry = else1 .before .before .before .before .before .before .before .before in
+    named-weighed _ _ _ _ _ _ _ _ _ _ (then2 .if2 .taken) (else1 .if1 .left)
+    (c .weigh-named .ensures (entry .args .own) (entry .args .function .now) (entry .pre .1 .1 .1 .1 .1))
 
 returns-3 : tie.Need-returns-3
 returns-3 c =

@@ -12,19 +12,23 @@ use Rattle.print_lines.specs.Lines.{printed}
 use Rattle.print_lines.specs.Weigh.{Weighing, weighing-start, weighing-kinds, weighing-operands, weighing-next, weighing-short, weighing-barred}
 use Rattle.print_lines.proofs.weigh.weigh_lines.Statement.{statement}
 use Rattle.print_lines.proofs.weigh.weigh_lines.Tie as tie
+use Rattle.names_spelling.proofs.clean_len.Reads as clean-len-reads
 use Rattle.print_lines.proofs.weigh.weigh_line.Reads as weigh-line-reads
 use Rattle.print_lines.proofs.weigh.weigh_rest.Reads as weigh-rest-reads
 
 abbrev Inv-loop : tie.InvT-loop
-Inv-loop text₀ places names starts every function kinds words params line-kinds operands count own from to n₀ i₀ text n i =
+Inv-loop text₀ places names starts every function kinds words params line-kinds operands count own from to label n₀ i₀ text n i =
     Weighing count own from to (printed (lines names) function (typeBytes (lines names) (typeTo (length (lines names)) 64 (entries kinds words))) params) line-kinds operands text₀ i text n
 
 abbrev μ-loop : tie.MeasureT-loop
-μ-loop text₀ places names starts every function kinds words params line-kinds operands count own from to n₀ i₀ text n i =
+μ-loop text₀ places names starts every function kinds words params line-kinds operands count own from to label n₀ i₀ text n i =
     length line-kinds - i
 
+clean-len-requires : tie.Need-clean-len-requires Inv-loop μ-loop
+clean-len-requires c κs = search needs
+
 loop-holds : tie.Need-loop-holds Inv-loop μ-loop
-loop-holds c = weighing-start _ _ _ _ _ _ _ (c .before .before .before .before .before .before .before .before .before .args .text .now)
+loop-holds c = weighing-start _ _ _ _ _ _ _ (c .before .before .before .before .before .before .before .before .before .before .args .text .now)
 
 same-length : tie.Need-same-length Inv-loop μ-loop
 same-length c = search needs
@@ -47,8 +51,10 @@ shared-slice-read-weigh-line-2 c = search needs
 weigh-line-requires : tie.Need-weigh-line-requires Inv-loop μ-loop
 weigh-line-requires c κs =
     let at-loop = c .before .before .before .before .before in
-    let p = at-loop .before .before .before .before .before .before .before .before .before .before .pre in
-    (p .0, (p .1 .0, (p .1 .1 .0, (p .1 .1 .1, omega (arith, at-loop .loop .inv .inside, ap length (at-loop .loop .inv .text))))))
+    let after-label = at-loop .before in
+    let p = after-label .before .before .before .before .before .before .before .before .before .before .pre in
+    let i = at-loop .loop .inv in
+    (p .0, (p .1 .0, (p .1 .1 .0, (p .1 .1 .1, (omega (arith, i .inside, ap length (i .text)), after-label .clean-len .ensures)))))
 
 enum-known-next : tie.Need-enum-known-next Inv-loop μ-loop
 enum-known-next c = search needs
@@ -93,7 +99,7 @@ returns-3 c =
 add-i : tie.Need-add-i Inv-loop μ-loop
 add-i c =
     let in-loop = c .before .before .before .before .before .before .before .before .before .before in
-    omega (arith, in-loop .loop-test .taken, in-loop .before .before .before .before .before .before .before .before .before .before .before .good)
+    omega (arith, in-loop .loop-test .taken, in-loop .before .before .before .before .before .before .before .before .before .before .before .before .good)
 
 loop-less : tie.Need-loop-less Inv-loop μ-loop
 loop-less c = omega (arith, c .before .before .before .before .before .before .before .before .before .before .loop-test .taken)
@@ -118,6 +124,7 @@ weigh-lines-spec =
     (tie.spec
     Inv-loop
     μ-loop
+    clean-len-requires
     loop-holds
     same-length
     returns
