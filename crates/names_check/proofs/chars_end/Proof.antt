@@ -1,6 +1,7 @@
 -- `chars_end` meets its contract: each character is passed, and the first that may not stand in a name is not.
-use Prim.Native.Nat.{_+_, _-_}
+use Prim.Native.Nat.{ℕ, _+_, _-_}
 use mathlib.Core.Path.{sym, _∙_}
+use mathlib.Core.List.{List}
 use native.Mathlib.Omega.{arith}
 use borrow.Author.Needs.{needs}
 use borrow.Author.Tests.{not-true, not-false}
@@ -45,8 +46,13 @@ returns-2 c =
     }
 
 -- the character at the place that is reached
-passed : (c : tie.Else2 Inv-loop μ-loop)
-    → Through (c .before .before .before .before .before .before .before .before .args .names .now) (c .before .before .before .before .before .before .loop .i) (c .before .before .before .before .before .before .loop .i + c .before .char-len .result)
+abbrev namesOf : tie.Else2 Inv-loop μ-loop → List ℕ
+namesOf c = c .before .before .before .before .before .before .before .before .args .names .now
+
+abbrev placeOf : tie.Else2 Inv-loop μ-loop → ℕ
+placeOf c = c .before .before .before .before .before .before .loop .i
+
+passed : (c : tie.Else2 Inv-loop μ-loop) → Through (namesOf c) (placeOf c) (placeOf c + c .before .char-len .result)
 passed c =
     let after-char-len = c .before in
     let else1 = after-char-len .before in
