@@ -13,7 +13,7 @@ use Rattle.names.specs.Text.{within}
 use Rattle.names.specs.Utf8.{Range, to, tail, table, has, begins, behind, follow, wellFormed, scalar, six, encode, everyScalar, encodes}
 use Rattle.names.specs.Tests.{both, either, or-right, decide}
 use Rattle.names.specs.Texts.{in-within}
-use Rattle.names.specs.Lead.{tails, lowest, highest, lead-behind, lead-begins, lead-octet}
+use Rattle.names.specs.Lead.{tails, bound, lowest, highest, lead-behind, lead-begins, lead-octet}
 use Rattle.names.specs.Characters.{exactly, isChar, char-first, char-alone, char-ascii}
 
 -- ---- the encoding, by the range of the number
@@ -92,18 +92,19 @@ tails-three b l h = rw (le-ltb b 0xC2 (omega arith), le-ltb b 0xE0 l, lt-ltb b 0
 pub tails-four : (b : ℕ) → 0xF0 ≤ b → b < 0xF5 → tails b ≡ 3
 tails-four b l h = rw (le-ltb b 0xC2 (omega arith), le-ltb b 0xE0 (omega arith), le-ltb b 0xF0 l, lt-ltb b 0xF5 h)
 
--- where the second byte may lie, by the first
+-- where the second byte may lie, by the first: two first bytes have a bound of their own
+module _ (b x p y q r : ℕ) where
+  by-bound : {P : Type 0} → (b ≡ x → bound b x p y q r ≡ p → P) → (b ≡ y → bound b x p y q r ≡ q → P) → (b ≢ x → b ≢ y → bound b x p y q r ≡ r → P) → P
+  by-bound one two other =
+      ⊎-elim (λ e. one (eqb-true b x e) (rw e))
+      (λ (e : eqb b x ≡ false). ⊎-elim (λ f. two (eqb-true b y f) (rw (e, f))) (λ f. other (eqb-false b x e) (eqb-false b y f) (rw (e, f))) (decide (eqb b y)))
+      (decide (eqb b x))
+
 by-lowest : (b : ℕ) {P : Type 0} → (b ≡ 0xE0 → lowest b ≡ 0xA0 → P) → (b ≡ 0xF0 → lowest b ≡ 0x90 → P) → (b ≢ 0xE0 → b ≢ 0xF0 → lowest b ≡ 0x80 → P) → P
-by-lowest b e0 f0 other =
-    ⊎-elim (λ e. e0 (eqb-true b 0xE0 e) (rw e))
-    (λ (e : eqb b 0xE0 ≡ false). ⊎-elim (λ f. f0 (eqb-true b 0xF0 f) (rw (e, f))) (λ f. other (eqb-false b 0xE0 e) (eqb-false b 0xF0 f) (rw (e, f))) (decide (eqb b 0xF0)))
-    (decide (eqb b 0xE0))
+by-lowest b = by-bound b 0xE0 0xA0 0xF0 0x90 0x80
 
 by-highest : (b : ℕ) {P : Type 0} → (b ≡ 0xED → highest b ≡ 0x9F → P) → (b ≡ 0xF4 → highest b ≡ 0x8F → P) → (b ≢ 0xED → b ≢ 0xF4 → highest b ≡ 0xBF → P) → P
-by-highest b ed f4 other =
-    ⊎-elim (λ e. ed (eqb-true b 0xED e) (rw e))
-    (λ (e : eqb b 0xED ≡ false). ⊎-elim (λ f. f4 (eqb-true b 0xF4 f) (rw (e, f))) (λ f. other (eqb-false b 0xED e) (eqb-false b 0xF4 f) (rw (e, f))) (decide (eqb b 0xF4)))
-    (decide (eqb b 0xED))
+by-highest b = by-bound b 0xED 0x9F 0xF4 0x8F 0xBF
 
 char-two : (b s : ℕ) → 0xC2 ≤ b → b < 0xE0 → lowest b ≤ s → s ≤ highest b → isChar (b ∷ s ∷ []) ≡ true
 unfolding exactly

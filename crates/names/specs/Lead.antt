@@ -17,12 +17,16 @@ use Rattle.names.specs.Tests.{both, either, everyBelow, below-each}
 abbrev pub tails : ℕ → ℕ
 tails b = cond (ltb b 0xC2) 0 (cond (ltb b 0xE0) 1 (cond (ltb b 0xF0) 2 (cond (ltb b 0xF5) 3 0)))
 
+-- a bound of the second byte: of two first bytes their own, of all others one
+abbrev pub bound : (b x p y q r : ℕ) → ℕ
+bound b x p y q r = cond (eqb b x) p (cond (eqb b y) q r)
+
 -- from where to where the second byte lies
 abbrev pub lowest : ℕ → ℕ
-lowest b = cond (eqb b 0xE0) 0xA0 (cond (eqb b 0xF0) 0x90 0x80)
+lowest b = bound b 0xE0 0xA0 0xF0 0x90 0x80
 
 abbrev pub highest : ℕ → ℕ
-highest b = cond (eqb b 0xED) 0x9F (cond (eqb b 0xF4) 0x8F 0xBF)
+highest b = bound b 0xED 0x9F 0xF4 0x8F 0xBF
 
 -- so many bytes, the first of them in a range of its own
 abbrev pub ranges : ℕ → Range → List Range

@@ -4,7 +4,7 @@ use crate::within;
 ghost use mathlib.Core.Path.{_≡_};
 ghost use lib.ListN.{drop};
 ghost use Rattle.names.specs.Utf8.{charLength};
-ghost use Rattle.names.specs.Lead.{tails as tailsBehind, lowest as lowestSecond, highest as highestSecond};
+ghost use Rattle.names.specs.Lead.{tails as tailsBehind, bound as boundOf, lowest as lowestSecond, highest as highestSecond};
 
 // How many bytes a character has behind its first; 0 too where none begins with this one.
 fn tails(first: u8) -> usize
@@ -22,24 +22,28 @@ fn tails(first: u8) -> usize
     if first < 0xf5 { 3 } else { 0 }
 }
 
+// A bound of the second byte: p where the first is x, q where it is y, else r.
+fn bound(first: u8, x: u8, p: u8, y: u8, q: u8, r: u8) -> u8
+    ensures { λ b. ⌜ b ≡ boundOf first x p y q r ⌝ }
+{
+    if first == x {
+        return p;
+    }
+    if first == y { q } else { r }
+}
+
 // The least second byte: what is below spells a character with more bytes than it needs.
 fn lowest(first: u8) -> u8
     ensures { λ r. ⌜ r ≡ lowestSecond first ⌝ }
 {
-    if first == 0xe0 {
-        return 0xa0;
-    }
-    if first == 0xf0 { 0x90 } else { 0x80 }
+    bound(first, 0xe0, 0xa0, 0xf0, 0x90, 0x80)
 }
 
 // The greatest second byte: what is above is a surrogate or behind U+10FFFF.
 fn highest(first: u8) -> u8
     ensures { λ r. ⌜ r ≡ highestSecond first ⌝ }
 {
-    if first == 0xed {
-        return 0x9f;
-    }
-    if first == 0xf4 { 0x8f } else { 0xbf }
+    bound(first, 0xed, 0x9f, 0xf4, 0x8f, 0xbf)
 }
 
 // How many bytes the character has that stands at `at`; 0 where none does.

@@ -1,7 +1,7 @@
--- `highest` meets its contract by its tests.
+-- `bound` meets its contract by its tests.
 use borrow.Author.Tests.{eq-eqb, ne-eqb}
-use Rattle.names_spelling.proofs.utf8.highest.Statement.{statement}
-use Rattle.names_spelling.proofs.utf8.highest.Tie as tie
+use Rattle.names_spelling.proofs.utf8.bound.Statement.{statement}
+use Rattle.names_spelling.proofs.utf8.bound.Tie as tie
 
 returns : tie.Need-returns
 returns c = rw (eq-eqb _ _ (c .if1 .taken))
@@ -12,5 +12,5 @@ returns-2 c = rw (ne-eqb _ _ (c .before .if1 .left), eq-eqb _ _ (c .if2 .taken))
 returns-3 : tie.Need-returns-3
 returns-3 c = rw (ne-eqb _ _ (c .before .if1 .left), ne-eqb _ _ (c .if2 .left))
 
-pub highest-spec : {M : Type 1} → statement M
-highest-spec = tie.close (tie.spec returns returns-2 returns-3)
+pub bound-spec : {M : Type 1} → statement M
+bound-spec = tie.close (tie.spec returns returns-2 returns-3)
