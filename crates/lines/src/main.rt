@@ -106,8 +106,8 @@ fn main() {
     let mut input = [0u8; 65537];
     let n = io::read_full(0, &mut input);
     let mut book = [0u64; 8192];
-    // 8 words a name and 64: 65,536 bytes hold 18,683 different names at most
-    let mut work = [0u64; 149528];
+    // 8 words a name and 64: 65,536 bytes hold a book of 16 and 32,760 names of two at most (`Room`)
+    let mut work = [0u64; 262144];
     let mut kinds = [0u16; 65536];
     let mut operands = [0u64; 65536];
     let mut text = room_for_text();

@@ -1,5 +1,5 @@
 -- Cutting bytes into names and joining names are inverse: the bytes are names exactly when they are a joined list of names by the rules.
-use Prim.Native.Nat.{ℕ, suc, _<_, _≤_}
+use Prim.Native.Nat.{ℕ, suc, _*_, _<_, _≤_}
 use mathlib.Core.Path.{_≡_, refl, sym, ap, _∙_}
 use mathlib.Core.Logic.{_↔_, ⊎-elim}
 use mathlib.Core.Bool.{Bool, true, false, _&&_, false≢true}
@@ -8,7 +8,7 @@ use mathlib.Core.Option.{Option, none, some}
 use native.Mathlib.Omega.{arith}
 use borrow.Author.Tests.{eqb-true, eq-eqb, ne-eqb}
 use lib.Dec.{eqb}
-use lib.ListN.{length, drop}
+use lib.ListN.{length, drop, length-append}
 use Rattle.names.specs.Text.{within}
 use Rattle.names.specs.Name.{plainByte, nameByte, spelled, everyByte, filled, allowed, everyName, ascending, cut, lines, lastOr, ended, sound, keep, namesOf, counts, accepted, join, upTo, until, isEnd, line}
 use Rattle.names.specs.Utf8.{wellFormed}
@@ -137,3 +137,23 @@ accepted-iff bs m = (found (namesOf bs), λ w. rw (w .1) (holds (w .0) (w .2)))
 
     holds : (ns : List (List ℕ)) → length ns ≡ m → counts m (some ns) ≡ true
     holds ns e = eq-eqb (length ns) m e
+
+-- ---- a name takes two bytes at least: one of its own, and the one that ends it
+
+filled-long : (n : List ℕ) → filled n ≡ true → 0 < length n
+unfolding filled
+filled-long [] h = absurd (false≢true h)
+filled-long (b ∷ n) h = omega arith
+
+join-long : (ns : List (List ℕ)) → everyName ns ≡ true → 2 * length ns ≤ length (join ns)
+unfolding join everyName allowed
+join-long [] h = omega arith
+join-long (n ∷ ns) h =
+    let k = both (allowed n) (everyName ns) h in
+    omega (arith, filled-long n (both (filled n) (spelled n) (k .0) .0), join-long ns (k .1), length-append n (10 ∷ join ns))
+
+pub accepted-long : (bs : List ℕ) (m : ℕ) → accepted bs m ≡ true → 2 * m ≤ length bs
+accepted-long bs m h =
+    let x = accepted-iff bs m .0 h in
+    let s = names-sound bs (x .0) (x .1) in
+    omega (arith, join-long (x .0) (s .ruled), ap length (s .joined), x .2)
