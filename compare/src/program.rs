@@ -1,5 +1,5 @@
 //! Compares a program that reads a book file and prints the text or the refusal's number, as `lines` does.
-use crate::book::{Lent, Slices};
+use crate::book::{kind, Lent, Slices};
 use crate::expect::{expected, Expected};
 use crate::runs;
 use crate::written::faulty;
@@ -9,26 +9,45 @@ use std::process::{Command, Stdio};
 /// A longer file is a 1 for such a program.
 const MOST_BYTES: usize = 65_536;
 
-/// Random books, one damaged copy of each, and as many faulty statements. The first difference is an error.
+/// The file with the most names, then random books, one damaged copy of each, and as many faulty statements. The first difference is an error.
 pub fn compare(seed: u64, count: u64, command: &[&str]) -> Result<(), String> {
     let mut compared = 0;
+    let mut add = |what: String, slices: &Slices| {
+        let file = slices.to_file();
+        let place = |error| format!("{what}: {error}");
+        let Some(owed) = reply(&file).map_err(place)? else { return Ok(()) };
+        let found = run(command, &file).map_err(place)?;
+        if found.trim_end_matches('\n') != owed.trim_end_matches('\n') {
+            return Err(place(format!("expected\n{owed}\nfound\n{found}")));
+        }
+        compared += 1;
+        Ok(())
+    };
+    add("the most names".to_string(), &most_names())?;
     for index in 0..count {
         let lent = runs::book(seed, index, false);
         let copy = runs::copy(&lent, seed, index, 0);
         let statement = faulty::lent(seed, index);
         for (what, lent) in [("book", &lent), ("damaged copy of book", &copy), ("faulty book", &statement)] {
-            let file = lent.slices.to_file();
-            let place = |error| format!("seed {seed}, {what} {index}: {error}");
-            let Some(owed) = reply(&file).map_err(place)? else { continue };
-            let found = run(command, &file).map_err(place)?;
-            if found.trim_end_matches('\n') != owed.trim_end_matches('\n') {
-                return Err(place(format!("expected\n{owed}\nfound\n{found}")));
-            }
-            compared += 1;
+            add(format!("seed {seed}, {what} {index}"), &lent.slices)?;
         }
     }
     println!("{compared} files, no difference");
     Ok(())
+}
+
+/// A function without blocks, and as many names as a file holds with it: all of one byte, all of two, the rest of three.
+fn most_names() -> Slices {
+    let entries = [(kind::FUNCTION, 0), (kind::VOID, 0), (kind::END, 0), (kind::END, 0)];
+    let bytes: Vec<String> = (' '..='~').map(String::from).collect();
+    let mut two: Vec<String> = bytes.iter().flat_map(|first| bytes.iter().map(move |second| format!("{first}{second}"))).collect();
+    two.extend(('\u{80}'..='\u{7ff}').map(String::from));
+    let three = two.iter().flat_map(|first| bytes.iter().map(move |last| format!("{first}{last}")));
+    let mut room = MOST_BYTES - Slices::new(&entries, &[]).to_file().len();
+    let fits = |name: &String| room.checked_sub(name.len() + 1).map(|rest| room = rest).is_some();
+    let mut names: Vec<String> = bytes.iter().chain(&two).cloned().chain(three).take_while(fits).collect();
+    names.sort_unstable();
+    Slices::new(&entries, &names.iter().map(String::as_str).collect::<Vec<_>>())
 }
 
 /// What the program should print at counter 0; none where the answer is open.
