@@ -1,2 +1,3 @@
 mod Words
+mod Room
 mod Showing

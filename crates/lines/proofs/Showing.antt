@@ -14,6 +14,7 @@ use Rattle.translate.specs.Reply.{translating, replyOf}
 use Rattle.gen_passes.specs.declared.Translation.{Translation}
 use Rattle.gen_passes.specs.declared.Translation.the-variants.{Accepted, Refused}
 use Rattle.lines.proofs.Words.{rest-is}
+use Rattle.lines.proofs.Room.{roomy}
 use Rattle.lines.specs.Shown.{word, words, printed, translated, size, whole, shown}
 
 -- ---- a book
@@ -42,22 +43,22 @@ module _ (book names work kinds operands : List ℕ) (r : Translation) (w k o : 
     refusal-shown x h = ap (λ q. printed book names text (translating q w k o) (replyOf q)) (sym h) ∙ same
 
 -- ---- the input
-module _ (input work kinds operands text : List ℕ) where
-  pub longer-shown : 65536 < length input → printing (NotPrinted 1) text ≡ shown input work kinds operands text
+module _ (input kinds operands text : List ℕ) where
+  pub longer-shown : 65536 < length input → printing (NotPrinted 1) text ≡ shown input kinds operands text
   unfolding shown whole refusing
   longer-shown h = rw (lt-leb (length input) 65536 h)
 
-  pub cut-shown : length input ≤ 65536 → length input < 8 * (2 + 2 * word input) → printing (NotPrinted 1) text ≡ shown input work kinds operands text
+  pub cut-shown : length input ≤ 65536 → length input < 8 * (2 + 2 * word input) → printing (NotPrinted 1) text ≡ shown input kinds operands text
   unfolding shown whole size refusing
   cut-shown l h = rw (le-leb (length input) 65536 l, lt-leb (8 * (2 + 2 * word input)) (length input) h)
 
-  -- the book and the names are lent as parts
-  pub book-shown : (count : ℕ) (b : List ℕ) → count ≡ 2 + 2 * word input → length input ≤ 65536 → 8 * count ≤ length input
-      → take count b ≡ words count input
+  -- the book and the names are lent as parts, and there are work words enough
+  pub book-shown : (work : List ℕ) → 262144 ≤ length work
+      → (count : ℕ) (b : List ℕ) → count ≡ 2 + 2 * word input → length input ≤ 65536 → 8 * count ≤ length input → take count b ≡ words count input
       → (g : Printing) → g ≡ translated (take (count - 0) b) (take (length input - 8 * count) (drop (8 * count) input)) work kinds operands text
-      → g ≡ shown input work kinds operands text
+      → g ≡ shown input kinds operands text
   unfolding shown whole size
-  book-shown count b c l h e g t =
+  book-shown work m count b c l h e g t =
       let d : count - 0 ≡ count = omega arith in
       let w : 8 * (2 + 2 * word input) ≤ length input = omega arith in
       rw (le-leb (length input) 65536 l, le-leb (8 * (2 + 2 * word input)) (length input) w)
@@ -65,4 +66,5 @@ module _ (input work kinds operands text : List ℕ) where
       ∙ ap (λ (j : ℕ). translated (take j b) (take (length input - 8 * count) (drop (8 * count) input)) work kinds operands text) d
       ∙ ap (λ (x : List ℕ). translated (take count b) x work kinds operands text) (rest-is input (8 * count))
       ∙ ap (λ (x : List ℕ). translated x (drop (8 * count) input) work kinds operands text) e
-      ∙ ap (λ (j : ℕ). translated (words j input) (drop (8 * j) input) work kinds operands text) c)
+      ∙ ap (λ (j : ℕ). translated (words j input) (drop (8 * j) input) work kinds operands text) c
+      ∙ roomy input work kinds operands text l m)

@@ -31,7 +31,7 @@ theirText =
 
 -- the answer to so many bytes of the input, with room for so many lines and so many bytes of text
 unfoldable pub cut : (bytes lines text : ℕ) → Printing
-cut bytes lines text = shown (take bytes input) (replicate 96 7) (replicate lines 7) (replicate lines 7) (replicate text 33)
+cut bytes lines text = shown (take bytes input) (replicate lines 7) (replicate lines 7) (replicate text 33)
 
 pub add1-shown : cut 255 11 113 ≡ record { reply = Printed.accepted 112; text = theirText ++ (33 ∷ []) }
 unfolding openLowering openShown unlines slice bytesOf names input theirText cut

@@ -1,11 +1,14 @@
 -- "The program `lines` reads book (u64s little-endian) and names, up to 65,536 bytes, from standard input and prints the text at counter 0, or the
 -- refusal's number." The first 8 bytes give N, the book is these and the next 8 + 16N bytes, the rest are the names. Input that ends inside the book, or
--- is longer, is a 1; where the lines or the text do not fit the program's own slices, the answer is 20.
+-- is longer, is a 1; where the lines or the text do not fit the program's own slices, the answer is 20. Work words there are as many as the names want, so
+-- that no input meets a 4.
 use Prim.Native.Nat.{ℕ, zero, suc, _+_, _*_}
 use mathlib.Core.Bool.{Bool, false, cond}
 use mathlib.Core.List.{List, [], _∷_}
-use lib.ListN.{length, take, drop, getD}
+use lib.ListN.{length, take, drop, getD, replicate}
 use lib.Dec.{leb}
+use Rattle.names.specs.Name.{lines}
+use Rattle.book.specs.Check.{workFor}
 use Rattle.assembly.specs.Printer.{Printing, refusing, print}
 use Rattle.lowering.specs.Translate.{Translation, Translating, translate}
 
@@ -38,11 +41,16 @@ size input = 2 + 2 * word input
 unfoldable pub whole : List ℕ → Bool
 whole input = cond (leb (length input) 65536) (leb (8 * size input) (length input)) false
 
-unfoldable pub shown : (input work kinds operands text : List ℕ) → Printing
-shown input work kinds operands text =
-    cond (whole input) (translated (words (size input) input) (drop (8 * size input) input) work kinds operands text) (refusing 1 text)
+-- "at least 8 × names + 64"
+unfoldable pub enough : List ℕ → List ℕ
+enough names = replicate (workFor (length (lines names))) 0
+
+unfoldable pub shown : (input kinds operands text : List ℕ) → Printing
+shown input kinds operands text =
+    let names = drop (8 * size input) input in
+    cond (whole input) (translated (words (size input) input) names (enough names) kinds operands text) (refusing 1 text)
 
 -- opens every definition of this file, for an example that computes
 unfoldable pub openShown : Unit {0}
-unfolding words printed translated size whole shown
+unfolding words printed translated size whole enough shown
 openShown = tt

@@ -4,7 +4,7 @@ use print::passes::Printed;
 use translate::translate;
 ghost use mathlib.Core.Path.{_≡_};
 ghost use Prim.Native.Nat.{_≤_, _<_, _*_};
-ghost use lib.ListN.{length, take, drop};
+ghost use lib.ListN.{length, take};
 ghost use Rattle.print.specs.Passes.{printing};
 ghost use Rattle.lines.specs.Shown.{word, words, translated, shown};
 
@@ -52,7 +52,8 @@ fn show_book(
     }
 }
 
-// Prints the lines of the book that an input begins with into the text; the book's words go to `book`.
+// Prints the lines of the book that an input begins with into the text; the book's words go to `book`. The work slice holds the names of every input:
+// each takes two bytes at least, so behind a book's 16 there are 32,760 at most, with 8 words each, and 64.
 fn show(
     input: &[u8],
     book: &mut [u64],
@@ -62,7 +63,8 @@ fn show(
     text: &mut [u8],
 ) -> Printed
     requires { ⌜ 8192 ≤ length (now book) ⌝ }
-    ensures { λ r. ⌜ printing r (now (text .exit)) ≡ shown (now (input .entry)) (now (work .entry)) (now (kinds .entry)) (now (operands .entry)) (now (text .entry)) ⌝ }
+    requires { ⌜ 262144 ≤ length (now work) ⌝ }
+    ensures { λ r. ⌜ printing r (now (text .exit)) ≡ shown (now (input .entry)) (now (kinds .entry)) (now (operands .entry)) (now (text .entry)) ⌝ }
 {
     let bytes = input.len();
     if 65536 < bytes {
@@ -106,7 +108,6 @@ fn main() {
     let mut input = [0u8; 65537];
     let n = io::read_full(0, &mut input);
     let mut book = [0u64; 8192];
-    // 8 words a name and 64: 65,536 bytes hold a book of 16 and 32,760 names of two at most (`Room`)
     let mut work = [0u64; 262144];
     let mut kinds = [0u16; 65536];
     let mut operands = [0u64; 65536];

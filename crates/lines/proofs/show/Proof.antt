@@ -6,10 +6,10 @@ use Rattle.lines.proofs.show.Statement.{statement}
 use Rattle.lines.proofs.show.Tie as tie
 
 returns : tie.Need-returns
-returns c = longer-shown _ _ _ _ _ (c .if1 .taken)
+returns c = longer-shown _ _ _ _ (c .if1 .taken)
 
 returns-2 : tie.Need-returns-2
-returns-2 c = cut-shown _ _ _ _ _ (omega arith) (omega arith)
+returns-2 c = cut-shown _ _ _ _ (omega arith) (omega arith)
 
 read-word-requires : tie.Need-read-word-requires
 read-word-requires c κs = search needs
@@ -18,7 +18,7 @@ sub-if3 : tie.Need-sub-if3
 sub-if3 c = search needs
 
 returns-3 : tie.Need-returns-3
-returns-3 c = cut-shown _ _ _ _ _ (omega arith) (omega arith)
+returns-3 c = cut-shown _ _ _ _ (omega arith) (omega arith)
 
 mul-count : tie.Need-mul-count
 mul-count c = search needs
@@ -73,7 +73,7 @@ returns-4 c =
     let shown = c .before .before .before .before .before .before .before .before in
     let words = shown .before .before .before .before .before .before .before .before .before .before in
     let read = words .before .before .before in
-    book-shown _ _ _ _ _ _ _ (omega (arith, read .read-word .ensures)) (omega arith) (omega (arith, read .read-word .ensures))
+    book-shown _ _ _ _ _ (omega arith) _ _ (omega (arith, read .read-word .ensures)) (omega arith) (omega (arith, read .read-word .ensures))
     (words .read-words .ensures) _ (shown .show-book .ensures)
 
 pub show-spec : {M : Type 1} → statement M
