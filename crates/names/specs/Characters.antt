@@ -27,7 +27,7 @@ isChar [] = false
 isChar (b ∷ bs) = begins table b && exactly (behind table b) bs
 
 -- what follows a character that was begun: its other bytes, then characters
-pub follow-fills : (rs : List Range) (bs : List ℕ) → follow rs bs ≡ (fills rs bs && follow [] (drop (length rs) bs))
+follow-fills : (rs : List Range) (bs : List ℕ) → follow rs bs ≡ (fills rs bs && follow [] (drop (length rs) bs))
 unfolding follow fills
 follow-fills [] bs = refl
 follow-fills (r ∷ rs) [] = refl

@@ -268,7 +268,7 @@ read (r ∷ rs) (b ∷ bs) e =
     let q = read rs bs (k .1) in
     (b ∷ q .0, q .1, joined (k .0) (q .2), q .3, ap (λ t. b ∷ t) (q .4))
 
-pub encodes-wellFormed : (cs : List ℕ) → everyScalar cs ≡ true → wellFormed (encodes cs) ≡ true
+encodes-wellFormed : (cs : List ℕ) → everyScalar cs ≡ true → wellFormed (encodes cs) ≡ true
 unfolding everyScalar encodes wellFormed follow
 encodes-wellFormed [] e = refl
 encodes-wellFormed (c ∷ cs) e =

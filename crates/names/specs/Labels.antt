@@ -5,7 +5,9 @@ use mathlib.Core.Bool.{Bool, true, false, cond}
 use mathlib.Core.List.{List, [], _∷_, _++_, map}
 use native.Mathlib.Omega.{arith}
 use borrow.Author.Tests.{le-leb, lt-leb, ne-eqb}
-use lib.ListN.{length, getD}
+use native.Mathlib.Numerals.{add-one}
+use lib.ListN.{length, getD, drop, drop-of-length-le}
+use lib.Seq.{drop-cons}
 use Rattle.names.specs.Text.{within}
 use Rattle.names.specs.Utf8.{to, tail, has, isTail, six, encode, encodes}
 use Rattle.names.specs.Spelling.{wordByte, cleanByte, sanitize}
@@ -45,6 +47,20 @@ sanitize-length (b ∷ s) = behind-first (isTail b) (sanitize-length s)
     behind-first : (t : Bool) → length (sanitize s) ≤ length s → length (cond t (sanitize s) (cleanByte b ∷ sanitize s)) ≤ suc (length s)
     behind-first true h = omega arith
     behind-first false h = omega arith
+
+-- what a label spells of a name from the place i on
+module _ (name : List ℕ) (i : ℕ) where
+  pub clean-over : length name ≤ i → sanitize (drop i name) ≡ []
+  unfolding sanitize
+  clean-over h = rw (drop-of-length-le name h)
+
+  pub clean-tail : i < length name → isTail (getD name i 0) ≡ true → sanitize (drop i name) ≡ sanitize (drop (i + 1) name)
+  unfolding sanitize
+  clean-tail l h = rw (add-one, drop-cons name i 0 l, h)
+
+  pub clean-more : i < length name → isTail (getD name i 0) ≡ false → sanitize (drop i name) ≡ cleanByte (getD name i 0) ∷ sanitize (drop (i + 1) name)
+  unfolding sanitize
+  clean-more l h = rw (add-one, drop-cons name i 0 l, h)
 
 -- a character outside ASCII is one `_`
 pub clean-outside : (c : ℕ) → 0x7F < c → cleanByte c ≡ 95

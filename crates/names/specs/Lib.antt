@@ -1,4 +1,4 @@
--- Definitions of names as document 01 has them, and the laws about them.
+-- Definitions of names as documents 01 and 02 (card 6) have them, and the laws about them.
 pub mod Text
 pub mod Utf8
 pub mod Name

@@ -31,13 +31,14 @@ lines-first (b ∷ c ∷ bs) h = more (isEnd b) (lines-first (c ∷ bs) (omega a
     more true ih = refl
     more false ih = ap (cut false b) ih
 
--- a byte of a name is none that ends one
+-- where a byte of a name lies
 pub byte-range : (b : ℕ) → nameByte b ≡ true → (32 ≤ b) × (b ≤ 255)
 unfolding nameByte plainByte
 byte-range b h =
     ⊎-elim (λ k. let r = in-within 32 126 b k in (r .0, omega (arith, r .1))) (λ k. let r = in-within 128 255 b k in (omega (arith, r .0), r .1))
     (either (plainByte b) (within 128 255 b) h)
 
+-- it is none that ends one
 pub no-end : (b : ℕ) → nameByte b ≡ true → isEnd b ≡ false
 unfolding isEnd
 no-end b h = ne-eqb b 10 (λ e. omega (arith, byte-range b h))
@@ -122,7 +123,7 @@ unfolding namesOf sound keep
 names-complete bs ns s =
     rw (s .joined, lines-join ns (s .ruled), ended-join ns, s .ruled, s .ascend)
 
--- document 01's sentence on names, both ways
+-- the sentences on names, both ways
 pub names-iff : (bs : List ℕ) (ns : List (List ℕ)) → (namesOf bs ≡ some ns) ↔ Names bs ns
 names-iff bs ns = (names-sound bs ns, names-complete bs ns)
 

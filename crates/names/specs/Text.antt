@@ -6,7 +6,7 @@ use mathlib.Core.Bool.{Bool, true, false, _&&_, _||_}
 use mathlib.Core.List.{List, [], _∷_}
 use lib.Dec.{eqb, leb}
 
--- a quoted text as bytes
+-- a quoted text as the numbers of its characters: its bytes where these are ASCII, else `encodes` of these are its bytes (`Utf8`)
 unfoldable pub bytes : String → List ℕ
 bytes ε = []
 bytes (c ∷ₛ s) = code c ∷ bytes s

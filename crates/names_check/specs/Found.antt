@@ -18,7 +18,8 @@ pub record Through (names : List ℕ) (at end : ℕ) : Type 0 where
   pub bytes : everyByte (part names at end) ≡ true
   pub rest : spelled (nameFrom names at) ≡ spelled (nameFrom names end)
 
--- and at `end` the name ends, or stands no such character
+-- and at `end` the name ends, or what is left of the line is no name. Of a line that is no name `end` is not fixed further: whatever it is, the list is
+-- refused there
 pub record Spelled (names : List ℕ) (at end : ℕ) : Type 0 where
   pub through : Through names at end
   pub stuck : end < length names → (getD names end 0 ≡ 10 → ⊥) → spelled (nameFrom names end) ≡ false

@@ -1,5 +1,5 @@
-// The names that come with a book: whether they are a list of names as document 01 wants them, which of them start with a prefix, and
-// where the one behind each of them starts.
+// The names that come with a book: whether they are a list of names as documents 01 and 02 (card 6) want them, which of them start
+// with a prefix, and where the one behind each of them starts.
 use names_compare::Ordering;
 use names_compare::compare;
 use names_spelling::END;
@@ -25,7 +25,8 @@ fn name_byte(b: u8) -> bool
     ((32 <= b) & (b <= 126)) | (128 <= b)
 }
 
-// The index behind the characters from `at` on that may stand in a name; one by one.
+// The index behind the characters from `at` on that may stand in a name, one by one: the name's end, or a place from which what is left of
+// the line is no name.
 fn chars_end(names: &[u8], at: usize) -> usize
     requires { ⌜ at ≤ length (now names) ⌝ }
     ensures { λ r. ⌜ Spelled (now (names .entry)) at r ⌝ }

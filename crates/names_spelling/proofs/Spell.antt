@@ -8,9 +8,7 @@ use borrow.Author.Tests.{eq-eqb, ne-eqb, eqb-true}
 use lib.Dec.{eqb, eqb·suc-suc}
 use lib.ListN.{length, getD, drop, drop-of-length-le}
 use Rattle.names.specs.Text.{same, starts, contains}
-use Rattle.names.specs.Utf8.{isTail}
 use Rattle.names.specs.Name.{isEnd, line, nameFrom}
-use Rattle.names.specs.Spelling.{cleanByte, sanitize}
 use Rattle.names.specs.Tests.{both, is-false}
 use Rattle.names_spelling.proofs.Scan.{from-place, until-past, until-stop, until-pass}
 
@@ -90,17 +88,3 @@ same-part p s at end e h = same-long p s h ∙ ap (λ k. eqb k (length p)) drawn
 
 pub same-not : (p s : List ℕ) → starts p s ≡ false → same s p ≡ false
 same-not p s h = is-false (same s p) (λ e. false≢true (sym h ∙ same-starts p s e))
-
--- what a label spells of a name from the place i on
-module _ (name : List ℕ) (i : ℕ) where
-  pub clean-over : length name ≤ i → sanitize (drop i name) ≡ []
-  unfolding sanitize
-  clean-over h = rw (drop-of-length-le name h)
-
-  pub clean-tail : i < length name → isTail (getD name i 0) ≡ true → sanitize (drop i name) ≡ sanitize (drop (i + 1) name)
-  unfolding sanitize
-  clean-tail l h = rw (from-place name i l, h)
-
-  pub clean-more : i < length name → isTail (getD name i 0) ≡ false → sanitize (drop i name) ≡ cleanByte (getD name i 0) ∷ sanitize (drop (i + 1) name)
-  unfolding sanitize
-  clean-more l h = rw (from-place name i l, h)

@@ -13,7 +13,7 @@ use lib.Dec.{leb}
 use Rattle.names.specs.Utf8.{isTail}
 use Rattle.names.specs.Spelling.{sanitize, cleanByte}
 use Rattle.names.specs.Tests.{agree}
-use Rattle.names_spelling.proofs.Spell.{clean-over, clean-tail, clean-more}
+use Rattle.names.specs.Labels.{clean-over, clean-tail, clean-more}
 use Rattle.print_pen.specs.declared.Pen.{Pen}
 use Rattle.print_pen.specs.declared.Pen.the-variants.{Counting, Writing, Full}
 

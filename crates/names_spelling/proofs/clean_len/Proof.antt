@@ -8,7 +8,7 @@ use lib.ListN.{length, drop}
 use borrow.Author.Needs.{needs}
 use Rattle.names.specs.Spelling.{sanitize}
 use Rattle.names.specs.Labels.{sanitize-length}
-use Rattle.names_spelling.proofs.Spell.{clean-over, clean-tail, clean-more}
+use Rattle.names.specs.Labels.{clean-over, clean-tail, clean-more}
 use Rattle.names_spelling.proofs.clean_len.Statement.{statement}
 use Rattle.names_spelling.proofs.clean_len.Tie as tie
 
