@@ -5,6 +5,7 @@ use mathlib.Core.Path.{_≡_, refl}
 use mathlib.Core.List.{List, [], _∷_, _++_, map}
 use lib.ListN.{length, replicate}
 use Rattle.names.specs.Text.{bytes}
+use Rattle.names.specs.Utf8.{encodes}
 use Rattle.assembly.specs.Printer.{Printed, print, printedNumber}
 use Rattle.assembly.specs.Open.{openAssembly}
 
@@ -66,6 +67,20 @@ pub others-print :
     }
 unfolding openAssembly unlines slice
 others-print = refl
+
+-- characters outside ASCII, of two, three and four bytes: in the comment and in a syscall as they are, else one `_` each
+unfoldable pub letters : List String
+letters = "__uvm_říct" ∷ "zpěv" ∷ "árie" ∷ "č" ∷ "Ž€😀" ∷ []
+
+pub letters-print :
+    print (slice ((5, 2) ∷ (13, 2) ∷ (15, 4) ∷ (0, 0) ∷ (7, 3) ∷ (93, 0) ∷ (0, 0) ∷ []) letters) (encodes (unlines letters))
+    (0 ∷ 1 ∷ 2 ∷ 3 ∷ 4 ∷ 5 ∷ 6 ∷ []) (2 ∷ 2 ∷ 3 ∷ 3 ∷ 4 ∷ 257 ∷ 0 ∷ []) (replicate 104 33)
+    ≡ record {
+      reply = Printed.accepted 104;
+      text = encodes (unlines ("# [2 x %Ž€😀] @árie(0 params)" ∷ "_rie:" ∷ "_rie___:" ∷ "jmp _rie___;" ∷ "push ___;" ∷ "call zp_v, 1;" ∷ "syscall říct;" ∷ []));
+    }
+unfolding openAssembly unlines slice letters
+letters-print = refl
 
 -- the reply's number for one line and a text slice of this length
 unfoldable pub shows : (kind operand room : ℕ) → ℕ
