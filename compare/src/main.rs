@@ -80,8 +80,8 @@ const USAGE: &str = "usage:
                                      two interpreters and by computation of the definitions, on random functions
   compare table SEED COUNT FILE      random books with the Rust's answers as a checked table of crates/lowering
   compare written FOLDER             books written by hand with the Rust's answers as checked tables of crates/lowering
-  compare checking SEED COUNT        whether the proved check of a book answers as ours does; built in where the
-                                     static library of the crate `exports` stands
+  compare checking SEED COUNT        whether the proved check of a book, and the printer's, answer as ours does; built in
+                                     where the static library of the crate `exports` stands
   compare printing SEED LINES NAMES  whether the proved printer prints random lines of every kind as docs/LINES.md says, and
                                      its time; built in as above
   compare translator SEED COUNT      whether the proved translator gives the Rust's lines, next counter and refusals, on random

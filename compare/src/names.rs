@@ -216,7 +216,7 @@ fn long_names(rng: &mut Rng) -> Vec<Name> {
     names.into_iter().map(|name| name.into_iter().collect::<String>().into_bytes()).collect()
 }
 
-/// Their bytes, three times in four changed in one way or two. What a change does is for the checks to say.
+/// Their bytes, four times in five changed in one way or two. What a change does is for the checks to say.
 #[cfg(proved)]
 fn damaged(rng: &mut Rng, mut names: Vec<Name>) -> Vec<u8> {
     let (one, two) = (rng.below(names.len()), rng.below(names.len()));

@@ -50,10 +50,22 @@ fn every_character() -> impl Iterator<Item = Vec<u8>> {
     ('\u{80}'..=char::MAX).map(|c| c.to_string().into_bytes())
 }
 
-/// Puts a sequence into a name, at this offset in one of its words. The rest is drawn: how long the name is, other names before and after
-/// it, and now and then that its end is missing.
+/// What stands behind a sequence: more of its name, the name's end, or nothing at all.
 #[cfg(proved)]
-fn place(lent: &mut Lent, rng: &mut Rng, offset: usize, sequence: &[u8]) {
+const ENDINGS: [Ending; 3] = [Ending::Name, Ending::End, Ending::Nothing];
+
+#[cfg(proved)]
+#[derive(Clone, Copy, PartialEq)]
+enum Ending {
+    Name,
+    End,
+    Nothing,
+}
+
+/// Puts a sequence into a name, at this offset in one of its words, with this behind it. The rest is drawn: how long the name is, other names
+/// before and after it, and now and then that the end of a name that goes on is missing.
+#[cfg(proved)]
+fn place(lent: &mut Lent, rng: &mut Rng, offset: usize, sequence: &[u8], ending: Ending) {
     let Slices { book, names } = &mut lent.slices;
     names.clear();
     book[1] = 1;
@@ -67,9 +79,11 @@ fn place(lent: &mut Lent, rng: &mut Rng, offset: usize, sequence: &[u8]) {
     names.extend("é".repeat(letters).bytes());
     names.resize(names.len() + before - 2 * letters, b'a');
     names.extend_from_slice(sequence);
-    names.resize(names.len() + rng.below(12), b'a');
-    let end = rng.below(10);
-    if end > 0 {
+    if ending == Ending::Name {
+        names.resize(names.len() + rng.range(1, 11), b'a');
+    }
+    let end = if ending == Ending::Nothing { 0 } else { rng.below(10) };
+    if end > 0 || ending == Ending::End {
         names.push(b'\n');
     }
     if end > 6 {
@@ -85,13 +99,15 @@ pub fn every(seed: u64, mut each: impl FnMut(&Lent, &[u8])) {
     let mut rng = Rng::new(seed ^ 0x75_7466, 0);
     let mut lent = Lent { slices: Slices::new(&unreachable(&[]), &["a"]), counter: 0, work: work_needed(3) };
     for sequence in every_pair().chain(every_character()) {
-        let offset = rng.below(WORD);
-        place(&mut lent, &mut rng, offset, &sequence);
-        each(&lent, &sequence);
+        for ending in ENDINGS {
+            let offset = rng.below(WORD);
+            place(&mut lent, &mut rng, offset, &sequence, ending);
+            each(&lent, &sequence);
+        }
     }
     for sequence in every_bound() {
-        for offset in 0..WORD {
-            place(&mut lent, &mut rng, offset, &sequence);
+        for (offset, ending) in (0..WORD).flat_map(|offset| ENDINGS.map(|ending| (offset, ending))) {
+            place(&mut lent, &mut rng, offset, &sequence, ending);
             each(&lent, &sequence);
         }
     }
