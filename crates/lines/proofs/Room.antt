@@ -10,7 +10,7 @@ use lib.ListN.{length, drop, length-drop, length-replicate}
 use Rattle.names.specs.Name.{namesOf, counts, accepted, lines}
 use Rattle.names.specs.Lines.{accepted-iff, accepted-long, names-lines}
 use Rattle.book.specs.Rule.{pick}
-use Rattle.book.specs.Result.{Result, ok, err, bind, okOr, given, err-no-ok}
+use Rattle.book.specs.Result.{Result, ok, err, bind, okOr, err-no-ok}
 use Rattle.book.specs.Input.{bookIn, namesIn}
 use Rattle.book.specs.Check.{workFor, checked}
 use Rattle.assembly.specs.Printer.{Printing}
