@@ -7,6 +7,7 @@ use lib.ListN.{length, getElem?}
 use lib.Dec.{eqb, leb, ltb}
 use Rattle.book.specs.Ast.{BinOp, ICmpPred, Book}
 use Rattle.book.specs.Kinds.{InstTag, instKind}
+use Rattle.book.specs.Decode.{member, functionNames}
 use Rattle.names.specs.Name.{nameAt}
 use Rattle.names.specs.Spelling.{isSyscall}
 use Rattle.assembly.specs.Line.{Line, Work, Mem, Narrow, Hint}
@@ -170,7 +171,7 @@ module _ (names : List (List ℕ)) (b : Book) where
   -- "Allowed are names of the book (for a syscall with `__uvm_`, for a comment a function here), slots to 65,535, `push_0n` 1 to 65,535,
   -- `call_fp` to 255, any number for `push`, `get_arg` and numbered labels, else 0"
   unfoldable pub allowed : Line → Bool
-  allowed (Line.comment x) = eqb x (b .function .name)
+  allowed (Line.comment x) = member x (functionNames b)
   allowed (Line.fnLabel x) = isName x
   allowed (Line.blockLabel x) = isName x
   allowed (Line.jmpBlock x) = isName x
@@ -215,5 +216,5 @@ module _ (names : List (List ℕ)) (b : Book) where
 
 -- opens every definition of this file, for an example that computes
 unfoldable pub openNumber : Unit {0}
-unfolding hintNumber memNumber narrowNumber binNumber icmpNumber operation kindOf operandOf bins preds operations withOperand bare applied kept formOf isName allowed ifAllowed lineOf
+unfolding hintNumber memNumber narrowNumber binNumber icmpNumber operation kindOf operandOf bins preds operations withOperand bare applied kept formOf isName member allowed ifAllowed lineOf
 openNumber = tt

@@ -6,7 +6,7 @@ use mathlib.Core.Option.{Option, none, some}
 use mathlib.Core.List.{List, [], _∷_, _++_}
 use lib.ListN.{length, drop}
 use lib.Dec.{leb}
-use Rattle.book.specs.Ast.{Book}
+use Rattle.book.specs.Ast.{Ty, Function, Book}
 use Rattle.assembly.specs.Line.{Line}
 use Rattle.assembly.specs.Number.{lineOf}
 use Rattle.assembly.specs.Text.{texts}
@@ -16,6 +16,11 @@ unfoldable pub consed : Option Line → Option (List Line) → Option (List Line
 consed none ls = none
 consed (some l) none = none
 consed (some l) (some ls) = some (l ∷ ls)
+
+-- the function whose lines they are
+unfoldable pub first : List Function → Function
+first [] = record { name = 0; retTy = Ty.void; params = []; blocks = [] }
+first (f ∷ fs) = f
 
 -- the lines of kinds and operands
 unfoldable pub linesOf : List (List ℕ) → Book → List ℕ → List ℕ → Option (List Line)
@@ -61,9 +66,9 @@ print book names kinds operands text =
     needed 1 text (bookIn book) λ b.
     needed 2 text (namesIn (b .count) names) λ ns.
     needed 21 text (linesOf ns (b .book) kinds operands) λ ls.
-    writing (texts ns (b .book .function) ls) text
+    writing (texts ns (first (b .book .functions)) ls) text
 
 -- opens every definition of this file, for an example that computes
 unfoldable pub openPrinter : Unit {0}
-unfolding consed linesOf printedNumber printedBytes refusing writing needed print
+unfolding first consed linesOf printedNumber printedBytes refusing writing needed print
 openPrinter = tt

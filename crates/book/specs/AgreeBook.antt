@@ -1,6 +1,6 @@
 -- The book: decoder and encoder agree.
 use Prim.Native.Nat.{ℕ, _+_, _-_, _<_}
-use mathlib.Core.Path.{_≡_, refl, ap, _∙_, subst}
+use mathlib.Core.Path.{_≡_, refl, ap, sym, _∙_, subst}
 use mathlib.Core.Logic.{_↔_}
 use mathlib.Core.Bool.{Bool, true, false, _&&_}
 use mathlib.Core.Option.{Option, none, some}
@@ -16,9 +16,9 @@ use Rattle.book.specs.Rule.{when, pick}
 use Rattle.book.specs.Kinds.{InstTag, TermTag, instKind, termKind, instTags, termTags, instTag, termTag}
 use Rattle.book.specs.Fields.{Item, instTagOf, termTagOf}
 use Rattle.book.specs.Read.{Read, got, bad, andThen, taking, choose, stops, mapped, both, word, many}
-use Rattle.book.specs.Decode.{name, type, inst, term, body, basicBlock, item, function, markAs, mark, bodyOf, structBody, structType, structsAndFunction, parts, markName, bookOf, onceEach, whole, decode}
-use Rattle.book.specs.Encode.{ending, closed, encTy, encInst, encTerm, encBasicBlock, encParam, encFunction, markEntry, encMark, encBody, encStruct, encode}
-use Rattle.book.specs.Limits.{Each, TyLimits, NameLimits, InstLimits, TermLimits, BlockLimits, ParamLimits, FunctionLimits, BodyLimits, StructLimits, Limits}
+use Rattle.book.specs.Decode.{name, type, inst, term, body, basicBlock, item, function, markAs, mark, bodyOf, structBody, structType, functions, structsAndFunctions, parts, markName, bookOf, onceEach, whole, decode}
+use Rattle.book.specs.Encode.{ending, closed, encTy, encInst, encTerm, encBasicBlock, encParam, encFunction, encFunctions, markEntry, encMark, encBody, encStruct, encode}
+use Rattle.book.specs.Limits.{Each, TyLimits, NameLimits, InstLimits, TermLimits, BlockLimits, ParamLimits, FunctionLimits, FunctionsLimits, BodyLimits, StructLimits, Limits}
 use Rattle.book.specs.Agree.{Begins, Sound, Complete, Heads, Agrees, no-got, no-some, moved, when-some, entry-is, agrees-one, agrees-both, agrees-mapped, agrees-all}
 use Rattle.book.specs.AgreeTy.{find-every, agrees-many, agrees-type}
 use Rattle.book.specs.AgreeInst.{inst-found, term-found, agrees-name, agrees-items, agrees-inst, agrees-term}
@@ -140,24 +140,48 @@ module _ (m : ℕ) where
       (agrees-both (word 3 (name m)) (structBody m) (λ x. entry 3 x ∷ []) encBody (NameLimits m) (BodyLimits m) (agrees-name m 3) agrees-structBody)
 
   -- ---- the book
-  abbrev pub rest : List StructType × Function → List Entry
-  rest x = ending encStruct (encFunction (x .1)) (x .0)
+  -- one function
+  pub agrees-functions : Agrees (functions m) encFunctions (FunctionsLimits m)
+  unfolding functions mapped ending
+  agrees-functions = record { sound = λ es fs n h. sound es fs n (function m es) refl h; complete = complete }
+    where
+      sound : (es : List Entry) (fs : List Function) (n : ℕ) (r : Read Function) → function m es ≡ r → andThen r (λ f k. got (f ∷ []) k) ≡ got fs n
+          → Begins encFunctions (FunctionsLimits m) es fs n
+      sound es fs n (got f k) er h =
+          let s = agrees-function .sound es f k er in
+          let e = append-nil (encFunction f) in
+          moved encFunctions (FunctionsLimits m) es (f ∷ []) fs k n h
+          (record { here = s .here ∙ ap (λ x. x ++ drop k es) (sym e); size = s .size ∙ ap length (sym e); keeps = (refl, (s .keeps, tt)) })
+      sound es fs n bad er h = no-got fs n h
 
-  abbrev pub RestLimits : List StructType × Function → Type 0
-  RestLimits x = Each (StructLimits m) (x .0) × FunctionLimits m (x .1)
+      complete : Complete encFunctions (FunctionsLimits m) (functions m)
+      complete [] r k = absurd (omega (arith, k .0))
+      complete (f ∷ []) r k = rw (append-nil (encFunction f), agrees-function .complete f r (k .1 .0))
+      complete (f ∷ g ∷ fs) r k = absurd (omega (arith, k .0))
 
-  pub agrees-structs : Agrees (structsAndFunction m) rest RestLimits
-  unfolding structsAndFunction stops encStruct encFunction
+  functions-stop : (stop : ℕ → Bool) → stop 5 ≡ true → Heads encFunctions (FunctionsLimits m) stop true
+  unfolding stops ending encFunction
+  functions-stop stop h [] r k = absurd (omega (arith, k .0))
+  functions-stop stop h (f ∷ fs) r k = h
+
+  abbrev pub rest : List StructType × List Function → List Entry
+  rest x = ending encStruct (encFunctions (x .1)) (x .0)
+
+  abbrev pub RestLimits : List StructType × List Function → Type 0
+  RestLimits x = Each (StructLimits m) (x .0) × FunctionsLimits m (x .1)
+
+  pub agrees-structs : Agrees (structsAndFunctions m) rest RestLimits
+  unfolding structsAndFunctions stops encStruct
   agrees-structs =
-      agrees-all (leb 4) (structType m) (function m) encStruct encFunction (StructLimits m) (FunctionLimits m) agrees-structType agrees-function
-      (λ s r k. refl) (λ f r k. refl)
+      agrees-all (leb 4) (structType m) (functions m) encStruct encFunctions (StructLimits m) (FunctionsLimits m) agrees-structType agrees-functions
+      (λ s r k. refl) (functions-stop (leb 4) refl)
 
   rest-stops : Heads rest RestLimits (leb 3) true
-  unfolding stops ending encStruct encFunction
+  unfolding stops ending encStruct
   rest-stops x r k = go (x .0)
     where
-      go : (ss : List StructType) → stops (leb 3) (ending encStruct (encFunction (x .1)) ss ++ r) ≡ true
-      go [] = refl
+      go : (ss : List StructType) → stops (leb 3) (ending encStruct (encFunctions (x .1)) ss ++ r) ≡ true
+      go [] = functions-stop (leb 3) refl (x .1) r (k .1)
       go (s ∷ ss) = refl
 
   mark-more : Heads encMark (λ k. markName k < m) (leb 3) false
@@ -168,14 +192,14 @@ module _ (m : ℕ) where
   agrees-parts : Agrees (parts m) (λ x. ending encMark (rest (x .1)) (x .0)) (λ x. Each (λ k. markName k < m) (x .0) × RestLimits (x .1))
   unfolding parts
   agrees-parts =
-      agrees-all (leb 3) (mark m) (structsAndFunction m) encMark rest (λ k. markName k < m) RestLimits agrees-mark agrees-structs mark-more rest-stops
+      agrees-all (leb 3) (mark m) (structsAndFunctions m) encMark rest (λ k. markName k < m) RestLimits agrees-mark agrees-structs mark-more rest-stops
 
   abbrev pub PartsLimits : Book → Type 0
-  PartsLimits b = Each (λ k. markName k < m) (b .marks) × (Each (StructLimits m) (b .structs) × FunctionLimits m (b .function))
+  PartsLimits b = Each (λ k. markName k < m) (b .marks) × (Each (StructLimits m) (b .structs) × FunctionsLimits m (b .functions))
 
   pub agrees-book : Agrees (mapped bookOf (parts m)) encode PartsLimits
   unfolding encode
-  agrees-book = agrees-mapped bookOf (λ b. (b .marks, (b .structs, b .function))) _ _ _ (λ x. refl) (λ x. refl) agrees-parts
+  agrees-book = agrees-mapped bookOf (λ b. (b .marks, (b .structs, b .functions))) _ _ _ (λ x. refl) (λ x. refl) agrees-parts
 
   -- what decodes is the encoding of a book within the limits
   pub decode-sound : (es : List Entry) (b : Book) → decode m es ≡ some b → (es ≡ encode b) × Limits m b
@@ -195,7 +219,7 @@ module _ (m : ℕ) where
           let e : n ≡ length es = eqb-true _ _ (t .0) in
           let d : drop n es ≡ [] = ap (λ k. drop k es) e ∙ drop-length es in
           let f : es ≡ encode a = s .here ∙ ap (λ r. encode a ++ r) d ∙ append-nil (encode a) in
-          let l : Limits m a = record { marks = s .keeps .0; structs = s .keeps .1 .0; function = s .keeps .1 .1; once = t .1 } in
+          let l : Limits m a = record { marks = s .keeps .0; structs = s .keeps .1 .0; functions = s .keeps .1 .1; once = t .1 } in
           subst (λ x. (es ≡ encode x) × Limits m x) (w .1) (f, l)
       go bad er h = no-some b h
 
@@ -203,7 +227,7 @@ module _ (m : ℕ) where
   pub decode-complete : (b : Book) → Limits m b → decode m (encode b) ≡ some b
   unfolding decode
   decode-complete b l =
-      let c : mapped bookOf (parts m) (encode b ++ []) ≡ got b (length (encode b)) = agrees-book .complete b [] (l .marks, (l .structs, l .function)) in
+      let c : mapped bookOf (parts m) (encode b ++ []) ≡ got b (length (encode b)) = agrees-book .complete b [] (l .marks, (l .structs, l .functions)) in
       let c′ : mapped bookOf (parts m) (encode b) ≡ got b (length (encode b)) = rw append-nil at c in
       rw (c′, eq-eqb (length (encode b)) (length (encode b)) refl, l .once)
 

@@ -113,4 +113,4 @@ pub data Mark : Type 0 where
 pub record Book : Type 0 where
   pub marks : List Mark
   pub structs : List StructType
-  pub function : Function
+  pub functions : List Function

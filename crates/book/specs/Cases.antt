@@ -27,7 +27,7 @@ add1Book = record {
   book = record {
     marks = [];
     structs = [];
-    function = record {
+    functions = record {
       name = 1;
       retTy = Ty.int 32;
       params = record { ty = Ty.int 32; name = some 0 } ∷ [];
@@ -36,7 +36,7 @@ add1Book = record {
         insts = record { dest = some 3; kind = InstKind.bin BinOp.add (Ty.int 32) (Value.local 0) (Value.int 1) } ∷ [];
         term = Terminator.ret (some (record { ty = Ty.int 32; val = Value.local 3 }));
       } ∷ [];
-    };
+    } ∷ [];
   };
 }
 

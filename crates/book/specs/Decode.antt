@@ -171,12 +171,16 @@ module _ (m : ℕ) where
   unfoldable pub structType : Reader StructType
   structType = mapped (λ p. record { name = p .0; body = p .1 }) (both (word 3 name) structBody)
 
-  -- marks, then structs, then the one function
-  unfoldable pub structsAndFunction : Reader (List StructType × Function)
-  structsAndFunction es = until (leb 4) structType function (length es) es
+  -- "exactly one 5, function"
+  unfoldable pub functions : Reader (List Function)
+  functions = mapped (λ f. f ∷ []) function
 
-  unfoldable pub parts : Reader (List Mark × (List StructType × Function))
-  parts es = until (leb 3) mark structsAndFunction (length es) es
+  -- marks, then structs, then the functions
+  unfoldable pub structsAndFunctions : Reader (List StructType × List Function)
+  structsAndFunctions es = until (leb 4) structType functions (length es) es
+
+  unfoldable pub parts : Reader (List Mark × (List StructType × List Function))
+  parts es = until (leb 3) mark structsAndFunctions (length es) es
 
 -- no number twice
 unfoldable pub member : ℕ → List ℕ → Bool
@@ -191,14 +195,17 @@ abbrev pub markName : Mark → ℕ
 markName (Mark.defined x) = x
 markName (Mark.reserved x) = x
 
-abbrev pub bookOf : List Mark × (List StructType × Function) → Book
-bookOf p = record { marks = p .0; structs = p .1 .0; function = p .1 .1 }
+abbrev pub functionNames : Book → List ℕ
+functionNames b = map (λ f. f .name) (b .functions)
+
+abbrev pub bookOf : List Mark × (List StructType × List Function) → Book
+bookOf p = record { marks = p .0; structs = p .1 .0; functions = p .1 .1 }
 
 -- "Each name has at most one such mark", "each name once"
 unfoldable pub onceEach : Book → Bool
 onceEach b = distinct (map markName (b .marks)) && distinct (map (λ s. s .name) (b .structs))
 
--- nothing after the function
+-- nothing after the functions
 abbrev pub whole : List Entry → Read Book → Option Book
 whole es (got b n) = when (eqb n (length es) && onceEach b) b
 whole es bad = none

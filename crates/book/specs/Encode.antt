@@ -134,5 +134,8 @@ encBody (some b) = encTy (Ty.struct (b .packed) (b .fields))
 unfoldable pub encStruct : StructType → List Entry
 encStruct s = entry 3 (s .name) ∷ encBody (s .body)
 
+abbrev pub encFunctions : List Function → List Entry
+encFunctions = ending encFunction []
+
 unfoldable pub encode : Book → List Entry
-encode b = ending encMark (ending encStruct (encFunction (b .function)) (b .structs)) (b .marks)
+encode b = ending encMark (ending encStruct (encFunctions (b .functions)) (b .structs)) (b .marks)

@@ -91,7 +91,7 @@ module _ (barred : ℕ → Bool) where
   forbiddenFunction f = any forbiddenBlock (f .blocks)
 
 unfoldable pub forbidden : List (List ℕ) → Book → Bool
-forbidden names b = forbiddenFunction (uncallable names (b .marks)) (b .function)
+forbidden names b = any (forbiddenFunction (uncallable names (b .marks))) (b .functions)
 
 -- opens every definition of this file, for an example that computes
 unfoldable pub openForbidden : Unit {0}

@@ -115,8 +115,12 @@ module _ (m : ℕ) where
   abbrev pub StructLimits : StructType → Type 0
   StructLimits s = (s .name < m) × BodyLimits (s .body)
 
+  -- "exactly one 5, function"
+  abbrev pub FunctionsLimits : List Function → Type 0
+  FunctionsLimits fs = (length fs ≡ 1) × Each FunctionLimits fs
+
   pub record Limits (b : Book) : Type 0 where
     pub marks : Each (λ k. markName k < m) (b .marks)
     pub structs : Each StructLimits (b .structs)
-    pub function : FunctionLimits (b .function)
+    pub functions : FunctionsLimits (b .functions)
     pub once : onceEach b ≡ true

@@ -2,27 +2,32 @@
 use Prim.Native.Nat.{ℕ, _≤_}
 use mathlib.Core.Path.{_≡_, refl, subst}
 use mathlib.Core.Logic.{⊎-elim}
-use mathlib.Core.Bool.{true}
+use mathlib.Core.Bool.{Bool, true, false, _||_}
 use mathlib.Core.Option.{some}
-use mathlib.Core.List.{List, [], _∷_}
+use mathlib.Core.List.{List, [], _∷_, map}
 use lib.ListN.{length}
-use lib.Dec.{ltb}
+use lib.Dec.{eqb, ltb}
 use native.Mathlib.Omega.{arith}
 use borrow.Author.Tests.{eq-eqb, ltb-true, ltb-false, le-leb, lt-ltb}
-use Rattle.book.specs.Ast.{BasicBlock, Book}
-use Rattle.book.specs.Limits.{Each, BlockLimits, Limits}
+use Rattle.book.specs.Ast.{BasicBlock, Function, Book}
+use Rattle.book.specs.Limits.{Each, BlockLimits, FunctionLimits, Limits}
+use Rattle.book.specs.Decode.{member, functionNames}
 use Rattle.book.specs.Shape.{allInsts}
 use Rattle.assembly.specs.Line.{Line}
 use Rattle.assembly.specs.Number.{isName, allowed}
 use Rattle.lowering.specs.Gen.{line, each}
 use Rattle.lowering.specs.Context.{FnCtx, codegenOf, blockMap}
 use Rattle.layout.specs.Frame.{Places}
-use Rattle.lowering.specs.Function.{genBlock, prologue, genLines, slotsOf, contextOf, totalSlots, genFunction}
+use Rattle.lowering.specs.Function.{genBlock, prologue, genLines, slotsOf, contextOf, totalSlots, genFunction, genFunctions}
 use Rattle.lowering.specs.Places.{lookup-cons, all-below}
 use Rattle.lowering.specs.Allows.{Allows, line-allows, bind-allows, then-allows, when-allows, when-true, guard-allows, each-allows, plain}
 use Rattle.lowering.specs.Allowed.{Within, add-allows, set-base}
 use Rattle.lowering.specs.AllowedBlocks.{and-true, block-allows}
 use Rattle.book.specs.Map.{Map, lookup}
+
+or-true : (b : Bool) → (b || true) ≡ true
+or-true true = refl
+or-true false = refl
 
 -- ---- the blocks of a function
 blocks-within : (n : ℕ) (bs : List BasicBlock) (m : Map BasicBlock) → Each (BlockLimits n) bs → ((x : ℕ) (bb : BasicBlock) → lookup x m ≡ some bb → BlockLimits n bb)
@@ -36,30 +41,30 @@ no-block : (n x : ℕ) (bb : BasicBlock) → lookup x [] ≡ some bb → BlockLi
 unfolding lookup
 no-block n x bb h = absurd (let z : _≡_ {A = ℕ} 0 1 = cc in omega arith)
 
-module _ (names : List (List ℕ)) (b : Book) (l : Limits (length names) b) where
+module _ (names : List (List ℕ)) (b : Book) (f : Function) (l : FunctionLimits (length names) f) (own : member (f .name) (functionNames b) ≡ true) where
   abbrev context : Places → FnCtx
-  context fr = contextOf (codegenOf names b) (b .function) fr
+  context fr = contextOf (codegenOf names b) f fr
 
   abbrev total : Places → ℕ
-  total fr = totalSlots (codegenOf names b) (b .function) fr
+  total fr = totalSlots (codegenOf names b) f fr
 
   -- ---- the context, where the slots are few enough
   within : (fr : Places) → total fr ≤ 65535 → Within (context fr)
   unfolding contextOf codegenOf totalSlots slotsOf
   within fr h =
       record {
-        slots = λ x s e. let q = all-below names (allInsts (b .function .blocks)) x s e in omega arith;
+        slots = λ x s e. let q = all-below names (allInsts (f .blocks)) x s e in omega arith;
         base = omega arith;
-        blocks = blocks-within (length names) (b .function .blocks) [] (l .function .1 .1 .1) (no-block (length names));
+        blocks = blocks-within (length names) (f .blocks) [] (l .1 .1 .1) (no-block (length names));
       }
 
-  comment-line : Allows names b (line (Line.comment (b .function .name)))
+  comment-line : Allows names b (line (Line.comment (f .name)))
   unfolding allowed
-  comment-line = line-allows names b _ (eq-eqb (b .function .name) (b .function .name) refl)
+  comment-line = line-allows names b _ own
 
-  name-line : Allows names b (line (Line.fnLabel (b .function .name)))
+  name-line : Allows names b (line (Line.fnLabel (f .name)))
   unfolding allowed isName
-  name-line = line-allows names b _ (lt-ltb _ _ (l .function .0))
+  name-line = line-allows names b _ (lt-ltb _ _ (l .0))
 
   slots-line : (n : ℕ) → n ≤ 65535 → ltb 0 n ≡ true → Allows names b (line (Line.push0n n))
   unfolding allowed
@@ -76,16 +81,34 @@ module _ (names : List (List ℕ)) (b : Book) (l : Limits (length names) b) wher
   blocks-allow : (c : FnCtx) (w : Within c) (bs : List BasicBlock) → Each (BlockLimits (length (c .codegen .names))) bs → Allows (c .codegen .names) b (each (genBlock c) bs)
   blocks-allow c w bs h = each-allows _ b (BlockLimits (length (c .codegen .names))) (genBlock c) (block-allows b c w) bs h
 
-  lines-allow : (fr : Places) → Allows names b (genLines (context fr) (b .function) (total fr))
+  lines-allow : (fr : Places) → Allows names b (genLines (context fr) f (total fr))
   unfolding genLines contextOf codegenOf
   lines-allow fr =
       then-allows _ _ _ _ comment-line (then-allows _ _ _ _ name-line (guard-allows _ _ _ _ _ (λ e.
       let few : total fr ≤ 65535 = ltb-false 65535 (total fr) e in
       let w = within fr few in
       then-allows _ _ _ _ (when-true _ _ _ _ (slots-line (total fr) few)) (then-allows _ _ _ _ (when-allows _ _ _ _ (prologue-allows (context fr) w))
-      (then-allows _ _ _ _ (blocks-allow (context fr) w (b .function .blocks) (l .function .1 .1 .1)) (search plain))))))
+      (then-allows _ _ _ _ (blocks-allow (context fr) w (f .blocks) (l .1 .1 .1)) (search plain))))))
 
-  -- every line of a function is allowed
-  pub function-allows : Allows names b (genFunction (codegenOf names b) (b .function))
+  -- every line of a function of the book is allowed
+  pub function-allows : Allows names b (genFunction (codegenOf names b) f)
   unfolding genFunction
   function-allows = bind-allows _ _ _ _ (λ fr e. lines-allow fr)
+
+-- a function of the book, within the limits
+abbrev Own : (names : List (List ℕ)) → Book → Function → Type 0
+Own names b f = FunctionLimits (length names) f × (member (f .name) (functionNames b) ≡ true)
+
+-- those of a list are among its names, whatever stands before them
+all-own : (names : List (List ℕ)) (b : Book) (fs : List Function) → ((x : ℕ) → member x (map (λ (f : Function). f .name) fs) ≡ true → member x (functionNames b) ≡ true)
+    → Each (FunctionLimits (length names)) fs → Each (Own names b) fs
+unfolding member
+all-own names b [] h l = tt
+all-own names b (f ∷ fs) h l =
+    ((l .0, h (f .name) (rw (eq-eqb (f .name) (f .name) refl) refl)), all-own names b fs (λ x e. h x (rw e (or-true (eqb x (f .name))))) (l .1))
+
+-- every line of a book's functions is allowed
+pub functions-allow : (names : List (List ℕ)) (b : Book) → Limits (length names) b → Allows names b (genFunctions (codegenOf names b) (b .functions))
+unfolding genFunctions
+functions-allow names b l =
+    each-allows names b (Own names b) (genFunction (codegenOf names b)) (λ f k. function-allows names b f (k .0) (k .1)) (b .functions) (all-own names b (b .functions) (λ x e. e) (l .functions .1))

@@ -11,6 +11,7 @@ use Rattle.names.specs.Name.{nameAt}
 use Rattle.names.specs.Spelling.{isSyscall}
 use Rattle.names.specs.Tests.{both}
 use Rattle.book.specs.Ast.{BinOp, ICmpPred, Book}
+use Rattle.book.specs.Decode.{member, functionNames}
 use Rattle.book.specs.Limits.{Each}
 use Rattle.assembly.specs.Line.{Line, Work, Mem, Narrow, Hint}
 use Rattle.assembly.specs.Number.{hintNumber, memNumber, narrowNumber, binNumber, icmpNumber, operation, kindOf, isName, allowed}
@@ -117,7 +118,7 @@ kind-small Line.blank = omega arith
 module _ (names : List (List ℕ)) (b : Book) where
   -- what a line's operand keeps to
   abbrev pub Keeps : Line → Type 0
-  Keeps (Line.comment x) = x ≡ b .function .name
+  Keeps (Line.comment x) = member x (functionNames b) ≡ true
   Keeps (Line.fnLabel x) = x < length names
   Keeps (Line.blockLabel x) = x < length names
   Keeps (Line.jmpBlock x) = x < length names
@@ -162,7 +163,7 @@ module _ (names : List (List ℕ)) (b : Book) where
   -- an allowed line keeps to it
   keeps : (l : Line) → allowed names b l ≡ true → Keeps l
   unfolding allowed
-  keeps (Line.comment x) h = eqb-true x (b .function .name) h
+  keeps (Line.comment x) h = h
   keeps (Line.fnLabel x) h = name x h
   keeps (Line.blockLabel x) h = name x h
   keeps (Line.jmpBlock x) h = name x h

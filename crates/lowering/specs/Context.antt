@@ -2,10 +2,11 @@
 use Prim.Native.Nat.{ℕ, _+_}
 use mathlib.Core.Bool.{Bool, cond}
 use mathlib.Core.Option.{Option, none, some}
-use mathlib.Core.List.{List, [], _∷_}
+use mathlib.Core.List.{List, [], _∷_, _++_}
 use Rattle.names.specs.Name.{nameAt}
 use Rattle.names.specs.Spelling.{hasOverflow}
 use Rattle.book.specs.Ast.{Value, Inst, BasicBlock, Param, StructType, Mark, Book}
+use Rattle.book.specs.Decode.{functionNames}
 use Rattle.book.specs.Result.{Result, okOr}
 use Rattle.book.specs.Shape.{Shape, shape}
 use Rattle.book.specs.Map.{Map, lookup, insert, openMap}
@@ -24,7 +25,7 @@ definedBy (Mark.reserved x ∷ ms) = definedBy ms
 
 -- "The function itself counts as defined"
 unfoldable pub codegenOf : List (List ℕ) → Book → Codegen
-codegenOf names b = record { names = names; structs = b .structs; defined = b .function .name ∷ definedBy (b .marks) }
+codegenOf names b = record { names = names; structs = b .structs; defined = functionNames b ++ definedBy (b .marks) }
 
 -- ---- `FnCtx`
 pub record FnCtx : Type 0 where

@@ -2,18 +2,20 @@
 use Prim.Native.Nat.{ℕ, _+_, _*_, _%_, _<_, _≤_, _^_}
 use mathlib.Core.Path.{_≡_, refl, subst}
 use mathlib.Core.Logic.{⊎-elim}
+use mathlib.Core.Bool.{Bool, true, false, _||_}
 use mathlib.Core.Option.{Option, none, some}
 use mathlib.Core.List.{List, [], _∷_, _++_, map}
 use lib.ListN.{length, length-append}
 use native.Mathlib.Omega.{arith}
 use native.Mathlib.Nat.{mod-eq-of-lt}
-use borrow.Author.Tests.{leb-true}
-use lib.Dec.{leb}
+use borrow.Author.Tests.{leb-true, eqb-true}
+use lib.Dec.{leb, eqb}
 use Rattle.numbers.specs.Align.{align-most}
 use Rattle.book.specs.Entry.{Entry, entry}
 use Rattle.book.specs.Ast.{Value, InstKind, Inst, Terminator, BasicBlock, Param, Function, Book}
-use Rattle.book.specs.Encode.{ending, closed, encTy, encCase, encInst, encTerm, valueEntry, encFields, encMark, encStruct, encParam, encBasicBlock, encFunction, encode}
-use Rattle.book.specs.Limits.{Each, Limits}
+use Rattle.book.specs.Encode.{ending, closed, encTy, encCase, encInst, encTerm, valueEntry, encFields, encMark, encStruct, encParam, encBasicBlock, encFunction, encFunctions, encode}
+use Rattle.book.specs.Decode.{member}
+use Rattle.book.specs.Limits.{Each, FunctionLimits, Limits}
 use Rattle.book.specs.Map.{Map, lookup, insert}
 use Rattle.book.specs.Result.{ok, require, bind-ok, given-ok}
 use Rattle.book.specs.Shape.{allInsts}
@@ -22,16 +24,16 @@ use Rattle.book.specs.AgreeInput.{slice-sound}
 use Rattle.layout.specs.Frame.{Places, noFrame, framePass}
 use Rattle.assembly.specs.Line.{Line}
 use Rattle.assembly.specs.Number.{operandOf}
-use Rattle.lowering.specs.Gen.{Out}
+use Rattle.lowering.specs.Gen.{Out, each}
 use Rattle.lowering.specs.Context.{Codegen, codegenOf, paramMap}
-use Rattle.lowering.specs.Function.{genBlock, genLines, contextOf, genFunction}
+use Rattle.lowering.specs.Function.{genBlock, genLines, contextOf, genFunction, genFunctions}
 use Rattle.lowering.specs.Translate.{generated}
 use Rattle.lowering.specs.Places.{lookup-cons, frame-within}
-use Rattle.lowering.specs.Labels.{instLabels, brLabels, termLabels, sumOf, blockLabels, functionLabels, function-labels}
-use Rattle.lowering.specs.AllowedFunction.{function-allows}
+use Rattle.lowering.specs.Labels.{instLabels, brLabels, termLabels, sumOf, blockLabels, functionLabels, functions-labels}
+use Rattle.lowering.specs.AllowedFunction.{functions-allow}
 use Rattle.lowering.specs.Printable.{names-counted, checked-lent}
 use Rattle.lowering.specs.Bounds.{Keeps, all-keep}
-use Rattle.lowering.specs.Words.{Word, Words, bind-words, worded}
+use Rattle.lowering.specs.Words.{Word, Words, bind-words, then-words, skip-words, worded}
 use Rattle.lowering.specs.WordsOf.{Numbers, block-words, prologue-words}
 
 -- ---- at most two labels for each entry
@@ -121,13 +123,27 @@ function-sized f =
       params = omega (arith, items-within encParam param-pos (entry 0 0 ∷ []) (f .params));
     }
 
-pub book-sized : (b : Book) → Sized (b .function) (length (encode b))
+-- the labels of functions that have n entries together, and the parameters of each
+pub record AllSized (fs : List Function) (n : ℕ) : Type 0 where
+  pub labels : sumOf functionLabels fs ≤ 2 * n
+  pub params : Each (λ (f : Function). length (f .params) ≤ n) fs
+
+params-sized : (n : ℕ) (fs : List Function) → length (encFunctions fs) ≤ n → Each (λ (f : Function). length (f .params) ≤ n) fs
+unfolding ending
+params-sized n [] h = tt
+params-sized n (f ∷ fs) h =
+    let a = length-append (encFunction f) (encFunctions fs) in
+    (omega (arith, function-sized f .params), params-sized n fs (omega arith))
+
+pub book-sized : (b : Book) → AllSized (b .functions) (length (encode b))
 unfolding encode
 book-sized b =
-    let s = function-sized (b .function) in
-    let f = encFunction (b .function) in
-    let l : length f ≤ length (encode b) = omega (arith, ending-end encStruct f (b .structs), ending-end encMark (ending encStruct f (b .structs)) (b .marks)) in
-    record { labels = omega (arith, s .labels); params = omega (arith, s .params) }
+    let fs = encFunctions (b .functions) in
+    let l : length fs ≤ length (encode b) = omega (arith, ending-end encStruct fs (b .structs), ending-end encMark (ending encStruct fs (b .structs)) (b .marks)) in
+    record {
+      labels = omega (arith, sum-within encFunction functionLabels (λ f. function-sized f .labels) [] (b .functions));
+      params = params-sized (length (encode b)) (b .functions) l;
+    }
 
 -- ---- arguments
 -- numbers from i on, below i + the number of parameters
@@ -165,10 +181,20 @@ module _ (m : Codegen) (f : Function) (few : length (f .params) ≤ 2 ^ 20) wher
       search (worded, block) depth 9)
 
 -- ---- operands
-module _ (names : List (List ℕ)) (b : Book) (few : length names ≤ 131072) (named : b .function .name < length names) (next : ℕ) (low : next ≤ 2 ^ 64) where
+-- a function's name is a name
+named-below : (n x : ℕ) (fs : List Function) → Each (λ (f : Function). f .name < n) fs → member x (map (λ (f : Function). f .name) fs) ≡ true → x < n
+unfolding member
+named-below n x [] l h = absurd (let z : _≡_ {A = ℕ} 0 1 = cc in omega arith)
+named-below n x (f ∷ fs) l h = go (named-below n x fs (l .1)) (eqb x (f .name)) refl h
+  where
+    go : (member x (map (λ (g : Function). g .name) fs) ≡ true → x < n) → (t : Bool) → eqb x (f .name) ≡ t → (t || member x (map (λ (g : Function). g .name) fs)) ≡ true → x < n
+    go later true e k = let q = eqb-true x (f .name) e in omega (arith, l .0)
+    go later false e k = later k
+
+module _ (names : List (List ℕ)) (b : Book) (few : length names ≤ 131072) (named : Each (λ (f : Function). f .name < length names) (b .functions)) (next : ℕ) (low : next ≤ 2 ^ 64) where
   operand-fits : (l : Line) → Keeps names b l → Word next l → operandOf l < 2 ^ 64
   unfolding operandOf
-  operand-fits (Line.comment x) k w = let q : x ≡ b .function .name = k in omega (arith, named)
+  operand-fits (Line.comment x) k w = omega (arith, named-below (length names) x (b .functions) named k)
   operand-fits (Line.fnLabel x) k w = omega (arith, k)
   operand-fits (Line.blockLabel x) k w = omega (arith, k)
   operand-fits (Line.jmpBlock x) k w = omega (arith, k)
@@ -212,14 +238,23 @@ pub record Fits (o : Out) : Type 0 where
   pub operands : Each (λ l. operandOf l < 2 ^ 64) (o .lines)
   pub next : o .next < 2 ^ 64
 
-pub function-fits : (names : List (List ℕ)) (b : Book) → Limits (length names) b → length names ≤ 131072 → length (encode b) ≤ 1048576 → (counter : ℕ) → counter ≤ 2 ^ 32
-    → (o : Out) → genFunction (codegenOf names b) (b .function) counter ≡ ok o → Fits o
-function-fits names b l few small counter low o h =
+functions-words : (m : Codegen) (fs : List Function) (n : ℕ) → n ≤ 2 ^ 20 → Each (λ (f : Function). length (f .params) ≤ n) fs → Words 0 (genFunctions m fs)
+unfolding genFunctions each
+functions-words m [] n h l = skip-words 0
+functions-words m (f ∷ fs) n h l = then-words 0 _ _ (function-words m f (omega (arith, l .0))) (functions-words m fs n h (l .1))
+
+each-named : (n : ℕ) (fs : List Function) → Each (FunctionLimits n) fs → Each (λ (f : Function). f .name < n) fs
+each-named n [] l = tt
+each-named n (f ∷ fs) l = (l .0 .0, each-named n fs (l .1))
+
+pub functions-fit : (names : List (List ℕ)) (b : Book) → Limits (length names) b → length names ≤ 131072 → length (encode b) ≤ 1048576 → (counter : ℕ) → counter ≤ 2 ^ 32
+    → (o : Out) → genFunctions (codegenOf names b) (b .functions) counter ≡ ok o → Fits o
+functions-fit names b l few small counter low o h =
     let s = book-sized b in
-    let next : o .next < 2 ^ 64 = omega (arith, function-labels (codegenOf names b) (b .function) .takes counter o h, s .labels) in
-    let w = function-words (codegenOf names b) (b .function) (omega (arith, s .params)) .words counter o h (omega arith) in
-    let k = all-keep names b (o .lines) (function-allows names b l .allows counter o h) in
-    record { operands = operands-fit names b few (l .function .0) (o .next) (omega arith) (o .lines) k w; next = next }
+    let next : o .next < 2 ^ 64 = omega (arith, functions-labels (codegenOf names b) (b .functions) .takes counter o h, s .labels) in
+    let w = functions-words (codegenOf names b) (b .functions) (length (encode b)) (omega arith) (s .params) .words counter o h (omega arith) in
+    let k = all-keep names b (o .lines) (functions-allow names b l .allows counter o h) in
+    record { operands = operands-fit names b few (each-named (length names) (b .functions) (l .functions .1)) (o .next) (omega arith) (o .lines) k w; next = next }
 
 -- ---- a sound book
 counter-low : (book names : List ℕ) (counter work : ℕ) (s : Sound) → checked book names counter work ≡ ok s → counter ≤ 2 ^ 32
@@ -231,19 +266,19 @@ counter-low book names counter work s h =
 
 -- "any number for `push`, `get_arg` and numbered labels": any that a word holds
 pub checked-fits : (book names : List ℕ) (counter work : ℕ) (s : Sound) → checked book names counter work ≡ ok s
-    → (o : Out) → genFunction (codegenOf (s .names) (s .book)) (s .book .function) counter ≡ ok o → Fits o
+    → (o : Out) → genFunctions (codegenOf (s .names) (s .book)) (s .book .functions) counter ≡ ok o → Fits o
 checked-fits book names counter work s h o e =
     let l = checked-lent book names counter work s h in
     let k = slice-sound book (l .counted) (l .read) .1 in
     let few : length (s .names) ≤ 131072 = omega (arith, names-counted (l .counted .count) names (s .names) (l .spelled), k .names) in
     let small : length (encode (s .book)) ≤ 1048576 = subst (λ (b : Book). length (encode b) ≤ 1048576) (l .same) (k .entries) in
-    function-fits (s .names) (s .book) (l .limits) few small counter (counter-low book names counter work s h) o e
+    functions-fit (s .names) (s .book) (l .limits) few small counter (counter-low book names counter work s h) o e
 
 pub generated-fits : (book names : List ℕ) (counter work room : ℕ) (o : Out) → generated book names counter work room ≡ ok o → Fits o
 unfolding generated
 generated-fits book names counter work room o h =
     let a = bind-ok (checked book names counter work) _ o h in
-    let c = bind-ok (genFunction (codegenOf (a .0 .names) (a .0 .book)) (a .0 .book .function) counter) _ o (a .2) in
+    let c = bind-ok (genFunctions (codegenOf (a .0 .names) (a .0 .book)) (a .0 .book .functions) counter) _ o (a .2) in
     let d = given-ok _ _ (c .0) o (c .2) in
     subst Fits (d .1) (checked-fits book names counter work (a .0) (a .1) (c .0) (c .1))
 

@@ -1,7 +1,7 @@
 -- codegen.rs: `gen_function`.
 use Prim.Native.Nat.{ℕ, _+_}
 use mathlib.Core.Bool.{cond}
-use mathlib.Core.List.{[]}
+use mathlib.Core.List.{List, []}
 use lib.Dec.{ltb}
 use Rattle.numbers.specs.Align.{alignUp}
 use Rattle.book.specs.Ast.{BasicBlock, Function}
@@ -67,7 +67,11 @@ module _ (m : Codegen) (f : Function) where
     fr ← framePass (m .structs) (allInsts (f .blocks)) noFrame
     genLines (contextOf fr) f (totalSlots fr)
 
+-- the functions in order, each beginning with the counter that the last one left
+unfoldable pub genFunctions : Codegen → List Function → Gen
+genFunctions m = each (genFunction m)
+
 -- opens every definition of this file, for an example that computes
 unfoldable pub openFunction : Unit {0}
-unfolding genBlock prologue genLines slotsOf contextOf totalSlots genFunction
+unfolding genBlock prologue genLines slotsOf contextOf totalSlots genFunction genFunctions
 openFunction = tt

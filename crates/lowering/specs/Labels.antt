@@ -10,7 +10,7 @@ use Rattle.lowering.specs.Context.{Codegen, FnCtx}
 use Rattle.lowering.specs.Arith.{genSelect}
 use Rattle.lowering.specs.Inst.{genKind, genInst}
 use Rattle.lowering.specs.Term.{genCondBr, genBr, genSwitch, genTerm}
-use Rattle.lowering.specs.Function.{genBlock, prologue, genLines, genFunction}
+use Rattle.lowering.specs.Function.{genBlock, prologue, genLines, genFunction, genFunctions}
 use Rattle.lowering.specs.Takes.{Takes, line-takes, skip-takes, refuse-takes, bind-takes, then-takes, when-takes, fresh-takes, reserve-takes, as-many, quiet}
 use Rattle.lowering.specs.Quiet.{add-takes, push-takes, dest-takes, bin-takes, conv-takes, icmp-takes, load-takes, store-takes, alloca-takes, gep-takes, call-takes, freeze-takes, atomic-load-takes, atomic-store-takes, width-takes, cmpxchg-takes, extract-takes, edge-takes, ret-takes, tests-takes, case-edges-takes}
 
@@ -131,3 +131,8 @@ module _ (c : FnCtx) where
 pub function-labels : (m : Codegen) (f : Function) → Takes (genFunction m f) (functionLabels f)
 unfolding genFunction
 function-labels m f = bind-takes _ _ (λ fr. lines-labels _ f _)
+
+-- the next counter of functions, one after the other
+pub functions-labels : (m : Codegen) (fs : List Function) → Takes (genFunctions m fs) (sumOf functionLabels fs)
+unfolding genFunctions
+functions-labels m fs = each-sum (genFunction m) functionLabels fs (function-labels m)

@@ -20,14 +20,14 @@ use Rattle.assembly.specs.Line.{Line}
 use Rattle.assembly.specs.Number.{kindOf, operandOf}
 use Rattle.assembly.specs.Text.{texts}
 use Rattle.assembly.specs.Lists.{AllAllowed, lines-of-numbers}
-use Rattle.assembly.specs.Printer.{Printed, printedNumber, refusing, writing, needed, print}
+use Rattle.assembly.specs.Printer.{Printed, printedNumber, refusing, writing, needed, first, print}
 use Rattle.lowering.specs.Gen.{Out}
 use Rattle.lowering.specs.Context.{codegenOf}
-use Rattle.lowering.specs.Function.{genFunction}
+use Rattle.lowering.specs.Function.{genFunctions}
 use Rattle.lowering.specs.Translate.{generated, Translation, Translating, over, replied, translate}
-use Rattle.lowering.specs.Labels.{functionLabels, function-labels}
+use Rattle.lowering.specs.Labels.{sumOf, functionLabels, functions-labels}
 use Rattle.lowering.specs.Allowed.{ok-some}
-use Rattle.lowering.specs.AllowedFunction.{function-allows}
+use Rattle.lowering.specs.AllowedFunction.{functions-allow}
 
 -- ---- a sound book: what was read, and that it keeps its limits
 pub record Lent (book names : List ℕ) (s : Sound) : Type 0 where
@@ -68,18 +68,18 @@ pub record Accepted (book names : List ℕ) (counter : ℕ) (o : Out) : Type 0 w
   pub sound : Sound
   pub lent : Lent book names sound
   pub allowed : AllAllowed (sound .names) (sound .book) (o .lines)
-  pub labels : o .next ≡ counter + functionLabels (sound .book .function)
+  pub labels : o .next ≡ counter + sumOf functionLabels (sound .book .functions)
 
 -- every line is allowed, they fit, and the next counter is the given one and the number of labels
 pub generated-allowed : (book names : List ℕ) (counter work room : ℕ) (o : Out) → generated book names counter work room ≡ ok o → Accepted book names counter o × (length (o .lines) ≤ room)
 unfolding generated
 generated-allowed book names counter work room o h =
     let a = bind-ok (checked book names counter work) _ o h in
-    let c = bind-ok (genFunction (codegenOf (a .0 .names) (a .0 .book)) (a .0 .book .function) counter) _ o (a .2) in
+    let c = bind-ok (genFunctions (codegenOf (a .0 .names) (a .0 .book)) (a .0 .book .functions) counter) _ o (a .2) in
     let d = given-ok _ _ (c .0) o (c .2) in
     let l = checked-lent book names counter work (a .0) (a .1) in
-    let f = function-allows (a .0 .names) (a .0 .book) (l .limits) .allows counter (c .0) (c .1) in
-    let k = function-labels (codegenOf (a .0 .names) (a .0 .book)) (a .0 .book .function) .takes counter (c .0) (c .1) in
+    let f = functions-allow (a .0 .names) (a .0 .book) (l .limits) .allows counter (c .0) (c .1) in
+    let k = functions-labels (codegenOf (a .0 .names) (a .0 .book)) (a .0 .book .functions) .takes counter (c .0) (c .1) in
     subst (λ (q : Out). Accepted book names counter q × (length (q .lines) ≤ room)) (d .1) (record { sound = a .0; lent = l; allowed = f; labels = k }, leb-true _ _ (d .0))
 
 -- ---- the printer
@@ -93,7 +93,7 @@ take-over f ls slice = go ls (drop (length (map f ls)) slice)
 
 -- the lines of an accepted translation print as their text
 pub prints-lines : (book names : List ℕ) (counter : ℕ) (o : Out) (a : Accepted book names counter o) (text : List ℕ)
-    → print book names (map kindOf (o .lines)) (map operandOf (o .lines)) text ≡ writing (texts (a .sound .names) (a .sound .book .function) (o .lines)) text
+    → print book names (map kindOf (o .lines)) (map operandOf (o .lines)) text ≡ writing (texts (a .sound .names) (first (a .sound .book .functions)) (o .lines)) text
 unfolding print needed
 prints-lines book names counter o a text =
     let l = a .lent in

@@ -10,13 +10,13 @@ use Rattle.assembly.specs.Number.{kindOf, operandOf}
 use Rattle.book.specs.Check.{checked}
 use Rattle.lowering.specs.Gen.{Out}
 use Rattle.lowering.specs.Context.{codegenOf}
-use Rattle.lowering.specs.Function.{genFunction}
+use Rattle.lowering.specs.Function.{genFunctions}
 
 -- ---- what is generated, for a work slice of `workLen` words and room for `room` lines
 unfoldable pub generated : (book names : List ℕ) → (counter workLen room : ℕ) → Result Out
 generated book names counter workLen room = do
   s ← checked book names counter workLen
-  out ← genFunction (codegenOf (s .names) (s .book)) (s .book .function) counter
+  out ← genFunctions (codegenOf (s .names) (s .book)) (s .book .functions) counter
   given (leb (length (out .lines)) room) 20 out
 
 -- ---- the reply
