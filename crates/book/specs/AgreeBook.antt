@@ -23,6 +23,10 @@ use Rattle.book.specs.Agree.{Begins, Sound, Complete, Heads, Agrees, no-
 use Rattle.book.specs.AgreeTy.{find-every, agrees-many, agrees-type}
 use Rattle.book.specs.AgreeInst.{inst-found, term-found, agrees-name, agrees-items, agrees-inst, agrees-term}
 
+-- a function's entry stands in front
+abbrev pub Five : List Entry → Type 0
+Five es = (x : ℕ) × ((rest : List Entry) × (es ≡ entry 5 x ∷ rest))
+
 -- an instruction stands below 90, a terminator not
 inst-more : (t : InstTag) → leb 90 (instKind t) ≡ false
 unfolding instTag instTags
@@ -158,6 +162,12 @@ module _ (m : ℕ) where
       complete [] r k = absurd (omega (arith, k .0))
       complete (f ∷ []) r k = rw (append-nil (encFunction f), agrees-function .complete f r (k .1 .0))
       complete (f ∷ g ∷ fs) r k = absurd (omega (arith, k .0))
+
+  -- there is one at least
+  pub functions-begin : (fs : List Function) → FunctionsLimits m fs → Five (encFunctions fs)
+  unfolding ending encFunction
+  functions-begin [] k = absurd (omega (arith, k .0))
+  functions-begin (f ∷ fs) k = (f .name, (_, refl))
 
   functions-stop : (stop : ℕ → Bool) → stop 5 ≡ true → Heads encFunctions (FunctionsLimits m) stop true
   unfolding stops ending encFunction

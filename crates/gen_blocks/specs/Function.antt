@@ -1,39 +1,130 @@
--- "exactly one 5, function": where it stands among a book's entries.
-use Prim.Native.Nat.{ℕ, _+_, _<_, _≤_, _^_}
+-- Where the functions stand among a book's entries: the first of them, and what stands behind each.
+use Prim.Native.Nat.{ℕ, _+_, _-_, _<_, _≤_, _^_}
 use mathlib.Core.Path.{_≡_, refl, sym, ap, _∙_, subst}
+use mathlib.Core.Logic.{_⊎_, inl, inr}
 use mathlib.Core.Option.{Option, none, some}
-use mathlib.Core.List.{List, [], _∷_, _++_, append-assoc}
+use mathlib.Core.List.{List, [], _∷_, _++_, append-assoc, append-nil}
 use native.Mathlib.Omega.{arith}
-use lib.ListN.{length, getD, drop}
-use Rattle.book.specs.Entry.{Entry, entries}
+use lib.ListN.{length, getD, drop, length-append, length-drop}
+use lib.Seq.{drop-drop, drop-append-seam}
+use Rattle.book.specs.Entry.{Entry, entry, entries}
 use Rattle.book.specs.Ast.{Ty, Function, StructType, StructBody, Mark, Book}
-use Rattle.book.specs.Decode.{decode}
-use Rattle.book.specs.Encode.{ending, encTy, encMark, markEntry, encStruct, encBody, encFunction, encode}
-use Rattle.book.specs.Limits.{Each, FunctionLimits}
-use Rattle.book.specs.AgreeBook.{decode-sound}
+use Rattle.book.specs.Read.{Read, got, bad}
+use Rattle.book.specs.Decode.{function, decode}
+use Rattle.book.specs.Encode.{ending, encTy, encMark, markEntry, encStruct, encBody, encFunction, encFunctions, encode}
+use Rattle.book.specs.Limits.{Each, FunctionLimits, FunctionsLimits}
+use Rattle.book.specs.AgreeBook.{Five, functions-begin, agrees-function, decode-sound}
 use Rattle.layout_memo.specs.Structs.{IsBook}
 use Rattle.gen_values.specs.Fields.{entry-at}
 use Rattle.gen_blocks.specs.Inside.{Inside, inside-ty}
 
--- the function of the book that the entries are
-abbrev functionOr : Option Book → Function
-functionOr none = record { name = 0; retTy = Ty.void; params = []; blocks = [] }
-functionOr (some b) = b .function
+-- the function that stands at the place a, and what stands behind it
+abbrev functionOr : Read Function → Function
+functionOr bad = record { name = 0; retTy = Ty.void; params = []; blocks = [] }
+functionOr (got f n) = f
 
-unfoldable pub functionIn : ℕ → List Entry → Function
-functionIn m es = functionOr (decode m es)
+unfoldable pub functionIn : (m : ℕ) → List Entry → (a : ℕ) → Function
+functionIn m es a = functionOr (function m (drop a es))
 
-pub function-is : (m : ℕ) (es : List Entry) (b : Book) → decode m es ≡ some b → functionIn m es ≡ b .function
+unfoldable pub behindIn : (m : ℕ) → List Entry → (a : ℕ) → List Entry
+behindIn m es a = drop (length (encFunction (functionIn m es a))) (drop a es)
+
+pub function-is : (m : ℕ) (es : List Entry) (a : ℕ) (f : Function) (rest : List Entry) → FunctionLimits m f → drop a es ≡ encFunction f ++ rest → functionIn m es a ≡ f
 unfolding functionIn
-function-is m es b e = ap functionOr e
+function-is m es a f rest l h = ap functionOr (ap (function m) h ∙ agrees-function m .complete f rest l)
 
--- its entry stands at the place a
-pub record FunctionAt (m : ℕ) (es : List Entry) (a : ℕ) : Type 0 where
-  pub here : drop a es ≡ encFunction (functionIn m es)
-  pub limits : FunctionLimits m (functionIn m es)
+pub behind-is : (m : ℕ) (es : List Entry) (a : ℕ) (f : Function) (rest : List Entry) → FunctionLimits m f → drop a es ≡ encFunction f ++ rest → behindIn m es a ≡ rest
+unfolding behindIn
+behind-is m es a f rest l h =
+    ap (λ (g : Function). drop (length (encFunction g)) (drop a es)) (function-is m es a f rest l h) ∙ ap (drop (length (encFunction f))) h ∙ drop-append-seam (encFunction f) rest
+
+-- the functions end at the place `last`: behind one of them stands another, or it ends there
+pub record Behind (es : List Entry) (last : ℕ) (rest : List Entry) : Type 0 where
+  pub within : length es ≤ last + length rest
+  pub next : (last + length rest ≡ length es) ⊎ Five rest
+
+pub record FunctionAt (m : ℕ) (es : List Entry) (last a : ℕ) : Type 0 where
+  pub here : drop a es ≡ encFunction (functionIn m es a) ++ behindIn m es a
+  pub limits : FunctionLimits m (functionIn m es a)
+  pub behind : Behind es last (behindIn m es a)
+  pub within : last ≤ length es
   pub few : length es ≤ 2 ^ 20
 
--- ---- before it: no entry of kind 5
+-- ---- these functions stand from the place a on, up to `last`
+pub record FunctionsAt (m : ℕ) (es : List Entry) (last a : ℕ) (fs : List Function) : Type 0 where
+  pub end : List Entry
+  pub here : drop a es ≡ ending encFunction end fs
+  pub limits : Each (FunctionLimits m) fs
+  pub ends : last + length end ≡ length es
+  pub there : a ≤ length es
+  pub few : length es ≤ 2 ^ 20
+
+function-long : (f : Function) → 1 ≤ length (encFunction f)
+unfolding encFunction
+function-long f = omega arith
+
+ending-within : (end : List Entry) (fs : List Function) → length end ≤ length (ending encFunction end fs)
+unfolding ending
+ending-within end [] = omega arith
+ending-within end (f ∷ fs) = omega (arith, ending-within end fs, length-append (encFunction f) (ending encFunction end fs))
+
+behind-rest : (es : List Entry) (last : ℕ) (end : List Entry) (fs : List Function) → last + length end ≡ length es → Behind es last (ending encFunction end fs)
+unfolding ending encFunction
+behind-rest es last end [] e = record { within = omega arith; next = inl e }
+behind-rest es last end (f ∷ fs) e = record { within = omega (arith, ending-within end (f ∷ fs)); next = inr (f .name, (_, refl)) }
+
+module _ {m : ℕ} {es : List Entry} {last a : ℕ} where
+  -- none is left
+  pub functions-none : FunctionsAt m es last a [] → a ≡ last
+  unfolding ending
+  functions-none k = omega (arith, ap length (k .here), length-drop a es, k .ends, k .there)
+
+  module _ {f : Function} {fs : List Function} (k : FunctionsAt m es last a (f ∷ fs)) where
+    front : drop a es ≡ encFunction f ++ ending encFunction (k .end) fs
+    unfolding ending
+    front = k .here
+
+    pub first-is : functionIn m es a ≡ f
+    first-is = function-is m es a f _ (k .limits .0) front
+
+    rest-is : behindIn m es a ≡ ending encFunction (k .end) fs
+    rest-is = behind-is m es a f _ (k .limits .0) front
+
+    pub first-at : FunctionAt m es last a
+    first-at =
+        record {
+          here = front ∙ ap (λ (g : Function). encFunction g ++ ending encFunction (k .end) fs) (sym first-is) ∙ ap (λ (r : List Entry). encFunction (functionIn m es a) ++ r) (sym rest-is);
+          limits = subst (FunctionLimits m) (sym first-is) (k .limits .0);
+          behind = subst (Behind es last) (sym rest-is) (behind-rest es last (k .end) fs (k .ends));
+          within = omega (arith, k .ends);
+          few = k .few;
+        }
+
+    pub first-before : a < last
+    first-before =
+        omega (arith, ap length front, length-append (encFunction f) (ending encFunction (k .end) fs), length-drop a es, behind-rest es last (k .end) fs (k .ends) .within, function-long f, k .ends, k .there)
+
+    -- the place behind it
+    pub next-at : (e : ℕ) → e ≤ length es → drop e es ≡ behindIn m es a → FunctionsAt m es last e fs
+    next-at e l h = record { end = k .end; here = h ∙ rest-is; limits = k .limits .1; ends = k .ends; there = l; few = k .few }
+
+-- ---- the book's
+abbrev functionsOr : Option Book → List Function
+functionsOr none = []
+functionsOr (some b) = b .functions
+
+unfoldable pub functionsIn : ℕ → List Entry → List Function
+functionsIn m es = functionsOr (decode m es)
+
+pub functions-are : (m : ℕ) (es : List Entry) (b : Book) → decode m es ≡ some b → functionsIn m es ≡ b .functions
+unfolding functionsIn
+functions-are m es b e = ap functionsOr e
+
+-- the place behind the last function
+abbrev pub lastOf : List Entry → ℕ
+lastOf es = length es
+
+-- ---- before the first: no entry of kind 5
 abbrev Other : Entry → Type 0
 Other e = e .kind ≡ 5 → ⊥
 
@@ -59,35 +150,35 @@ unfolding encStruct
 other-struct s = ((λ e. omega arith), other-body (s .body))
 
 -- the entries in front of an end
-front : {A : Type 0} (write : A → List Entry) → ((a : A) → Each Other (write a)) → (end : List Entry) (as′ : List A)
+front-of : {A : Type 0} (write : A → List Entry) → ((a : A) → Each Other (write a)) → (end : List Entry) (as′ : List A)
     → (pre : List Entry) × ((ending write end as′ ≡ pre ++ end) × Each Other pre)
 unfolding ending
-front write all end [] = ([], (refl, tt))
-front write all end (a ∷ as′) =
-    let r = front write all end as′ in
+front-of write all end [] = ([], (refl, tt))
+front-of write all end (a ∷ as′) =
+    let r = front-of write all end as′ in
     (write a ++ r .0, (ap (λ x. write a ++ x) (r .1 .0) ∙ sym (append-assoc (write a) (r .0) end), other-append (write a) (r .0) (all a) (r .1 .1)))
 
 -- a scan for it: at the place a
 pub record Scanning (m : ℕ) (es : List Entry) (a : ℕ) : Type 0 where
   pub pre : List Entry
-  pub here : drop a es ≡ pre ++ encFunction (functionIn m es)
+  pub here : drop a es ≡ pre ++ encFunctions (functionsIn m es)
   pub other : Each Other pre
-  pub limits : FunctionLimits m (functionIn m es)
+  pub limits : FunctionsLimits m (functionsIn m es)
   pub few : length es ≤ 2 ^ 20
 
 pub scan-start : (m : ℕ) (es : List Entry) → IsBook m es → Scanning m es 0
 unfolding encode
 scan-start m es b =
     let s = decode-sound m es (b .book) (b .says) in
-    let f = function-is m es (b .book) (b .says) in
-    let fn = b .book .function in
-    let q = front encStruct other-struct (encFunction fn) (b .book .structs) in
-    let p = front encMark other-mark (ending encStruct (encFunction fn) (b .book .structs)) (b .book .marks) in
+    let e = functions-are m es (b .book) (b .says) in
+    let fs = b .book .functions in
+    let q = front-of encStruct other-struct (encFunctions fs) (b .book .structs) in
+    let p = front-of encMark other-mark (ending encStruct (encFunctions fs) (b .book .structs)) (b .book .marks) in
     record {
       pre = p .0 ++ q .0;
-      here = s .0 ∙ p .1 .0 ∙ ap (λ x. p .0 ++ x) (q .1 .0) ∙ sym (append-assoc (p .0) (q .0) (encFunction fn)) ∙ ap (λ x. (p .0 ++ q .0) ++ encFunction x) (sym f);
+      here = s .0 ∙ p .1 .0 ∙ ap (λ x. p .0 ++ x) (q .1 .0) ∙ sym (append-assoc (p .0) (q .0) (encFunctions fs)) ∙ ap (λ (x : List Function). (p .0 ++ q .0) ++ encFunctions x) (sym e);
       other = other-append (p .0) (q .0) (p .1 .1) (q .1 .1);
-      limits = subst (FunctionLimits m) (sym f) (s .1 .function);
+      limits = subst (FunctionsLimits m) (sym e) (s .1 .functions);
       few = b .few;
     }
 
@@ -95,26 +186,27 @@ module _ (m : ℕ) (ks ws : List ℕ) (a : ℕ) (s : Scanning m (entries ks ws) 
   abbrev es : List Entry
   es = entries ks ws
 
-  abbrev fn : Function
-  fn = functionIn m (entries ks ws)
+  abbrev fs : List Function
+  fs = functionsIn m (entries ks ws)
 
-  view : (pre : List Entry) → drop a es ≡ pre ++ encFunction fn → Each Other pre
-      → (a < length ks) × ((getD ks a 0 ≡ 5 → FunctionAt m es a) × ((getD ks a 0 ≡ 5 → ⊥) → Scanning m es (a + 1)))
-  unfolding encFunction
+  view : (pre : List Entry) → drop a es ≡ pre ++ encFunctions fs → Each Other pre
+      → (a < length ks) × ((getD ks a 0 ≡ 5 → FunctionsAt m es (lastOf es) a fs) × ((getD ks a 0 ≡ 5 → ⊥) → Scanning m es (a + 1)))
   view [] h o =
-      let q = entry-at ks ws a _ _ h in
-      (q .2, ((λ _. record { here = h; limits = s .limits; few = s .few }), λ n. absurd (n (q .0))))
+      let f = functions-begin m fs (s .limits) in
+      let q = entry-at ks ws a _ _ (h ∙ f .1 .1) in
+      let there : a ≤ length es = omega (arith, ap length (h ∙ f .1 .1), length-drop a es) in
+      (q .2, ((λ _. record { end = []; here = h; limits = s .limits .1; ends = omega arith; there = there; few = s .few }), λ n. absurd (n (q .0))))
   view (e ∷ pre) h o =
       let q = entry-at ks ws a _ _ h in
       (q .2, ((λ k. absurd (o .0 (sym (q .0) ∙ k))), λ _. record { pre = pre; here = q .4; other = o .1; limits = s .limits; few = s .few }))
 
-  seen : (a < length ks) × ((getD ks a 0 ≡ 5 → FunctionAt m es a) × ((getD ks a 0 ≡ 5 → ⊥) → Scanning m es (a + 1)))
+  seen : (a < length ks) × ((getD ks a 0 ≡ 5 → FunctionsAt m es (lastOf es) a fs) × ((getD ks a 0 ≡ 5 → ⊥) → Scanning m es (a + 1)))
   seen = view (s .pre) (s .here) (s .other)
 
   pub scan-there : a < length ks
   scan-there = seen .0
 
-  pub scan-done : getD ks a 0 ≡ 5 → FunctionAt m es a
+  pub scan-done : getD ks a 0 ≡ 5 → FunctionsAt m es (lastOf es) a fs
   scan-done = seen .1 .0
 
   pub scan-next : (getD ks a 0 ≡ 5 → ⊥) → Scanning m es (a + 1)

@@ -23,56 +23,61 @@ use Rattle.layout_memo.specs.Calls.{lent}
 use Rattle.gen_values.specs.Maps.{numbered}
 use Rattle.gen_values.specs.Fields.{entry-at}
 use Rattle.gen_blocks.specs.Words.{WordsKept, words-none, words-set}
-use Rattle.gen_blocks.specs.Function.{functionIn, FunctionAt}
+use Rattle.gen_blocks.specs.Function.{functionIn, behindIn, FunctionAt}
 
 -- a list and what stands behind it
-ending-append : {A : Type 0} (write : A → List Entry) (end rest : List Entry) (as′ : List A) → ending write end as′ ++ rest ≡ ending write (end ++ rest) as′
+pub ending-append : {A : Type 0} (write : A → List Entry) (end rest : List Entry) (as′ : List A) → ending write end as′ ++ rest ≡ ending write (end ++ rest) as′
 unfolding ending
 ending-append write end rest [] = refl
 ending-append write end rest (a ∷ as′) = append-assoc (write a) (ending write end as′) rest ∙ ap (λ x. write a ++ x) (ending-append write end rest as′)
 
--- behind the parameters
-unfoldable pub blocksOf : ℕ → List Entry → List Entry
-blocksOf m es = closed encBasicBlock (functionIn m es .blocks)
+-- behind the parameters of the function at the place a
+unfoldable pub blocksOf : ℕ → List Entry → (a : ℕ) → List Entry
+blocksOf m es a = closed encBasicBlock (functionIn m es a .blocks) ++ behindIn m es a
 
--- at the place a of the list, where the parameter i may stand
-pub record ParamsAt (m : ℕ) (es : List Entry) (work : List ℕ) (a i : ℕ) : Type 0 where
+-- at the place a of the list of the function at `fn`, where the parameter i may stand
+pub record ParamsAt (m : ℕ) (es : List Entry) (fn : ℕ) (work : List ℕ) (a i : ℕ) : Type 0 where
   pub left : List Param
   pub done : Map ℕ
-  pub here : drop a es ≡ ending encParam (entry 0 0 ∷ blocksOf m es) left
+  pub here : drop a es ≡ ending encParam (entry 0 0 ∷ blocksOf m es fn) left
   pub limits : Each (ParamLimits m) left
-  pub goes : paramMap i left done ≡ paramMap 0 (functionIn m es .params) []
+  pub goes : paramMap i left done ≡ paramMap 0 (functionIn m es fn .params) []
   pub words : (x : ℕ) → x < m → getD work (8 * x) 0 ≡ numbered (lookup x done)
   pub room : 8 * m ≤ length work
   pub small : i ≤ a
   pub few : length es ≤ 2 ^ 20
 
 -- what `place_params` asks and leaves
-pub record ParamsAsked (m : ℕ) (es : List Entry) (work : List ℕ) (a : ℕ) : Type 0 where
-  pub fn : FunctionAt m es a
+pub record ParamsAsked (m : ℕ) (es : List Entry) (last : ℕ) (work : List ℕ) (a : ℕ) : Type 0 where
+  pub fn : FunctionAt m es last a
   pub room : 8 * m ≤ length work
   pub blank : (x : ℕ) → x < m → getD work (8 * x) 0 ≡ 0
 
-pub record ParamsPlaced (m : ℕ) (es : List Entry) (work work′ : List ℕ) (r : ℕ) : Type 0 where
-  pub words : (x : ℕ) → x < m → getD work′ (8 * x) 0 ≡ numbered (lookup x (paramMap 0 (functionIn m es .params) []))
-  pub blocks : drop r es ≡ blocksOf m es
+pub record ParamsPlaced (m : ℕ) (es : List Entry) (fn : ℕ) (work work′ : List ℕ) (r : ℕ) : Type 0 where
+  pub words : (x : ℕ) → x < m → getD work′ (8 * x) 0 ≡ numbered (lookup x (paramMap 0 (functionIn m es fn .params) []))
+  pub blocks : drop r es ≡ blocksOf m es fn
   pub there : r ≤ length es
   pub kept : WordsKept m 0 work work′
 
 -- ---- the return type
-module _ (m : ℕ) (ks ws work : List ℕ) (a : ℕ) (k : ParamsAsked m (entries ks ws) work a) where
+module _ (m : ℕ) (ks ws : List ℕ) (last : ℕ) (work : List ℕ) (a : ℕ) (k : ParamsAsked m (entries ks ws) last work a) where
   abbrev book : List Entry
   book = entries ks ws
 
   abbrev fn : Function
-  fn = functionIn m (entries ks ws)
+  fn = functionIn m (entries ks ws) a
 
   abbrev later : List Entry
-  later = closed encParam (fn .params) ++ blocksOf m book
+  later = closed encParam (fn .params) ++ blocksOf m book a
 
   return-type : (a < length ks) × (a < length ws) × (drop (a + 1) book ≡ encTy (fn .retTy) ++ later)
   unfolding encFunction blocksOf
-  return-type = let q = entry-at ks ws a _ _ (k .fn .here) in (q .2, q .3, q .4)
+  return-type =
+      let q = entry-at ks ws a _ _ (k .fn .here) in
+      let p = closed encParam (fn .params) in
+      let b = closed encBasicBlock (fn .blocks) in
+      let r = behindIn m (entries ks ws) a in
+      (q .2, q .3, q .4 ∙ append-assoc (encTy (fn .retTy)) (p ++ b) r ∙ ap (λ (x : List Entry). encTy (fn .retTy) ++ x) (append-assoc p b r))
 
   pub return-kinds : a + 1 ≤ length ks
   return-kinds = omega (arith, return-type .0)
@@ -96,13 +101,13 @@ module _ (m : ℕ) (ks ws work : List ℕ) (a : ℕ) (k : ParamsAsked m (entries
     pub return-fits : a + 1 + n ≤ 1048576
     return-fits = omega (arith, length-is, ap length (return-type .2), length-append (encTy (fn .retTy)) later, length-drop (a + 1) book, k .fn .few, enc-pos (fn .retTy))
 
-    pub params-start : ParamsAt m book work (a + 1 + n) 0
+    pub params-start : ParamsAt m book a work (a + 1 + n) 0
     unfolding lookup
     params-start =
         record {
           left = fn .params;
           done = [];
-          here = behind ∙ ending-append encParam (entry 0 0 ∷ []) (blocksOf m book) (fn .params);
+          here = behind ∙ ending-append encParam (entry 0 0 ∷ []) (blocksOf m book a) (fn .params);
           limits = k .fn .limits .1 .1 .0;
           goes = refl;
           words = k .blank;
@@ -112,12 +117,12 @@ module _ (m : ℕ) (ks ws work : List ℕ) (a : ℕ) (k : ParamsAsked m (entries
         }
 
 -- ---- a parameter
-pub record AtParam (m : ℕ) (ks ws work : List ℕ) (a i : ℕ) : Type 0 where
-  pub params : ParamsAt m (entries ks ws) work a i
+pub record AtParam (m : ℕ) (ks ws : List ℕ) (fn : ℕ) (work : List ℕ) (a i : ℕ) : Type 0 where
+  pub params : ParamsAt m (entries ks ws) fn work a i
   pub kind : getD ks a 0 ≡ 6
 
-pub record NextParam (m : ℕ) (es : List Entry) (work work′ : List ℕ) (a i r : ℕ) : Type 0 where
-  pub next : ParamsAt m es work′ r (i + 1)
+pub record NextParam (m : ℕ) (es : List Entry) (fn : ℕ) (work work′ : List ℕ) (a i r : ℕ) : Type 0 where
+  pub next : ParamsAt m es fn work′ r (i + 1)
   pub more : a < r
   pub kept : WordsKept m 0 work work′
 
@@ -135,12 +140,12 @@ module _ (m : ℕ) (work : List ℕ) (done : Map ℕ) (words : (x : ℕ) → x <
           let n = eqb-false x y e in
           getD-set-other work (8 * y) (8 * x) (i + 1) 0 (λ z. n (omega arith)) ∙ words x lx
 
-module _ (m : ℕ) (ks ws work : List ℕ) (a i : ℕ) (p : ParamsAt m (entries ks ws) work a i) where
+module _ (m : ℕ) (ks ws : List ℕ) (fn : ℕ) (work : List ℕ) (a i : ℕ) (p : ParamsAt m (entries ks ws) fn work a i) where
   abbrev es : List Entry
   es = entries ks ws
 
   abbrev rest : List Param → List Entry
-  rest = ending encParam (entry 0 0 ∷ blocksOf m (entries ks ws))
+  rest = ending encParam (entry 0 0 ∷ blocksOf m (entries ks ws) fn)
 
   -- what stands at the place
   pub record Here : Type 0 where
@@ -151,7 +156,7 @@ module _ (m : ℕ) (ks ws work : List ℕ) (a i : ℕ) (p : ParamsAt m (entries 
     pub type : drop (a + 1) es ≡ encTy (param .ty) ++ rest others
 
   view : (ps : List Param) → p .left ≡ ps → drop a es ≡ rest ps
-      → (a < length ks) × ((a < length ws) × (((getD ks a 0 ≡ 6 → ⊥) → (ps ≡ []) × (drop (a + 1) es ≡ blocksOf m es)) × (getD ks a 0 ≡ 6 → Here)))
+      → (a < length ks) × ((a < length ws) × (((getD ks a 0 ≡ 6 → ⊥) → (ps ≡ []) × (drop (a + 1) es ≡ blocksOf m es fn)) × (getD ks a 0 ≡ 6 → Here)))
   unfolding ending encParam
   view [] e h =
       let q = entry-at ks ws a _ _ h in
@@ -160,7 +165,7 @@ module _ (m : ℕ) (ks ws work : List ℕ) (a i : ℕ) (p : ParamsAt m (entries 
       let q = entry-at ks ws a _ _ h in
       (q .2, (q .3, ((λ n. absurd (n (q .0))), λ _. record { param = x; others = xs; is = e; word = q .1; type = q .4 })))
 
-  seen : (a < length ks) × ((a < length ws) × (((getD ks a 0 ≡ 6 → ⊥) → (p .left ≡ []) × (drop (a + 1) es ≡ blocksOf m es)) × (getD ks a 0 ≡ 6 → Here)))
+  seen : (a < length ks) × ((a < length ws) × (((getD ks a 0 ≡ 6 → ⊥) → (p .left ≡ []) × (drop (a + 1) es ≡ blocksOf m es fn)) × (getD ks a 0 ≡ 6 → Here)))
   seen = view (p .left) refl (p .here)
 
   pub params-kinds : a + 1 ≤ length ks
@@ -181,7 +186,7 @@ module _ (m : ℕ) (ks ws work : List ℕ) (a i : ℕ) (p : ParamsAt m (entries 
   params-few = omega (arith, there, p .few)
 
   -- behind the last
-  pub params-done : (getD ks a 0 ≡ 6 → ⊥) → {work₀ : List ℕ} → WordsKept m 0 work₀ work → ParamsPlaced m es work₀ work (a + 1)
+  pub params-done : (getD ks a 0 ≡ 6 → ⊥) → {work₀ : List ℕ} → WordsKept m 0 work₀ work → ParamsPlaced m es fn work₀ work (a + 1)
   unfolding paramMap
   params-done n kept =
       let d = seen .1 .1 .0 n in
@@ -199,7 +204,7 @@ module _ (m : ℕ) (ks ws work : List ℕ) (a i : ℕ) (p : ParamsAt m (entries 
     limits-here : Each (ParamLimits m) (here .param ∷ here .others)
     limits-here = subst (Each (ParamLimits m)) (here .is) (p .limits)
 
-    goes-here : paramMap (i + 1) (here .others) (insert (here .param .name) i (p .done)) ≡ paramMap 0 (functionIn m es .params) []
+    goes-here : paramMap (i + 1) (here .others) (insert (here .param .name) i (p .done)) ≡ paramMap 0 (functionIn m es fn .params) []
     unfolding paramMap
     goes-here = sym (ap (λ (ps : List Param). paramMap i ps (p .done)) (here .is)) ∙ p .goes
 
@@ -235,7 +240,7 @@ module _ (m : ℕ) (ks ws work : List ℕ) (a i : ℕ) (p : ParamsAt m (entries 
       type-fits = omega (arith, type-length, ap length (here .type), length-append (encTy (here .param .ty)) (rest (here .others)), length-drop (a + 1) es, p .few, there)
 
       next-with : (work′ : List ℕ) → length work′ ≡ length work
-          → ((x : ℕ) → x < m → getD work′ (8 * x) 0 ≡ numbered (lookup x (insert (here .param .name) i (p .done)))) → ParamsAt m es work′ (a + 1 + n) (i + 1)
+          → ((x : ℕ) → x < m → getD work′ (8 * x) 0 ≡ numbered (lookup x (insert (here .param .name) i (p .done)))) → ParamsAt m es fn work′ (a + 1 + n) (i + 1)
       next-with work′ long words =
           record {
             left = here .others;
@@ -250,7 +255,7 @@ module _ (m : ℕ) (ks ws work : List ℕ) (a i : ℕ) (p : ParamsAt m (entries 
           }
 
       -- without a name
-      pub next-unnamed : getD ws a 0 ≡ 0 → NextParam m es work work a i (a + 1 + n)
+      pub next-unnamed : getD ws a 0 ≡ 0 → NextParam m es fn work work a i (a + 1 + n)
       unfolding insert
       next-unnamed z =
           let e = none-of (here .param .name) refl z in
@@ -261,7 +266,7 @@ module _ (m : ℕ) (ks ws work : List ℕ) (a i : ℕ) (p : ParamsAt m (entries 
           }
 
       -- with one
-      pub next-named : (getD ws a 0 ≡ 0 → ⊥) → NextParam m es work (set work (8 * (getD ws a 0 - 1)) (i + 1)) a i (a + 1 + n)
+      pub next-named : (getD ws a 0 ≡ 0 → ⊥) → NextParam m es fn work (set work (8 * (getD ws a 0 - 1)) (i + 1)) a i (a + 1 + n)
       next-named z =
           let q = name-of (here .param .name) refl z in
           let y = q .0 in

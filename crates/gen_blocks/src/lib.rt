@@ -1,18 +1,19 @@
-// Work words 0 and 2 of names: the function's parameters and its blocks. The entries are the whole book's, so that the
+// Work words 0 and 2 of names: a function's parameters and its blocks. The entries are the whole book's, so that the
 // places noted count from its first entry. `names` is the number of the book's names.
-use book_types::shorter;
 use layout_memo::skip;
 ghost use mathlib.Core.Path.{_≡_};
 ghost use Rattle.book.specs.Entry.{entries};
 ghost use Rattle.layout_memo.specs.Structs.{IsBook};
-ghost use Rattle.gen_blocks.specs.Function.{FunctionAt};
+ghost use Prim.Native.Nat.{ℕ};
+ghost use Rattle.gen_blocks.specs.Function.{FunctionsAt, functionsIn, lastOf};
 ghost use Rattle.gen_blocks.specs.Params.{AtParam, NextParam, ParamsAsked, ParamsPlaced};
 ghost use Rattle.gen_blocks.specs.Blocks.{BlocksAsked, BlocksPlaced, FunctionAsked, FunctionPlaced};
 
-// The place of the function's entry.
+// The place of the first function's entry.
 pub fn find_function(kinds: &[u64], words: &[u64], names: u64) -> usize
     requires { ⌜ IsBook names (entries (now kinds) (now words)) ⌝ }
-    ensures { λ r. ⌜ FunctionAt names (entries (now (kinds .entry)) (now (words .entry))) r ⌝ }
+    ensures { λ r. ⌜ FunctionsAt names (entries (now (kinds .entry)) (now (words .entry))) (lastOf (entries (now (kinds .entry)) (now (words .entry)))) r
+        (functionsIn names (entries (now (kinds .entry)) (now (words .entry)))) ⌝ }
 {
     let mut at: usize = 0;
     while kinds[at] != 5 {
@@ -30,8 +31,9 @@ fn place_param(
     at: usize,
     index: u64,
 ) -> usize
-    requires { ⌜ AtParam names (now kinds) (now words) (now work) at index ⌝ }
-    ensures { λ r. ⌜ NextParam names (entries (now (kinds .entry)) (now (words .entry))) (now (work .entry)) (now (work .exit)) at index r ⌝ }
+    requires { ⌜ ((fn : ℕ) × AtParam names (now kinds) (now words) fn (now work) at index) ⌝ }
+    ensures { λ r. ⌜ ((fn : ℕ) → AtParam names (now (kinds .entry)) (now (words .entry)) fn (now (work .entry)) at index
+        → NextParam names (entries (now (kinds .entry)) (now (words .entry))) fn (now (work .entry)) (now (work .exit)) at index r) ⌝ }
 {
     let name = words[at];
     let ty = at + 1;
@@ -43,10 +45,17 @@ fn place_param(
     next
 }
 
-// Notes all parameters of the function at the place, and answers the place of its list of blocks.
-fn place_params(kinds: &[u64], words: &[u64], work: &mut [u64], names: u64, at: usize) -> usize
-    requires { ⌜ ParamsAsked names (entries (now kinds) (now words)) (now work) at ⌝ }
-    ensures { λ r. ⌜ ParamsPlaced names (entries (now (kinds .entry)) (now (words .entry))) (now (work .entry)) (now (work .exit)) r ⌝ }
+// Notes all parameters of the function at the place, and answers the place of its list of blocks. The functions end at `last`.
+fn place_params(
+    kinds: &[u64],
+    words: &[u64],
+    work: &mut [u64],
+    names: u64,
+    at: usize,
+    last: usize,
+) -> usize
+    requires { ⌜ ParamsAsked names (entries (now kinds) (now words)) last (now work) at ⌝ }
+    ensures { λ r. ⌜ ParamsPlaced names (entries (now (kinds .entry)) (now (words .entry))) at (now (work .entry)) (now (work .exit)) r ⌝ }
 {
     let ty = at + 1;
     let mut next = ty + skip(&kinds[ty..], &words[ty..], names);
@@ -58,34 +67,52 @@ fn place_params(kinds: &[u64], words: &[u64], work: &mut [u64], names: u64, at: 
     next + 1
 }
 
-// Notes all blocks of the list at the place, which ends the book: for each, the place of its first instruction.
-fn place_blocks(kinds: &[u64], words: &[u64], work: &mut [u64], names: u64, at: usize)
-    requires { ⌜ BlocksAsked names (entries (now kinds) (now words)) (now work) at ⌝ }
-    ensures { λ _. ⌜ BlocksPlaced names (entries (now (kinds .entry)) (now (words .entry))) (now (work .entry)) (now (work .exit)) ⌝ }
+// Notes all blocks of the list at the place: for each, the place of its first instruction. Answers where the function ends: at the
+// next one's entry, or at `last`.
+fn place_blocks(
+    kinds: &[u64],
+    words: &[u64],
+    work: &mut [u64],
+    names: u64,
+    at: usize,
+    last: usize,
+) -> usize
+    requires { ⌜ ((fn : ℕ) × BlocksAsked names (entries (now kinds) (now words)) fn last (now work) at) ⌝ }
+    ensures { λ r. ⌜ ((fn : ℕ) → BlocksAsked names (entries (now (kinds .entry)) (now (words .entry))) fn last (now (work .entry)) at
+        → BlocksPlaced names (entries (now (kinds .entry)) (now (words .entry))) fn (now (work .entry)) (now (work .exit)) r) ⌝ }
 {
-    let end = shorter(kinds, words);
     let mut next = at;
-    while next < end {
+    while next < last {
+        if kinds[next] == 5 {
+            return next;
+        }
         if kinds[next] == 7 {
             work[8 * (words[next] as usize) + 2] = (next + 2) as u64;
         }
         next = next + 1;
     }
+    next
 }
 
-// Notes the parameters and the blocks of the function at the place, in words that are 0, and answers the place of its list
-// of blocks.
+// Where a function's list of blocks stands, and where the function ends.
+pub struct Placed {
+    pub blocks: usize,
+    pub end: usize,
+}
+
+// Notes the parameters and the blocks of the function at the place, in words that are 0. The functions end at `last`.
 pub fn place_function(
     kinds: &[u64],
     words: &[u64],
     work: &mut [u64],
     names: u64,
     at: usize,
-) -> usize
-    requires { ⌜ FunctionAsked names (entries (now kinds) (now words)) (now work) at ⌝ }
-    ensures { λ r. ⌜ FunctionPlaced names (entries (now (kinds .entry)) (now (words .entry))) (now (work .entry)) (now (work .exit)) r ⌝ }
+    last: usize,
+) -> Placed
+    requires { ⌜ FunctionAsked names (entries (now kinds) (now words)) last (now work) at ⌝ }
+    ensures { λ r. ⌜ FunctionPlaced names (entries (now (kinds .entry)) (now (words .entry))) at (now (work .entry)) (now (work .exit)) r ⌝ }
 {
-    let blocks = place_params(kinds, words, work, names, at);
-    place_blocks(kinds, words, work, names, blocks);
-    blocks
+    let blocks = place_params(kinds, words, work, names, at, last);
+    let end = place_blocks(kinds, words, work, names, blocks, last);
+    Placed { blocks, end }
 }

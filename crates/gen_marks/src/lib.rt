@@ -1,6 +1,7 @@
 // Work word 5 of each name: how a global of that name is called. 2 for a name that starts `__uvm_`, 3 for `bcmp` and `memcmp`,
 // 1 for another that is defined here, else 0; and 4 more where the name contains `.with.overflow.`. Until this is placed, the word
 // holds where the next name starts, as the check has noted it.
+use book_types::shorter;
 use names_spelling::name_starts;
 ghost use mathlib.Core.Path.{_≡_};
 ghost use Prim.Native.Nat.{ℕ, _<_};
@@ -16,7 +17,7 @@ ghost use Rattle.book.specs.Decode.{decode};
 ghost use Rattle.lowering.specs.Context.{codegenOf};
 ghost use Rattle.gen_marks.specs.Mark.{spelled as spelledAs, withOverflow, definedMark};
 ghost use Rattle.gen_marks.specs.Spelling.{Ended, SpellAsked, SpellDone};
-ghost use Rattle.gen_marks.specs.Defined.{DefineAsked, DefineDone, MarksAsked, MarksPlaced};
+ghost use Rattle.gen_marks.specs.Defined.{defines as definesOf, DefineAsked, DefineDone, MarksAsked, MarksPlaced};
 
 // Whether the name at `at` starts `__uvm_`. Most have another first byte.
 fn is_syscall(names: &[u8], at: usize) -> bool
@@ -110,14 +111,22 @@ fn spell_marks(names: &[u8], work: &mut [u64], count: u64)
     }
 }
 
-// The names that the book's marks define.
+// Whether an entry of this kind defines the name that is its word: a mark, or a function.
+fn defines(kind: u64) -> bool
+    ensures { λ r. ⌜ r ≡ definesOf kind ⌝ }
+{
+    (kind == 1) | (kind == 5)
+}
+
+// The names that the book's marks and functions define.
 fn define_marks(kinds: &[u64], words: &[u64], work: &mut [u64], count: u64)
     requires { ⌜ DefineAsked count (entries (now kinds) (now words)) (now work) ⌝ }
     ensures { λ _. ⌜ DefineDone count (entries (now (kinds .entry)) (now (words .entry))) (now (work .entry)) (now (work .exit)) ⌝ }
 {
+    let end = shorter(kinds, words);
     let mut at: usize = 0;
-    while kinds[at] < 3 {
-        if kinds[at] == 1 {
+    while at < end {
+        if defines(kinds[at]) {
             let place = 8 * (words[at] as usize) + 5;
             work[place] = defined(work[place]);
         }
@@ -125,22 +134,13 @@ fn define_marks(kinds: &[u64], words: &[u64], work: &mut [u64], count: u64)
     }
 }
 
-// The marks of all names: the names are `count`, and the function's entry stands at the place `at` of the book's entries.
-pub fn place_marks(
-    kinds: &[u64],
-    words: &[u64],
-    names: &[u8],
-    work: &mut [u64],
-    count: u64,
-    at: usize,
-)
-    requires { ⌜ MarksAsked (now names) count (entries (now kinds) (now words)) (now work) at ⌝ }
+// The marks of all names: the names are `count`.
+pub fn place_marks(kinds: &[u64], words: &[u64], names: &[u8], work: &mut [u64], count: u64)
+    requires { ⌜ MarksAsked (now names) count (entries (now kinds) (now words)) (now work) ⌝ }
     ensures { λ _. ⌜ ((ns : List (List ℕ)) (b : Book) → namesOf (now (names .entry)) ≡ some ns
         → decode count (entries (now (kinds .entry)) (now (words .entry))) ≡ some b
         → MarksPlaced count (codegenOf ns b) (now (work .entry)) (now (work .exit))) ⌝ }
 {
     spell_marks(names, work, count);
     define_marks(kinds, words, work, count);
-    let place = 8 * (words[at] as usize) + 5;
-    work[place] = defined(work[place]);
 }

@@ -2,7 +2,7 @@
 use Prim.Native.Nat.{ℕ, zero, suc, _+_, _-_, _<_, _≤_}
 use mathlib.Core.Path.{_≡_, refl, sym, ap, subst, _∙_}
 use mathlib.Core.Bool.{Bool, true, false}
-use mathlib.Core.List.{List, [], _∷_, _++_, append-nil}
+use mathlib.Core.List.{List, [], _∷_, _++_}
 use mathlib.Core.Option.{none, some}
 use native.Mathlib.Omega.{arith}
 use borrow.Author.Tests.{ltb-true, ltb-false}
@@ -21,12 +21,12 @@ pub record FirstHigh (ks : List ℕ) (a r : ℕ) : Type 0 where
   pub low : (i : ℕ) → a ≤ i → i < r → getD ks i 0 < 40
   pub high : r < length ks → 40 ≤ getD ks r 0
 
--- the first place from a on whose kind is 7, or the end
-pub record FirstBlock (ks : List ℕ) (a r : ℕ) : Type 0 where
+-- the first place from a on, before the end, whose kind is 7, or the end
+pub record FirstBlock (ks : List ℕ) (end a r : ℕ) : Type 0 where
   pub from : a ≤ r
-  pub within : r ≤ length ks
+  pub within : r ≤ end
   pub other : (i : ℕ) → a ≤ i → i < r → getD ks i 0 ≡ 7 → ⊥
-  pub block : r < length ks → getD ks r 0 ≡ 7
+  pub block : r < end → getD ks r 0 ≡ 7
 
 -- one place more was passed
 pub passed : (P : ℕ → Type 0) (i k : ℕ) → (k < i → P k) → P i → k < i + 1 → P k
@@ -163,39 +163,34 @@ module _ (ks ws : List ℕ) (a : ℕ) (x : List Entry) (e : Entry) (y : List Ent
           other false d = omega (arith, ltb-false r (a + length x) q, ltb-false (a + length x) r d)
 
   -- the first block behind fields is the one that follows them
-  pub block-is : {r : ℕ} → FirstBlock ks a r → e .kind ≡ 7 → r ≡ a + length x
-  block-is {r} f h = at (ltb r (a + length x)) refl
+  pub block-is : {end r : ℕ} → FirstBlock ks end a r → a + length x < end → e .kind ≡ 7 → r ≡ a + length x
+  block-is {end} {r} f within h = at (ltb r (a + length x)) refl
     where
       at : (b : Bool) → ltb r (a + length x) ≡ b → r ≡ a + length x
       at true q =
           let l = ltb-true r (a + length x) q in
           let i : a + (r - a) ≡ r = omega (arith, f .from) in
           let v = low-at x low (e ∷ y) (r - a) (omega (arith, f .from)) .1 in
-          absurd (v (sym (kind-at (r - a) (omega (arith, f .from))) ∙ ap (λ n. getD ks n 0) i ∙ f .block (omega (arith, long-kinds))))
+          absurd (v (sym (kind-at (r - a) (omega (arith, f .from))) ∙ ap (λ n. getD ks n 0) i ∙ f .block (omega arith)))
       at false q = other (ltb (a + length x) r) refl
         where
           other : (d : Bool) → ltb (a + length x) r ≡ d → r ≡ a + length x
           other true d = absurd (f .other (a + length x) (omega arith) (ltb-true (a + length x) r d) (kind-at (length x) (omega arith) ∙ high-at x e y ∙ h))
           other false d = omega (arith, ltb-false r (a + length x) q, ltb-false (a + length x) r d)
 
--- where nothing but fields follows, no block is found
-module _ (ks ws : List ℕ) (even : length ks ≡ length ws) (a : ℕ) (x : List Entry) (here : drop a (entries ks ws) ≡ x) (low : Low x) where
-  all-words : length (entries ks ws) ≡ length ks
-  all-words = omega (arith, length-entries ks ws, even)
-
-  pub no-block : {r : ℕ} → FirstBlock ks a r → r ≡ length ks
-  no-block {r} f = at (ltb r (length ks)) refl
+-- where nothing but fields stands before the end, no block is found
+module _ (ks ws : List ℕ) (a : ℕ) (x y : List Entry) (here : drop a (entries ks ws) ≡ x ++ y) (low : Low x) where
+  pub no-block : {end r : ℕ} → end ≡ a + length x → FirstBlock ks end a r → r ≡ end
+  no-block {end} {r} e f = at (ltb r end) refl
     where
-      kind : r < length ks → getD (kindsOf (x ++ [])) (r - a) 0 ≡ getD ks r 0
+      kind : r < end → getD (kindsOf (x ++ y)) (r - a) 0 ≡ getD ks r 0
       kind l =
           let i : a + (r - a) ≡ r = omega (arith, f .from) in
-          ap (λ es. getD (kindsOf es) (r - a) 0) (append-nil x ∙ sym here)
-          ∙ kinds-drop a (entries ks ws) (r - a)
-          ∙ kinds-at ks ws (a + (r - a)) (omega (arith, all-words, f .from))
-          ∙ ap (λ n. getD ks n 0) i
+          let long : a + (r - a) < length (entries ks ws) = omega (arith, e, f .from, ap length here, length-append x y, length-drop a (entries ks ws)) in
+          ap (λ es. getD (kindsOf es) (r - a) 0) (sym here) ∙ kinds-drop a (entries ks ws) (r - a) ∙ kinds-at ks ws (a + (r - a)) long ∙ ap (λ n. getD ks n 0) i
 
-      at : (b : Bool) → ltb r (length ks) ≡ b → r ≡ length ks
-      at true e =
-          let l = ltb-true r (length ks) e in
-          absurd (low-at x low [] (r - a) (omega (arith, all-words, f .from, ap length here, length-drop a (entries ks ws))) .1 (kind l ∙ f .block l))
-      at false e = omega (arith, ltb-false r (length ks) e, f .within)
+      at : (b : Bool) → ltb r end ≡ b → r ≡ end
+      at true q =
+          let l = ltb-true r end q in
+          absurd (low-at x low y (r - a) (omega (arith, e, f .from)) .1 (kind l ∙ f .block l))
+      at false q = omega (arith, ltb-false r end q, f .within)

@@ -19,13 +19,13 @@ pub fn next_inst(kinds: &[u64], at: usize) -> usize
     i
 }
 
-// The first place from `at` on whose entry is a block; the end where there is none.
-pub fn next_block(kinds: &[u64], at: usize) -> usize
-    requires { ⌜ at ≤ length (now kinds) ⌝ }
-    ensures { λ r. ⌜ FirstBlock (now (kinds .entry)) at r ⌝ }
+// The first place from `at` on, before `end`, whose entry is a block; `end` where there is none.
+pub fn next_block(kinds: &[u64], at: usize, end: usize) -> usize
+    requires { ⌜ (at ≤ end) × (end ≤ length (now kinds)) ⌝ }
+    ensures { λ r. ⌜ FirstBlock (now (kinds .entry)) end at r ⌝ }
 {
     let mut i = at;
-    while i < kinds.len() {
+    while i < end {
         if kinds[i] == 7 {
             return i;
         }

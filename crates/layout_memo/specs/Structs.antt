@@ -10,14 +10,14 @@ use lib.ListN.{length, getD, drop, set, length-set, length-append, length-drop}
 use lib.Seq.{drop-drop, drop-append-seam, getD-set-same, getD-set-other}
 use borrow.Author.Tests.{eqb-true, eqb-false, eq-eqb, ne-eqb}
 use Rattle.book.specs.Entry.{Entry, entry, entries}
-use Rattle.book.specs.Ast.{Ty, StructBody, StructType, Mark, Function, Book}
+use Rattle.book.specs.Ast.{Ty, StructBody, StructType, Mark, Book}
 use Rattle.book.specs.Rule.{find, pick}
 use Rattle.book.specs.Result.{ok, okOr}
 use Rattle.book.specs.Kinds.{TyTag, tyKind}
 use Rattle.book.specs.Decode.{decode, member, distinct, onceEach, markName}
-use Rattle.book.specs.Encode.{ending, encTy, encMark, markEntry, encStruct, encBody, encFunction, encode}
+use Rattle.book.specs.Encode.{ending, encTy, encMark, markEntry, encStruct, encBody, encFunctions, encode}
 use Rattle.book.specs.Limits.{Each, StructLimits, BodyLimits}
-use Rattle.book.specs.AgreeBook.{decode-sound}
+use Rattle.book.specs.AgreeBook.{Five, functions-begin, decode-sound}
 use Rattle.book_types.specs.Laws.{entries-part, within-kinds, within-words}
 use Rattle.layout.specs.Layout.{bodyOf, resolve, asType}
 use Rattle.layout_memo.specs.Front.{Starts, tyLen, ty-is, len-is, kindOf, kind-at}
@@ -36,15 +36,17 @@ pub record IsBook (m : ℕ) (es : List Entry) : Type 0 where
 -- ---- marks
 pub record MarksAt (m : ℕ) (es : List Entry) (a : ℕ) : Type 0 where
   pub marks : List Mark
-  pub fn : Function
-  pub here : drop a es ≡ ending encMark (ending encStruct (encFunction fn) (structsIn m es)) marks
+  pub tail : List Entry
+  pub five : Five tail
+  pub here : drop a es ≡ ending encMark (ending encStruct tail (structsIn m es)) marks
   pub limits : Each (StructLimits m) (structsIn m es)
   pub once : distinct (map nameOf (structsIn m es)) ≡ true
   pub few : length es ≤ 2 ^ 20
 
 pub record FirstStruct (m : ℕ) (es : List Entry) (a : ℕ) : Type 0 where
-  pub fn : Function
-  pub here : drop a es ≡ ending encStruct (encFunction fn) (structsIn m es)
+  pub tail : List Entry
+  pub five : Five tail
+  pub here : drop a es ≡ ending encStruct tail (structsIn m es)
   pub limits : Each (StructLimits m) (structsIn m es)
   pub once : distinct (map nameOf (structsIn m es)) ≡ true
   pub few : length es ≤ 2 ^ 20
@@ -61,30 +63,31 @@ marks-start m es b =
     let e : structsIn m es ≡ b .book .structs = ap structsOr (b .says) in
     record {
       marks = b .book .marks;
-      fn = b .book .function;
-      here = s .0 ∙ ap (λ (x : List StructType). ending encMark (ending encStruct (encFunction (b .book .function)) x) (b .book .marks)) (sym e);
+      tail = encFunctions (b .book .functions);
+      five = functions-begin m (b .book .functions) (s .1 .functions);
+      here = s .0 ∙ ap (λ (x : List StructType). ending encMark (ending encStruct (encFunctions (b .book .functions)) x) (b .book .marks)) (sym e);
       limits = subst (Each (StructLimits m)) (sym e) (s .1 .structs);
       once = ap (λ (x : List StructType). distinct (map nameOf x)) e ∙ both (distinct (map markName (b .book .marks))) (distinct (map nameOf (b .book .structs))) (s .1 .once) .1;
       few = b .few;
     }
 
-rest-kind : (f : Function) (ss : List StructType) → (kindOf (ending encStruct (encFunction f) ss) < 3 → ⊥) × (1 ≤ length (ending encStruct (encFunction f) ss))
-unfolding kindOf ending encStruct encFunction
-rest-kind f [] = (λ h. omega arith, omega arith)
-rest-kind f (s ∷ ss) = (λ h. omega arith, omega arith)
+rest-kind : (tail : List Entry) → Five tail → (ss : List StructType) → (kindOf (ending encStruct tail ss) < 3 → ⊥) × (1 ≤ length (ending encStruct tail ss))
+unfolding kindOf ending encStruct
+rest-kind tail f [] = rw (f .1 .1) ((λ h. omega arith), omega arith)
+rest-kind tail f (s ∷ ss) = (λ h. omega arith, omega arith)
 
 module _ {m : ℕ} {es : List Entry} {a : ℕ} (l : MarksAt m es a) where
   abbrev rest : List Entry
-  rest = ending encStruct (encFunction (l .fn)) (structsIn m es)
+  rest = ending encStruct (l .tail) (structsIn m es)
 
   view : (ms : List Mark) → drop a es ≡ ending encMark rest ms
       → ((1 ≤ length (drop a es)) × ((kindOf (drop a es) < 3 → MarksAt m es (a + 1)) × ((kindOf (drop a es) < 3 → ⊥) → FirstStruct m es a)))
   unfolding ending kindOf markEntry
   view [] h =
-      let r = rest-kind (l .fn) (structsIn m es) in
-      (rw h (r .1), ((λ k. absurd (r .0 (rw h at k))), λ k. record { fn = l .fn; here = h; limits = l .limits; once = l .once; few = l .few }))
+      let r = rest-kind (l .tail) (l .five) (structsIn m es) in
+      (rw h (r .1), ((λ k. absurd (r .0 (rw h at k))), λ k. record { tail = l .tail; five = l .five; here = h; limits = l .limits; once = l .once; few = l .few }))
   view (x ∷ ms) h =
-      (rw h (omega arith), ((λ k. record { marks = ms; fn = l .fn; here = sym (drop-drop 1 a es) ∙ ap (drop 1) h; limits = l .limits; once = l .once; few = l .few }), λ k. absurd (k (small x h))))
+      (rw h (omega arith), ((λ k. record { marks = ms; tail = l .tail; five = l .five; here = sym (drop-drop 1 a es) ∙ ap (drop 1) h; limits = l .limits; once = l .once; few = l .few }), λ k. absurd (k (small x h))))
     where
       small : (x : Mark) → drop a es ≡ encMark x ++ ending encMark rest ms → kindOf (drop a es) < 3
       small (Mark.defined y) e = rw e (omega arith)
@@ -127,8 +130,9 @@ Track structs left m es x w false = Placed structs m es x w
 
 pub record Placing (m : ℕ) (es : List Entry) (work : List ℕ) (a : ℕ) : Type 0 where
   pub left : List StructType
-  pub fn : Function
-  pub here : drop a es ≡ ending encStruct (encFunction fn) left
+  pub tail : List Entry
+  pub five : Five tail
+  pub here : drop a es ≡ ending encStruct tail left
   pub limits : Each (StructLimits m) left
   pub once : distinct (map nameOf left) ≡ true
   pub track : (x : ℕ) → x < m → Track (structsIn m es) left m es x (getD work (8 * x + 4) 0) (member x (map nameOf left))
@@ -170,7 +174,8 @@ unfolding resolve bodyOf
 placing-start m es work a b f =
     record {
       left = structsIn m es;
-      fn = f .fn;
+      tail = f .tail;
+      five = f .five;
       here = f .here;
       limits = f .limits;
       once = f .once;
@@ -236,11 +241,11 @@ module _ (m : ℕ) (ks ws : List ℕ) (work : List ℕ) (a : ℕ) (p : Placing m
   abbrev structs : List StructType
   structs = structsIn m (entries ks ws)
 
-  last-there : (f : Function) (ss : List StructType) → 1 ≤ length (ending encStruct (encFunction f) ss)
-  last-there f ss = rest-kind f ss .1
+  last-there : (ss : List StructType) → 1 ≤ length (ending encStruct (p .tail) ss)
+  last-there ss = rest-kind (p .tail) (p .five) ss .1
 
   placing-there : a + 1 ≤ length es
-  placing-there = omega (arith, ap length (p .here), last-there (p .fn) (p .left), length-drop a es)
+  placing-there = omega (arith, ap length (p .here), last-there (p .left), length-drop a es)
 
   pub placing-kinds : a + 1 ≤ length ks
   placing-kinds = within-kinds (a + 1) ks ws placing-there
@@ -257,7 +262,7 @@ module _ (m : ℕ) (ks ws : List ℕ) (work : List ℕ) (a : ℕ) (p : Placing m
   placing-done n = go (p .left) refl
     where
       go : (ss : List StructType) → p .left ≡ ss → Ready m es work
-      go (s ∷ ss) e = absurd (n (sym kind-here ∙ ap kindOf (p .here ∙ ap (ending encStruct (encFunction (p .fn))) e)))
+      go (s ∷ ss) e = absurd (n (sym kind-here ∙ ap kindOf (p .here ∙ ap (ending encStruct (p .tail)) e)))
       go [] e =
           record {
             room = p .room;
@@ -273,23 +278,23 @@ module _ (m : ℕ) (ks ws : List ℕ) (work : List ℕ) (a : ℕ) (p : Placing m
       pub ss : List StructType
       pub is : p .left ≡ s ∷ ss
       pub name : getD ws a 0 ≡ s .name
-      pub body : drop (a + 1) es ≡ encBody (s .body) ++ ending encStruct (encFunction (p .fn)) ss
+      pub body : drop (a + 1) es ≡ encBody (s .body) ++ ending encStruct (p .tail) ss
 
     here : Here
-    unfolding ending encStruct encFunction kindOf
+    unfolding ending encStruct kindOf
     here = go (p .left) refl
       where
         go : (ss : List StructType) → p .left ≡ ss → Here
-        go [] e = absurd (let q : 5 ≡ 3 = sym (ap kindOf (p .here ∙ ap (ending encStruct (encFunction (p .fn))) e)) ∙ kind-here ∙ k3 in omega arith)
+        go [] e = absurd (let q : 5 ≡ 3 = sym (ap kindOf (p .here ∙ ap (ending encStruct (p .tail)) e ∙ p .five .1 .1)) ∙ kind-here ∙ k3 in omega arith)
         go (s ∷ ss) e =
-            let h : drop a es ≡ entry 3 (s .name) ∷ (encBody (s .body) ++ ending encStruct (encFunction (p .fn)) ss) = p .here ∙ ap (ending encStruct (encFunction (p .fn))) e in
+            let h : drop a es ≡ entry 3 (s .name) ∷ (encBody (s .body) ++ ending encStruct (p .tail) ss) = p .here ∙ ap (ending encStruct (p .tail)) e in
             record { s = s; ss = ss; is = e; name = word-at ks ws a (entry 3 (s .name)) _ h; body = sym (drop-drop 1 a es) ∙ ap (drop 1) h }
 
     pub name-below : getD ws a 0 < m
     name-below = rw (here .name) (subst (Each (StructLimits m)) (here .is) (p .limits) .0 .0)
 
     pub body-there : a + 2 ≤ length es
-    body-there = omega (arith, ap length (here .body), length-append (encBody (here .s .body)) (ending encStruct (encFunction (p .fn)) (here .ss)), last-there (p .fn) (here .ss), length-drop (a + 1) es)
+    body-there = omega (arith, ap length (here .body), length-append (encBody (here .s .body)) (ending encStruct (p .tail) (here .ss)), last-there (here .ss), length-drop (a + 1) es)
 
     pub body-in-kinds : a + 2 ≤ length ks
     body-in-kinds = within-kinds (a + 2) ks ws body-there
@@ -319,14 +324,15 @@ module _ (m : ℕ) (ks ws : List ℕ) (work : List ℕ) (a : ℕ) (p : Placing m
     next-opaque k4 = go (here .s .body) refl
       where
         go : (b : Option StructBody) → here .s .body ≡ b → NextStruct m es work work a (a + 2)
-        go (some b) e = absurd (body-kind b (ending encStruct (encFunction (p .fn)) (here .ss)) (sym (ap kindOf (here .body ∙ ap (λ (x : Option StructBody). encBody x ++ ending encStruct (encFunction (p .fn)) (here .ss)) e)) ∙ kind-body ∙ k4))
+        go (some b) e = absurd (body-kind b (ending encStruct (p .tail) (here .ss)) (sym (ap kindOf (here .body ∙ ap (λ (x : Option StructBody). encBody x ++ ending encStruct (p .tail) (here .ss)) e)) ∙ kind-body ∙ k4))
         go none e =
-            let d : drop (a + 2) es ≡ ending encStruct (encFunction (p .fn)) (here .ss) =
-            ap (λ (n : ℕ). drop n es) (let q : a + 2 ≡ a + 1 + 1 = omega arith in q) ∙ sym (drop-drop 1 (a + 1) es) ∙ ap (drop 1) (here .body ∙ ap (λ (x : Option StructBody). encBody x ++ ending encStruct (encFunction (p .fn)) (here .ss)) e) in
+            let d : drop (a + 2) es ≡ ending encStruct (p .tail) (here .ss) =
+            ap (λ (n : ℕ). drop n es) (let q : a + 2 ≡ a + 1 + 1 = omega arith in q) ∙ sym (drop-drop 1 (a + 1) es) ∙ ap (drop 1) (here .body ∙ ap (λ (x : Option StructBody). encBody x ++ ending encStruct (p .tail) (here .ss)) e) in
             record {
               next = record {
                 left = here .ss;
-                fn = p .fn;
+                tail = p .tail;
+                five = p .five;
                 here = d;
                 limits = limits-here .1;
                 once = later once-here;
@@ -349,16 +355,16 @@ module _ (m : ℕ) (ks ws : List ℕ) (work : List ℕ) (a : ℕ) (p : Placing m
         where
           go : (o : Option StructBody) → here .s .body ≡ o → (b : StructBody) × (here .s .body ≡ some b)
           go (some b) e = (b, e)
-          go none e = absurd (k4 (sym kind-body ∙ ap kindOf (here .body ∙ ap (λ (x : Option StructBody). encBody x ++ ending encStruct (encFunction (p .fn)) (here .ss)) e)))
+          go none e = absurd (k4 (sym kind-body ∙ ap kindOf (here .body ∙ ap (λ (x : Option StructBody). encBody x ++ ending encStruct (p .tail) (here .ss)) e)))
 
       abbrev b : StructBody
       b = with-body .0
 
-      behind : drop (a + 1) es ≡ encTy (asType b) ++ ending encStruct (encFunction (p .fn)) (here .ss)
-      behind = here .body ∙ ap (λ (x : Option StructBody). encBody x ++ ending encStruct (encFunction (p .fn)) (here .ss)) (with-body .1)
+      behind : drop (a + 1) es ≡ encTy (asType b) ++ ending encStruct (p .tail) (here .ss)
+      behind = here .body ∙ ap (λ (x : Option StructBody). encBody x ++ ending encStruct (p .tail) (here .ss)) (with-body .1)
 
       front : Starts m (drop (a + 1) es)
-      front = record { ty = asType b; rest = ending encStruct (encFunction (p .fn)) (here .ss); here = behind; keeps = subst (BodyLimits m) (with-body .1) (limits-here .0 .1); few = omega (arith, p .few, length-drop (a + 1) es) }
+      front = record { ty = asType b; rest = ending encStruct (p .tail) (here .ss); here = behind; keeps = subst (BodyLimits m) (with-body .1) (limits-here .0 .1); few = omega (arith, p .few, length-drop (a + 1) es) }
 
       own-body : (x : ℕ) → resolve structs x ≡ okOr 6 (here .s .body) → Placed structs m es x (a + 1 + 1)
       unfolding okOr front
@@ -374,13 +380,13 @@ module _ (m : ℕ) (ks ws : List ℕ) (work : List ℕ) (a : ℕ) (p : Placing m
         unfolding front
         length-is = en ∙ ap (tyLen m) (entries-part (a + 1) ks ws) ∙ len-is front
 
-        after : drop (a + 1 + n) es ≡ ending encStruct (encFunction (p .fn)) (here .ss)
+        after : drop (a + 1 + n) es ≡ ending encStruct (p .tail) (here .ss)
         after =
             sym (drop-drop n (a + 1) es) ∙ ap (λ (j : ℕ). drop j (drop (a + 1) es)) length-is ∙ ap (drop (length (encTy (asType b)))) behind
-            ∙ drop-append-seam (encTy (asType b)) (ending encStruct (encFunction (p .fn)) (here .ss))
+            ∙ drop-append-seam (encTy (asType b)) (ending encStruct (p .tail) (here .ss))
 
         pub body-fits : a + 1 + n + 1 ≤ 1048577
-        body-fits = omega (arith, length-is, ap length behind, length-append (encTy (asType b)) (ending encStruct (encFunction (p .fn)) (here .ss)), length-drop (a + 1) es, p .few, body-there)
+        body-fits = omega (arith, length-is, ap length behind, length-append (encTy (asType b)) (ending encStruct (p .tail) (here .ss)), length-drop (a + 1) es, p .few, body-there)
 
         abbrev at : ℕ
         at = 8 * getD ws a 0 + 4
@@ -400,7 +406,8 @@ module _ (m : ℕ) (ks ws : List ℕ) (work : List ℕ) (a : ℕ) (p : Placing m
             record {
               next = record {
                 left = here .ss;
-                fn = p .fn;
+                tail = p .tail;
+                five = p .five;
                 here = after;
                 limits = limits-here .1;
                 once = later once-here;

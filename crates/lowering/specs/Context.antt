@@ -25,7 +25,7 @@ definedBy (Mark.reserved x ∷ ms) = definedBy ms
 
 -- "The function itself counts as defined"
 unfoldable pub codegenOf : List (List ℕ) → Book → Codegen
-codegenOf names b = record { names = names; structs = b .structs; defined = functionNames b ++ definedBy (b .marks) }
+codegenOf names b = record { names = names; structs = b .structs; defined = definedBy (b .marks) ++ functionNames b }
 
 -- ---- `FnCtx`
 pub record FnCtx : Type 0 where

@@ -13,7 +13,7 @@ place-blocks-requires : tie.Need-place-blocks-requires
 place-blocks-requires c κs =
     let after-place-params = c .before .before .before in
     let entry = after-place-params .before .before .before .before .before in
-    laws.asked-blocks (entry .pre) (after-place-params .place-params .ensures)
+    (_, laws.asked-blocks (entry .pre) (after-place-params .place-params .ensures))
 
 same-length : tie.Need-same-length
 same-length c = search needs
@@ -23,7 +23,8 @@ returns c =
     let after-place-blocks = c .before .before in
     let after-place-params = after-place-blocks .before .before .before .before in
     let entry = after-place-params .before .before .before .before .before in
-    laws.function-placed (entry .pre) (after-place-params .place-params .ensures) (after-place-blocks .place-blocks .ensures)
+    let p = after-place-params .place-params .ensures in
+    laws.function-placed (entry .pre) p (after-place-blocks .place-blocks .ensures _ (laws.asked-blocks (entry .pre) p))
 
 pub place-function-spec : {M : Type 1} → statement M
 place-function-spec =

@@ -12,33 +12,33 @@ use Rattle.gen_blocks.proofs.place_param.Reads as place-param-reads
 use Rattle.layout_memo.proofs.skip.Reads as skip-reads
 
 abbrev Inv-loop : tie.InvT-loop
-Inv-loop kinds words work₀ names at ty next₀ index₀ work next index = laws.ParamsAt names (entries kinds words) work next index × WordsKept names 0 work₀ work
+Inv-loop kinds words work₀ names at last ty next₀ index₀ work next index = laws.ParamsAt names (entries kinds words) at work next index × WordsKept names 0 work₀ work
 
 abbrev μ-loop : tie.MeasureT-loop
-μ-loop kinds words work₀ names at ty next₀ index₀ work next index = length kinds - next
+μ-loop kinds words work₀ names at last ty next₀ index₀ work next index = length kinds - next
 
 add-ty : tie.Need-add-ty Inv-loop μ-loop
 add-ty c =
     let entry = c .before .before .before in
-    let k = laws.return-kinds _ (entry .args .kinds .now) (entry .args .words .now) _ _ (entry .pre) in
+    let k = laws.return-kinds _ (entry .args .kinds .now) (entry .args .words .now) _ _ _ (entry .pre) in
     search needs
 
 mul-skip : tie.Need-mul-skip Inv-loop μ-loop
 mul-skip c =
     let entry = c .before .before .before in
-    let k = laws.return-kinds _ (entry .args .kinds .now) (entry .args .words .now) _ _ (entry .pre) in
+    let k = laws.return-kinds _ (entry .args .kinds .now) (entry .args .words .now) _ _ _ (entry .pre) in
     search needs
 
 sub-skip : tie.Need-sub-skip Inv-loop μ-loop
 sub-skip c =
     let entry = c .before .before .before in
-    let k = laws.return-kinds _ (entry .args .kinds .now) (entry .args .words .now) _ _ (entry .pre) in
+    let k = laws.return-kinds _ (entry .args .kinds .now) (entry .args .words .now) _ _ _ (entry .pre) in
     search needs
 
 part-skip-start : tie.Need-part-skip-start Inv-loop μ-loop
 part-skip-start c =
     let entry = c .before .before .before in
-    let k = laws.return-kinds _ (entry .args .kinds .now) (entry .args .words .now) _ _ (entry .pre) in
+    let k = laws.return-kinds _ (entry .args .kinds .now) (entry .args .words .now) _ _ _ (entry .pre) in
     search needs
 
 part-skip-end : tie.Need-part-skip-end Inv-loop μ-loop
@@ -47,19 +47,19 @@ part-skip-end c = search needs
 mul-skip-2 : tie.Need-mul-skip-2 Inv-loop μ-loop
 mul-skip-2 c =
     let entry = c .before .before .before .before in
-    let w = laws.return-words _ (entry .args .kinds .now) (entry .args .words .now) _ _ (entry .pre) in
+    let w = laws.return-words _ (entry .args .kinds .now) (entry .args .words .now) _ _ _ (entry .pre) in
     search needs
 
 sub-skip-2 : tie.Need-sub-skip-2 Inv-loop μ-loop
 sub-skip-2 c =
     let entry = c .before .before .before .before in
-    let w = laws.return-words _ (entry .args .kinds .now) (entry .args .words .now) _ _ (entry .pre) in
+    let w = laws.return-words _ (entry .args .kinds .now) (entry .args .words .now) _ _ _ (entry .pre) in
     search needs
 
 part-skip-start-2 : tie.Need-part-skip-start-2 Inv-loop μ-loop
 part-skip-start-2 c =
     let entry = c .before .before .before .before in
-    let w = laws.return-words _ (entry .args .kinds .now) (entry .args .words .now) _ _ (entry .pre) in
+    let w = laws.return-words _ (entry .args .kinds .now) (entry .args .words .now) _ _ _ (entry .pre) in
     search needs
 
 part-skip-end-2 : tie.Need-part-skip-end-2 Inv-loop μ-loop
@@ -71,59 +71,61 @@ skip-requires c κs = search needs
 add-next : tie.Need-add-next Inv-loop μ-loop
 add-next c =
     let entry = c .before .before .before .before .before .before in
-    omega (arith, laws.return-fits _ (entry .args .kinds .now) (entry .args .words .now) _ _ (entry .pre) _ (c .skip .ensures))
+    omega (arith, laws.return-fits _ (entry .args .kinds .now) (entry .args .words .now) _ _ _ (entry .pre) _ (c .skip .ensures))
 
 loop-holds : tie.Need-loop-holds Inv-loop μ-loop
 loop-holds c =
     let entry = c .before .before .before .before .before .before in
-    (laws.params-start _ (entry .args .kinds .now) (entry .args .words .now) _ _ (entry .pre) _ (c .skip .ensures), words-none)
+    (laws.params-start _ (entry .args .kinds .now) (entry .args .words .now) _ _ _ (entry .pre) _ (c .skip .ensures), words-none)
 
 mul-if1 : tie.Need-mul-if1 Inv-loop μ-loop
 mul-if1 c =
     let at-loop = c in
     let entry = at-loop .before .before .before .before .before .before .before in
-    let k = laws.params-kinds _ (entry .args .kinds .now) (entry .args .words .now) _ _ _ (at-loop .loop .inv .0) in
+    let k = laws.params-kinds _ (entry .args .kinds .now) (entry .args .words .now) _ _ _ _ (at-loop .loop .inv .0) in
     search needs
 
 shared-slice-read-if1 : tie.Need-shared-slice-read-if1 Inv-loop μ-loop
 shared-slice-read-if1 c =
     let at-loop = c .before in
     let entry = at-loop .before .before .before .before .before .before .before in
-    let k = laws.params-kinds _ (entry .args .kinds .now) (entry .args .words .now) _ _ _ (at-loop .loop .inv .0) in
+    let k = laws.params-kinds _ (entry .args .kinds .now) (entry .args .words .now) _ _ _ _ (at-loop .loop .inv .0) in
     search needs
 
 place-param-requires : tie.Need-place-param-requires Inv-loop μ-loop
 place-param-requires c κs =
     let then1 = c .before in
     let at-loop = then1 .before .before in
-    record { params = at-loop .loop .inv .0; kind = then1 .if1 .taken }
+    (_, record { params = at-loop .loop .inv .0; kind = then1 .if1 .taken })
 
 add-index : tie.Need-add-index Inv-loop μ-loop
 add-index c =
     let at-loop = c .before .before .before .before .before .before in
     let entry = at-loop .before .before .before .before .before .before .before in
-    omega (arith, laws.params-few _ (entry .args .kinds .now) (entry .args .words .now) _ _ _ (at-loop .loop .inv .0), at-loop .loop .inv .0 .small)
+    omega (arith, laws.params-few _ (entry .args .kinds .now) (entry .args .words .now) _ _ _ _ (at-loop .loop .inv .0), at-loop .loop .inv .0 .small)
 
 loop-less : tie.Need-loop-less Inv-loop μ-loop
 loop-less c =
     let after-place-param = c .before .before in
     let at-loop = after-place-param .before .before .before .before in
     let entry = at-loop .before .before .before .before .before .before .before in
-    let k = laws.params-kinds _ (entry .args .kinds .now) (entry .args .words .now) _ _ _ (after-place-param .place-param .ensures .next) in
-    let g = after-place-param .place-param .ensures .more in
+    let n = after-place-param .place-param .ensures _ (record { params = at-loop .loop .inv .0; kind = after-place-param .before .before .if1 .taken }) in
+    let k = laws.params-kinds _ (entry .args .kinds .now) (entry .args .words .now) _ _ _ _ (n .next) in
+    let g = n .more in
     omega arith
 
 loop-again : tie.Need-loop-again Inv-loop μ-loop
 loop-again c =
     let after-place-param = c .before .before in
     let at-loop = after-place-param .before .before .before .before in
-    (after-place-param .place-param .ensures .next, words-then (at-loop .loop .inv .1) (after-place-param .place-param .ensures .kept))
+    let n = after-place-param .place-param .ensures _ (record { params = at-loop .loop .inv .0; kind = after-place-param .before .before .if1 .taken }) in
+    (n .next, words-then (at-loop .loop .inv .1) (n .kept))
 
 add-result : tie.Need-add-result Inv-loop μ-loop
 add-result c =
     let at-loop = c .before .before in
     let entry = at-loop .before .before .before .before .before .before .before in
-    omega (arith, laws.params-few _ (entry .args .kinds .now) (entry .args .words .now) _ _ _ (at-loop .loop .inv .0))
+    omega (arith, laws.params-few _ (entry .args .kinds .now) (entry .args .words .now) _ _ _ _ (at-loop .loop .inv .0))
 
 same-length : tie.Need-same-length Inv-loop μ-loop
 same-length c = search needs
@@ -132,7 +134,7 @@ returns : tie.Need-returns Inv-loop μ-loop
 returns c =
     let at-loop = c .before .before in
     let entry = at-loop .before .before .before .before .before .before .before in
-    laws.params-done _ (entry .args .kinds .now) (entry .args .words .now) _ _ _ (at-loop .loop .inv .0) (c .if1 .left) (at-loop .loop .inv .1)
+    laws.params-done _ (entry .args .kinds .now) (entry .args .words .now) _ _ _ _ (at-loop .loop .inv .0) (c .if1 .left) (at-loop .loop .inv .1)
 
 pub place-params-spec : {M : Type 1} → statement M
 place-params-spec =

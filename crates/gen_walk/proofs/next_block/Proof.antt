@@ -11,14 +11,14 @@ use Rattle.gen_walk.proofs.next_block.Reads as reads
 use Rattle.gen_walk.proofs.next_block.Lts as lts
 
 abbrev Inv-loop : tie.InvT-loop
-Inv-loop kinds at i₀ i = (at ≤ i) × (i ≤ length kinds) × ((k : ℕ) → at ≤ k → k < i → getD kinds k 0 ≡ 7 → ⊥)
+Inv-loop kinds at end i₀ i = (at ≤ i) × (i ≤ end) × ((k : ℕ) → at ≤ k → k < i → getD kinds k 0 ≡ 7 → ⊥)
 
 abbrev μ-loop : tie.MeasureT-loop
-μ-loop kinds at i₀ i = length kinds - i
+μ-loop kinds at end i₀ i = end - i
 
 -- src/lib.rt:28:5
 loop-holds : tie.Need-loop-holds Inv-loop μ-loop
-loop-holds c = (omega arith, c .pre, λ k a b. absurd (omega arith))
+loop-holds c = (omega arith, c .pre .0, λ k a b. absurd (omega arith))
 
 -- src/lib.rt:29:12
 mul-if1 : tie.Need-mul-if1 Inv-loop μ-loop
