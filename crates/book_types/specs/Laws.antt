@@ -58,6 +58,13 @@ entry-at (k ∷ ks) (w ∷ ws) zero h = refl
 entry-at (k ∷ ks) (w ∷ ws) (suc i) h = rw (add-one (suc i)) (entry-at ks ws i (omega arith) ∙ rw (add-one i))
 
 -- the entries of the parts from a on, as the logic has them
+pub entries-take : (n : ℕ) (ks ws : List ℕ) → entries (take n ks) (take n ws) ≡ take n (entries ks ws)
+unfolding entries
+entries-take zero ks ws = refl
+entries-take (suc n) [] ws = refl
+entries-take (suc n) (k ∷ ks) [] = refl
+entries-take (suc n) (k ∷ ks) (w ∷ ws) = ap (λ r. entry k w ∷ r) (entries-take n ks ws)
+
 pub entries-part : (a : ℕ) (ks ws : List ℕ) → entries (take (length ks - a) (drop a ks)) (take (length ws - a) (drop a ws)) ≡ drop a (entries ks ws)
 entries-part a ks ws =
     rw (take-all (length ks - a) (drop a ks) (le-of-eq (length-drop a ks)), take-all (length ws - a) (drop a ws) (le-of-eq (length-drop a ws)))

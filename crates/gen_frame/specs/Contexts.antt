@@ -2,35 +2,25 @@
 use Prim.Native.Nat.{ℕ, _+_, _*_, _<_, _≤_}
 use mathlib.Core.Path.{_≡_, refl, sym, ap, subst, _∙_}
 use mathlib.Core.Bool.{Bool, true, false, cond, _||_}
-use mathlib.Core.List.{List, _++_}
-use native.Mathlib.Omega.{arith}
-use lib.ListN.{drop, getD, length-drop}
+use mathlib.Core.List.{List}
+use lib.ListN.{getD}
 use lib.Dec.{leb}
 use Rattle.names.specs.Name.{nameAt}
 use Rattle.names.specs.Spelling.{isSyscall, isBcmp, isMemcmp, hasOverflow}
 use Rattle.book.specs.Entry.{Entry}
 use Rattle.book.specs.Ast.{Function, StructType}
 use Rattle.book.specs.Decode.{member}
-use Rattle.book.specs.Encode.{closed, encBasicBlock}
-use Rattle.book.specs.AgreeBook.{decode-sound}
 use Rattle.book.specs.Map.{lookup}
 use Rattle.book.specs.Result.{Result, ok, err}
 use Rattle.book.specs.Shape.{allInsts}
 use Rattle.layout.specs.Frame.{Places, noFrame, framePass}
 use Rattle.layout_memo.specs.Work.{structsIn}
-use Rattle.layout_memo.specs.Structs.{IsBook}
 use Rattle.lowering.specs.Context.{Codegen, FnCtx}
 use Rattle.lowering.specs.Function.{slotsOf, contextOf}
 use Rattle.gen_values.specs.Maps.{numbered, callClass, markWord}
 use Rattle.gen_frame.specs.Frames.{Overflows, FrameSays}
 use Rattle.gen_frame.specs.Pass.{BlocksAt, FrameDone}
 use Rattle.gen_frame.specs.declared.Frame.{Frame}
-
--- the blocks of a book's function, where they stand
-pub book-blocks : {m : ℕ} {bs : List Entry} (k : IsBook m bs) (p : ℕ) (rest : List Entry) → drop p bs ≡ closed encBasicBlock (k .book .function .blocks) ++ rest
-    → BlocksAt m (k .book .function .blocks) (drop p bs)
-book-blocks {m} {bs} k p rest h =
-    record { rest = rest; here = h; keeps = decode-sound m bs (k .book) (k .says) .1 .function .1 .1 .1; few = omega (arith, k .few, length-drop p bs) }
 
 -- word 5 is 4 or more exactly for a name containing `.with.overflow.`
 pub marks-overflow : (g : Codegen) (m : ℕ) (work : List ℕ) → ((x : ℕ) → x < m → getD work (8 * x + 5) 0 ≡ markWord g x) → Overflows (g .names) m work

@@ -2,7 +2,7 @@
 use Prim.Native.Nat.{ℕ, _+_, _<_, _≤_, _%_, _^_}
 use mathlib.Core.Path.{_≡_, refl, sym, ap, subst, _∙_}
 use mathlib.Core.Bool.{Bool, true, false, cond}
-use mathlib.Core.List.{List}
+use mathlib.Core.List.{List, _++_}
 use lib.ListN.{length, drop, getD}
 use lib.Dec.{leb, ltb}
 use borrow.Author.Tests.{ltb-true, ltb-false, lt-ltb, le-ltb, le-leb, lt-leb}
@@ -26,8 +26,11 @@ use Rattle.gen_function.specs.Blocks.{Listed}
 
 -- the function's entry and its blocks stand at their places
 pub record FunctionHere (m : ℕ) (bk bw : List ℕ) (h : Prepared) (f : Function) : Type 0 where
-  pub here : drop (h .at) (entries bk bw) ≡ encFunction f
-  pub blocks : Listed m bk bw (h .blocks) (f .blocks)
+  pub rest : List Entry
+  pub here : drop (h .at) (entries bk bw) ≡ encFunction f ++ rest
+  pub blocks : Listed m bk bw (h .blocks) (h .end) (f .blocks)
+  pub order : h .blocks ≤ h .end
+  pub in-kinds : h .end ≤ length bk
 
 -- the head has the context's frame
 pub record Framed (c : FnCtx) (h : Prepared) : Type 0 where

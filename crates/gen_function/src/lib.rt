@@ -21,11 +21,12 @@ ghost use Rattle.gen_values.specs.Maps.{Maps, Did};
 ghost use Rattle.gen_function.specs.Blocks.{Listed, BlocksAsk};
 ghost use Rattle.gen_function.specs.Function.{FunctionHere, FunctionAsk, Framed, slotsOf};
 
-// The blocks of the list at a place.
+// The blocks of the list at a place, which ends at `last`.
 fn gen_blocks(
     book_kinds: &[u64],
     book_words: &[u64],
     from: usize,
+    last: usize,
     work: &mut [u64],
     names: u64,
     base: Base,
@@ -33,15 +34,15 @@ fn gen_blocks(
     operands: &mut [u64],
     s: Reached,
 ) -> Reached
-    requires { ⌜ BlocksAsk names (now «book_kinds») (now «book_words») from base (now work) ⌝ }
-    ensures { λ r. ⌜ ((c : FnCtx) (blocks : List BasicBlock) → Listed names (now («book_kinds» .entry)) (now («book_words» .entry)) from blocks
+    requires { ⌜ BlocksAsk names (now «book_kinds») (now «book_words») from last base (now work) ⌝ }
+    ensures { λ r. ⌜ ((c : FnCtx) (blocks : List BasicBlock) → Listed names (now («book_kinds» .entry)) (now («book_words» .entry)) from last blocks
         → (c .bpSlot ≡ base .slot) × (c .hasFrame ≡ base .framed) → Maps names (entries (now («book_kinds» .entry)) (now («book_words» .entry))) c (now (work .entry))
         → Did (each (genBlock c) blocks) names (entries (now («book_kinds» .entry)) (now («book_words» .entry))) c (now (work .exit))
         s r (now (lines .entry)) (now (operands .entry)) (now (lines .exit)) (now (operands .exit))) ⌝ }
 {
-    let mut at = next_block(book_kinds, from);
+    let mut at = next_block(book_kinds, from, last);
     let mut reached = s;
-    while at < book_kinds.len() {
+    while at < last {
         let block = gen_block(
             book_kinds,
             book_words,
@@ -55,7 +56,7 @@ fn gen_blocks(
         );
         reached = block.s;
         let end = block.at;
-        at = next_block(book_kinds, end + 1);
+        at = next_block(book_kinds, end + 1, last);
     }
     reached
 }
@@ -142,6 +143,7 @@ pub fn gen_function(
         book_kinds,
         book_words,
         head.blocks,
+        head.end,
         work,
         names,
         base,

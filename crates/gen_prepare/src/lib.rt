@@ -1,5 +1,6 @@
-// All passes before any line is generated: they fill the work words, 0 at first but for the starts of names, for the context of the
-// book's function.
+// All passes before any line is generated. Those of the book fill the work words, 0 at first but for the starts of names, with what
+// its functions share; those of a function fill words 0 to 3 of names, which are 0, for its context.
+use gen_blocks::Placed;
 use gen_blocks::find_function;
 use gen_blocks::place_function;
 use gen_frame::Frame;
@@ -11,13 +12,14 @@ ghost use mathlib.Core.Path.{_≡_};
 ghost use mathlib.Core.Bool.{false};
 ghost use Prim.Native.Nat.{_≤_};
 ghost use Rattle.book.specs.Entry.{entries};
-ghost use Rattle.gen_prepare.specs.Prepare.{preparedOf, PrepareAsk, PrepareDone};
+ghost use Rattle.gen_prepare.specs.Prepare.{preparedOf, BookAsk, BookDone, PrepareAsk, PrepareDone};
 
-// The places of the function's entry and of its list of blocks; the number of its slots, which is the slot of the frame's
-// base; the bytes of its frame, and whether it has one. Or that a place was refused, and its number for the bytes.
+// Where a function stands, its list of blocks and its end; the number of its slots, which is the slot of the frame's base; the bytes
+// of its frame, and whether it has one. Or that a place was refused, and its number for the bytes.
 pub struct Prepared {
     pub at: usize,
     pub blocks: usize,
+    pub end: usize,
     pub slots: u64,
     pub size: u64,
     pub framed: bool,
@@ -25,14 +27,15 @@ pub struct Prepared {
 }
 
 // The answer, from that of the frame pass.
-fn framed(at: usize, blocks: usize, f: Frame) -> Prepared
+fn framed(at: usize, placed: Placed, f: Frame) -> Prepared
     requires { ⌜ (f .refused ≡ false → f .off ≤ 2147483648) ⌝ }
-    ensures { λ r. ⌜ r ≡ preparedOf at blocks f ⌝ }
+    ensures { λ r. ⌜ r ≡ preparedOf at placed f ⌝ }
 {
     if f.refused {
         return Prepared {
             at,
-            blocks,
+            blocks: placed.blocks,
+            end: placed.end,
             slots: 0,
             size: f.off,
             framed: false,
@@ -42,7 +45,8 @@ fn framed(at: usize, blocks: usize, f: Frame) -> Prepared
     let size = align_up(f.off, 8);
     Prepared {
         at,
-        blocks,
+        blocks: placed.blocks,
+        end: placed.end,
         slots: f.slots,
         size,
         framed: (0 < size) | f.dynamic,
@@ -50,22 +54,39 @@ fn framed(at: usize, blocks: usize, f: Frame) -> Prepared
     }
 }
 
-// The names are `count`, the entries the whole book's.
-pub fn prepare(kinds: &[u64], words: &[u64], names: &[u8], work: &mut [u64], count: u64) -> Prepared
-    requires { ⌜ PrepareAsk (now names) count (entries (now kinds) (now words)) (now work) ⌝ }
-    ensures { λ r. ⌜ PrepareDone (now (names .entry)) count (entries (now (kinds .entry)) (now (words .entry))) (now (work .exit)) r ⌝ }
+// What the functions share: the structs, and how names are called. Answers the place of the first function. The names are `count`,
+// the entries the whole book's.
+pub fn prepare_book(kinds: &[u64], words: &[u64], names: &[u8], work: &mut [u64], count: u64) -> usize
+    requires { ⌜ BookAsk (now names) count (entries (now kinds) (now words)) (now work) ⌝ }
+    ensures { λ r. ⌜ BookDone (now (names .entry)) count (entries (now (kinds .entry)) (now (words .entry))) (now (work .exit)) r ⌝ }
 {
     place_structs(kinds, words, work, count);
-    let at = find_function(kinds, words, count);
-    place_marks(kinds, words, names, work, count, at);
-    let blocks = place_function(kinds, words, work, count, at);
+    place_marks(kinds, words, names, work, count);
+    find_function(kinds, words, count)
+}
+
+// The context of the function at the place. The functions end at `last`.
+pub fn prepare(
+    kinds: &[u64],
+    words: &[u64],
+    work: &mut [u64],
+    count: u64,
+    at: usize,
+    last: usize,
+) -> Prepared
+    requires { ⌜ PrepareAsk count (entries (now kinds) (now words)) last at (now work) ⌝ }
+    ensures { λ r. ⌜ PrepareDone count (entries (now (kinds .entry)) (now (words .entry))) at (now (work .entry)) (now (work .exit)) r ⌝ }
+{
+    let placed = place_function(kinds, words, work, count, at, last);
+    let from = placed.blocks;
+    let end = placed.end;
     let f = frame_pass(
-        &kinds[blocks..],
-        &words[blocks..],
+        &kinds[from..end],
+        &words[from..end],
         kinds,
         words,
         work,
         count,
     );
-    framed(at, blocks, f)
+    framed(at, placed, f)
 }

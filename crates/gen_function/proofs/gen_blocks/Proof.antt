@@ -1,7 +1,6 @@
 -- `gen_function::gen_blocks` meets its contract: what was walked is done, and the others stand at the place.
 use Prim.Native.Nat.{_-_}
 use native.Mathlib.Omega.{arith}
-use lib.ListN.{length}
 use Rattle.gen_function.specs.Blocks.{BlocksWalk, walk-start, walk-block, walk-end, walk-further, walk-more, walk-done}
 use Rattle.gen_function.proofs.gen_blocks.Statement.{statement}
 use Rattle.gen_function.proofs.gen_blocks.Tie as tie
@@ -11,20 +10,20 @@ use Rattle.gen_block.proofs.gen_block.Reads as gen-block-reads
 use Rattle.gen_walk.proofs.next_block.Reads as next-block-reads
 
 abbrev Inv-loop : tie.InvT-loop
-Inv-loop book-kinds book-words from work₀ names base lines₀ operands₀ at₀ reached₀ work lines operands at reached =
-    BlocksWalk names book-kinds book-words from base work₀ lines₀ operands₀ reached₀ work lines operands at reached
+Inv-loop book-kinds book-words from last work₀ names base lines₀ operands₀ at₀ reached₀ work lines operands at reached =
+    BlocksWalk names book-kinds book-words from last base work₀ lines₀ operands₀ reached₀ work lines operands at reached
 
 abbrev μ-loop : tie.MeasureT-loop
-μ-loop book-kinds book-words from work₀ names base lines₀ operands₀ at₀ reached₀ work lines operands at reached =
-    length book-kinds - at
+μ-loop book-kinds book-words from last work₀ names base lines₀ operands₀ at₀ reached₀ work lines operands at reached =
+    last - at
 
 next-block-requires : tie.Need-next-block-requires Inv-loop μ-loop
-next-block-requires c κs = let entry = c .before .before .before .before .before in entry .pre .listed .there
+next-block-requires c κs = let entry = c .before .before .before .before .before in (entry .pre .order, entry .pre .in-kinds)
 
 loop-holds : tie.Need-loop-holds Inv-loop μ-loop
 loop-holds c =
     let entry = c .before .before .before .before .before .before in
-    walk-start (entry .args .names) (entry .args .book-kinds .now) (entry .args .book-words .now) (entry .args .from) (entry .args .base)
+    walk-start (entry .args .names) (entry .args .book-kinds .now) (entry .args .book-words .now) (entry .args .from) (entry .args .last) (entry .args .base)
     (entry .args .work .now) (entry .args .lines .now) (entry .args .operands .now) (entry .args .s) (c .next-block .ensures)
 
 gen-block-requires : tie.Need-gen-block-requires Inv-loop μ-loop
@@ -41,7 +40,7 @@ add-next-block c =
     let entry = at-loop .before .before .before .before .before .before .before in
     let there = walk-end (entry .args .book-kinds .now) (entry .args .book-words .now) (at-loop .loop .inv) (in-loop .loop-test .taken)
     (after-gen-block .gen-block .ensures) (entry .pre) in
-    omega (arith, there, entry .good)
+    omega (arith, there, entry .pre .in-kinds, entry .good)
 
 next-block-requires-2 : tie.Need-next-block-requires-2 Inv-loop μ-loop
 next-block-requires-2 c κs =
@@ -49,7 +48,9 @@ next-block-requires-2 c κs =
     let in-loop = after-gen-block .before .before .before .before in
     let at-loop = in-loop .before in
     let entry = at-loop .before .before .before .before .before .before .before in
-    omega (arith, walk-end (entry .args .book-kinds .now) (entry .args .book-words .now) (at-loop .loop .inv) (in-loop .loop-test .taken) (after-gen-block .gen-block .ensures) (entry .pre))
+    let there = walk-end (entry .args .book-kinds .now) (entry .args .book-words .now) (at-loop .loop .inv) (in-loop .loop-test .taken)
+    (after-gen-block .gen-block .ensures) (entry .pre) in
+    (omega (arith, there), entry .pre .in-kinds)
 
 loop-less : tie.Need-loop-less Inv-loop μ-loop
 loop-less c =

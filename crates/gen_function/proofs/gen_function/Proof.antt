@@ -48,7 +48,7 @@ gen-blocks-requires c κs =
     let after-put = after-put2 .before .before .before .before .before .before .before in
     let entry = after-put .before .before .before .before .before .before .before .before .before .before in
     let a = entry .pre in
-    record { ctx = a .ctx; maps = a .maps; based = (a .framed .slots, a .framed .framed); blocks = a .fn .blocks; listed = a .here .blocks }
+    record { ctx = a .ctx; maps = a .maps; based = (a .framed .slots, a .framed .framed); blocks = a .fn .blocks; listed = a .here .blocks; order = a .here .order; in-kinds = a .here .in-kinds }
 
 put-requires-3 : tie.Need-put-requires-3
 put-requires-3 c κs = search needs
@@ -65,7 +65,7 @@ same-length-2 c =
     let after-need = after-push-slots .before .before .before in
     let after-put2 = after-need .before .before .before .before .before in
     let after-put = after-put2 .before .before .before .before .before .before .before in
-    after-put3 .put3 .kept .0 ∙ after-gen-blocks .gen-blocks .kept .1 .1 .1 .1 .1 .1 .0 ∙ after-enter-frame .enter-frame .kept .1 .0
+    after-put3 .put3 .kept .0 ∙ after-gen-blocks .gen-blocks .kept .1 .1 .1 .1 .1 .1 .1 .0 ∙ after-enter-frame .enter-frame .kept .1 .0
     ∙ after-push-slots .push-slots .kept .1 .0 ∙ after-put2 .put2 .kept .0 ∙ after-put .put .kept .0
 
 same-length-3 : tie.Need-same-length-3
@@ -77,7 +77,7 @@ same-length-3 c =
     let after-need = after-push-slots .before .before .before in
     let after-put2 = after-need .before .before .before .before .before in
     let after-put = after-put2 .before .before .before .before .before .before .before in
-    after-put3 .put3 .kept .1 .0 ∙ after-gen-blocks .gen-blocks .kept .1 .1 .1 .1 .1 .1 .1 .0 ∙ after-enter-frame .enter-frame .kept .1 .1 .0
+    after-put3 .put3 .kept .1 .0 ∙ after-gen-blocks .gen-blocks .kept .1 .1 .1 .1 .1 .1 .1 .1 .0 ∙ after-enter-frame .enter-frame .kept .1 .1 .0
     ∙ after-push-slots .push-slots .kept .1 .1 .0 ∙ after-put2 .put2 .kept .1 .0 ∙ after-put .put .kept .1 .0
 
 returns : tie.Need-returns

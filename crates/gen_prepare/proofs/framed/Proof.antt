@@ -2,6 +2,7 @@
 use native.Mathlib.Omega.{arith}
 use Rattle.gen_prepare.proofs.framed.Statement.{statement}
 use Rattle.gen_prepare.proofs.framed.Tie as tie
+use Rattle.numbers.proofs.align.align_up.Reads as align-up-reads
 
 returns : tie.Need-returns
 returns c = rw (c .if1 .taken)
