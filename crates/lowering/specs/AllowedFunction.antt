@@ -16,7 +16,7 @@ use Rattle.book.specs.Shape.{allInsts}
 use Rattle.assembly.specs.Line.{Line}
 use Rattle.assembly.specs.Number.{isName, allowed}
 use Rattle.lowering.specs.Gen.{line, each}
-use Rattle.lowering.specs.Context.{FnCtx, codegenOf, blockMap}
+use Rattle.lowering.specs.Context.{Codegen, FnCtx, codegenOf, blockMap}
 use Rattle.layout.specs.Frame.{Places}
 use Rattle.lowering.specs.Function.{genBlock, prologue, genLines, slotsOf, contextOf, totalSlots, genFunction, genFunctions}
 use Rattle.lowering.specs.Places.{lookup-cons, all-below}
@@ -41,16 +41,20 @@ no-block : (n x : ℕ) (bb : BasicBlock) → lookup x [] ≡ some bb → BlockLi
 unfolding lookup
 no-block n x bb h = absurd (let z : _≡_ {A = ℕ} 0 1 = cc in omega arith)
 
-module _ (names : List (List ℕ)) (b : Book) (f : Function) (l : FunctionLimits (length names) f) (own : member (f .name) (functionNames b) ≡ true) where
+-- a function within the limits, whatever else is defined, and a book that has its name
+module _ (g : Codegen) (b : Book) (f : Function) (l : FunctionLimits (length (g .names)) f) (own : member (f .name) (functionNames b) ≡ true) where
+  abbrev names : List (List ℕ)
+  names = g .names
+
   abbrev context : Places → FnCtx
-  context fr = contextOf (codegenOf names b) f fr
+  context fr = contextOf g f fr
 
   abbrev total : Places → ℕ
-  total fr = totalSlots (codegenOf names b) f fr
+  total fr = totalSlots g f fr
 
   -- ---- the context, where the slots are few enough
   within : (fr : Places) → total fr ≤ 65535 → Within (context fr)
-  unfolding contextOf codegenOf totalSlots slotsOf
+  unfolding contextOf totalSlots slotsOf
   within fr h =
       record {
         slots = λ x s e. let q = all-below names (allInsts (f .blocks)) x s e in omega arith;
@@ -82,7 +86,7 @@ module _ (names : List (List ℕ)) (b : Book) (f : Function) (l : FunctionLimits
   blocks-allow c w bs h = each-allows _ b (BlockLimits (length (c .codegen .names))) (genBlock c) (block-allows b c w) bs h
 
   lines-allow : (fr : Places) → Allows names b (genLines (context fr) f (total fr))
-  unfolding genLines contextOf codegenOf
+  unfolding genLines contextOf
   lines-allow fr =
       then-allows _ _ _ _ comment-line (then-allows _ _ _ _ name-line (guard-allows _ _ _ _ _ (λ e.
       let few : total fr ≤ 65535 = ltb-false 65535 (total fr) e in
@@ -90,8 +94,8 @@ module _ (names : List (List ℕ)) (b : Book) (f : Function) (l : FunctionLimits
       then-allows _ _ _ _ (when-true _ _ _ _ (slots-line (total fr) few)) (then-allows _ _ _ _ (when-allows _ _ _ _ (prologue-allows (context fr) w))
       (then-allows _ _ _ _ (blocks-allow (context fr) w (f .blocks) (l .1 .1 .1)) (search plain))))))
 
-  -- every line of a function of the book is allowed
-  pub function-allows : Allows names b (genFunction (codegenOf names b) f)
+  -- every line of the function is allowed
+  pub function-allows : Allows (g .names) b (genFunction g f)
   unfolding genFunction
   function-allows = bind-allows _ _ _ _ (λ fr e. lines-allow fr)
 
@@ -109,6 +113,6 @@ all-own names b (f ∷ fs) h l =
 
 -- every line of a book's functions is allowed
 pub functions-allow : (names : List (List ℕ)) (b : Book) → Limits (length names) b → Allows names b (genFunctions (codegenOf names b) (b .functions))
-unfolding genFunctions
+unfolding genFunctions codegenOf
 functions-allow names b l =
-    each-allows names b (Own names b) (genFunction (codegenOf names b)) (λ f k. function-allows names b f (k .0) (k .1)) (b .functions) (all-own names b (b .functions) (λ x e. e) (l .functions .1))
+    each-allows names b (Own names b) (genFunction (codegenOf names b)) (λ f k. function-allows (codegenOf names b) b f (k .0) (k .1)) (b .functions) (all-own names b (b .functions) (λ x e. e) (l .functions .1))
