@@ -36,7 +36,8 @@ use Rattle.agreement.specs.Holds.{ok-same}
 use Rattle.agreement.specs.Book.{each-in}
 use Rattle.agreement.specs.Decide.{hasLabel, newLabel, labelsOnce, labels-ok, distinct-ok}
 use Rattle.agreement.specs.Statement.{LinesAt, after, Returned, Agrees}
-use Rattle.agreement.specs.TwoRuns.{codegen, by-itself, two-runs}
+use Rattle.agreement.specs.TwoRuns.{codegen, two-runs}
+use Rattle.agreement.specs.Turns.{by-itself}
 use Rattle.agreement.specs.Lists.{In, here}
 use Rattle.agreement.specs.Naming.{optional, paramNames, resultNames, NoSelf, Naming}
 

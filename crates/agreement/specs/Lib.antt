@@ -9,6 +9,7 @@ pub mod Statement
 pub mod Unique
 pub mod Placing
 pub mod Piece
+pub mod Turns
 pub mod Reach
 pub mod Signed
 pub mod Widen

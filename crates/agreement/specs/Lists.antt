@@ -1,11 +1,13 @@
 -- Positions in lists.
 use Prim.Native.Nat.{ℕ, zero, suc, _+_, _<_, _≤_}
-use mathlib.Core.Path.{_≡_, refl, ap}
+use mathlib.Core.Path.{_≡_, refl, ap, subst}
+use mathlib.Core.Logic.{_⊎_, inl, inr, ⊎-elim}
 use mathlib.Core.Option.{Option, none, some}
 use mathlib.Core.List.{List, [], _∷_, _++_, map}
 use native.Mathlib.Omega.{arith}
 use native.Mathlib.Nat.{zero-add, suc-add}
 use lib.ListN.{length, drop, set}
+use Rattle.book.specs.Limits.{Each}
 use Rattle.machine.specs.State.{cellAt}
 pub use Rattle.machine.specs.Cells.{none-some, some-same, cell-lt}
 
@@ -47,6 +49,20 @@ module _ {A : Type 0} where
   pub drop-right : (a b : List A) (p : ℕ) → drop (length a + p) (a ++ b) ≡ drop p b
   drop-right [] b p = rw zero-add refl
   drop-right (y ∷ a) b p = rw suc-add (drop-right a b p)
+
+  -- what stands in two lists stands in one of them
+  pub drop-parts : (a b : List A) (p : ℕ) {x : A} {k : List A} → drop p (a ++ b) ≡ x ∷ k → ((j : List A) × (drop p a ≡ x ∷ j)) ⊎ ((q : ℕ) × (p ≡ length a + q) × (drop q b ≡ x ∷ k))
+  drop-parts [] b p e = inr (p, omega arith, e)
+  drop-parts (y ∷ a) b zero {x} e = let z : y ≡ x = cc in inl (a, ap {B = List A} (λ w. w ∷ a) z)
+  drop-parts (y ∷ a) b (suc p) e = ⊎-elim inl (λ (q, i, h). inr (q, omega (arith, i), h)) (drop-parts a b p e)
+
+  -- what holds of each of a list holds of what stands in it
+  pub drop-each : (P : A → Type 0) (l : List A) (p : ℕ) {x : A} {k : List A} → Each P l → drop p l ≡ x ∷ k → P x
+  unfolding head
+  drop-each P [] zero {x} h e = none-some x (ap head e)
+  drop-each P [] (suc p) {x} h e = none-some x (ap head e)
+  drop-each P (y ∷ l) zero {x} h e = let z : y ≡ x = cc in subst P z (h .0)
+  drop-each P (y ∷ l) (suc p) h e = drop-each P l p (h .1) e
 
   pub cell-set-same : (l : List A) (i : ℕ) (v : A) → i < length l → cellAt (set l i v) i ≡ some v
   unfolding cellAt

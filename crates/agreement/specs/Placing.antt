@@ -1,15 +1,13 @@
 -- The lines of a function within a piece: "A block label or jump takes the function of the last comment line before it", so they belong to it wherever they stand.
 use Prim.Native.Nat.{ℕ}
 use mathlib.Core.Path.{_≡_, refl, sym, ap, _∙_}
-use mathlib.Core.Bool.{Bool, true, false, _||_}
+use mathlib.Core.Bool.{true, false≢true}
 use mathlib.Core.Option.{Option, none, some}
 use mathlib.Core.List.{List, [], _∷_, _++_, map}
-use lib.Dec.{eqb}
 use lib.ListN.{length}
-use borrow.Author.Tests.{eq-eqb, eqb-true}
 use Rattle.book.specs.Ast.{Function, Book}
 use Rattle.book.specs.Limits.{Each, FunctionLimits}
-use Rattle.book.specs.Decode.{member, functionNames}
+use Rattle.book.specs.Decode.{member}
 use Rattle.assembly.specs.Line.{Line}
 use Rattle.assembly.specs.Number.{allowed}
 use Rattle.assembly.specs.Lists.{AllAllowed}
@@ -18,7 +16,7 @@ use Rattle.lowering.specs.Gen.{Out}
 use Rattle.book.specs.Result.{ok}
 use Rattle.lowering.specs.Context.{Codegen}
 use Rattle.lowering.specs.Function.{genLines, genFunction}
-use Rattle.lowering.specs.AllowedFunction.{function-allows}
+use Rattle.lowering.specs.AllowedFunction.{function-opens}
 use Rattle.agreement.specs.Holds.{H-use}
 use Rattle.agreement.specs.Gives.{Gives, G-bind, G-put, G-map, G-self}
 use Rattle.agreement.specs.Statement.{LinesAt}
@@ -27,20 +25,20 @@ use Rattle.agreement.specs.Statement.{LinesAt}
 abbrev pub under : ℕ → Line → Placed
 under f l = record { function = some f; line = l }
 
--- a line behind which the function is the same
-abbrev pub Keeps : ℕ → Line → Type 0
-Keeps f l = functionFrom (some f) l ≡ some f
+-- a line that is no comment line leaves the function as it is
+abbrev pub Plain : Line → Type 0
+Plain l = (f : Option ℕ) → functionFrom f l ≡ f
 
 -- ---- the functions of lines
-all-under : (f : ℕ) (ls : List Line) → Each (Keeps f) ls → placedFrom (some f) ls ≡ map (under f) ls
+all-under : (f : ℕ) (ls : List Line) → Each Plain ls → placedFrom (some f) ls ≡ map (under f) ls
 unfolding placedFrom
 all-under f [] h = refl
-all-under f (l ∷ ls) (e, h) = rw e (ap {B = List Placed} (λ r. under f l ∷ r) (all-under f ls h))
+all-under f (l ∷ ls) (e, h) = rw (e (some f)) (ap {B = List Placed} (λ r. under f l ∷ r) (all-under f ls h))
 
 -- behind a function's comment line, whatever came before
-own-placed : (g : Option ℕ) (f : ℕ) (ls : List Line) → Each (Keeps f) ls → placedFrom g (Line.comment f ∷ ls) ≡ map (under f) (Line.comment f ∷ ls)
+own-placed : (h : Option ℕ) (f : ℕ) (ls : List Line) → Each Plain ls → placedFrom h (Line.comment f ∷ ls) ≡ map (under f) (Line.comment f ∷ ls)
 unfolding placedFrom functionFrom
-own-placed g f ls h = ap {B = List Placed} (λ r. under f (Line.comment f) ∷ r) (all-under f ls h)
+own-placed h f ls e = ap {B = List Placed} (λ r. under f (Line.comment f) ∷ r) (all-under f ls e)
 
 -- the function behind lines
 unfoldable functionAfter : Option ℕ → List Line → Option ℕ
@@ -58,76 +56,73 @@ length-placed f [] = refl
 length-placed f (l ∷ ls) = rw (length-placed (functionFrom f l) ls) refl
 
 -- ---- the lines that are generated for a function
--- a book with no other function
-only : Function → Book
-only f = record { marks = []; structs = []; functions = f ∷ [] }
+-- a book without functions allows no comment line
+bare : Book
+bare = record { marks = []; structs = []; functions = [] }
 
-or-false : (b : Bool) → (b || false) ≡ true → b ≡ true
-or-false true e = refl
-or-false false e = e
+allowed-plain : (names : List (List ℕ)) (l : Line) → allowed names bare l ≡ true → Plain l
+unfolding allowed bare functionFrom member
+allowed-plain names (Line.comment x) h f = absurd (false≢true h)
+allowed-plain names (Line.fnLabel x) h f = refl
+allowed-plain names (Line.blockLabel x) h f = refl
+allowed-plain names (Line.label k n) h f = refl
+allowed-plain names (Line.jmpBlock x) h f = refl
+allowed-plain names (Line.pushName x) h f = refl
+allowed-plain names (Line.syscall x) h f = refl
+allowed-plain names (Line.call x k) h f = refl
+allowed-plain names (Line.push0n n) h f = refl
+allowed-plain names (Line.push n) h f = refl
+allowed-plain names (Line.getArg n) h f = refl
+allowed-plain names (Line.getLocal n) h f = refl
+allowed-plain names (Line.setLocal n) h f = refl
+allowed-plain names (Line.callFp k) h f = refl
+allowed-plain names (Line.jump k n) h f = refl
+allowed-plain names (Line.bin op w) h f = refl
+allowed-plain names (Line.icmp p w) h f = refl
+allowed-plain names (Line.trunc n) h f = refl
+allowed-plain names (Line.sx8 w) h f = refl
+allowed-plain names (Line.sx16 w) h f = refl
+allowed-plain names Line.sx32 h f = refl
+allowed-plain names (Line.load m) h f = refl
+allowed-plain names (Line.store m) h f = refl
+allowed-plain names Line.atomicLoad h f = refl
+allowed-plain names Line.atomicStore h f = refl
+allowed-plain names Line.atomicCas h f = refl
+allowed-plain names Line.sysMemcmp h f = refl
+allowed-plain names Line.dup h f = refl
+allowed-plain names Line.pop h f = refl
+allowed-plain names Line.ret h f = refl
+allowed-plain names Line.panic h f = refl
+allowed-plain names Line.threadGet h f = refl
+allowed-plain names Line.threadSet h f = refl
+allowed-plain names Line.blank h f = refl
 
--- of the lines that such a book allows, a comment line is the function's
-allowed-keeps : (names : List (List ℕ)) (f : Function) (l : Line) → allowed names (only f) l ≡ true → Keeps (f .name) l
-unfolding allowed only functionFrom member
-allowed-keeps names f (Line.comment x) h = ap {B = Option ℕ} some (eqb-true x (f .name) (or-false (eqb x (f .name)) h))
-allowed-keeps names f (Line.fnLabel x) h = refl
-allowed-keeps names f (Line.blockLabel x) h = refl
-allowed-keeps names f (Line.label k n) h = refl
-allowed-keeps names f (Line.jmpBlock x) h = refl
-allowed-keeps names f (Line.pushName x) h = refl
-allowed-keeps names f (Line.syscall x) h = refl
-allowed-keeps names f (Line.call x k) h = refl
-allowed-keeps names f (Line.push0n n) h = refl
-allowed-keeps names f (Line.push n) h = refl
-allowed-keeps names f (Line.getArg n) h = refl
-allowed-keeps names f (Line.getLocal n) h = refl
-allowed-keeps names f (Line.setLocal n) h = refl
-allowed-keeps names f (Line.callFp k) h = refl
-allowed-keeps names f (Line.jump k n) h = refl
-allowed-keeps names f (Line.bin op w) h = refl
-allowed-keeps names f (Line.icmp p w) h = refl
-allowed-keeps names f (Line.trunc n) h = refl
-allowed-keeps names f (Line.sx8 w) h = refl
-allowed-keeps names f (Line.sx16 w) h = refl
-allowed-keeps names f Line.sx32 h = refl
-allowed-keeps names f (Line.load m) h = refl
-allowed-keeps names f (Line.store m) h = refl
-allowed-keeps names f Line.atomicLoad h = refl
-allowed-keeps names f Line.atomicStore h = refl
-allowed-keeps names f Line.atomicCas h = refl
-allowed-keeps names f Line.sysMemcmp h = refl
-allowed-keeps names f Line.dup h = refl
-allowed-keeps names f Line.pop h = refl
-allowed-keeps names f Line.ret h = refl
-allowed-keeps names f Line.panic h = refl
-allowed-keeps names f Line.threadGet h = refl
-allowed-keeps names f Line.threadSet h = refl
-allowed-keeps names f Line.blank h = refl
-
-all-keep : (names : List (List ℕ)) (f : Function) {ls : List Line} → AllAllowed names (only f) ls → Each (Keeps (f .name)) ls
-all-keep names f AllAllowed.none = tt
-all-keep names f (AllAllowed.one {l} h r) = (allowed-keeps names f l h, all-keep names f r)
+all-plain : (names : List (List ℕ)) {ls : List Line} → AllAllowed names bare ls → Each Plain ls
+all-plain names AllAllowed.none = tt
+all-plain names (AllAllowed.one {l} h r) = (allowed-plain names l h, all-plain names r)
 
 module _ (g : Codegen) (f : Function) where
-  opens : Gives (genFunction g f) (λ L. (rest : List Line) × (L ≡ Line.comment (f .name) ∷ rest))
+  opens : Gives (genFunction g f) (λ L. (rest : List Line) × (L ≡ Line.comment (f .name) ∷ Line.fnLabel (f .name) ∷ rest))
   unfolding genFunction genLines
-  opens = G-bind _ _ λ fr e. G-put _ _ (G-map (G-self _) λ M m. (M, refl))
+  opens = G-bind _ _ λ fr e. G-put _ _ (G-put _ _ (G-map (G-self _) λ M m. (M, refl)))
 
-  own-name : member (f .name) (functionNames (only f)) ≡ true
-  unfolding member only
-  own-name = rw (eq-eqb (f .name) (f .name) refl) refl
-
-  -- a function's lines begin with its comment line, and each is a line of it, whatever comes before them
+  -- a function's lines begin with its comment line and its label, no other is a comment line, and so each is a line of it, whatever comes before them
   pub record OwnLines (L : List Line) : Type 0 where
     pub rest : List Line
-    pub begins : L ≡ Line.comment (f .name) ∷ rest
+    pub begins : L ≡ Line.comment (f .name) ∷ Line.fnLabel (f .name) ∷ rest
+    pub plain : Each Plain (Line.fnLabel (f .name) ∷ rest)
     pub mine : (h : Option ℕ) → placedFrom h L ≡ map (under (f .name)) L
 
   pub own-lines : FunctionLimits (length (g .names)) f → (c : ℕ) (out : Out) → genFunction g f c ≡ ok out → OwnLines (out .lines)
   own-lines limits c out makes =
       let (rest, e) = H-use out makes (opens .made c) in
-      let all = all-keep (g .names) f (function-allows g (only f) f limits own-name .allows c out makes) in
-      record { rest = rest; begins = e; mine = λ h. rw e (own-placed h (f .name) rest ((rw e at all) .1)) }
+      let o = function-opens g bare f limits .opens c out makes in
+      let same : o .rest ≡ Line.fnLabel (f .name) ∷ rest = tails (sym (o .begins) ∙ e) in
+      let plain : Each Plain (Line.fnLabel (f .name) ∷ rest) = rw same at (all-plain (g .names) (o .allowed-rest)) in
+      record { rest = rest; begins = e; plain = plain; mine = λ h. rw e (own-placed h (f .name) (Line.fnLabel (f .name) ∷ rest) plain) }
+    where
+      tails : {l k : Line} {ls ks : List Line} → _≡_ {A = List Line} (l ∷ ls) (k ∷ ks) → ls ≡ ks
+      tails e = cc
 
 -- ---- within a piece: from a position on
 pub record Within (f : ℕ) (own lines : List Line) (from : ℕ) : Type 0 where

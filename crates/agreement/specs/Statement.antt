@@ -81,3 +81,11 @@ abbrev pub RunsAs : (names : List (List ℕ)) → List StructType → Function �
 RunsAs names structs f lines from =
     Naming names f lines → (world : World) (args : List ℕ) (memory : Memory) (sp : ℕ) → argsFit (f .params) args ≡ true → sp < 2 ^ 64
     → (n : ℕ) (t : Stand) → sourceRun names structs f world args memory sp n ≡ ok t → Agrees names f lines from world args memory sp n t
+
+-- its comment line stands at a position
+abbrev pub BeginsAt : Function → (lines : List Line) → (from : ℕ) → Type 0
+BeginsAt f lines from = (rest : List Line) × (drop from lines ≡ Line.comment (f .name) ∷ rest)
+
+-- The function's comment line is among the lines, and wherever it stands, the function runs from there.
+abbrev pub RunsIn : (names : List (List ℕ)) → List StructType → Function → (lines : List Line) → Type 0
+RunsIn names structs f lines = ((from : ℕ) × BeginsAt f lines from) × ((from : ℕ) → BeginsAt f lines from → RunsAs names structs f lines from)

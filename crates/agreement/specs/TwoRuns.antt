@@ -3,10 +3,10 @@ use Prim.Native.Nat.{ℕ, _+_, _^_, _<_, min}
 use mathlib.Core.Path.{_≡_, refl, sym, ap, _∙_, subst}
 use mathlib.Core.Bool.{true}
 use mathlib.Core.Option.{Option, none, some}
-use mathlib.Core.List.{List, [], _∷_, _++_, map, append-assoc, append-nil}
+use mathlib.Core.List.{List, [], _∷_, _++_, map, append-assoc}
 use native.Mathlib.Omega.{arith}
 use native.Mathlib.Nat.{zero-add}
-use lib.ListN.{length, take, drop, length-append}
+use lib.ListN.{length, take}
 use lib.Dec.{leb}
 use Rattle.book.specs.Ast.{BasicBlock, Function}
 use Rattle.book.specs.Result.{Result, ok, err, bind, bind-ok, given-ok}
@@ -22,8 +22,7 @@ use Rattle.machine.specs.State.{World}
 use Rattle.machine.specs.Labels.{placed}
 use Rattle.machine.specs.Run.{Outcome, running, state, steps, start}
 use Rattle.machine.specs.Exact.{Alive}
-use Rattle.lowering.specs.Gen as gen
-use Rattle.lowering.specs.Gen.{Out, _>>_, _>>=_, each}
+use Rattle.lowering.specs.Gen.{Out, _>>=_}
 use Rattle.lowering.specs.Translate.{generated, Translation, over, replied, translate}
 use Rattle.lowering.specs.AllowedFunction.{functions-allow}
 use Rattle.lowering.specs.Printable.{checked-lent, take-over}
@@ -37,11 +36,11 @@ use Rattle.manual.specs.Going.{Going}
 use Rattle.manual.specs.Run.{argsFit, firstBlock, begin, run, sourceRun}
 use Rattle.agreement.specs.Holds.{ok-same, Holds, H-ok, H-bind, H-eq, H-known, H-map, H-use}
 use Rattle.agreement.specs.Gives.{G-use}
-use Rattle.agreement.specs.Lists.{some-same, none-some, drop-part, drop-right, In, here, there}
+use Rattle.agreement.specs.Lists.{some-same, none-some, drop-part, In}
 use Rattle.agreement.specs.Setup.{Setup, given as givenTo}
 use Rattle.agreement.specs.Reach.{Once, mine, at-line, stepsOf}
 use Rattle.agreement.specs.Relation.{Held}
-use Rattle.agreement.specs.Statement.{LinesAt, SameValue, AtLabel, Agrees, RunsAs, after}
+use Rattle.agreement.specs.Statement.{LinesAt, SameValue, AtLabel, Agrees, RunsAs, RunsIn, after}
 use Rattle.agreement.specs.Flow.{Arrives, Goes}
 use Rattle.agreement.specs.Labels.{labelsOf}
 use Rattle.agreement.specs.Block.{labels-distinct, Split, split-ok, blocks-run}
@@ -51,7 +50,8 @@ use Rattle.agreement.specs.Measures.{blocks-measured}
 use Rattle.agreement.specs.OnlyStops.{begin-only, run-only}
 use Rattle.agreement.specs.Book.{apart-ok, good-inst, has-place, good-term, each-in}
 use Rattle.agreement.specs.Naming.{paramNames, resultNames, Distinct, NoSelf, Naming}
-use Rattle.agreement.specs.Placing.{own-lines, Within, within}
+use Rattle.agreement.specs.Placing.{Within, within}
+use Rattle.agreement.specs.Turns.{by-itself, in-turn, begins-at, comment-turn, one-comment}
 use Rattle.agreement.specs.Piece.{shifted, at-within, labels-within, run-within}
 
 -- ---- the run of one function, with its frame
@@ -212,38 +212,6 @@ unfolding codegenOf
 only-stops book names counter workLen b checks f of lines from at naming world args memory sp fits word n e h =
     function-only (codegen b) f (sound-limits book names counter workLen b checks f of) lines from at naming world args memory sp fits word n .only e h
 
--- ---- where the lines stand
--- a function's own lines stand by themselves
-pub by-itself : (g : Codegen) (f : Function) (c : ℕ) (own : Out) → genFunction g f c ≡ ok own → LinesAt g f (own .lines) 0
-by-itself g f c own makes = record { counter = c; own = own; made = makes; before = []; after = []; parts = sym (append-nil (own .lines)); position = refl }
-
--- behind others
-behind : {g : Codegen} {f : Function} {ls : List Line} {p : ℕ} (a : List Line) → LinesAt g f ls p → LinesAt g f (a ++ ls) (length a + p)
-behind a at = record {
-  counter = at .counter;
-  own = at .own;
-  made = at .made;
-  before = a ++ at .before;
-  after = at .after;
-  parts = ap (λ l. a ++ l) (at .parts) ∙ sym (append-assoc a (at .before) _);
-  position = ap (λ k. length a + k) (at .position) ∙ sym (length-append a (at .before));
-}
-
--- among the functions' lines stand those of each, in order, "each beginning with the counter that the last one left"
-pub in-turn : (g : Codegen) {f : Function} (fs : List Function) (c : ℕ) (out : Out) → genFunctions g fs c ≡ ok out → In f fs → (p : ℕ) × LinesAt g f (out .lines) p
-unfolding genFunctions each _>>_ gen.after
-in-turn g (f ∷ fs) c out h here =
-    let (own, made, h₁) = bind-ok (genFunction g f c) _ out h in
-    let (more, rest, h₂) = bind-ok (each (genFunction g) fs (own .next)) _ out h₁ in
-    let e : own .lines ++ more .lines ≡ out .lines = ap (λ (o : Out). o .lines) (ok-same h₂) in
-    (0, record { counter = c; own = own; made = made; before = []; after = more .lines; parts = sym e; position = refl })
-in-turn g {f} (k ∷ fs) c out h (there i) =
-    let (own, made, h₁) = bind-ok (genFunction g k c) _ out h in
-    let (more, rest, h₂) = bind-ok (each (genFunction g) fs (own .next)) _ out h₁ in
-    let e : own .lines ++ more .lines ≡ out .lines = ap (λ (o : Out). o .lines) (ok-same h₂) in
-    let (p, at) = in-turn g fs (own .next) more rest i in
-    (length (own .lines) + p, subst (λ ls. LinesAt g f ls (length (own .lines) + p)) e (behind (own .lines) at))
-
 -- what `generated` has made, of the sound book
 pub made-by : (book names : List ℕ) (counter workLen room : ℕ) (b : Sound) (out : Out) → checked book names counter workLen ≡ ok b → generated book names counter workLen room ≡ ok out
     → genFunctions (codegen b) (b .book .functions) counter ≡ ok out
@@ -256,23 +224,20 @@ made-by book names counter workLen room b out checks makes =
     subst (λ (z : Sound). genFunctions (codegen z) (z .book .functions) counter ≡ ok out) same (ho ∙ ap {B = Result Out} ok made)
 
 -- ---- the two uses
--- a function begins at a position: there is its comment line
-abbrev pub BeginsAt : Function → (lines : List Line) → (from : ℕ) → Type 0
-BeginsAt f lines from = (rest : List Line) × (drop from lines ≡ Line.comment (f .name) ∷ rest)
-
-begins-at : (g : Codegen) (f : Function) → FunctionLimits (length (g .names)) f → (lines : List Line) (from : ℕ) → LinesAt g f lines from → BeginsAt f lines from
-begins-at g f limits lines from at =
-    let own = own-lines g f limits (at .counter) (at .own) (at .made) in
-    let here : from ≡ length (at .before) + 0 = omega (arith, at .position) in
-    (own .rest ++ at .after, ap (λ p. drop p lines) here ∙ ap (drop (length (at .before) + 0)) (at .parts) ∙ drop-right (at .before) _ 0 ∙ ap (λ l. l ++ at .after) (own .begins))
-
 -- The whole piece: each function of the book runs on all the lines that were generated, from its comment line.
 pub piece-runs : (book names : List ℕ) (counter workLen room : ℕ) (b : Sound) (out : Out) → checked book names counter workLen ≡ ok b → generated book names counter workLen room ≡ ok out
-    → (f : Function) → In f (b .book .functions) → (from : ℕ) × BeginsAt f (out .lines) from × RunsAs (b .names) (b .book .structs) f (out .lines) from
+    → (f : Function) → In f (b .book .functions) → RunsIn (b .names) (b .book .structs) f (out .lines)
+unfolding codegenOf
 piece-runs book names counter workLen room b out checks makes f of =
-    let (from, at) = in-turn (codegen b) (b .book .functions) counter out (made-by book names counter workLen room b out checks makes) of in
-    let limits = sound-limits book names counter workLen b checks f of in
-    (from, begins-at (codegen b) f limits (out .lines) from at, two-runs book names counter workLen b checks f of (out .lines) from at)
+    let limits = sound-limits book names counter workLen b checks in
+    let turns = made-by book names counter workLen room b out checks makes in
+    let (p, at) = in-turn (codegen b) (b .book .functions) counter out turns of in (
+      (p, begins-at (codegen b) f (limits f of) (out .lines) p at),
+      λ from (rest, begins) naming.
+          let (k, in-k, same, at-k) = comment-turn (codegen b) (b .book .functions) limits counter out turns from begins in
+          let here : p ≡ from = one-comment (codegen b) (out .lines) (naming .labels) f k (limits f of) (limits k in-k) same p from at at-k in
+          two-runs book names counter workLen b checks f of (out .lines) from (subst (LinesAt (codegen b) f (out .lines)) here at) naming,
+    )
 
 -- The function's own lines, made at any counter: it runs on them from the first.
 pub own-runs : (book names : List ℕ) (counter workLen : ℕ) (b : Sound) → checked book names counter workLen ≡ ok b → (f : Function) → In f (b .book .functions)
@@ -288,18 +253,16 @@ pub lent-runs : (book names : List ℕ) (counter : ℕ) (work kinds operands : L
     (many next : ℕ) → call .reply ≡ Translation.accepted many next
     → (b : Sound) → checked book names counter (length work) ≡ ok b
     → (lines : List Line) → linesOf (b .names) (b .book) (take many (call .kinds)) (take many (call .operands)) ≡ some lines
-    → (f : Function) → In f (b .book .functions) → (from : ℕ) × BeginsAt f lines from × RunsAs (b .names) (b .book .structs) f lines from
+    → (f : Function) → In f (b .book .functions) → RunsIn (b .names) (b .book .structs) f lines
 unfolding translate replied count-of
 lent-runs book names counter work kinds operands many next reply b checks lines read f of = go (generated book names counter (length work) room) refl reply read
   where
     room : ℕ
     room = min (length kinds) (length operands)
 
-    Run : List Line → Type 0
-    Run ls = (from : ℕ) × BeginsAt f ls from × RunsAs (b .names) (b .book .structs) f ls from
-
     go : (r : Result Out) → generated book names counter (length work) room ≡ r → replied r work kinds operands .reply ≡ Translation.accepted many next
-        → linesOf (b .names) (b .book) (take many (replied r work kinds operands .kinds)) (take many (replied r work kinds operands .operands)) ≡ some lines → Run lines
+        → linesOf (b .names) (b .book) (take many (replied r work kinds operands .kinds)) (take many (replied r work kinds operands .operands)) ≡ some lines
+        → RunsIn (b .names) (b .book .structs) f lines
     go (err e) makes k i = none-some many (ap count-of k)
     go (ok out) makes k i =
         let gen = made-by book names counter (length work) room b out checks makes in
@@ -308,5 +271,4 @@ lent-runs book names counter work kinds operands many next reply b checks lines 
         let allowed = functions-allow (b .names) (b .book) (l .limits) .allows counter out gen in
         let back : linesOf (b .names) (b .book) (take many (over (map kindOf (out .lines)) kinds)) (take many (over (map operandOf (out .lines)) operands)) ≡ some (out .lines) =
         rw (← count, take-over kindOf (out .lines) kinds, take-over operandOf (out .lines) operands) (lines-of-numbers (b .names) (b .book) (out .lines) allowed) in
-        let same : out .lines ≡ lines = some-same (sym back ∙ i) in
-        subst Run same (piece-runs book names counter (length work) room b out checks makes f of)
+        subst (RunsIn (b .names) (b .book .structs) f) (some-same (sym back ∙ i)) (piece-runs book names counter (length work) room b out checks makes f of)
