@@ -90,9 +90,11 @@ label-line : (g : Codegen) (lines : List Line) (f : Function) → FunctionLimits
     → (rest : List Placed) × (drop (p + 1) (placed lines) ≡ under (f .name) (Line.fnLabel (f .name)) ∷ rest)
 label-line g lines f limits p at =
     let w = within g f limits lines p at in
-    let own = own-lines g f limits (at .counter) (at .own) (at .made) in
-    (_, at-within (g .names) (w .before) (map (under (f .name)) (at .own .lines)) (w .after) (placed lines) (w .parts) p (w .position) 1
-    (drop-map (under (f .name)) (at .own .lines) 1 (ap (drop 1) (own .begins))))
+    let own = own-lines g f limits (at .counter) (at .own) (at .made) in (
+      _,
+      at-within (g .names) (w .before) (map (under (f .name)) (at .own .lines)) (w .after) (placed lines) (w .parts) p (w .position) 1
+          (drop-map (under (f .name)) (at .own .lines) 1 (ap (drop 1) (own .begins))),
+    )
 
 -- a comment line is where a function's lines begin
 pub comment-turn : (g : Codegen) (fs : List Function) → ((f : Function) → In f fs → FunctionLimits (length (g .names)) f) → (c : ℕ) (out : Out) → genFunctions g fs c ≡ ok out

@@ -49,8 +49,8 @@ use Rattle.agreement.specs.Only.{Reason, Only, O-then, O-known}
 use Rattle.agreement.specs.Measures.{blocks-measured}
 use Rattle.agreement.specs.OnlyStops.{begin-only, run-only}
 use Rattle.agreement.specs.Book.{apart-ok, good-inst, has-place, good-term, each-in}
-use Rattle.agreement.specs.Naming.{paramNames, resultNames, Distinct, NoSelf, Naming}
-use Rattle.agreement.specs.Placing.{Within, within}
+use Rattle.agreement.specs.Naming.{paramNames, resultNames, Distinct, LabelsOnce, NoSelf, Naming}
+use Rattle.agreement.specs.Placing.{under, own-lines, Within, within}
 use Rattle.agreement.specs.Turns.{by-itself, in-turn, begins-at, comment-turn, one-comment}
 use Rattle.agreement.specs.Piece.{shifted, at-within, labels-within, run-within}
 
@@ -243,6 +243,16 @@ piece-runs book names counter workLen room b out checks makes f of =
 pub own-runs : (book names : List ℕ) (counter workLen : ℕ) (b : Sound) → checked book names counter workLen ≡ ok b → (f : Function) → In f (b .book .functions)
     → (c : ℕ) (own : Out) → genFunction (codegen b) f c ≡ ok own → RunsAs (b .names) (b .book .structs) f (own .lines) 0
 own-runs book names counter workLen b checks f of c own makes = two-runs book names counter workLen b checks f of (own .lines) 0 (by-itself (codegen b) f c own makes)
+
+-- where the naming conditions hold in the piece, they do in the function's own lines
+pub own-naming : (book names : List ℕ) (counter workLen : ℕ) (b : Sound) → checked book names counter workLen ≡ ok b → (f : Function) → In f (b .book .functions)
+    → (lines : List Line) (from : ℕ) (at : LinesAt (codegen b) f lines from) → Naming (b .names) f lines → Naming (b .names) f (at .own .lines)
+own-naming book names counter workLen b checks f of lines from at naming =
+    let limits = sound-limits book names counter workLen b checks f of in
+    let own = own-lines (codegen b) f limits (at .counter) (at .own) (at .made) in
+    let w = within (codegen b) f limits lines from at in
+    let alone : LabelsOnce (b .names) (map (under (f .name)) (at .own .lines)) = labels-within (b .names) (w .before) _ (w .after) (placed lines) (w .parts) from (w .position) (naming .labels) in
+    record { distinct = naming .distinct; labels = subst (LabelsOnce (b .names)) (sym (own .mine none)) alone; self = naming .self }
 
 -- ---- the same of a call of the translator: the lines are those that its two line slices hold afterwards
 count-of : Translation → Option ℕ
