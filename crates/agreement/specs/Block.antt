@@ -13,7 +13,7 @@ use Rattle.book.specs.Result.{bind}
 use Rattle.book.specs.Shape.{shape}
 use Rattle.assembly.specs.Line.{Line}
 use Rattle.machine.specs.State.{Frame, cellAt}
-use Rattle.machine.specs.Labels.{labelOf}
+use Rattle.machine.specs.Labels.{blockIn, labelIn}
 use Rattle.machine.specs.Line.{does}
 use Rattle.machine.specs.Run.{State, follow, stepAt, step}
 use Rattle.lowering.specs.Gen.{Gen, _>>_, each}
@@ -30,7 +30,7 @@ use Rattle.agreement.specs.Lists.{none-some, drop-tail, drop-part, drop-
 use Rattle.agreement.specs.Names.{Stands}
 use Rattle.agreement.specs.Labels.{block-found, distinct-nil, distinct-cons, labelsOf, find-in, find-some}
 use Rattle.agreement.specs.Setup.{Setup, ctx, given}
-use Rattle.agreement.specs.Reach.{Once, next, once}
+use Rattle.agreement.specs.Reach.{Once, at-line, same-line, next, once}
 use Rattle.agreement.specs.Relation.{Rel, Apart}
 use Rattle.agreement.specs.Operand.{okOr-some}
 use Rattle.agreement.specs.Instr.{StepOk}
@@ -38,7 +38,7 @@ use Rattle.agreement.specs.Inst.{Good, Goods, insts-ok}
 use Rattle.agreement.specs.Flow.{Arrives, Goes, later, before, Lands, then-lands}
 use Rattle.agreement.specs.Edge.{SoundPhi, PhisSound, LabelsStand, FoundAlike}
 use Rattle.agreement.specs.Term.{GoodTerm, term-ok}
-use Rattle.agreement.specs.Naming.{Distinct, LabelsOnce}
+use Rattle.agreement.specs.Naming.{Distinct}
 use Rattle.book.specs.Map.{lookup}
 
 module _ (s : Setup) where
@@ -99,7 +99,7 @@ module _ (s : Setup) where
 
   -- no label line occurs twice, so no two blocks have one label
   pub labels-distinct : Once s → (bs : List BasicBlock) → Gives (each (genBlock (ctx s)) bs) (λ C. (q : ℕ) (k : List Line) → drop q (s .lines) ≡ C ++ k → Distinct (labelsOf bs))
-  unfolding each genBlock labelsOf LabelsOnce labelOf
+  unfolding each genBlock labelsOf blockIn labelIn
   labels-distinct u [] = G-skip λ q k h. distinct-nil
   labels-distinct u (x ∷ xs) = G-then {P = λ L. (A : List Line) × (L ≡ Line.blockLabel (x .label) ∷ A)} _ (G-put _ _ (G-map (G-self (rest x)) λ A m. (A, refl))) λ L (A, e).
       G-map (G-self (each (genBlock (ctx s)) xs)) λ B m q k h.
@@ -110,7 +110,7 @@ module _ (s : Setup) where
       let (a, r, eB) = label-block (x .label) xs B (G-use B m (split-ok xs)) t in
       let hb : drop q₁ (s .lines) ≡ a ++ (Line.blockLabel (x .label) ∷ (r ++ k)) = hB ∙ ap (λ l. l ++ k) eB ∙ append-assoc a _ k in
       let (q₂, hL, l₂) = drop-past (s .lines) a q₁ hb in
-      let same : q ≡ q₂ = u q q₂ _ _ _ _ _ h₀ hL refl refl in
+      let same : q ≡ q₂ = same-line s u q q₂ h₀ hL refl refl in
       omega arith
 
   module _ (u : Once s) (ap′ : Apart s) (goods : (k : BasicBlock) → In k (s .function .blocks) → Goods s u ap′ (k .insts)) (terms : (k : BasicBlock) → In k (s .function .blocks) → GoodTerm (k .term))
@@ -188,16 +188,16 @@ module _ (s : Setup) where
         H-bind _ (pa σ e [] r) λ τ a. H-map (pb τ (a .frame) (a .rel)) λ t l. then-lands s (a .runs) l
 
     block-step : (x : State) (n b : ℕ) (σ : Source) → Arrives s x n b σ → Holds (runBlock (given s) b σ) (Goes s x (suc n))
-    unfolding runBlock step stepAt follow does LabelsOnce labelOf
+    unfolding runBlock step stepAt follow does blockIn labelIn
     block-step x n b σ a = H-eq (blockNamed (given s) b) _ λ k hk.
         let (i, e) = find-some b k (s .function .blocks) (okOr-some _ (find (λ (y : BasicBlock). y .label) b (s .function .blocks)) k hk) in
         let t = splits k i in
         let (q, z) = drop-part (s .lines) (t .ahead) 0 (t .parts) in
         let z′ : drop q (s .lines) ≡ Line.blockLabel b ∷ (t .code ++ t .after) = subst (λ y. drop q (s .lines) ≡ Line.blockLabel y ∷ (t .code ++ t .after)) e z in
-        let same : q ≡ a .pos = u q (a .pos) _ _ _ _ _ z′ (a .here) refl refl in
+        let same : q ≡ a .pos = same-line s u q (a .pos) z′ (a .here) refl refl in
         let here′ : drop (a .pos) (s .lines) ≡ Line.blockLabel b ∷ (t .code ++ t .after) = subst (λ p. drop p (s .lines) ≡ Line.blockLabel b ∷ (t .code ++ t .after)) same z′ in
         H-map (G-use (t .code) (t .made) (rest-ok k i) σ (a .frame) (a .rel)) λ y l.
-        before s (suc n) y (next s (a .way) (once s (rw here′ refl))) (l .lands (suc (a .pos)) (suc n) (t .after) (drop-tail (a .pos) (s .lines) here′))
+        before s (suc n) y (next s (a .way) (once s (rw (at-line s (a .pos) here′) refl))) (l .lands (suc (a .pos)) (suc n) (t .after) (drop-tail (a .pos) (s .lines) here′))
 
     go-ok : (x : State) (m : ℕ) (t : Stand) → Goes s x m t → Holds (go (given s) t) (Goes s x (suc m))
     unfolding go

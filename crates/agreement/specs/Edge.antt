@@ -13,7 +13,7 @@ use Rattle.book.specs.Shape.{Shape, shape}
 use Rattle.assembly.specs.Line.{Line}
 use Rattle.assembly.specs.Text.{blockText}
 use Rattle.machine.specs.State.{Frame}
-use Rattle.machine.specs.Labels.{labelOf}
+use Rattle.machine.specs.Labels.{blockIn, labelIn}
 use Rattle.machine.specs.Line.{does}
 use Rattle.lowering.specs.Gen.{each}
 use Rattle.lowering.specs.Context.{slotOf}
@@ -138,7 +138,7 @@ module _ (s : Setup) where
       EdgeOk p b L = (σ : Source) (e : Frame) → Rel s σ e → Holds (sourceEdge (given s) p b σ) (Lands s L e)
 
       pub edge-ok : (p b : ℕ) → Gives (edge (ctx s) p b) (EdgeOk p b)
-      unfolding edge emitEdgeCopies sourceEdge does labelOf okOr
+      unfolding edge emitEdgeCopies sourceEdge does blockIn labelIn okOr
       edge-ok p b = G-then {P = λ L. (σ : Source) (e : Frame) → Rel s σ e → (k : BasicBlock) × (lookup b (ctx s .blocks) ≡ some k) × Holds (takePhis (s .world) p (leading (k .insts)) (σ .env)) (λ ρ. Ends s L e [] (setEnv σ ρ) [])} _
           (G-bind _ _ λ k hk. let hb = okOr-some 17 (lookup b (ctx s .blocks)) k hk in G-bind _ _ λ cps hc. G-then _ (H-use cps hc (copies-ok p (k .insts) (sound b k hb))) λ A pa. G-map (sets-are (reverse cps)) λ B eb σ e r.
           (k, hb, H-map (pa σ e r) λ ρ c. then-ends s (c .pushes []) (subst (λ M. Ends s M e (onto (c .values) []) (setEnv σ ρ) []) (sym (eb ∙ mapped-reverse cps)) (c .ends []))))

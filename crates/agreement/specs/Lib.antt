@@ -7,6 +7,9 @@ pub mod Naming
 pub mod Where
 pub mod Statement
 pub mod Unique
+pub mod Placing
+pub mod Piece
+pub mod Turns
 pub mod Reach
 pub mod Signed
 pub mod Widen

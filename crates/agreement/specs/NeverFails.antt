@@ -7,31 +7,24 @@ use mathlib.Core.List.{List, [], _∷_}
 use native.Mathlib.Omega.{arith}
 use lib.ListN.{drop}
 use Rattle.numbers.specs.Tests.{lt-or-le}
-use Rattle.assembly.specs.Line.{Line}
 use Rattle.machine.specs.State.{World, Frame}
-use Rattle.machine.specs.Labels.{find}
+use Rattle.machine.specs.Labels.{Placed, find}
 use Rattle.machine.specs.Line.{Effect}
 use Rattle.machine.specs.Run.{State, Outcome, running, returned, failed, found, follow, stepAt, step, steps}
 use Rattle.machine.specs.Exact.{Alive}
+use Rattle.agreement.specs.Piece.{alive-from}
 use Rattle.agreement.specs.Corollaries.{same-state, not-returned, not-failed}
 
-module _ (names : List (List ℕ)) (f : ℕ) (world : World) (lines : List Line) where
+module _ (names : List (List ℕ)) (world : World) (lines : List Placed) where
   abbrev run : ℕ → Outcome → Outcome
-  run k x = steps names f world lines k x
+  run k x = steps names world lines k x
 
   -- ---- what has not failed later has not failed before
-  alive-from : (k : ℕ) (x : Outcome) → Alive (run k x) → Alive x
-  unfolding steps
-  alive-from zero x a = a
-  alive-from (suc k) (running s) a = tt
-  alive-from (suc k) (returned v e n) a = tt
-  alive-from (suc k) failed a = a
-
   alive-before : (k j : ℕ) (x : Outcome) → k ≤ j → Alive (run j x) → Alive (run k x)
   unfolding steps
-  alive-before zero j x h a = alive-from j x a
+  alive-before zero j x h a = alive-from names world lines j x a
   alive-before (suc k) zero x h a = absurd (omega arith)
-  alive-before (suc k) (suc j) (running s) h a = alive-before k j (step names f world lines s) (omega arith) a
+  alive-before (suc k) (suc j) (running s) h a = alive-before k j (step names world lines s) (omega arith) a
   alive-before (suc k) (suc j) (returned v e n) h a = tt
   alive-before (suc k) (suc j) failed h a = a
 
@@ -45,43 +38,43 @@ module _ (names : List (List ℕ)) (f : ℕ) (world : World) (lines : List Line)
   unfolding steps
   alive-after k zero x {v} {e} {n} h i = rw i (alive-returned k v e n)
   alive-after zero (suc j) x h i = absurd (omega arith)
-  alive-after (suc k) (suc j) (running s) h i = alive-after k j (step names f world lines s) (omega arith) i
+  alive-after (suc k) (suc j) (running s) h i = alive-after k j (step names world lines s) (omega arith) i
   alive-after (suc k) (suc j) (returned v e n) h i = tt
   alive-after (suc k) (suc j) failed h i = absurd (let z : _≡_ {A = ℕ} 0 1 = cc in omega arith)
 
   -- one step more
-  pub alive-step : (k : ℕ) (x : Outcome) (y : State) → run k x ≡ running y → Alive (run (suc k) x) → Alive (step names f world lines y)
+  pub alive-step : (k : ℕ) (x : Outcome) (y : State) → run k x ≡ running y → Alive (run (suc k) x) → Alive (step names world lines y)
   unfolding steps
   alive-step zero x y h a = rw h at a
-  alive-step (suc k) (running s) y h a = alive-step k (step names f world lines s) y h a
+  alive-step (suc k) (running s) y h a = alive-step k (step names world lines s) y h a
   alive-step (suc k) (returned v e n) y h a = not-returned h
   alive-step (suc k) failed y h a = not-failed h
 
   -- ---- a step passes one label at most
-  follow-passes : (p n : ℕ) (a : Effect) (y : State) → follow names f world lines p n a ≡ running y → y .passed ≤ suc n
+  follow-passes : (p n : ℕ) (a : Effect) (y : State) → follow names world lines p n a ≡ running y → y .passed ≤ suc n
   unfolding follow found
   follow-passes p n (Effect.goes e o) y h = rw (← same-state h) (omega arith)
   follow-passes p n (Effect.passes e o) y h = rw (← same-state h) (omega arith)
-  follow-passes p n (Effect.jumps t e o) y h = go (find names f t lines) h
+  follow-passes p n (Effect.jumps t e o) y h = go (find names t lines) h
     where
-      go : (q : Option ℕ) → found names f world lines q e o n ≡ running y → y .passed ≤ suc n
+      go : (q : Option ℕ) → found names world lines q e o n ≡ running y → y .passed ≤ suc n
       go none h = not-failed h
       go (some q) h = rw (← same-state h) (omega arith)
   follow-passes p n (Effect.ends v e) y h = not-returned h
   follow-passes p n Effect.fails y h = not-failed h
 
-  step-passes : (x y : State) → step names f world lines x ≡ running y → y .passed ≤ suc (x .passed)
+  step-passes : (x y : State) → step names world lines x ≡ running y → y .passed ≤ suc (x .passed)
   unfolding step stepAt
   step-passes x y h = go (drop (x .pos) lines) h
     where
-      go : (ls : List Line) → stepAt names f world lines ls x ≡ running y → y .passed ≤ suc (x .passed)
+      go : (ls : List Placed) → stepAt names world lines ls x ≡ running y → y .passed ≤ suc (x .passed)
       go [] h = not-failed h
       go (l ∷ ls) h = follow-passes (x .pos) (x .passed) _ y h
 
   passes : (k n : ℕ) (x : Outcome) (y : State) → ((z : State) → x ≡ running z → z .passed ≤ n) → run k x ≡ running y → y .passed ≤ n + k
   unfolding steps
   passes zero n x y a h = let i = a y h in omega arith
-  passes (suc k) n (running z) y a h = let i = passes k (suc n) (step names f world lines z) y (λ t e. let j = step-passes z t e in let l = a z refl in omega arith) h in omega arith
+  passes (suc k) n (running z) y a h = let i = passes k (suc n) (step names world lines z) y (λ t e. let j = step-passes z t e in let l = a z refl in omega arith) h in omega arith
   passes (suc k) n (returned v e i) y a h = not-returned h
   passes (suc k) n failed y a h = not-failed h
 

@@ -4,7 +4,7 @@ use Prim.Native.Nat.{ℕ, suc, _^_, _<_}
 use mathlib.Core.Path.{_≡_, refl, sym}
 use mathlib.Core.Bool.{true, cond}
 use mathlib.Core.Option.{some}
-use mathlib.Core.List.{List, [], _∷_, append-nil}
+use mathlib.Core.List.{List, [], _∷_, map, append-nil}
 use lib.ListN.{drop}
 use borrow.Author.Tests.{lt-ltb, eq-eqb}
 use Rattle.numbers.specs.Width.{widthOk}
@@ -27,6 +27,7 @@ use Rattle.lowering.specs.Open.{openLowering}
 use Rattle.agreement.specs.Holds.{H-use}
 use Rattle.agreement.specs.Gives.{Gives}
 use Rattle.agreement.specs.Setup.{Setup}
+use Rattle.agreement.specs.Placing.{under}
 use Rattle.agreement.specs.Start.{atBlock, atEntry, rel-start}
 use Rattle.agreement.specs.Arith.{Computes, bin-ok, icmp-ok, conv-ok}
 
@@ -47,9 +48,9 @@ abbrev pub within : (widths : List ℕ) → FnCtx
 within ws = contextOf emptyBook (ofParams ws) noFrame
 
 module _ (world : World) (memory : Memory) (sp : ℕ) (word : sp < 2 ^ 64) where
-  -- from the first line and no operand, the lines come to their end with this one
+  -- from the first line and no operand, the lines, those of function 0, come to their end with this one
   abbrev pub Leave : (args : List ℕ) (lines : List Line) (value : ℕ) → Type 0
-  Leave args L v = (k p : ℕ) × (steps [] 0 world L k (running (start args memory sp)) ≡ running (state p (start args memory sp .frame) (v ∷ []) 0)) × (drop p L ≡ [])
+  Leave args L v = (k p : ℕ) × (steps [] world (map (under 0) L) k (running (start 0 args memory sp)) ≡ running (state p (start 0 args memory sp .frame) (v ∷ []) 0)) × (drop p L ≡ [])
 
   setup : (widths args : List ℕ) → List Line → Setup
   unfolding emptyBook ofParams

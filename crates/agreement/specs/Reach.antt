@@ -2,34 +2,51 @@
 use Prim.Native.Nat.{ℕ, zero, suc}
 use mathlib.Core.Path.{_≡_, refl, ap, _∙_}
 use mathlib.Core.Bool.{Bool, true, false}
-use mathlib.Core.Option.{some}
-use mathlib.Core.List.{List, [], _∷_, _++_, append-assoc}
+use mathlib.Core.Option.{Option, some}
+use mathlib.Core.List.{List, [], _∷_, _++_, map, append-assoc}
 use lib.Dec.{eqb}
 use lib.ListN.{drop}
 use native.Mathlib.Omega.{arith}
 use Rattle.assembly.specs.Line.{Line, Hint}
 use Rattle.assembly.specs.Text.{hinted}
 use Rattle.machine.specs.State.{Frame}
-use Rattle.machine.specs.Labels.{labelOf}
+use Rattle.machine.specs.Labels.{Placed, labelIn}
 use Rattle.machine.specs.Line.{Effect, goes, jumps, does, branch, jump}
 use Rattle.machine.specs.Run.{State, state, Outcome, running, returned, failed, found, follow, stepAt, step, steps}
 use Rattle.agreement.specs.Setup.{Setup}
-use Rattle.agreement.specs.Lists.{drop-tail, drop-part}
+use Rattle.agreement.specs.Lists.{drop-tail, drop-part, drop-map}
 use Rattle.agreement.specs.Unique.{found-there}
 use Rattle.agreement.specs.Naming.{LabelsOnce}
+use Rattle.agreement.specs.Placing.{under}
 
 module _ (s : Setup) where
+  -- its lines, all of this function
+  abbrev pub mine : List Placed
+  mine = map (under (s .function .name)) (s .lines)
+
   abbrev pub stepOf : State → Outcome
-  stepOf x = step (s .codegen .names) (s .function .name) (s .world) (s .lines) x
+  stepOf x = step (s .codegen .names) (s .world) mine x
 
   abbrev pub stepsOf : ℕ → Outcome → Outcome
-  stepsOf n x = steps (s .codegen .names) (s .function .name) (s .world) (s .lines) n x
+  stepsOf n x = steps (s .codegen .names) (s .world) mine n x
 
   abbrev pub doing : Line → Frame → List ℕ → Effect
-  doing l e o = does (s .codegen .names) (s .function .name) (s .world) l e o
+  doing l e o = does (s .codegen .names) (some (s .function .name)) (s .world) l e o
+
+  abbrev pub label : Line → Option (List ℕ)
+  label l = labelIn (s .codegen .names) (some (s .function .name)) l
 
   abbrev pub Once : Type 0
-  Once = LabelsOnce (s .codegen .names) (s .function .name) (s .lines)
+  Once = LabelsOnce (s .codegen .names) mine
+
+  -- a line that stands at a position
+  pub at-line : (p : ℕ) {l : Line} {k : List Line} → drop p (s .lines) ≡ l ∷ k → drop p mine ≡ under (s .function .name) l ∷ map (under (s .function .name)) k
+  at-line p h = drop-map (under (s .function .name)) (s .lines) p h
+
+  -- two lines that print one label are one line
+  pub same-line : Once → (p q : ℕ) {l k : Line} {j i : List Line} {t : List ℕ} → drop p (s .lines) ≡ l ∷ j → drop q (s .lines) ≡ k ∷ i → label l ≡ some t → label k ≡ some t → p ≡ q
+  unfolding LabelsOnce
+  same-line u p q a b x y = u p q _ _ _ _ _ (at-line p a) (at-line q b) x y
 
   -- an outcome is reached in some number of steps
   pub record Reaches (x : State) (y : Outcome) : Type 0 where
@@ -80,7 +97,7 @@ module _ (s : Setup) where
 
   pub run-line : {l : Line} {e e′ : Frame} {o o′ : List ℕ} → doing l e o ≡ goes e′ o′ → Runs (l ∷ []) e o e′ o′
   unfolding step stepAt follow
-  run-line d = record { from = λ p n k h. record { pos = suc p; here = drop-tail p (s .lines) h; way = once (rw (h, d) refl) } }
+  run-line d = record { from = λ p n k h. record { pos = suc p; here = drop-tail p (s .lines) h; way = once (rw (at-line p h, d) refl) } }
 
   -- a line, then more
   infixr 54 _⊳_
@@ -94,19 +111,19 @@ module _ (s : Setup) where
   module _ (u : Once) where
     -- a line that jumps to a label, and the line with that label
     pub jump-to : {l k : Line} {j i : List Line} {e : Frame} {o o′ : List ℕ} (t : List ℕ) (p q n : ℕ)
-        → doing l e o ≡ jumps t e o′ → drop p (s .lines) ≡ l ∷ j → drop q (s .lines) ≡ k ∷ i → labelOf (s .codegen .names) (s .function .name) k ≡ some t
+        → doing l e o ≡ jumps t e o′ → drop p (s .lines) ≡ l ∷ j → drop q (s .lines) ≡ k ∷ i → label k ≡ some t
         → Reaches (state p e o n) (running (state q e o′ n))
     unfolding step stepAt follow found
-    jump-to {k} {i} t p q n d a b h = once (rw (a, d, found-there (s .codegen .names) (s .function .name) (s .lines) u t q k i b h) refl)
+    jump-to t p q n d a b h = once (rw (at-line p a, d, found-there (s .codegen .names) mine u t q _ _ (at-line q b) h) refl)
 
     -- one that does not, though it might
     pub pass-by : {l : Line} {j : List Line} {e e′ : Frame} {o o′ : List ℕ} (p n : ℕ) → doing l e o ≡ goes e′ o′ → drop p (s .lines) ≡ l ∷ j
         → Reaches (state p e o n) (running (state (suc p) e′ o′ n))
     unfolding step stepAt follow
-    pass-by p n d a = once (rw (a, d) refl)
+    pass-by p n d a = once (rw (at-line p a, d) refl)
 
-    pub hint-label : (h : Hint) (n : ℕ) → labelOf (s .codegen .names) (s .function .name) (Line.label h n) ≡ some (hinted h n)
-    unfolding labelOf
+    pub hint-label : (h : Hint) (n : ℕ) → label (Line.label h n) ≡ some (hinted h n)
+    unfolding labelIn
     hint-label h n = refl
 
     -- two ways that meet: `jz F; B; jmp D; F: C; D:`

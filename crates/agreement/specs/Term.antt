@@ -32,7 +32,7 @@ use Rattle.agreement.specs.Holds.{ok-same, Holds, H-ok, H-err, H-bind, H
 use Rattle.agreement.specs.Gives.{Gives, G-line, G-put, G-skip, G-then, G-bind, G-when, G-fresh, G-reserve, G-map}
 use Rattle.agreement.specs.Lists.{drop-tail, drop-part}
 use Rattle.agreement.specs.Setup.{Setup, ctx, given}
-use Rattle.agreement.specs.Reach.{Reaches, stay, once, next, Runs, runs-nil, run-line, run-label, seq, _⊳_, Once, jump-to, pass-by, hint-label}
+use Rattle.agreement.specs.Reach.{at-line, Reaches, stay, once, next, Runs, runs-nil, run-line, run-label, seq, _⊳_, Once, jump-to, pass-by, hint-label}
 use Rattle.agreement.specs.Relation.{Rel, Apart}
 use Rattle.agreement.specs.Operand.{H-width, H-integer, Sound, at-most, okOr-some, fits-mod, value-ok}
 use Rattle.agreement.specs.Extend.{work-width, work-above}
@@ -89,7 +89,7 @@ module _ (s : Setup) where
         lands = λ i m k h.
             let l = pb σ e (n ∷ []) r in
             let c = seq s (q []) (l .runs) .from i m (Line.ret ∷ k) (h ∙ append-assoc A _ k ∙ ap (λ x. A ++ x) (append-assoc B _ k) ∙ sym (append-assoc A B _)) in
-            record { frame = l .frame; labels = m; within = omega arith; way = next s (c .way) (once s (rw (c .here) refl)); memory-eq = l .memory-eq; calls-eq = l .calls-eq; sp-eq = l .sp-eq };
+            record { frame = l .frame; labels = m; within = omega arith; way = next s (c .way) (once s (rw (at-line s (c .pos) (c .here)) refl)); memory-eq = l .memory-eq; calls-eq = l .calls-eq; sp-eq = l .sp-eq };
       })
 
   -- a constant compared with what is on top

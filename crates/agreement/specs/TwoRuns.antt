@@ -1,37 +1,34 @@
--- Demand 3, "The two runs": one claim about the whole run of a function that the translator accepts.
-use Prim.Native.Nat.{ℕ, _*_, _^_, _<_, min}
+-- Demand 3, "The two runs": one claim about the whole run of each function that the translator accepts, on its lines wherever they stand.
+use Prim.Native.Nat.{ℕ, _+_, _^_, _<_, min}
 use mathlib.Core.Path.{_≡_, refl, sym, ap, _∙_, subst}
-use mathlib.Core.Bool.{Bool, true, false, not, _&&_}
+use mathlib.Core.Bool.{true}
 use mathlib.Core.Option.{Option, none, some}
 use mathlib.Core.List.{List, [], _∷_, _++_, map, append-assoc}
+use native.Mathlib.Omega.{arith}
 use native.Mathlib.Nat.{zero-add}
-use lib.ListN.{length, take, drop}
-use lib.Dec.{eqb, leb}
-use Rattle.book.specs.Ast.{BasicBlock, Book}
-use Rattle.book.specs.Result.{Result, ok, err, bind, okOr, given, require, bind-ok, given-ok}
-use Rattle.book.specs.Rule.{pick}
-use Rattle.book.specs.Entry.{entries}
-use Rattle.book.specs.Decode.{decode}
-use Rattle.book.specs.Input.{Counted, counted, bookIn, namesIn}
-use Rattle.book.specs.Forbidden.{forbidden}
-use Rattle.book.specs.AgreeBook.{decode-sound}
+use lib.ListN.{length, take}
+use lib.Dec.{leb}
+use Rattle.book.specs.Ast.{BasicBlock, Function}
+use Rattle.book.specs.Result.{Result, ok, err, bind, bind-ok, given-ok}
 use Rattle.book.specs.Shape.{allInsts}
-use Rattle.book.specs.Limits.{Each, BlockLimits, Limits}
-use Rattle.book.specs.Check.{Sound, workFor, checked}
+use Rattle.book.specs.Limits.{Each, BlockLimits, FunctionLimits}
+use Rattle.book.specs.Check.{Sound, checked}
 use Rattle.assembly.specs.Line.{Line}
 use Rattle.assembly.specs.Number.{kindOf, operandOf}
 use Rattle.assembly.specs.Printer.{linesOf}
 use Rattle.assembly.specs.Lists.{lines-of-numbers}
 use Rattle.machine.specs.Memory.{Memory}
 use Rattle.machine.specs.State.{World}
-use Rattle.machine.specs.Run.{state, start}
+use Rattle.machine.specs.Labels.{placed}
+use Rattle.machine.specs.Run.{Outcome, running, state, steps, start}
+use Rattle.machine.specs.Exact.{Alive}
 use Rattle.lowering.specs.Gen.{Out, _>>=_}
 use Rattle.lowering.specs.Translate.{generated, Translation, over, replied, translate}
-use Rattle.lowering.specs.AllowedFunction.{function-allows}
+use Rattle.lowering.specs.AllowedFunction.{functions-allow}
 use Rattle.lowering.specs.Printable.{checked-lent, take-over}
-use Rattle.lowering.specs.Context.{codegenOf}
+use Rattle.lowering.specs.Context.{Codegen, codegenOf}
 use Rattle.layout.specs.Frame.{Places, framePass, noFrame}
-use Rattle.lowering.specs.Function.{contextOf, genFunction}
+use Rattle.lowering.specs.Function.{slotsOf, contextOf, genFunction, genFunctions}
 use Rattle.manual.specs.State.{Cell, Source}
 use Rattle.manual.specs.Term.{Stand}
 use Rattle.manual.specs.GoesOn.{AllMeasured, placesOf, givenOf}
@@ -41,9 +38,9 @@ use Rattle.agreement.specs.Holds.{ok-same, Holds, H-ok, H-bind, H-eq, H-
 use Rattle.agreement.specs.Gives.{G-use}
 use Rattle.agreement.specs.Lists.{some-same, none-some, drop-part, In}
 use Rattle.agreement.specs.Setup.{Setup, given as givenTo}
+use Rattle.agreement.specs.Reach.{Once, mine, at-line, stepsOf}
 use Rattle.agreement.specs.Relation.{Held}
-use Rattle.agreement.specs.Operand.{okOr-some}
-use Rattle.agreement.specs.Statement.{SameValue, AtLabel, Agrees}
+use Rattle.agreement.specs.Statement.{LinesAt, SameValue, AtLabel, Agrees, RunsAs, RunsIn, after}
 use Rattle.agreement.specs.Flow.{Arrives, Goes}
 use Rattle.agreement.specs.Labels.{labelsOf}
 use Rattle.agreement.specs.Block.{labels-distinct, Split, split-ok, blocks-run}
@@ -52,10 +49,14 @@ use Rattle.agreement.specs.Only.{Reason, Only, O-then, O-known}
 use Rattle.agreement.specs.Measures.{blocks-measured}
 use Rattle.agreement.specs.OnlyStops.{begin-only, run-only}
 use Rattle.agreement.specs.Book.{apart-ok, good-inst, has-place, good-term, each-in}
-use Rattle.agreement.specs.Naming.{Distinct, Naming}
+use Rattle.agreement.specs.Naming.{paramNames, resultNames, Distinct, LabelsOnce, NoSelf, Naming}
+use Rattle.agreement.specs.Placing.{under, own-lines, Within, within}
+use Rattle.agreement.specs.Turns.{by-itself, in-turn, begins-at, comment-turn, one-comment}
+use Rattle.agreement.specs.Piece.{shifted, at-within, labels-within, run-within}
 
 -- ---- the run of one function, with its frame
-module _ (s : Setup) (m : ℕ) (limits : Each (BlockLimits m) (s .function .blocks)) (naming : Naming (s .codegen .names) (s .function) (s .lines))
+module _ (s : Setup) (m : ℕ) (limits : Each (BlockLimits m) (s .function .blocks))
+    (names : Distinct (paramNames (s .function .params) ++ resultNames (allInsts (s .function .blocks)))) (self : NoSelf (allInsts (s .function .blocks))) (labels : Once s)
     (pass : framePass (s .codegen .structs) (allInsts (s .function .blocks)) noFrame ≡ ok (s .frame)) (begins : Begins s (s .lines)) where
   splits : (k : BasicBlock) → In k (s .function .blocks) → Split s k (s .lines)
   splits k h =
@@ -73,7 +74,7 @@ module _ (s : Setup) (m : ℕ) (limits : Each (BlockLimits m) (s .function .bloc
   distinct : Distinct (labelsOf (s .function .blocks))
   distinct =
       let (q, h) = drop-part (s .lines) (begins .head) 0 (begins .parts) in
-      G-use (begins .code) (begins .made) (labels-distinct s (naming .labels) (s .function .blocks)) q (Line.blank ∷ []) h
+      G-use (begins .code) (begins .made) (labels-distinct s labels (s .function .blocks)) q (Line.blank ∷ []) h
 
   arrives : s .base < 2 ^ 64 → (memory : Memory) → argsFit (s .function .params) (s .args) ≡ true → (b : ℕ) → firstBlock (s .function .blocks) ≡ ok b
       → Arrives s (state 0 (atStart s memory) [] 0) 0 b (atEntry s memory)
@@ -84,67 +85,54 @@ module _ (s : Setup) (m : ℕ) (limits : Each (BlockLimits m) (s .function .bloc
 
   -- n blocks from the beginning
   whole-run : s .base < 2 ^ 64 → (memory : Memory) → argsFit (s .function .params) (s .args) ≡ true → (n : ℕ)
-      → Holds (bind (begin (givenTo s) (s .args) memory) (λ t. run (givenTo s) n t)) (Goes s (start (s .args) memory (s .base)) n)
+      → Holds (bind (begin (givenTo s) (s .args) memory) (λ t. run (givenTo s) n t)) (Goes s (start 0 (s .args) memory (s .base)) n)
   unfolding begin start
   whole-run h memory t n =
       H-bind _ (H-eq (firstBlock (s .function .blocks)) _ λ b hb. H-ok _ (arrives h memory t b hb)) λ x g.
       subst (λ k. Holds (run (givenTo s) n x) (Goes s (state 0 (atStart s memory) [] 0) k)) (zero-add n)
-      (blocks-run s (naming .labels) (apart-ok s (naming .distinct)) (λ k q i p. good-inst s (naming .distinct) pass (naming .self) m limits k q i p)
+      (blocks-run s labels (apart-ok s names) (λ k q i p. good-inst s names pass self m limits k q i p)
       (λ k q. good-term m (k .term) (each-in (BlockLimits m) (s .function .blocks) limits q .1 .1)) splits distinct n 0 (state 0 (atStart s memory) [] 0) x g)
 
   -- it can be measured
   measured : AllMeasured (givenTo s)
   measured = G-use (begins .code) (begins .made) (blocks-measured s (s .function .blocks) (λ k q i p.
-      (good-inst s (naming .distinct) pass (naming .self) m limits k q i p, has-place s (naming .distinct) pass (naming .self) m k q i p)))
+      (good-inst s names pass self m limits k q i p, has-place s names pass self m k q i p)))
 
   -- so it stops for document 01's reasons alone
   whole-only : (memory : Memory) (n : ℕ) → Only (bind (begin (givenTo s) (s .args) memory) (λ t. run (givenTo s) n t))
   whole-only memory n = O-then _ (begin-only (givenTo s) (s .args) memory) λ t. run-only (givenTo s) measured n t
 
--- ---- the book
-counted-some : (m : ℕ) (r : Option Book) (c : Counted) → counted m r ≡ some c → r ≡ some (c .book) × (m ≡ c .count)
-unfolding counted
-counted-some m none c h = none-some c h
-counted-some m (some b) c h =
-    let z : record { count = m; book = b } ≡ c = some-same h in
-    (ap {B = Option Book} (λ (x : Counted). some (x .book)) z, ap (λ (x : Counted). x .count) z)
-
-book-limits : (book : List ℕ) (c : Counted) → bookIn book ≡ some c → Limits (c .count) (c .book)
-unfolding bookIn
-book-limits [] c h = none-some c h
-book-limits (n ∷ []) c h = none-some c h
-book-limits (n ∷ m ∷ es) c h = go (leb n 1048576 && (leb m 131072 && eqb (length es) (2 * n))) h
-  where
-    go : (t : Bool) → pick t (counted m (decode m (entries (take n es) (drop n es)))) none ≡ some c → Limits (c .count) (c .book)
-    go true h = let (e, k) = counted-some m (decode m (entries (take n es) (drop n es))) c h in subst (λ z. Limits z (c .book)) k (decode-sound m (entries (take n es) (drop n es)) (c .book) e .1)
-    go false h = none-some c h
-
--- a sound book keeps its limits
-pub sound-limits : (book names : List ℕ) (counter workLen : ℕ) (b : Sound) → checked book names counter workLen ≡ ok b → (m : ℕ) × Limits m (b .book)
-unfolding checked okOr require given
-sound-limits book names counter workLen b h =
-    let (c, hc, h₁) = bind-ok (okOr 1 (bookIn book)) _ b h in
-    let (t₁, e₁, h₂) = bind-ok (require (leb counter (2 ^ 32)) 1) _ b h₁ in
-    let (ns, hn, h₃) = bind-ok (okOr 2 (namesIn (c .count) names)) _ b h₂ in
-    let (t₂, e₂, h₄) = bind-ok (require (not (forbidden ns (c .book))) 3) _ b h₃ in
-    let (t₃, e₃) = given-ok (leb (workFor (c .count)) workLen) 4 (record { names = ns; book = c .book }) b h₄ in
-    let l = book-limits book c (okOr-some 1 (bookIn book) c hc) in
-    (c .count, subst (λ (z : Sound). Limits (c .count) (z .book)) e₃ l)
-
-module _ (b : Sound) (out : Out) (counter m : ℕ) (limits : Limits m (b .book)) (makes : genFunction (codegenOf (b .names) (b .book)) (b .book .function) counter ≡ ok out)
-    (naming : Naming (b .names) (b .book .function) (out .lines)) (world : World) (args : List ℕ) (memory : Memory) (sp : ℕ) (fits : argsFit (b .book .function .params) args ≡ true) (word : sp < 2 ^ 64) where
+-- ---- a function whose lines stand in a piece
+module _ (g : Codegen) (f : Function) (limits : FunctionLimits (length (g .names)) f) (lines : List Line) (from : ℕ) (at : LinesAt g f lines from) (naming : Naming (g .names) f lines)
+    (world : World) (args : List ℕ) (memory : Memory) (sp : ℕ) (fits : argsFit (f .params) args ≡ true) (word : sp < 2 ^ 64) where
   abbrev setup : Places → Setup
-  setup fr = record { codegen = codegenOf (b .names) (b .book); function = b .book .function; frame = fr; world = world; args = args; base = sp; lines = out .lines }
+  setup fr = record { codegen = g; function = f; frame = fr; world = world; args = args; base = sp; lines = at .own .lines }
 
-  arrived : (fr : Places) (n block : ℕ) (σ : Source) → Arrives (setup fr) (start args memory sp) n block σ → AtLabel (b .names) (b .book) (out .lines) world args memory sp n block σ
-  unfolding codegenOf
+  -- its lines within the others
+  around : Within (f .name) (at .own .lines) lines from
+  around = within g f limits lines from at
+
+  labels-own : (fr : Places) → Once (setup fr)
+  labels-own fr = labels-within (g .names) (around .before) (mine (setup fr)) (around .after) (placed lines) (around .parts) from (around .position) (naming .labels)
+
+  -- what the lines come to by themselves, the machine comes to in the piece
+  there-too : (fr : Places) (k : ℕ) (y : Outcome) → stepsOf (setup fr) k (running (start 0 args memory sp)) ≡ y → Alive y → after (g .names) f lines from world args memory sp k ≡ shifted from y
+  unfolding start shifted
+  there-too fr k y e a =
+      let begin : Outcome = running (start 0 args memory sp) in
+      let same : from + 0 ≡ from = omega arith in
+      subst (λ p. steps (g .names) world (placed lines) k (running (start p args memory sp)) ≡ shifted from y) same
+      (run-within (g .names) (around .before) (mine (setup fr)) (around .after) (placed lines) (around .parts) from (around .position) (naming .labels) world k begin (rw e a) ∙ ap (shifted from) e)
+
+  arrived : (fr : Places) (n block : ℕ) (σ : Source) → Arrives (setup fr) (start 0 args memory sp) n block σ → AtLabel (g .names) f lines from world args memory sp n block σ
+  unfolding shifted slotsOf
   arrived fr n block σ a = record {
     number = a .way .number;
-    position = a .pos;
-    rest = a .rest;
+    position = from + a .pos;
+    rest = _;
     frame = a .frame;
-    stands = a .way .reach;
-    label = a .here;
+    stands = there-too fr (a .way .number) _ (a .way .reach) tt;
+    label = at-within (g .names) (around .before) (mine (setup fr)) (around .after) (placed lines) (around .parts) from (around .position) (a .pos) (at-line (setup fr) (a .pos) (a .here));
     same-args = a .rel .args-eq;
     same-values = λ x c h. same x c (a .rel .held x c h);
     same-memory = a .rel .memory-eq;
@@ -152,68 +140,119 @@ module _ (b : Sound) (out : Out) (counter m : ℕ) (limits : Limits m (b .book))
     same-calls = a .rel .calls-eq;
   }
     where
-      same : (x : ℕ) (c : Cell) → Held (setup fr) (a .frame) x c → SameValue (b .names) (b .book) (a .frame) x c
+      same : (x : ℕ) (c : Cell) → Held (setup fr) (a .frame) x c → SameValue (g .names) f (a .frame) x c
       same x (Cell.one w v) h = (h .cell, h .fits)
       same x (Cell.two w v t) h = (h .base, h .slot-eq, h .cell₀, h .cell₁, h .fits₀, h .fits₁)
 
-  agrees : (fr : Places) (n : ℕ) (t : Stand) → Goes (setup fr) (start args memory sp) n t → Agrees (b .names) (b .book) (out .lines) world args memory sp n t
-  unfolding codegenOf
+  agrees : (fr : Places) (n : ℕ) (t : Stand) → Goes (setup fr) (start 0 args memory sp) n t → Agrees (g .names) f lines from world args memory sp n t
+  unfolding shifted
   agrees fr n (Stand.at block σ) a = arrived fr n block σ a
-  agrees fr n (Stand.gave v σ) a = record { number = a .way .number; frame = a .frame; labels = a .labels; within = a .within; returns = a .way .reach; same-memory = a .memory-eq; same-calls = a .calls-eq; stack-restored = a .sp-eq }
+  agrees fr n (Stand.gave v σ) a = record {
+    number = a .way .number;
+    frame = a .frame;
+    labels = a .labels;
+    within = a .within;
+    returns = there-too fr (a .way .number) _ (a .way .reach) tt;
+    same-memory = a .memory-eq;
+    same-calls = a .calls-eq;
+    stack-restored = a .sp-eq;
+  }
 
-  book-runs : (n : ℕ) → Holds (sourceRun (b .names) (b .book) world args memory sp n) (Agrees (b .names) (b .book) (out .lines) world args memory sp n)
-  unfolding sourceRun genFunction contextOf codegenOf _>>=_
-  book-runs n =
-      let (fr, pass, made) = bind-ok (framePass (b .book .structs) (allInsts (b .book .function .blocks)) noFrame) _ out makes in
-      H-known _ pass (H-map (whole-run (setup fr) m (limits .function .1 .1 .1) naming pass (H-use out made (begins-ok (setup fr) .made counter)) word memory fits n) λ t g. agrees fr n t g)
+  -- the frame that was passed, and what begins the lines
+  begun : (fr : Places) × (placesOf (g .structs) f ≡ ok fr) × Begins (setup fr) (at .own .lines)
+  unfolding genFunction contextOf _>>=_
+  begun = let (fr, pass, made) = bind-ok (placesOf (g .structs) f) _ (at .own) (at .made) in (fr, pass, H-use (at .own) made (begins-ok (setup fr) .made (at .counter)))
 
-  pub book-measured : (fr : Places) → placesOf (b .book) ≡ ok fr → AllMeasured (givenOf (b .names) (b .book) world sp fr)
-  unfolding genFunction contextOf codegenOf _>>=_
-  book-measured fr pass =
-      let (fr′, pass′, made) = bind-ok (placesOf (b .book)) _ out makes in
-      subst (λ (z : Places). AllMeasured (givenOf (b .names) (b .book) world sp z)) (ok-same (sym pass′ ∙ pass))
-      (measured (setup fr′) m (limits .function .1 .1 .1) naming pass′ (H-use out made (begins-ok (setup fr′) .made counter)))
+  function-runs : (n : ℕ) → Holds (sourceRun (g .names) (g .structs) f world args memory sp n) (Agrees (g .names) f lines from world args memory sp n)
+  unfolding sourceRun
+  function-runs n =
+      let (fr, pass, begins) = begun in
+      H-known _ pass (H-map (whole-run (setup fr) (length (g .names)) (limits .1 .1 .1) (naming .distinct) (naming .self) (labels-own fr) pass begins word memory fits n) λ t a. agrees fr n t a)
 
-  pub book-places : Going (placesOf (b .book))
-  unfolding genFunction contextOf codegenOf _>>=_
-  book-places = let (fr, pass, made) = bind-ok (placesOf (b .book)) _ out makes in (fr, pass)
+  pub function-measured : (fr : Places) → placesOf (g .structs) f ≡ ok fr → AllMeasured (givenOf (g .names) (g .structs) f world sp fr)
+  function-measured fr pass =
+      let (fr′, pass′, begins) = begun in
+      subst (λ (z : Places). AllMeasured (givenOf (g .names) (g .structs) f world sp z)) (ok-same (sym pass′ ∙ pass))
+      (measured (setup fr′) (length (g .names)) (limits .1 .1 .1) (naming .distinct) (naming .self) (labels-own fr′) pass′ begins)
 
-  book-only : (n : ℕ) → Only (sourceRun (b .names) (b .book) world args memory sp n)
-  unfolding sourceRun genFunction contextOf codegenOf _>>=_
-  book-only n =
-      let (fr, pass, made) = bind-ok (framePass (b .book .structs) (allInsts (b .book .function .blocks)) noFrame) _ out makes in
-      O-known _ pass (whole-only (setup fr) m (limits .function .1 .1 .1) naming pass (H-use out made (begins-ok (setup fr) .made counter)) memory n)
+  pub function-places : Going (placesOf (g .structs) f)
+  function-places = let (fr, pass, begins) = begun in (fr, pass)
+
+  function-only : (n : ℕ) → Only (sourceRun (g .names) (g .structs) f world args memory sp n)
+  unfolding sourceRun
+  function-only n =
+      let (fr, pass, begins) = begun in
+      O-known _ pass (whole-only (setup fr) (length (g .names)) (limits .1 .1 .1) (naming .distinct) (naming .self) (labels-own fr) pass begins memory n)
+
+-- ---- the functions of a book
+-- what is generated for a book: its names, its structs, and all its functions defined
+abbrev pub codegen : Sound → Codegen
+codegen b = codegenOf (b .names) (b .book)
+
+-- a function of a sound book keeps the limits
+pub sound-limits : (book names : List ℕ) (counter workLen : ℕ) (b : Sound) → checked book names counter workLen ≡ ok b → (f : Function) → In f (b .book .functions)
+    → FunctionLimits (length (codegen b .names)) f
+unfolding codegenOf
+sound-limits book names counter workLen b checks f of =
+    each-in (FunctionLimits (length (b .names))) (b .book .functions) (checked-lent book names counter workLen b checks .limits .functions .1) of
+
+-- For every function of a book that the translator accepts, on its lines wherever they stand.
+pub two-runs : (book names : List ℕ) (counter workLen : ℕ) (b : Sound) → checked book names counter workLen ≡ ok b → (f : Function) → In f (b .book .functions)
+    → (lines : List Line) (from : ℕ) → LinesAt (codegen b) f lines from → RunsAs (b .names) (b .book .structs) f lines from
+unfolding codegenOf
+two-runs book names counter workLen b checks f of lines from at naming world args memory sp fits word n t h =
+    H-use t h (function-runs (codegen b) f (sound-limits book names counter workLen b checks f of) lines from at naming world args memory sp fits word n)
+
+-- Where the source run of such a function has no state, it stopped for a reason of document 01, or a reply did not fit its call's width.
+pub only-stops : (book names : List ℕ) (counter workLen : ℕ) (b : Sound) → checked book names counter workLen ≡ ok b → (f : Function) → In f (b .book .functions)
+    → (lines : List Line) (from : ℕ) → LinesAt (codegen b) f lines from → Naming (b .names) f lines
+    → (world : World) (args : List ℕ) (memory : Memory) (sp : ℕ) → argsFit (f .params) args ≡ true → sp < 2 ^ 64
+    → (n e : ℕ) → sourceRun (b .names) (b .book .structs) f world args memory sp n ≡ err e → Reason e
+unfolding codegenOf
+only-stops book names counter workLen b checks f of lines from at naming world args memory sp fits word n e h =
+    function-only (codegen b) f (sound-limits book names counter workLen b checks f of) lines from at naming world args memory sp fits word n .only e h
 
 -- what `generated` has made, of the sound book
 pub made-by : (book names : List ℕ) (counter workLen room : ℕ) (b : Sound) (out : Out) → checked book names counter workLen ≡ ok b → generated book names counter workLen room ≡ ok out
-    → genFunction (codegenOf (b .names) (b .book)) (b .book .function) counter ≡ ok out
+    → genFunctions (codegen b) (b .book .functions) counter ≡ ok out
 unfolding generated
 made-by book names counter workLen room b out checks makes =
     let (b′, hb, h₁) = bind-ok (checked book names counter workLen) _ out makes in
-    let (out′, ho, h₂) = bind-ok (genFunction (codegenOf (b′ .names) (b′ .book)) (b′ .book .function) counter) _ out h₁ in
+    let (out′, ho, h₂) = bind-ok (genFunctions (codegen b′) (b′ .book .functions) counter) _ out h₁ in
     let same : b′ ≡ b = ok-same (sym hb ∙ checks) in
     let made : out′ ≡ out = given-ok (leb (length (out′ .lines)) room) 20 out′ out h₂ .1 in
-    subst (λ (z : Sound). genFunction (codegenOf (z .names) (z .book)) (z .book .function) counter ≡ ok out) same (ho ∙ ap {B = Result Out} ok made)
+    subst (λ (z : Sound). genFunctions (codegen z) (z .book .functions) counter ≡ ok out) same (ho ∙ ap {B = Result Out} ok made)
 
--- For every book that the translator accepts, under the naming conditions, for all arguments that fit their widths, every memory, stack pointer, global addresses,
--- syscall shapes and replies, and for every n: where the source run comes with n blocks, the lines come with the same values. (A reply that does not fit its
--- call's width breaks document 01's premise; the source run then comes nowhere.)
-pub two-runs : (book names : List ℕ) (counter workLen room : ℕ) (b : Sound) (out : Out) → checked book names counter workLen ≡ ok b → generated book names counter workLen room ≡ ok out
-    → Naming (b .names) (b .book .function) (out .lines)
-    → (world : World) (args : List ℕ) (memory : Memory) (sp : ℕ) → argsFit (b .book .function .params) args ≡ true → sp < 2 ^ 64
-    → (n : ℕ) (t : Stand) → sourceRun (b .names) (b .book) world args memory sp n ≡ ok t → Agrees (b .names) (b .book) (out .lines) world args memory sp n t
-two-runs book names counter workLen room b out checks makes naming world args memory sp fits word n t h =
-    let (m, limits) = sound-limits book names counter workLen b checks in
-    H-use t h (book-runs b out counter m limits (made-by book names counter workLen room b out checks makes) naming world args memory sp fits word n)
+-- ---- the two uses
+-- The whole piece: each function of the book runs on all the lines that were generated, from its comment line.
+pub piece-runs : (book names : List ℕ) (counter workLen room : ℕ) (b : Sound) (out : Out) → checked book names counter workLen ≡ ok b → generated book names counter workLen room ≡ ok out
+    → (f : Function) → In f (b .book .functions) → RunsIn (b .names) (b .book .structs) f (out .lines)
+unfolding codegenOf
+piece-runs book names counter workLen room b out checks makes f of =
+    let limits = sound-limits book names counter workLen b checks in
+    let turns = made-by book names counter workLen room b out checks makes in
+    let (p, at) = in-turn (codegen b) (b .book .functions) counter out turns of in (
+      (p, begins-at (codegen b) f (limits f of) (out .lines) p at),
+      λ from (rest, begins) naming.
+          let (k, in-k, same, at-k) = comment-turn (codegen b) (b .book .functions) limits counter out turns from begins in
+          let here : p ≡ from = one-comment (codegen b) (out .lines) (naming .labels) f k (limits f of) (limits k in-k) same p from at at-k in
+          two-runs book names counter workLen b checks f of (out .lines) from (subst (LinesAt (codegen b) f (out .lines)) here at) naming,
+    )
 
--- Where the source run of such a function has no state, it stopped for a reason of document 01, or a reply did not fit its call's width.
-pub only-stops : (book names : List ℕ) (counter workLen room : ℕ) (b : Sound) (out : Out) → checked book names counter workLen ≡ ok b → generated book names counter workLen room ≡ ok out
-    → Naming (b .names) (b .book .function) (out .lines)
-    → (world : World) (args : List ℕ) (memory : Memory) (sp : ℕ) → argsFit (b .book .function .params) args ≡ true → sp < 2 ^ 64
-    → (n e : ℕ) → sourceRun (b .names) (b .book) world args memory sp n ≡ err e → Reason e
-only-stops book names counter workLen room b out checks makes naming world args memory sp fits word n e h =
-    let (m, limits) = sound-limits book names counter workLen b checks in
-    book-only b out counter m limits (made-by book names counter workLen room b out checks makes) naming world args memory sp fits word n .only e h
+-- The function's own lines, made at any counter: it runs on them from the first.
+pub own-runs : (book names : List ℕ) (counter workLen : ℕ) (b : Sound) → checked book names counter workLen ≡ ok b → (f : Function) → In f (b .book .functions)
+    → (c : ℕ) (own : Out) → genFunction (codegen b) f c ≡ ok own → RunsAs (b .names) (b .book .structs) f (own .lines) 0
+own-runs book names counter workLen b checks f of c own makes = two-runs book names counter workLen b checks f of (own .lines) 0 (by-itself (codegen b) f c own makes)
+
+-- where the naming conditions hold in the piece, they do in the function's own lines
+pub own-naming : (book names : List ℕ) (counter workLen : ℕ) (b : Sound) → checked book names counter workLen ≡ ok b → (f : Function) → In f (b .book .functions)
+    → (lines : List Line) (from : ℕ) (at : LinesAt (codegen b) f lines from) → Naming (b .names) f lines → Naming (b .names) f (at .own .lines)
+own-naming book names counter workLen b checks f of lines from at naming =
+    let limits = sound-limits book names counter workLen b checks f of in
+    let own = own-lines (codegen b) f limits (at .counter) (at .own) (at .made) in
+    let w = within (codegen b) f limits lines from at in
+    let alone : LabelsOnce (b .names) (map (under (f .name)) (at .own .lines)) = labels-within (b .names) (w .before) _ (w .after) (placed lines) (w .parts) from (w .position) (naming .labels) in
+    record { distinct = naming .distinct; labels = subst (LabelsOnce (b .names)) (sym (own .mine none)) alone; self = naming .self }
 
 -- ---- the same of a call of the translator: the lines are those that its two line slices hold afterwards
 count-of : Translation → Option ℕ
@@ -221,29 +260,25 @@ count-of (Translation.accepted n next) = some n
 count-of (Translation.refused e) = none
 
 pub lent-runs : (book names : List ℕ) (counter : ℕ) (work kinds operands : List ℕ) → let call = translate book names counter work kinds operands in
-    (lines next : ℕ) → call .reply ≡ Translation.accepted lines next
+    (many next : ℕ) → call .reply ≡ Translation.accepted many next
     → (b : Sound) → checked book names counter (length work) ≡ ok b
-    → (prog : List Line) → linesOf (b .names) (b .book) (take lines (call .kinds)) (take lines (call .operands)) ≡ some prog
-    → Naming (b .names) (b .book .function) prog
-    → (world : World) (args : List ℕ) (memory : Memory) (sp : ℕ) → argsFit (b .book .function .params) args ≡ true → sp < 2 ^ 64
-    → (n : ℕ) (t : Stand) → sourceRun (b .names) (b .book) world args memory sp n ≡ ok t → Agrees (b .names) (b .book) prog world args memory sp n t
+    → (lines : List Line) → linesOf (b .names) (b .book) (take many (call .kinds)) (take many (call .operands)) ≡ some lines
+    → (f : Function) → In f (b .book .functions) → RunsIn (b .names) (b .book .structs) f lines
 unfolding translate replied count-of
-lent-runs book names counter work kinds operands lines next reply b checks prog read naming world args memory sp fits word n t h = go (generated book names counter (length work) room) refl reply read
+lent-runs book names counter work kinds operands many next reply b checks lines read f of = go (generated book names counter (length work) room) refl reply read
   where
     room : ℕ
     room = min (length kinds) (length operands)
 
-    go : (r : Result Out) → generated book names counter (length work) room ≡ r → replied r work kinds operands .reply ≡ Translation.accepted lines next
-        → linesOf (b .names) (b .book) (take lines (replied r work kinds operands .kinds)) (take lines (replied r work kinds operands .operands)) ≡ some prog
-        → Agrees (b .names) (b .book) prog world args memory sp n t
-    go (err e) makes k i = none-some lines (ap count-of k)
+    go : (r : Result Out) → generated book names counter (length work) room ≡ r → replied r work kinds operands .reply ≡ Translation.accepted many next
+        → linesOf (b .names) (b .book) (take many (replied r work kinds operands .kinds)) (take many (replied r work kinds operands .operands)) ≡ some lines
+        → RunsIn (b .names) (b .book .structs) f lines
+    go (err e) makes k i = none-some many (ap count-of k)
     go (ok out) makes k i =
         let gen = made-by book names counter (length work) room b out checks makes in
         let l = checked-lent book names counter (length work) b checks in
-        let many : length (out .lines) ≡ lines = some-same (ap count-of k) in
-        let allowed = function-allows (b .names) (b .book) (l .limits) .allows counter out gen in
-        let back : linesOf (b .names) (b .book) (take lines (over (map kindOf (out .lines)) kinds)) (take lines (over (map operandOf (out .lines)) operands)) ≡ some (out .lines) =
-        rw (← many, take-over kindOf (out .lines) kinds, take-over operandOf (out .lines) operands) (lines-of-numbers (b .names) (b .book) (out .lines) allowed) in
-        let same : out .lines ≡ prog = some-same (sym back ∙ i) in
-        subst (λ (p : List Line). Agrees (b .names) (b .book) p world args memory sp n t) same
-        (two-runs book names counter (length work) room b out checks makes (subst (λ (p : List Line). Naming (b .names) (b .book .function) p) (sym same) naming) world args memory sp fits word n t h)
+        let count : length (out .lines) ≡ many = some-same (ap count-of k) in
+        let allowed = functions-allow (b .names) (b .book) (l .limits) .allows counter out gen in
+        let back : linesOf (b .names) (b .book) (take many (over (map kindOf (out .lines)) kinds)) (take many (over (map operandOf (out .lines)) operands)) ≡ some (out .lines) =
+        rw (← count, take-over kindOf (out .lines) kinds, take-over operandOf (out .lines) operands) (lines-of-numbers (b .names) (b .book) (out .lines) allowed) in
+        subst (RunsIn (b .names) (b .book .structs) f) (some-same (sym back ∙ i)) (piece-runs book names counter (length work) room b out checks makes f of)

@@ -16,11 +16,11 @@ use Rattle.book.specs.Shape.{allInsts}
 use Rattle.assembly.specs.Line.{Line}
 use Rattle.assembly.specs.Number.{isName, allowed}
 use Rattle.lowering.specs.Gen.{line, each}
-use Rattle.lowering.specs.Context.{FnCtx, codegenOf, blockMap}
+use Rattle.lowering.specs.Context.{Codegen, FnCtx, codegenOf, blockMap}
 use Rattle.layout.specs.Frame.{Places}
 use Rattle.lowering.specs.Function.{genBlock, prologue, genLines, slotsOf, contextOf, totalSlots, genFunction, genFunctions}
 use Rattle.lowering.specs.Places.{lookup-cons, all-below}
-use Rattle.lowering.specs.Allows.{Allows, line-allows, bind-allows, then-allows, when-allows, when-true, guard-allows, each-allows, plain}
+use Rattle.lowering.specs.Allows.{Allows, line-allows, then-allows, when-allows, when-true, guard-allows, each-allows, Opens, line-opens, bind-opens, opens-allows, plain}
 use Rattle.lowering.specs.Allowed.{Within, add-allows, set-base}
 use Rattle.lowering.specs.AllowedBlocks.{and-true, block-allows}
 use Rattle.book.specs.Map.{Map, lookup}
@@ -41,26 +41,26 @@ no-block : (n x : ℕ) (bb : BasicBlock) → lookup x [] ≡ some bb → BlockLi
 unfolding lookup
 no-block n x bb h = absurd (let z : _≡_ {A = ℕ} 0 1 = cc in omega arith)
 
-module _ (names : List (List ℕ)) (b : Book) (f : Function) (l : FunctionLimits (length names) f) (own : member (f .name) (functionNames b) ≡ true) where
+-- a function within the limits, whatever else is defined
+module _ (g : Codegen) (b : Book) (f : Function) (l : FunctionLimits (length (g .names)) f) where
+  abbrev names : List (List ℕ)
+  names = g .names
+
   abbrev context : Places → FnCtx
-  context fr = contextOf (codegenOf names b) f fr
+  context fr = contextOf g f fr
 
   abbrev total : Places → ℕ
-  total fr = totalSlots (codegenOf names b) f fr
+  total fr = totalSlots g f fr
 
   -- ---- the context, where the slots are few enough
   within : (fr : Places) → total fr ≤ 65535 → Within (context fr)
-  unfolding contextOf codegenOf totalSlots slotsOf
+  unfolding contextOf totalSlots slotsOf
   within fr h =
       record {
         slots = λ x s e. let q = all-below names (allInsts (f .blocks)) x s e in omega arith;
         base = omega arith;
         blocks = blocks-within (length names) (f .blocks) [] (l .1 .1 .1) (no-block (length names));
       }
-
-  comment-line : Allows names b (line (Line.comment (f .name)))
-  unfolding allowed
-  comment-line = line-allows names b _ own
 
   name-line : Allows names b (line (Line.fnLabel (f .name)))
   unfolding allowed isName
@@ -81,19 +81,24 @@ module _ (names : List (List ℕ)) (b : Book) (f : Function) (l : FunctionLimits
   blocks-allow : (c : FnCtx) (w : Within c) (bs : List BasicBlock) → Each (BlockLimits (length (c .codegen .names))) bs → Allows (c .codegen .names) b (each (genBlock c) bs)
   blocks-allow c w bs h = each-allows _ b (BlockLimits (length (c .codegen .names))) (genBlock c) (block-allows b c w) bs h
 
-  lines-allow : (fr : Places) → Allows names b (genLines (context fr) f (total fr))
-  unfolding genLines contextOf codegenOf
-  lines-allow fr =
-      then-allows _ _ _ _ comment-line (then-allows _ _ _ _ name-line (guard-allows _ _ _ _ _ (λ e.
+  lines-open : (fr : Places) → Opens names b (Line.comment (f .name)) (genLines (context fr) f (total fr))
+  unfolding genLines contextOf
+  lines-open fr =
+      line-opens _ _ _ _ (then-allows _ _ _ _ name-line (guard-allows _ _ _ _ _ (λ e.
       let few : total fr ≤ 65535 = ltb-false 65535 (total fr) e in
       let w = within fr few in
       then-allows _ _ _ _ (when-true _ _ _ _ (slots-line (total fr) few)) (then-allows _ _ _ _ (when-allows _ _ _ _ (prologue-allows (context fr) w))
       (then-allows _ _ _ _ (blocks-allow (context fr) w (f .blocks) (l .1 .1 .1)) (search plain))))))
 
-  -- every line of a function of the book is allowed
-  pub function-allows : Allows names b (genFunction (codegenOf names b) f)
+  -- behind its comment line every line of the function is allowed, whatever functions the book has
+  pub function-opens : Opens (g .names) b (Line.comment (f .name)) (genFunction g f)
   unfolding genFunction
-  function-allows = bind-allows _ _ _ _ (λ fr e. lines-allow fr)
+  function-opens = bind-opens _ _ _ _ _ lines-open
+
+  -- every line of it, where the book has its name
+  pub function-allows : member (f .name) (functionNames b) ≡ true → Allows (g .names) b (genFunction g f)
+  unfolding allowed
+  function-allows own = opens-allows _ _ _ _ own function-opens
 
 -- a function of the book, within the limits
 abbrev Own : (names : List (List ℕ)) → Book → Function → Type 0
@@ -109,6 +114,6 @@ all-own names b (f ∷ fs) h l =
 
 -- every line of a book's functions is allowed
 pub functions-allow : (names : List (List ℕ)) (b : Book) → Limits (length names) b → Allows names b (genFunctions (codegenOf names b) (b .functions))
-unfolding genFunctions
+unfolding genFunctions codegenOf
 functions-allow names b l =
-    each-allows names b (Own names b) (genFunction (codegenOf names b)) (λ f k. function-allows names b f (k .0) (k .1)) (b .functions) (all-own names b (b .functions) (λ x e. e) (l .functions .1))
+    each-allows names b (Own names b) (genFunction (codegenOf names b)) (λ f k. function-allows (codegenOf names b) b f (k .0) (k .1)) (b .functions) (all-own names b (b .functions) (λ x e. e) (l .functions .1))

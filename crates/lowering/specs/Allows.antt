@@ -1,6 +1,6 @@
 -- Ways of generating whose lines are all allowed: what the law of `Printable` is made of.
 use Prim.Native.Nat.{ℕ, suc, _+_}
-use mathlib.Core.Path.{_≡_, refl, ap, subst}
+use mathlib.Core.Path.{_≡_, refl, ap, sym, subst}
 use mathlib.Core.Bool.{Bool, true, false}
 use mathlib.Core.Option.{none}
 use mathlib.Core.List.{List, [], _∷_, _++_}
@@ -95,6 +95,34 @@ module _ (names : List (List ℕ)) (b : Book) where
   unfolding each
   each-allows P f t [] p = skip-allows
   each-allows P f t (x ∷ xs) p = then-allows (f x) (each f xs) (t x (p .0)) (each-allows P f t xs (p .1))
+
+  -- ---- a line, and behind it lines that are all allowed
+  pub record Opened (l : Line) (ls : List Line) : Type 0 where
+    pub rest : List Line
+    pub begins : ls ≡ l ∷ rest
+    pub allowed-rest : AllAllowed names b rest
+
+  pub record Opens (l : Line) (g : Gen) : Type 0 where
+    pub opens : (n : ℕ) (o : Out) → g n ≡ ok o → Opened l (o .lines)
+
+  pub line-opens : (l : Line) (h : Gen) → Allows h → Opens l (line l >> h)
+  unfolding _>>_ line lines after bind lines-of
+  line-opens l h s = record {
+    opens = λ n o e.
+        let x = bind-ok (h n) (λ q. ok (after (l ∷ []) q)) o e in
+        record { rest = x .0 .lines; begins = sym (ap lines-of (x .2)); allowed-rest = s .allows n (x .0) (x .1) };
+  }
+
+  pub bind-opens : {A : Type 0} (l : Line) (r : Result A) (g : A → Gen) → ((a : A) → Opens l (g a)) → Opens l (r >>= g)
+  unfolding _>>=_
+  bind-opens l r g t = record { opens = λ n o h. let x = bind-ok r (λ a. g a n) o h in t (x .0) .opens n o (x .2) }
+
+  pub opens-allows : (l : Line) (g : Gen) → allowed names b l ≡ true → Opens l g → Allows g
+  opens-allows l g h s = record {
+    allows = λ n o e.
+        let x = s .opens n o e in
+        subst (AllAllowed names b) (sym (x .begins)) (AllAllowed.one h (x .allowed-rest));
+  }
 
   -- ---- lines that are allowed whatever they say
   pub push-line : (n : ℕ) → Allows (line (Line.push n))

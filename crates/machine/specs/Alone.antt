@@ -20,7 +20,7 @@ frame m = record { args = 11 ∷ 12 ∷ []; slots = 21 ∷ 22 ∷ 23 ∷ []; mem
 -- on operands, the top first
 unfoldable pub onMemory : Memory → Line → List ℕ → Effect
 unfolding names world frame
-onMemory m l o = does names 0 world l (frame m) o
+onMemory m l o = does names (some 0) world l (frame m) o
 
 unfoldable pub alone : Line → List ℕ → Effect
 unfolding onMemory holding

@@ -10,6 +10,7 @@ use Rattle.book.specs.Ast.{BinOp, ICmpPred}
 use Rattle.assembly.specs.Line.{Line, Work, Mem, Narrow, Hint}
 use Rattle.machine.specs.Memory.{Memory, peek}
 use Rattle.machine.specs.State.{Target, Call, World}
+use Rattle.machine.specs.Labels.{placed}
 use Rattle.machine.specs.Run.{Outcome, running, returned, failed, steps, start}
 use Rattle.machine.specs.Open.{openMachine}
 
@@ -50,10 +51,10 @@ ended (running x) = End.goesOn
 ended (returned v e n) = End.returns (record { value = v; calls = e .calls; bytes = peek 8 (e .memory) 4096 })
 ended failed = End.fails
 
--- 24 steps from the first line, with the arguments 11 and 12, the byte 7 at address 4096 and the stack pointer 1000
+-- 24 steps from the first line, a comment line in front of those given, with the arguments 11 and 12, the byte 7 at address 4096 and the stack pointer 1000
 unfoldable pub runs : Program → End
 unfolding names world holding ended
-runs p = ended (steps names 0 world (p .lines) 24 (running (start (11 ∷ 12 ∷ []) (holding 4096 7) 1000)))
+runs p = ended (steps names world (placed (Line.comment 0 ∷ p .lines)) 24 (running (start 0 (11 ∷ 12 ∷ []) (holding 4096 7) 1000)))
 
 abbrev pub expected : Program → End
 expected p = p .says

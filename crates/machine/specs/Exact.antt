@@ -17,7 +17,7 @@ use Rattle.assembly.specs.Text.{hinted}
 use Rattle.machine.specs.Cells.{cell-some, cell-lt, drop-cell, cell-drop}
 use Rattle.machine.specs.State.{Target, Shape, World, Frame, cellAt, memcmp, shapeOf, printedName}
 use Rattle.machine.specs.Values.{wordOp}
-use Rattle.machine.specs.Labels.{find}
+use Rattle.machine.specs.Labels.{Placed, blockIn, find}
 use Rattle.machine.specs.Line.{Effect, orFails, popN, branch, jump, replying, systemCall, does, workWidth, word}
 use Rattle.machine.specs.Run.{State, Outcome, running, returned, failed, found, follow, stepAt, step, steps}
 use Rattle.machine.specs.Works.{Labelled, Answered, Works, StepWorks}
@@ -29,12 +29,12 @@ Alive (running s) = Unit {0}
 Alive (returned v e n) = Unit {0}
 Alive failed = ⊥
 
-module _ (names : List (List ℕ)) (f : ℕ) (world : World) (lines : List Line) where
+module _ (names : List (List ℕ)) (world : World) (lines : List Placed) where
   -- what leads on
   abbrev Lives : Effect → Type 0
   Lives (Effect.goes e o) = Unit {0}
   Lives (Effect.passes e o) = Unit {0}
-  Lives (Effect.jumps t e o) = Labelled names f lines t
+  Lives (Effect.jumps t e o) = Labelled names lines t
   Lives (Effect.ends v e) = Unit {0}
   Lives Effect.fails = ⊥
 
@@ -51,12 +51,12 @@ module _ (names : List (List ℕ)) (f : ℕ) (world : World) (lines : List Line)
   popped (suc n) xs [] k h = absurd h
   popped (suc n) xs (x ∷ o) k h = let i = popped n (x ∷ xs) o k h in omega arith
 
-  branches : (b : Bool) (t : List ℕ) (e : Frame) (o : List ℕ) → (b ≡ true → Labelled names f lines t) → Lives (branch b t e o)
+  branches : (b : Bool) (t : List ℕ) (e : Frame) (o : List ℕ) → (b ≡ true → Labelled names lines t) → Lives (branch b t e o)
   unfolding branch
   branches true t e o h = h refl
   branches false t e o h = tt
 
-  branched : (b : Bool) (t : List ℕ) (e : Frame) (o : List ℕ) → Lives (branch b t e o) → b ≡ true → Labelled names f lines t
+  branched : (b : Bool) (t : List ℕ) (e : Frame) (o : List ℕ) → Lives (branch b t e o) → b ≡ true → Labelled names lines t
   unfolding branch
   branched true t e o h i = h
   branched false t e o h i = absurd (false≢true i)
@@ -85,24 +85,24 @@ module _ (names : List (List ℕ)) (f : ℕ) (world : World) (lines : List Line)
   zero-not x h = rw (ne-eqb x 0 h) refl
 
   -- ---- a line
-  works-live : {e : Frame} {l : Line} {o : List ℕ} → Works names f world lines e l o → Lives (does names f world l e o)
-  unfolding does jump
+  works-live : {f : Option ℕ} {e : Frame} {l : Line} {o : List ℕ} → Works names world lines f e l o → Lives (does names f world l e o)
+  unfolding does jump blockIn
   works-live Works.comment = tt
   works-live Works.fnLabel = tt
   works-live Works.label = tt
-  works-live Works.blockLabel = tt
+  works-live (Works.blockLabel h) = rw h tt
   works-live Works.blank = tt
-  works-live (Works.jmpBlock h) = h
+  works-live (Works.jmpBlock h k) = rw h k
   works-live (Works.selDone h) = h
-  works-live {e} (Works.selFalse {n = n} {x = x} {o = o} h) = branches (eqb x 0) (hinted Hint.selFalse n) e o (λ i. h (eqb-true x 0 i))
-  works-live {e} (Works.brFalse {n = n} {x = x} {o = o} h) = branches (eqb x 0) (hinted Hint.brFalse n) e o (λ i. h (eqb-true x 0 i))
-  works-live {e} (Works.swCase {n = n} {x = x} {o = o} h) = branches (not (eqb x 0)) (hinted Hint.swCase n) e o (λ i. h (not-zero x i))
+  works-live {e = e} (Works.selFalse {n = n} {x = x} {o = o} h) = branches (eqb x 0) (hinted Hint.selFalse n) e o (λ i. h (eqb-true x 0 i))
+  works-live {e = e} (Works.brFalse {n = n} {x = x} {o = o} h) = branches (eqb x 0) (hinted Hint.brFalse n) e o (λ i. h (eqb-true x 0 i))
+  works-live {e = e} (Works.swCase {n = n} {x = x} {o = o} h) = branches (not (eqb x 0)) (hinted Hint.swCase n) e o (λ i. h (not-zero x i))
   works-live Works.push0n = tt
   works-live Works.push = tt
   works-live Works.pushName = tt
-  works-live {e} (Works.getArg {i = i} h) = let (x, c) = cell-some (e .args) i h in rw c tt
-  works-live {e} (Works.getLocal {i = i} h) = let (x, c) = cell-some (e .slots) i h in rw c tt
-  works-live {e} (Works.setLocal {i = i} h) = rw (lt-ltb i (length (e .slots)) h) tt
+  works-live {e = e} (Works.getArg {i = i} h) = let (x, c) = cell-some (e .args) i h in rw c tt
+  works-live {e = e} (Works.getLocal {i = i} h) = let (x, c) = cell-some (e .slots) i h in rw c tt
+  works-live {e = e} (Works.setLocal {i = i} h) = rw (lt-ltb i (length (e .slots)) h) tt
   works-live (Works.bin {op = op} {w = w} {a = a} {b = b} h) = let (x, c) = defined-op (workWidth w) (word w a) (word w b) op h in rw c tt
   works-live Works.icmp = tt
   works-live Works.trunc = tt
@@ -120,13 +120,13 @@ module _ (names : List (List ℕ)) (f : ℕ) (world : World) (lines : List Line)
   works-live Works.pop = tt
   works-live (Works.call {n = n} {o = o} h) = pops n [] o _ h (λ ys r. tt)
   works-live (Works.callFp {n = n} {o = o} h) = pops n [] o _ h (λ ys r. tt)
-  works-live {e} (Works.syscall {x = x} {o = o} h) = answers (printedName (nameAt names x)) e o h
-  works-live {e} (Works.sysMemcmp {o = o} h) = answers memcmp e o h
+  works-live {e = e} (Works.syscall {x = x} {o = o} h) = answers (printedName (nameAt names x)) e o h
+  works-live {e = e} (Works.sysMemcmp {o = o} h) = answers memcmp e o h
   works-live Works.ret = tt
 
-  module _ (e : Frame) where
+  module _ (f : Option ℕ) (e : Frame) where
     abbrev Worked : Line → List ℕ → Type 0
-    Worked l o = Lives (does names f world l e o) → Works names f world lines e l o
+    Worked l o = Lives (does names f world l e o) → Works names world lines f e l o
 
     live-jump : (h : Hint) (n : ℕ) (o : List ℕ) → Worked (Line.jump h n) o
     unfolding does jump
@@ -144,7 +144,7 @@ module _ (names : List (List ℕ)) (f : ℕ) (world : World) (lines : List Line)
     live-bin op w (b ∷ []) h = absurd h
     live-bin op w (b ∷ a ∷ o) h = go (wordOp op (workWidth w) (word w a) (word w b)) refl h
       where
-        go : (q : Option ℕ) → wordOp op (workWidth w) (word w a) (word w b) ≡ q → Lives (orFails q (λ x. Effect.goes e (x ∷ o))) → Works names f world lines e (Line.bin op w) (b ∷ a ∷ o)
+        go : (q : Option ℕ) → wordOp op (workWidth w) (word w a) (word w b) ≡ q → Lives (orFails q (λ x. Effect.goes e (x ∷ o))) → Works names world lines f e (Line.bin op w) (b ∷ a ∷ o)
         go none c l = absurd l
         go (some x) c l = Works.bin (op-defined (workWidth w) (word w a) (word w b) op x c)
 
@@ -165,14 +165,25 @@ module _ (names : List (List ℕ)) (f : ℕ) (world : World) (lines : List Line)
         go true c k l = ltb-true i (length (e .slots)) c
         go false c k l = absurd l
 
+    -- a function that is there
+    live-label : (g : Option ℕ) (x : ℕ) (o : List ℕ) → f ≡ g → Lives (orFails (blockIn names g x) (λ t. Effect.passes e o)) → Works names world lines f e (Line.blockLabel x) o
+    unfolding blockIn
+    live-label none x o i h = absurd h
+    live-label (some g) x o i h = Works.blockLabel i
+
+    live-block : (g : Option ℕ) (x : ℕ) (o : List ℕ) → f ≡ g → Lives (orFails (blockIn names g x) (λ t. Effect.jumps t e o)) → Works names world lines f e (Line.jmpBlock x) o
+    unfolding blockIn
+    live-block none x o i h = absurd h
+    live-block (some g) x o i h = Works.jmpBlock i h
+
     live-works : (l : Line) (o : List ℕ) → Worked l o
     unfolding does
     live-works (Line.comment x) o h = Works.comment
     live-works (Line.fnLabel x) o h = Works.fnLabel
     live-works (Line.label k n) o h = Works.label
-    live-works (Line.blockLabel x) o h = Works.blockLabel
+    live-works (Line.blockLabel x) o h = live-label f x o refl h
     live-works Line.blank o h = Works.blank
-    live-works (Line.jmpBlock x) o h = Works.jmpBlock h
+    live-works (Line.jmpBlock x) o h = live-block f x o refl h
     live-works (Line.jump k n) o h = live-jump k n o h
     live-works (Line.push0n n) o h = Works.push0n
     live-works (Line.push n) o h = Works.push
@@ -223,42 +234,42 @@ module _ (names : List (List ℕ)) (f : ℕ) (world : World) (lines : List Line)
     live-works Line.panic o h = absurd h
 
   -- ---- a step
-  lives-follow : (p n : ℕ) (a : Effect) → Lives a → Alive (follow names f world lines p n a)
+  lives-follow : (p n : ℕ) (a : Effect) → Lives a → Alive (follow names world lines p n a)
   unfolding follow found
   lives-follow p n (Effect.goes e o) h = tt
   lives-follow p n (Effect.passes e o) h = tt
-  lives-follow p n (Effect.jumps t e o) (i, l, c, d) = let (q, z) = label-find names f lines t i l c d in rw z tt
+  lives-follow p n (Effect.jumps t e o) (i, l, c, d) = let (q, z) = label-find names lines t i l c d in rw z tt
   lives-follow p n (Effect.ends v e) h = tt
   lives-follow p n Effect.fails h = h
 
-  follow-lives : (p n : ℕ) (a : Effect) → Alive (follow names f world lines p n a) → Lives a
+  follow-lives : (p n : ℕ) (a : Effect) → Alive (follow names world lines p n a) → Lives a
   unfolding follow found
   follow-lives p n (Effect.goes e o) h = tt
   follow-lives p n (Effect.passes e o) h = tt
-  follow-lives p n (Effect.jumps t e o) h = go (find names f t lines) refl h
+  follow-lives p n (Effect.jumps t e o) h = go (find names t lines) refl h
     where
-      go : (q : Option ℕ) → find names f t lines ≡ q → Alive (found names f world lines q e o n) → Labelled names f lines t
+      go : (q : Option ℕ) → find names t lines ≡ q → Alive (found names world lines q e o n) → Labelled names lines t
       go none z l = absurd l
-      go (some q) z l = find-label names f lines t q z
+      go (some q) z l = find-label names lines t q z
   follow-lives p n (Effect.ends v e) h = tt
   follow-lives p n Effect.fails h = h
 
   -- A step does not fail exactly where there is a line and what it needs.
-  pub step-works : (s : State) → Alive (step names f world lines s) ↔ StepWorks names f world lines s
+  pub step-works : (s : State) → Alive (step names world lines s) ↔ StepWorks names world lines s
   unfolding step stepAt
   step-works s = (go (drop (s .pos) lines) refl, λ (l, c, w). let (r, h) = drop-cell lines (s .pos) l c in rw h (lives-follow (s .pos) (s .passed) _ (works-live w)))
     where
-      go : (ls : List Line) → drop (s .pos) lines ≡ ls → Alive (stepAt names f world lines ls s) → StepWorks names f world lines s
+      go : (ls : List Placed) → drop (s .pos) lines ≡ ls → Alive (stepAt names world lines ls s) → StepWorks names world lines s
       go [] h a = absurd a
-      go (l ∷ ls) h a = (l, cell-drop lines (s .pos) l ls h, live-works (s .frame) l (s .operands) (follow-lives (s .pos) (s .passed) _ a))
+      go (l ∷ ls) h a = (l, cell-drop lines (s .pos) l ls h, live-works (l .function) (s .frame) (l .line) (s .operands) (follow-lives (s .pos) (s .passed) _ a))
 
   -- Where that holds of every state that the machine comes to, it never fails.
-  pub steps-work : (s : State) → ((k : ℕ) (x : State) → steps names f world lines k (running s) ≡ running x → StepWorks names f world lines x) → (k : ℕ) → Alive (steps names f world lines k (running s))
+  pub steps-work : (s : State) → ((k : ℕ) (x : State) → steps names world lines k (running s) ≡ running x → StepWorks names world lines x) → (k : ℕ) → Alive (steps names world lines k (running s))
   unfolding steps
   steps-work s h k = from k (running s) (λ j x e. h j x e) tt
     where
-      from : (k : ℕ) (o : Outcome) → ((j : ℕ) (x : State) → steps names f world lines j o ≡ running x → StepWorks names f world lines x) → Alive o → Alive (steps names f world lines k o)
+      from : (k : ℕ) (o : Outcome) → ((j : ℕ) (x : State) → steps names world lines j o ≡ running x → StepWorks names world lines x) → Alive o → Alive (steps names world lines k o)
       from zero o h a = a
-      from (suc k) (running x) h a = from k (step names f world lines x) (λ j y e. h (suc j) y e) (step-works x .1 (h 0 x refl))
+      from (suc k) (running x) h a = from k (step names world lines x) (λ j y e. h (suc j) y e) (step-works x .1 (h 0 x refl))
       from (suc k) (returned v e n) h a = tt
       from (suc k) failed h a = a

@@ -11,13 +11,12 @@ use Rattle.names.specs.Tests.{both}
 use Rattle.names.specs.Texts.{same-iff}
 use Rattle.book.specs.Ast.{BinOp}
 use Rattle.book.specs.Rule.{when, pick}
-use Rattle.assembly.specs.Line.{Line}
 use Rattle.machine.specs.Signed.{signed, nonzero, signed-nonzero, nonzero-signed}
 use Rattle.machine.specs.Overflow.{no-overflow, overflow-no}
 use Rattle.machine.specs.Cells.{none-some, some-same}
 use Rattle.machine.specs.State.{cellAt}
 use Rattle.machine.specs.Values.{divides, wordOp}
-use Rattle.machine.specs.Labels.{moved, prints, labelOf, find}
+use Rattle.machine.specs.Labels.{Placed, moved, prints, labelOf, find}
 use Rattle.machine.specs.Works.{Divides, Defined, Labelled}
 
 -- ---- operations
@@ -70,21 +69,21 @@ module _ (w a b : ℕ) where
   op-defined BinOp.ashr x e = ltb-true b w (some-when _ _ x e)
 
 -- ---- labels
-module _ (names : List (List ℕ)) (f : ℕ) where
-  pub label-find : (lines : List Line) (t : List ℕ) (i : ℕ) (l : Line) → cellAt lines i ≡ some l → labelOf names f l ≡ some t → (p : ℕ) × (find names f t lines ≡ some p)
+module _ (names : List (List ℕ)) where
+  pub label-find : (lines : List Placed) (t : List ℕ) (i : ℕ) (l : Placed) → cellAt lines i ≡ some l → labelOf names l ≡ some t → (p : ℕ) × (find names t lines ≡ some p)
   unfolding find prints cellAt moved
   label-find [] t i l e h = none-some l e
-  label-find (k ∷ lines) t zero l e h = let z : labelOf names f k ≡ some t = rw (some-same e) h in (0, rw (z, same-iff t t .1 refl) refl)
-  label-find (k ∷ lines) t (suc i) l e h = let (p, q) = label-find lines t i l e h in go p q (prints t (labelOf names f k))
+  label-find (k ∷ lines) t zero l e h = let z : labelOf names k ≡ some t = rw (some-same e) h in (0, rw (z, same-iff t t .1 refl) refl)
+  label-find (k ∷ lines) t (suc i) l e h = let (p, q) = label-find lines t i l e h in go p q (prints t (labelOf names k))
     where
-      go : (p : ℕ) → find names f t lines ≡ some p → (b : Bool) → (q : ℕ) × (pick b (some 0) (moved (find names f t lines)) ≡ some q)
+      go : (p : ℕ) → find names t lines ≡ some p → (b : Bool) → (q : ℕ) × (pick b (some 0) (moved (find names t lines)) ≡ some q)
       go p q true = (0, refl)
       go p q false = (suc p, rw q refl)
 
-  pub find-label : (lines : List Line) (t : List ℕ) (p : ℕ) → find names f t lines ≡ some p → Labelled names f lines t
+  pub find-label : (lines : List Placed) (t : List ℕ) (p : ℕ) → find names t lines ≡ some p → Labelled names lines t
   unfolding find cellAt prints moved
   find-label [] t p e = none-some p e
-  find-label (k ∷ lines) t p e = go (prints t (labelOf names f k)) refl e (λ q h. find-label lines t q h)
+  find-label (k ∷ lines) t p e = go (prints t (labelOf names k)) refl e (λ q h. find-label lines t q h)
     where
       same-label : (u : Option (List ℕ)) → prints t u ≡ true → u ≡ some t
       same-label none h = absurd (false≢true h)
@@ -94,6 +93,6 @@ module _ (names : List (List ℕ)) (f : ℕ) where
       later none h = none-some p h
       later (some q) h = (q, refl)
 
-      go : (b : Bool) → prints t (labelOf names f k) ≡ b → pick b (some 0) (moved (find names f t lines)) ≡ some p → ((q : ℕ) → find names f t lines ≡ some q → Labelled names f lines t) → Labelled names f (k ∷ lines) t
-      go true h e rest = (0, k, refl, same-label (labelOf names f k) h)
-      go false h e rest = let (q, z) = later (find names f t lines) e in let (i, l, c, d) = rest q z in (suc i, l, c, d)
+      go : (b : Bool) → prints t (labelOf names k) ≡ b → pick b (some 0) (moved (find names t lines)) ≡ some p → ((q : ℕ) → find names t lines ≡ some q → Labelled names lines t) → Labelled names (k ∷ lines) t
+      go true h e rest = (0, k, refl, same-label (labelOf names k) h)
+      go false h e rest = let (q, z) = later (find names t lines) e in let (i, l, c, d) = rest q z in (suc i, l, c, d)

@@ -7,8 +7,9 @@ use lib.Dec.{eqb, ltb}
 use lib.ListN.{length, set, replicate}
 use Rattle.names.specs.Name.{nameAt}
 use Rattle.assembly.specs.Line.{Line, Work, Mem, Narrow, Hint}
-use Rattle.assembly.specs.Text.{blockText, hinted}
+use Rattle.assembly.specs.Text.{hinted}
 use Rattle.machine.specs.Memory.{Memory, peek, poke}
+use Rattle.machine.specs.Labels.{blockIn}
 use Rattle.machine.specs.State.{Target, Call, Reply, World, Frame, setSlots, setMemory, setSp, called, cellAt, globalAt, memcmp, shapeOf, printedName}
 use Rattle.machine.specs.Values.{wordOp, wordTest, extended, flag}
 
@@ -103,15 +104,16 @@ module _ (world : World) where
   unfoldable pub systemCall : (printed : List ℕ) → Frame → List ℕ → Effect
   systemCall t e o = orFails (shapeOf world t) (λ s. popN (s .args) [] o (replying (s .replies) (Target.syscall t) e))
 
--- f: the name of the function whose lines these are
-module _ (names : List (List ℕ)) (f : ℕ) (world : World) where
+-- f: the function that the line belongs to
+module _ (names : List (List ℕ)) (f : Option ℕ) (world : World) where
   unfoldable pub does : Line → Frame → List ℕ → Effect
   does (Line.comment x) e o = goes e o
   does (Line.fnLabel x) e o = goes e o
   does (Line.label h n) e o = goes e o
   does Line.blank e o = goes e o
-  does (Line.blockLabel x) e o = passes e o
-  does (Line.jmpBlock x) e o = jumps (blockText names f x) e o
+  -- a block's label, and a jump to one, have a function
+  does (Line.blockLabel x) e o = orFails (blockIn names f x) (λ t. passes e o)
+  does (Line.jmpBlock x) e o = orFails (blockIn names f x) (λ t. jumps t e o)
   does (Line.jump h n) e o = jump h (hinted h n) e o
   -- "`push_0n` adds slots of 0, a get pushes, a set pops"
   does (Line.push0n n) e o = goes (setSlots e (e .slots ++ replicate n 0)) o

@@ -9,6 +9,7 @@ use Rattle.names.specs.Text.{bytes}
 use Rattle.assembly.specs.Line.{Line, Hint}
 use Rattle.assembly.specs.Text.{hinted}
 use Rattle.machine.specs.State.{Target, Call, World, Frame}
+use Rattle.machine.specs.Labels.{Placed, placed, find}
 use Rattle.machine.specs.Line.{Effect, does}
 use Rattle.machine.specs.Run.{Outcome, running, returned, failed, steps, start}
 use Rattle.machine.specs.Open.{openMachine}
@@ -71,17 +72,17 @@ unfoldable pub holdingCell : (x : ℕ) → Frame
 holdingCell x = record { args = x ∷ []; slots = x ∷ []; memory = λ a. 0; calls = []; sp = x }
 
 pub cells-whole :
-    (OnAll cells (λ (x : ℕ). map (λ (l : Line). left (does names 0 far l (holdingCell x) [])) (Line.push x ∷ Line.getArg 0 ∷ Line.getLocal 0 ∷ Line.threadGet ∷ []))
+    (OnAll cells (λ (x : ℕ). map (λ (l : Line). left (does names (some 0) far l (holdingCell x) [])) (Line.push x ∷ Line.getArg 0 ∷ Line.getLocal 0 ∷ Line.threadGet ∷ []))
     (λ (x : ℕ). replicate 4 (some (x ∷ []))))
     × (OnAll cells (λ (x : ℕ). frameAfter (alone Line.threadSet (x ∷ [])) .sp) (λ (x : ℕ). x))
     × (OnAll cells (λ (x : ℕ). slotsAfter (Line.setLocal 1) (x ∷ [])) (λ (x : ℕ). 21 ∷ x ∷ 23 ∷ []))
-    × (map (λ (x : ℕ). left (does names 0 far (Line.pushName x) (holdingCell 0) [])) (0 ∷ 1 ∷ 2 ∷ 3 ∷ []) ≡ some ((2 ^ 64 - 2) ∷ []) ∷ some ((2 ^ 64 - 1) ∷ []) ∷ some (0 ∷ []) ∷ some (1 ∷ []) ∷ [])
+    × (map (λ (x : ℕ). left (does names (some 0) far (Line.pushName x) (holdingCell 0) [])) (0 ∷ 1 ∷ 2 ∷ 3 ∷ []) ≡ some ((2 ^ 64 - 2) ∷ []) ∷ some ((2 ^ 64 - 1) ∷ []) ∷ some (0 ∷ []) ∷ some (1 ∷ []) ∷ [])
 unfolding openMachine openAlone slotsAfter cells far holdingCell
 cells-whole = (refl, refl, refl, refl)
 
 -- a call's arguments and address, and the reply's cell, 2^64 - 1
 unfoldable pub calledFar : Line → List ℕ → After
-calledFar l o = let f = does names 0 far l (holdingCell 0) o in record { operands = left f; calls = frameAfter f .calls; byte = 0; sp = 0 }
+calledFar l o = let f = does names (some 0) far l (holdingCell 0) o in record { operands = left f; calls = frameAfter f .calls; byte = 0; sp = 0 }
 
 unfoldable pub listedFar : Target → List ℕ → After
 listedFar t xs = record { operands = some ((2 ^ 64 - 1) ∷ []); calls = record { target = t; args = xs } ∷ []; byte = 0; sp = 0 }
@@ -123,9 +124,14 @@ came (running s) = Came.going (s .pos) (s .passed)
 came (returned v e n) = Came.ends v n
 came failed = Came.fails
 
-unfoldable pub runs : (n : ℕ) → List Line → Came
+-- n steps from the line at p on
+unfoldable pub runsFrom : (p n : ℕ) → List Line → Came
 unfolding names world holding came
-runs n ls = came (steps names 0 world ls n (running (start (11 ∷ []) (holding 4096 7) 1000)))
+runsFrom p n ls = came (steps names world (placed ls) n (running (start p (11 ∷ []) (holding 4096 7) 1000)))
+
+unfoldable pub runs : (n : ℕ) → List Line → Came
+unfolding runsFrom
+runs n ls = runsFrom 0 n ls
 
 unfoldable pub passing : List Line
 passing =
@@ -139,8 +145,33 @@ steps-hold = refl
 
 pub ends-hold :
     map (runs 9) (
-    (Line.jmpBlock 2 ∷ Line.blockLabel 1 ∷ []) ∷ (Line.jump Hint.selDone 3 ∷ Line.label Hint.selDone 4 ∷ Line.label Hint.brFalse 3 ∷ []) ∷ [] ∷ (Line.push 1 ∷ []) ∷
-    (Line.jmpBlock 1 ∷ Line.blockLabel 1 ∷ Line.push 1 ∷ Line.ret ∷ Line.blockLabel 1 ∷ Line.push 2 ∷ Line.ret ∷ []) ∷ [])
+    (Line.comment 0 ∷ Line.jmpBlock 2 ∷ Line.blockLabel 1 ∷ []) ∷ (Line.jump Hint.selDone 3 ∷ Line.label Hint.selDone 4 ∷ Line.label Hint.brFalse 3 ∷ []) ∷ [] ∷ (Line.push 1 ∷ []) ∷
+    (Line.comment 0 ∷ Line.jmpBlock 1 ∷ Line.blockLabel 1 ∷ Line.push 1 ∷ Line.ret ∷ Line.blockLabel 1 ∷ Line.push 2 ∷ Line.ret ∷ []) ∷ [])
     ≡ Came.fails ∷ Came.fails ∷ Came.fails ∷ Came.fails ∷ Came.ends 1 1 ∷ []
 unfolding openMachine openSweep runs
 ends-hold = refl
+
+-- ---- "A block label or jump takes the function of the last comment line before it": two functions, 0 and 2, each with a block 1
+unfoldable pub piece : List Line
+piece =
+    Line.comment 0 ∷ Line.jmpBlock 1 ∷ Line.panic ∷ Line.blockLabel 1 ∷ Line.push 5 ∷ Line.ret ∷
+    Line.comment 2 ∷ Line.jmpBlock 1 ∷ Line.panic ∷ Line.blockLabel 1 ∷ Line.push 6 ∷ Line.ret ∷ []
+
+-- each line's function, and the two blocks' labels
+pub functions-hold :
+    (map (λ (l : Placed). l .function) (placed (Line.push 1 ∷ piece)) ≡ none ∷ replicate 6 (some 0) ++ replicate 6 (some 2))
+    × (find names (bytes "f__b") (placed piece) ≡ some 3) × (find names (bytes "g__b") (placed piece) ≡ some 9)
+unfolding openMachine openAlone piece
+functions-hold = (refl, refl, refl)
+
+-- begun at its comment line each comes to its own block, whichever stands first
+pub own-block : (map (λ (p : ℕ). runsFrom p 2 piece) (0 ∷ 6 ∷ []) ≡ Came.going 3 0 ∷ Came.going 9 0 ∷ []) × (map (λ (p : ℕ). runsFrom p 9 piece) (0 ∷ 6 ∷ []) ≡ Came.ends 5 1 ∷ Came.ends 6 1 ∷ [])
+unfolding openMachine runsFrom piece
+own-block = (refl, refl)
+
+-- before any comment line a block's label and a jump to one fail, and such a label is none to go to
+pub no-function :
+    (map (runs 9) ((Line.blockLabel 1 ∷ Line.push 1 ∷ Line.ret ∷ []) ∷ (Line.jmpBlock 1 ∷ Line.comment 0 ∷ Line.blockLabel 1 ∷ Line.push 1 ∷ Line.ret ∷ []) ∷ []) ≡ Came.fails ∷ Came.fails ∷ [])
+    × (runsFrom 1 9 (Line.blockLabel 1 ∷ Line.comment 0 ∷ Line.jmpBlock 1 ∷ []) ≡ Came.fails)
+unfolding openMachine runs
+no-function = (refl, refl)

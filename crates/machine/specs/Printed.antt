@@ -7,7 +7,7 @@ use native.Mathlib.Omega.{arith}
 use Rattle.book.specs.Ast.{Function}
 use Rattle.assembly.specs.Line.{Line}
 use Rattle.assembly.specs.Text.{labelled, text}
-use Rattle.machine.specs.Labels.{labelOf}
+use Rattle.machine.specs.Labels.{labelIn, blockIn}
 
 no-label : {X : Type 0} (t : List ℕ) → none ≡ some t → X
 no-label t h = absurd (let z : _≡_ {A = ℕ} 0 1 = cc in omega arith)
@@ -18,8 +18,8 @@ the-label h = ap labelled (same h)
     same : {t u : List ℕ} → some t ≡ some u → t ≡ u
     same h = cc
 
-pub label-prints : (names : List (List ℕ)) (f : Function) (l : Line) (t : List ℕ) → labelOf names (f .name) l ≡ some t → text names f l ≡ labelled t
-unfolding labelOf text
+pub label-prints : (names : List (List ℕ)) (f : Function) (l : Line) (t : List ℕ) → labelIn names (some (f .name)) l ≡ some t → text names f l ≡ labelled t
+unfolding labelIn blockIn text
 label-prints names f (Line.fnLabel x) t h = the-label h
 label-prints names f (Line.blockLabel x) t h = the-label h
 label-prints names f (Line.label k n) t h = the-label h

@@ -3,10 +3,9 @@ use Prim.Native.Nat.{ℕ, zero, suc}
 use mathlib.Core.Option.{Option, none, some}
 use mathlib.Core.List.{List, [], _∷_}
 use lib.ListN.{drop}
-use Rattle.assembly.specs.Line.{Line}
 use Rattle.machine.specs.Memory.{Memory}
 use Rattle.machine.specs.State.{World, Frame}
-use Rattle.machine.specs.Labels.{find}
+use Rattle.machine.specs.Labels.{Placed, find}
 use Rattle.machine.specs.Line.{Effect, does}
 
 -- where the machine stands: a line's position, and how many block labels it has passed
@@ -24,8 +23,8 @@ pub data Outcome : Type 0 where
   returned : (value : ℕ) → Frame → (passed : ℕ) → Outcome
   failed : Outcome
 
--- f: the name of the function whose lines these are
-module _ (names : List (List ℕ)) (f : ℕ) (world : World) (lines : List Line) where
+-- the lines, each with its function (`placed`)
+module _ (names : List (List ℕ)) (world : World) (lines : List Placed) where
   unfoldable pub found : Option ℕ → Frame → List ℕ → (passed : ℕ) → Outcome
   found none e o n = failed
   found (some p) e o n = running (state p e o n)
@@ -34,14 +33,14 @@ module _ (names : List (List ℕ)) (f : ℕ) (world : World) (lines : List Line)
   unfoldable pub follow : (p passed : ℕ) → Effect → Outcome
   follow p n (Effect.goes e o) = running (state (suc p) e o n)
   follow p n (Effect.passes e o) = running (state (suc p) e o (suc n))
-  follow p n (Effect.jumps t e o) = found (find names f t lines) e o n
+  follow p n (Effect.jumps t e o) = found (find names t lines) e o n
   follow p n (Effect.ends v e) = returned v e n
   follow p n Effect.fails = failed
 
   -- the lines from the position on are the ones given
-  unfoldable pub stepAt : List Line → State → Outcome
+  unfoldable pub stepAt : List Placed → State → Outcome
   stepAt [] s = failed
-  stepAt (l ∷ ls) s = follow (s .pos) (s .passed) (does names f world l (s .frame) (s .operands))
+  stepAt (l ∷ ls) s = follow (s .pos) (s .passed) (does names (l .function) world (l .line) (s .frame) (s .operands))
 
   unfoldable pub step : State → Outcome
   step s = stepAt (drop (s .pos) lines) s
@@ -52,9 +51,9 @@ module _ (names : List (List ℕ)) (f : ℕ) (world : World) (lines : List Line)
   steps (suc k) (returned v e n) = returned v e n
   steps (suc k) failed = failed
 
--- "it begins at the function's first line without slots, operands or listed calls"
-unfoldable pub start : (args : List ℕ) → Memory → (sp : ℕ) → State
-start args m sp = state 0 (record { args = args; slots = []; memory = m; calls = []; sp = sp }) [] 0
+-- "it begins at the function's first line without slots, operands or listed calls": its comment line, at p
+unfoldable pub start : (p : ℕ) → (args : List ℕ) → Memory → (sp : ℕ) → State
+start p args m sp = state p (record { args = args; slots = []; memory = m; calls = []; sp = sp }) [] 0
 
 -- opens every definition of this file, for an example that computes
 unfoldable pub openRun : Unit {0}

@@ -4,7 +4,7 @@ use mathlib.Core.Path.{_≡_, refl}
 use mathlib.Core.Bool.{Bool, true, false}
 use mathlib.Core.Option.{Option, none, some}
 use mathlib.Core.List.{List, [], _∷_, _++_, map}
-use Rattle.book.specs.Ast.{Ty, Param, Function, Book}
+use Rattle.book.specs.Ast.{Ty, Param, Function}
 use Rattle.book.specs.Result.{Result, ok, bind}
 use Rattle.machine.specs.Sweep.{OnAll, downFrom, openSweep}
 use Rattle.machine.specs.Cases.{holding, world}
@@ -74,19 +74,16 @@ unfolding openManual openAlone twice
 later-wins = (refl, refl)
 
 -- ---- it begins at the first block, without calls, the stack pointer where it was; without a block it stops
-unfoldable pub function : Function → Book
-function f = record { marks = []; structs = []; function = f }
-
-unfoldable pub begun : Book → Result (ℕ × ℕ)
+unfoldable pub begun : Function → Result (ℕ × ℕ)
 unfolding names world
-begun b = bind (sourceRun names b world (7 ∷ 1 ∷ 9 ∷ []) (holding 4096 7) 65536 0) λ s. ok (standing s)
+begun f = bind (sourceRun names [] f world (7 ∷ 1 ∷ 9 ∷ []) (holding 4096 7) 65536 0) λ s. ok (standing s)
   where
     standing : Stand → ℕ × ℕ
     standing (Stand.at b σ) = (b, σ .sp)
     standing (Stand.gave v σ) = (0, σ .sp)
 
 pub beginnings-hold :
-    (begun (function (record { name = 0; retTy = Ty.void; params = three; blocks = empty 9 ∷ empty 8 ∷ [] })) ≡ ok (9, 65536))
-    × (begun (function (record { name = 0; retTy = Ty.void; params = three; blocks = [] })) ≡ stops Stop.noBlock)
-unfolding openManual openAlone three begun function
+    (begun (record { name = 0; retTy = Ty.void; params = three; blocks = empty 9 ∷ empty 8 ∷ [] }) ≡ ok (9, 65536))
+    × (begun (record { name = 0; retTy = Ty.void; params = three; blocks = [] }) ≡ stops Stop.noBlock)
+unfolding openManual openAlone three begun
 beginnings-hold = (refl, refl)

@@ -3,7 +3,7 @@ use Prim.Native.Nat.{ℕ, _%_, _^_, _<_}
 use mathlib.Core.Path.{_≡_}
 use mathlib.Core.Option.{Option, none, some}
 use mathlib.Core.List.{List, [], _∷_}
-use Rattle.book.specs.Ast.{Ty, Value, TypedVal, Incoming, Case, Inst, Terminator, BasicBlock, Book}
+use Rattle.book.specs.Ast.{Ty, Value, TypedVal, Incoming, Case, Inst, Terminator, BasicBlock, StructType, Function}
 use Rattle.book.specs.Limits.{Each}
 use Rattle.book.specs.Result.{Result, ok}
 use Rattle.book.specs.Rule.{find}
@@ -88,18 +88,18 @@ GoesOn g s n = (k b : ℕ) (σ : Source) → k < n → run g k s ≡ ok (Stand.a
 abbrev pub AllMeasured : Given → Type 0
 AllMeasured g = Each (λ (b : BasicBlock). Each (λ (i : Inst). Measured g (i .dest) (i .kind)) (b .insts)) (g .function .blocks)
 
--- ---- the run of a book's function
+-- ---- the run of a function
 -- "no block" stops
 pub data HasBlock : List BasicBlock → Type 0 where
   has : {b : BasicBlock} {bs : List BasicBlock} → HasBlock (b ∷ bs)
 
 -- the frame by the Rust's formula
-abbrev pub placesOf : Book → Result Places
-placesOf b = framePass (b .structs) (allInsts (b .function .blocks)) noFrame
+abbrev pub placesOf : List StructType → Function → Result Places
+placesOf structs f = framePass structs (allInsts (f .blocks)) noFrame
 
-abbrev pub givenOf : (names : List (List ℕ)) → Book → World → (sp : ℕ) → Places → Given
-givenOf names b world sp fr = record { names = names; structs = b .structs; function = b .function; frame = fr; world = world; base = sp }
+abbrev pub givenOf : (names : List (List ℕ)) → List StructType → Function → World → (sp : ℕ) → Places → Given
+givenOf names structs f world sp fr = record { names = names; structs = structs; function = f; frame = fr; world = world; base = sp }
 
-abbrev pub SourceGoes : (names : List (List ℕ)) → Book → World → (args : List ℕ) → Memory → (sp n : ℕ) → Type 0
-SourceGoes names b world args m sp n = HasBlock (b .function .blocks)
-    × ((fr : Places) → placesOf b ≡ ok fr → (k c : ℕ) (σ : Source) → k < n → sourceRun names b world args m sp k ≡ ok (Stand.at c σ) → GoesBlock (givenOf names b world sp fr) c σ)
+abbrev pub SourceGoes : (names : List (List ℕ)) → List StructType → Function → World → (args : List ℕ) → Memory → (sp n : ℕ) → Type 0
+SourceGoes names structs f world args m sp n = HasBlock (f .blocks)
+    × ((fr : Places) → placesOf structs f ≡ ok fr → (k c : ℕ) (σ : Source) → k < n → sourceRun names structs f world args m sp k ≡ ok (Stand.at c σ) → GoesBlock (givenOf names structs f world sp fr) c σ)

@@ -1,4 +1,4 @@
--- The source run goes on exactly where its conditions hold: a block, n blocks, the run of a book's function.
+-- The source run goes on exactly where its conditions hold: a block, n blocks, the run of a function.
 use Prim.Native.Nat.{ℕ, zero, suc, _<_}
 use mathlib.Core.Path.{_≡_, refl, subst, sym, _∙_}
 use mathlib.Core.Bool.{Bool, true, false}
@@ -6,7 +6,7 @@ use mathlib.Core.Option.{some}
 use mathlib.Core.List.{List, [], _∷_}
 use native.Mathlib.Omega.{arith}
 use lib.Dec.{eqb}
-use Rattle.book.specs.Ast.{Ty, Incoming, Inst, Terminator, BasicBlock, Book}
+use Rattle.book.specs.Ast.{Ty, Incoming, Inst, Terminator, BasicBlock, StructType, Function}
 use Rattle.book.specs.Limits.{Each}
 use Rattle.book.specs.Result.{Result, ok, bind, err-no-ok, bind-ok, bind-step}
 use Rattle.book.specs.Rule.{find, pick}
@@ -154,7 +154,7 @@ module _ (g : Given) where
     pub by-invariant : (s : Stand) (n : ℕ) → Holds s → GoesOn g s n
     by-invariant s n h k b σ l e = goes b σ (all-held k s (Stand.at b σ) h e)
 
--- ---- the run of a book's function
+-- ---- the run of a function
 first-block : (bs : List BasicBlock) → HasBlock bs → Going (firstBlock bs)
 unfolding firstBlock
 first-block (b ∷ bs) HasBlock.has = (_, refl)
@@ -164,31 +164,31 @@ unfolding firstBlock
 block-first [] b e = err-no-ok _ b e
 block-first (k ∷ bs) b e = HasBlock.has
 
-module _ (names : List (List ℕ)) (b : Book) (world : World) (args : List ℕ) (m : Memory) (sp : ℕ) where
+module _ (names : List (List ℕ)) (structs : List StructType) (f : Function) (world : World) (args : List ℕ) (m : Memory) (sp : ℕ) where
   abbrev Runs : ℕ → Result Stand
-  Runs n = sourceRun names b world args m sp n
+  Runs n = sourceRun names structs f world args m sp n
 
   abbrev given : Places → Given
-  given fr = givenOf names b world sp fr
+  given fr = givenOf names structs f world sp fr
 
-  from-first : (fr : Places) → placesOf b ≡ ok fr → (s : Stand) → begin (given fr) args m ≡ ok s → (n : ℕ) → Runs n ≡ run (given fr) n s
+  from-first : (fr : Places) → placesOf structs f ≡ ok fr → (s : Stand) → begin (given fr) args m ≡ ok s → (n : ℕ) → Runs n ≡ run (given fr) n s
   unfolding sourceRun bind
   from-first fr pass s e n = rw (pass, e) refl
 
-  pub source-goes : (fr : Places) → placesOf b ≡ ok fr → AllMeasured (givenOf names b world sp fr) → (n : ℕ) → SourceGoes names b world args m sp n → Going (sourceRun names b world args m sp n)
+  pub source-goes : (fr : Places) → placesOf structs f ≡ ok fr → AllMeasured (givenOf names structs f world sp fr) → (n : ℕ) → SourceGoes names structs f world args m sp n → Going (sourceRun names structs f world args m sp n)
   unfolding begin
   source-goes fr pass ms n (w, h) =
-      let (k, f) = first-block (b .function .blocks) w in
-      let (s, e) = onward {r = firstBlock (b .function .blocks)} (λ k. ok (Stand.at k (record { env = paramEnv (b .function .params) args nothing; memory = m; calls = []; sp = entered fr sp }))) f (_, refl) in
+      let (k, i) = first-block (f .blocks) w in
+      let (s, e) = onward {r = firstBlock (f .blocks)} (λ k. ok (Stand.at k (record { env = paramEnv (f .params) args nothing; memory = m; calls = []; sp = entered fr sp }))) i (_, refl) in
       rw (from-first fr pass s e n) (run-goes (given fr) ms s n (λ j c σ l i. h fr pass j c σ l (from-first fr pass s e j ∙ i)))
 
-  pub gone-source : (n : ℕ) → Going (sourceRun names b world args m sp n) → SourceGoes names b world args m sp n
+  pub gone-source : (n : ℕ) → Going (sourceRun names structs f world args m sp n) → SourceGoes names structs f world args m sp n
   unfolding sourceRun begin
   gone-source n (t, e) =
-      let (fr, p, e₁) = bind-ok (placesOf b) _ t e in
+      let (fr, p, e₁) = bind-ok (placesOf structs f) _ t e in
       let (s, i, e₂) = bind-ok (begin (given fr) args m) _ t e₁ in
-      let (k, f, e₃) = bind-ok (firstBlock (b .function .blocks)) _ s i in (
-        block-first (b .function .blocks) k f,
+      let (k, j, e₃) = bind-ok (firstBlock (f .blocks)) _ s i in (
+        block-first (f .blocks) k j,
         λ fr′ p′. subst (λ z. (j c : ℕ) (σ : Source) → j < n → Runs j ≡ ok (Stand.at c σ) → GoesBlock (given z) c σ) (ok-same (sym p ∙ p′))
             (λ j c σ l h. gone-run (given fr) s n (t, e₂) j c σ l (sym (from-first fr p s i j) ∙ h)),
       )

@@ -5,7 +5,7 @@ use mathlib.Core.Option.{Option}
 use mathlib.Core.List.{List, [], _∷_}
 use lib.Dec.{ltb}
 use Rattle.numbers.specs.Align.{alignUp}
-use Rattle.book.specs.Ast.{BasicBlock, Param, Book}
+use Rattle.book.specs.Ast.{BasicBlock, Param, StructType, Function}
 use Rattle.book.specs.Result.{Result, ok, err, bind as _>>=_}
 use Rattle.book.specs.Shape.{allInsts}
 use Rattle.machine.specs.Memory.{Memory}
@@ -72,11 +72,11 @@ begin g args m = do
   b ← firstBlock (g .function .blocks)
   ok (Stand.at b (record { env = paramEnv (g .function .params) args nothing; memory = m; calls = []; sp = entered (g .frame) (g .base) }))
 
--- the function of a book after n blocks
-unfoldable pub sourceRun : (names : List (List ℕ)) → Book → World → (args : List ℕ) → Memory → (sp n : ℕ) → Result Stand
-sourceRun names b world args m sp n = do
-  fr ← framePass (b .structs) (allInsts (b .function .blocks)) noFrame
-  let g : Given = record { names = names; structs = b .structs; function = b .function; frame = fr; world = world; base = sp } in do
+-- a function, of a book with these names and named structs, after n blocks
+unfoldable pub sourceRun : (names : List (List ℕ)) → List StructType → Function → World → (args : List ℕ) → Memory → (sp n : ℕ) → Result Stand
+sourceRun names structs f world args m sp n = do
+  fr ← framePass structs (allInsts (f .blocks)) noFrame
+  let g : Given = record { names = names; structs = structs; function = f; frame = fr; world = world; base = sp } in do
     s ← begin g args m
     run g n s
 

@@ -4,7 +4,7 @@ use mathlib.Core.Path.{_≡_, refl}
 use mathlib.Core.Bool.{true, false}
 use mathlib.Core.Option.{Option, none, some}
 use mathlib.Core.List.{List, [], _∷_, _++_, map}
-use Rattle.book.specs.Ast.{Ty, Tys, Value, Zero, TypedVal, InstKind, Inst, Terminator, Book}
+use Rattle.book.specs.Ast.{Ty, Tys, Value, Zero, TypedVal, InstKind, Inst, Terminator, Function}
 use Rattle.book.specs.Result.{Result, ok, bind}
 use Rattle.machine.specs.Sweep.{OnAll, downFrom, upTo, pairs, openSweep}
 use Rattle.machine.specs.Cases.{holding, world}
@@ -20,8 +20,8 @@ use Rattle.manual.specs.Alone.{names, furnished, given, number, typed, o
 unfoldable pub alloca : (name : ℕ) → Ty → Option TypedVal → Option ℕ → Inst
 alloca x t c a = record { dest = some x; kind = InstKind.alloca t c a }
 
-again : List Inst → Book
-again is = record { marks = []; structs = []; function = record { name = 0; retTy = Ty.void; params = []; blocks = record { label = 7; insts = is; term = Terminator.br none 7 none } ∷ [] } }
+again : List Inst → Function
+again is = record { name = 0; retTy = Ty.void; params = []; blocks = record { label = 7; insts = is; term = Terminator.br none 7 none } ∷ [] }
 
 -- the values of %200 and %201, and the stack pointer
 pub record Standing : Type 0 where
@@ -40,7 +40,7 @@ standing (Stand.gave v σ) = summary σ
 -- from a stack pointer on; and from 65536 on
 unfoldable pub timesFrom : (sp n : ℕ) → List Inst → Result Standing
 unfolding names world again standing
-timesFrom sp n is = bind (sourceRun names (again is) world [] (holding 4096 7) sp n) λ s. ok (standing s)
+timesFrom sp n is = bind (sourceRun names [] (again is) world [] (holding 4096 7) sp n) λ s. ok (standing s)
 
 unfoldable pub times : (n : ℕ) → List Inst → Result Standing
 unfolding timesFrom

@@ -1,46 +1,41 @@
--- Demand 3 of the code that runs: the lines that an accepted call of `translate::translate` leaves in its slices run as the function does by the manual.
-use Prim.Native.Nat.{ℕ, _<_, _^_, min}
+-- Demand 3 of the code that runs: the lines that an accepted call of `translate::translate` leaves in its slices run as the book's functions do by the manual.
+use Prim.Native.Nat.{ℕ, min}
 use mathlib.Core.Path.{_≡_, refl, ap, _∙_}
-use mathlib.Core.Bool.{true}
 use mathlib.Core.Option.{some}
 use mathlib.Core.List.{List, map}
 use native.Mathlib.Omega.{arith}
 use lib.ListN.{length, take}
 use Rattle.book.specs.Ast.{Function}
-use Rattle.book.specs.Result.{Result, ok, err, bind-ok, given-ok}
+use Rattle.book.specs.Result.{Result, ok, err, bind-ok}
 use Rattle.book.specs.Check.{Sound, checked}
 use Rattle.assembly.specs.Line.{Line}
 use Rattle.assembly.specs.Number.{kindOf, operandOf}
 use Rattle.assembly.specs.Printer.{linesOf}
 use Rattle.assembly.specs.Lists.{lines-of-numbers}
 use Rattle.lowering.specs.Gen.{Out}
-use Rattle.lowering.specs.Context.{codegenOf}
-use Rattle.lowering.specs.Function.{genFunction}
-use Rattle.lowering.specs.AllowedFunction.{function-allows}
+use Rattle.lowering.specs.AllowedFunction.{functions-allow}
 use Rattle.lowering.specs.Printable.{checked-lent, take-over}
 use Rattle.lowering.specs.Translate as definition
 use Rattle.lowering.specs.Translate.{Translating, generated, over, replied, translate}
-use Rattle.machine.specs.Memory.{Memory}
-use Rattle.machine.specs.State.{World}
-use Rattle.manual.specs.Term.{Stand}
-use Rattle.manual.specs.Run.{sourceRun, argsFit}
-use Rattle.agreement.specs.Naming.{Naming}
-use Rattle.agreement.specs.Statement.{Agrees}
-use Rattle.agreement.specs.TwoRuns.{two-runs}
+use Rattle.agreement.specs.Lists.{In}
+use Rattle.agreement.specs.Statement.{LinesAt, RunsAs, RunsIn}
+use Rattle.agreement.specs.Turns.{in-turn}
+use Rattle.agreement.specs.TwoRuns.{codegen, made-by, piece-runs, own-runs}
 use Rattle.gen_passes.specs.declared.Translation.{Translation}
 use Rattle.gen_passes.specs.declared.Translation.the-variants.{Accepted}
 use Rattle.translate.specs.Reply.{translating}
 
--- the lines that these kinds and operands are, and their runs: with document 01's naming conditions, for all arguments that fit, every memory, stack pointer
--- and world, and for every number of blocks that the run by the manual passes without a stop
+-- the lines that these kinds and operands are, and the runs of the book's functions: with document 01's naming conditions, for all arguments that fit, every memory,
+-- stack pointer and world, and for every number of blocks that the run by the manual passes without a stop
 pub record Runs (book names : List ℕ) (counter work : ℕ) (kinds operands : List ℕ) : Type 0 where
   pub sound : Sound
   pub checks : checked book names counter work ≡ ok sound
   pub lines : List Line
   pub read : linesOf (sound .names) (sound .book) kinds operands ≡ some lines
-  pub run : Naming (sound .names) (sound .book .function) lines → (world : World) (args : List ℕ) (memory : Memory) (sp : ℕ)
-      → argsFit (sound .book .function .params) args ≡ true → sp < 2 ^ 64
-      → (n : ℕ) (t : Stand) → sourceRun (sound .names) (sound .book) world args memory sp n ≡ ok t → Agrees (sound .names) (sound .book) lines world args memory sp n t
+  -- each on all the lines, from its comment line
+  pub run : (f : Function) → In f (sound .book .functions) → RunsIn (sound .names) (sound .book .structs) f lines
+  -- and on its own, which stand among them
+  pub own-run : (f : Function) → In f (sound .book .functions) → (p : ℕ) × (at : LinesAt (codegen sound) f lines p) × RunsAs (sound .names) (sound .book .structs) f (at .own .lines) 0
 
 -- what was generated
 made : (book names : List ℕ) (counter work room : ℕ) (out : Out) → generated book names counter work room ≡ ok out
@@ -48,16 +43,19 @@ made : (book names : List ℕ) (counter work room : ℕ) (out : Out) → generat
 unfolding generated
 made book names counter work room out h =
     let a = bind-ok (checked book names counter work) _ out h in
-    let c = bind-ok (genFunction (codegenOf (a .0 .names) (a .0 .book)) (a .0 .book .function) counter) _ out (a .2) in
-    let d = given-ok _ _ (c .0) out (c .2) in
-    let l = checked-lent book names counter work (a .0) (a .1) in
-    let f = function-allows (a .0 .names) (a .0 .book) (l .limits) .allows counter (c .0) (c .1) in
+    let b = a .0 in
+    let made = made-by book names counter work room b out (a .1) h in
+    let l = checked-lent book names counter work b (a .1) in
+    let allowed = functions-allow (b .names) (b .book) (l .limits) .allows counter out made in
     record {
-      sound = a .0;
+      sound = b;
       checks = a .1;
       lines = out .lines;
-      read = lines-of-numbers (a .0 .names) (a .0 .book) (out .lines) (rw (d .1) at f);
-      run = two-runs book names counter work room (a .0) out (a .1) h;
+      read = lines-of-numbers (b .names) (b .book) (out .lines) allowed;
+      run = piece-runs book names counter work room b out (a .1) h;
+      own-run = λ f of.
+          let (p, at) = in-turn (codegen b) (b .book .functions) counter out made of in
+          (p, at, own-runs book names counter work b (a .1) f of (at .counter) (at .own) (at .made));
     }
 
 count-of : definition.Translation → ℕ
