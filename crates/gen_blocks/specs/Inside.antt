@@ -158,14 +158,14 @@ term-kind : (t : TermTag) → 10 ≤ termKind t
 unfolding termTag termTags
 term-kind t = leb-true 10 (termKind t) (find-every (λ t. leb 10 (termKind t)) termKind (termKind t) termTags t refl (term-found t))
 
-inside-inst : (i : Inst) → Each Inside (encInst i)
+pub inside-inst : (i : Inst) → Each Inside (encInst i)
 unfolding encInst
 inside-inst i =
     let t = instTagOf (i .kind) in
     let l = inst-kind t in
     ((λ a b. omega arith), inside-fields (instFields t) (inst-fields t) (instArgs (i .kind)))
 
-inside-term : (t : Terminator) → Each Inside (encTerm t)
+pub inside-term : (t : Terminator) → Each Inside (encTerm t)
 unfolding encTerm
 inside-term t =
     let l = term-kind (termTagOf t) in

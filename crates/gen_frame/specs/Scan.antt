@@ -40,7 +40,7 @@ Scan m is [] = is ≡ []
 Scan m is (e ∷ es) = (e .kind < 40 → Scan m is es) × (90 ≤ e .kind → Scan m is es) × (40 ≤ e .kind → e .kind < 90 → First (λ (others : List Inst). Scan m others es) m is (e ∷ es))
 
 -- ---- the blocks of a function
-inst-kinds : (t : InstTag) → (40 ≤ instKind t) × (instKind t < 90)
+pub inst-kinds : (t : InstTag) → (40 ≤ instKind t) × (instKind t < 90)
 unfolding instTag instTags
 inst-kinds t = (
   leb-true _ _ (find-every (λ t. leb 40 (instKind t)) instKind (instKind t) instTags t refl (inst-found t)),

@@ -49,7 +49,7 @@ low-append (e ∷ x) y p q = (p .0, low-append x y (p .1) q)
 mutual
   unfolding encTy
 
-  low-ty : (t : Ty) → Low (encTy t)
+  pub low-ty : (t : Ty) → Low (encTy t)
   low-ty Ty.void = ((omega arith, λ z. omega arith), tt)
   low-ty Ty.ptr = ((omega arith, λ z. omega arith), tt)
   low-ty (Ty.sizeless Sizeless.func) = ((omega arith, λ z. omega arith), tt)
