@@ -14,8 +14,8 @@ use Rattle.book.specs.Ast.{Function}
 use Rattle.book.specs.Entry.{entries}
 use Rattle.book.specs.Result.{Result, ok, err, bind, given}
 use Rattle.assembly.specs.Number.{kindOf}
-use Rattle.lowering.specs.Context.{FnCtx}
-use Rattle.lowering.specs.Function.{genLines}
+use Rattle.lowering.specs.Context.{Codegen}
+use Rattle.lowering.specs.Function.{genFunctions}
 use Rattle.lowering.specs.Gen.{Gen, Out}
 use Rattle.lowering.specs.Printable.{take-over}
 use Rattle.lowering.specs.Translate.{over}
@@ -24,9 +24,9 @@ use Rattle.gen_lines.specs.Puts.{Puts, Able, After, isRefused, most, operandWor
 use Rattle.gen_slices.specs.Fits.{FitOf, fit-lines, fit-refused}
 use Rattle.gen_slices.specs.declared.Fit.{Fit}
 use Rattle.gen_slices.specs.declared.Fit.the-variants as fit
-use Rattle.gen_values.specs.Maps.{Maps}
-use Rattle.gen_prepare.specs.declared.Prepared.{Prepared}
-use Rattle.gen_function.specs.Function.{FunctionHere, Framed, slotsOf}
+use Rattle.gen_blocks.specs.Function.{FunctionsAt}
+use Rattle.gen_prepare.specs.Prepare.{Clean, Shared}
+use Rattle.gen_clear.specs.Clear.{ClearAsk, none-ask}
 use Rattle.gen_passes.specs.declared.Translation.{Translation}
 use Rattle.gen_passes.specs.declared.Translation.the-variants.{Accepted, Refused}
 
@@ -54,11 +54,24 @@ Answered (err e) r ks os ks′ os′ = Refuses e r ks os ks′ os′
 abbrev pub room : (ks os : List ℕ) → ℕ
 room ks os = min (length ks) (length os)
 
--- the answer is the definition's for every context that the work words hold
-abbrev pub Passed : (m : ℕ) (bk bw : List ℕ) (head : Prepared) (counter : ℕ) (work : List ℕ) (r : Translation) (ks os ks′ os′ : List ℕ) → Type 0
-Passed m bk bw head counter work r ks os ks′ os′ =
-    (c : FnCtx) (f : Function) → FunctionHere m bk bw head f → Framed c head → Maps m (entries bk bw) c work
-    → Answered (fitted (genLines c f (slotsOf head) counter) (room ks os)) r ks os ks′ os′
+-- the functions stand from the place `first` on, up to `last`; the work words hold what they share, and nothing of any of them
+pub record PassAsk (m : ℕ) (bk bw : List ℕ) (first last : ℕ) (work : List ℕ) : Type 0 where
+  pub codegen : Codegen
+  pub functions : List Function
+  pub here : FunctionsAt m (entries bk bw) last first functions
+  pub shared : Shared m (entries bk bw) codegen work
+  pub clean : Clean m work
+
+-- the answer is the definition's for whatever the functions share
+abbrev pub Passed : (m : ℕ) (bk bw : List ℕ) (first last counter : ℕ) (work : List ℕ) (r : Translation) (ks os ks′ os′ : List ℕ) → Type 0
+Passed m bk bw first last counter work r ks os ks′ os′ =
+    (g : Codegen) (fs : List Function) → FunctionsAt m (entries bk bw) last first fs → Shared m (entries bk bw) g work → Clean m work
+    → Answered (fitted (genFunctions g fs counter) (room ks os)) r ks os ks′ os′
+
+-- nothing is left to clear before the first pass
+pub clear-first : {m : ℕ} (bk bw : List ℕ) {first last : ℕ} {work : List ℕ} {g : Codegen} {fs : List Function}
+    → FunctionsAt m (entries bk bw) last first fs → Shared m (entries bk bw) g work → Clean m work → ClearAsk m (entries bk bw) 0 0 work
+clear-first {m} bk bw {first} {last} {work} h s c = none-ask m (entries bk bw) work c (omega (arith, s .room)) (h .few)
 
 -- where both passes begin
 abbrev pub start : ℕ → Reached

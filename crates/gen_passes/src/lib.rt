@@ -1,9 +1,9 @@
-// The lines of a sound book's function: a pass into slices of our own finds every refusal, and where the lines fit, they are
+// The lines of a sound book's functions: a pass into slices of our own finds every refusal, and where the lines of all fit, they are
 // copied or made again.
-use gen_function::gen_function;
+use gen_functions::Turn;
+use gen_functions::gen_functions;
 use gen_lines::Reached;
-use gen_prepare::Prepared;
-use gen_prepare::prepare;
+use gen_prepare::prepare_book;
 use gen_slices::Fit;
 use gen_slices::copy_kinds;
 use gen_slices::copy_operands;
@@ -18,10 +18,9 @@ ghost use Rattle.book.specs.Ast.{Book};
 ghost use Rattle.book.specs.Decode.{decode};
 ghost use Rattle.book.specs.Entry.{entries};
 ghost use Rattle.lowering.specs.Context.{codegenOf};
-ghost use Rattle.lowering.specs.Function.{genFunction};
-ghost use Rattle.gen_function.specs.Function.{FunctionAsk};
+ghost use Rattle.lowering.specs.Function.{genFunctions};
 ghost use Rattle.lowering.specs.Translate.{over};
-ghost use Rattle.gen_passes.specs.Passes.{fitted, Answered, Passed};
+ghost use Rattle.gen_passes.specs.Passes.{fitted, Answered, PassAsk, Passed};
 ghost use Rattle.gen_passes.specs.Generate.{GenerateAsk};
 
 // The answer: the number of lines and the next label counter, or document 01's number of a refusal.
@@ -35,7 +34,8 @@ pub enum Translation {
 fn pass_over(
     book_kinds: &[u64],
     book_words: &[u64],
-    head: Prepared,
+    first: usize,
+    last: usize,
     work: &mut [u64],
     names: u64,
     counter: u64,
@@ -44,9 +44,9 @@ fn pass_over(
     own_lines: &mut [u16],
     own_operands: &mut [u64],
 ) -> Translation
-    requires { ⌜ FunctionAsk names (now «book_kinds») (now «book_words») head (now work) ⌝ }
+    requires { ⌜ PassAsk names (now «book_kinds») (now «book_words») first last (now work) ⌝ }
     requires { ⌜ length (now «own_lines») ≡ length (now «own_operands») ⌝ }
-    ensures { λ r. ⌜ Passed names (now («book_kinds» .entry)) (now («book_words» .entry)) head counter (now (work .entry))
+    ensures { λ r. ⌜ Passed names (now («book_kinds» .entry)) (now («book_words» .entry)) first last counter (now (work .entry))
         r (now (lines .entry)) (now (operands .entry)) (now (lines .exit)) (now (operands .exit)) ⌝ }
 {
     let start = Reached {
@@ -54,52 +54,65 @@ fn pass_over(
         counter,
         refused: 0,
     };
-    let counted = gen_function(
+    let none = Turn {
+        s: start,
+        from: 0,
+        to: 0,
+    };
+    let counted = gen_functions(
         book_kinds,
         book_words,
-        head,
         work,
         names,
+        first,
+        last,
         own_lines,
         own_operands,
-        start,
+        none,
     );
-    match lines_fit(counted, lines.len(), operands.len()) {
+    match lines_fit(counted.s, lines.len(), operands.len()) {
         Fit::Refused(e) => Translation::Refused(e),
         Fit::Lines(many) => {
             if many <= own_lines.len() {
                 copy_kinds(own_lines, lines, many);
                 copy_operands(own_operands, operands, many);
-                return Translation::Accepted(many, counted.counter);
+                return Translation::Accepted(many, counted.s.counter);
             }
-            gen_function(
+            let again = Turn {
+                s: start,
+                from: counted.from,
+                to: counted.to,
+            };
+            gen_functions(
                 book_kinds,
                 book_words,
-                head,
                 work,
                 names,
+                first,
+                last,
                 lines,
                 operands,
-                start,
+                again,
             );
-            Translation::Accepted(many, counted.counter)
+            Translation::Accepted(many, counted.s.counter)
         }
     }
 }
 
-// The lines of a function whose work words are filled, by slices of our own of 256 lines.
+// The lines of a book's functions, by slices of our own of 256 lines.
 fn few_passes(
     book_kinds: &[u64],
     book_words: &[u64],
-    head: Prepared,
+    first: usize,
+    last: usize,
     work: &mut [u64],
     names: u64,
     counter: u64,
     lines: &mut [u16],
     operands: &mut [u64],
 ) -> Translation
-    requires { ⌜ FunctionAsk names (now «book_kinds») (now «book_words») head (now work) ⌝ }
-    ensures { λ r. ⌜ Passed names (now («book_kinds» .entry)) (now («book_words» .entry)) head counter (now (work .entry))
+    requires { ⌜ PassAsk names (now «book_kinds») (now «book_words») first last (now work) ⌝ }
+    ensures { λ r. ⌜ Passed names (now («book_kinds» .entry)) (now («book_words» .entry)) first last counter (now (work .entry))
         r (now (lines .entry)) (now (operands .entry)) (now (lines .exit)) (now (operands .exit)) ⌝ }
 {
     let mut own_lines = [0u16; 256];
@@ -107,7 +120,8 @@ fn few_passes(
     pass_over(
         book_kinds,
         book_words,
-        head,
+        first,
+        last,
         work,
         names,
         counter,
@@ -122,15 +136,16 @@ fn few_passes(
 fn some_passes(
     book_kinds: &[u64],
     book_words: &[u64],
-    head: Prepared,
+    first: usize,
+    last: usize,
     work: &mut [u64],
     names: u64,
     counter: u64,
     lines: &mut [u16],
     operands: &mut [u64],
 ) -> Translation
-    requires { ⌜ FunctionAsk names (now «book_kinds») (now «book_words») head (now work) ⌝ }
-    ensures { λ r. ⌜ Passed names (now («book_kinds» .entry)) (now («book_words» .entry)) head counter (now (work .entry))
+    requires { ⌜ PassAsk names (now «book_kinds») (now «book_words») first last (now work) ⌝ }
+    ensures { λ r. ⌜ Passed names (now («book_kinds» .entry)) (now («book_words» .entry)) first last counter (now (work .entry))
         r (now (lines .entry)) (now (operands .entry)) (now (lines .exit)) (now (operands .exit)) ⌝ }
 {
     let mut own_lines = [0u16; 512];
@@ -138,7 +153,8 @@ fn some_passes(
     pass_over(
         book_kinds,
         book_words,
-        head,
+        first,
+        last,
         work,
         names,
         counter,
@@ -153,15 +169,16 @@ fn some_passes(
 fn more_passes(
     book_kinds: &[u64],
     book_words: &[u64],
-    head: Prepared,
+    first: usize,
+    last: usize,
     work: &mut [u64],
     names: u64,
     counter: u64,
     lines: &mut [u16],
     operands: &mut [u64],
 ) -> Translation
-    requires { ⌜ FunctionAsk names (now «book_kinds») (now «book_words») head (now work) ⌝ }
-    ensures { λ r. ⌜ Passed names (now («book_kinds» .entry)) (now («book_words» .entry)) head counter (now (work .entry))
+    requires { ⌜ PassAsk names (now «book_kinds») (now «book_words») first last (now work) ⌝ }
+    ensures { λ r. ⌜ Passed names (now («book_kinds» .entry)) (now («book_words» .entry)) first last counter (now (work .entry))
         r (now (lines .entry)) (now (operands .entry)) (now (lines .exit)) (now (operands .exit)) ⌝ }
 {
     let mut own_lines = [0u16; 2048];
@@ -169,7 +186,8 @@ fn more_passes(
     pass_over(
         book_kinds,
         book_words,
-        head,
+        first,
+        last,
         work,
         names,
         counter,
@@ -184,15 +202,16 @@ fn more_passes(
 fn many_passes(
     book_kinds: &[u64],
     book_words: &[u64],
-    head: Prepared,
+    first: usize,
+    last: usize,
     work: &mut [u64],
     names: u64,
     counter: u64,
     lines: &mut [u16],
     operands: &mut [u64],
 ) -> Translation
-    requires { ⌜ FunctionAsk names (now «book_kinds») (now «book_words») head (now work) ⌝ }
-    ensures { λ r. ⌜ Passed names (now («book_kinds» .entry)) (now («book_words» .entry)) head counter (now (work .entry))
+    requires { ⌜ PassAsk names (now «book_kinds») (now «book_words») first last (now work) ⌝ }
+    ensures { λ r. ⌜ Passed names (now («book_kinds» .entry)) (now («book_words» .entry)) first last counter (now (work .entry))
         r (now (lines .entry)) (now (operands .entry)) (now (lines .exit)) (now (operands .exit)) ⌝ }
 {
     let mut own_lines = [0u16; 16384];
@@ -200,7 +219,8 @@ fn many_passes(
     pass_over(
         book_kinds,
         book_words,
-        head,
+        first,
+        last,
         work,
         names,
         counter,
@@ -217,7 +237,8 @@ fn many_passes(
 fn passes(
     book_kinds: &[u64],
     book_words: &[u64],
-    head: Prepared,
+    first: usize,
+    last: usize,
     work: &mut [u64],
     names: u64,
     counter: u64,
@@ -226,15 +247,16 @@ fn passes(
     room: usize,
 ) -> Translation
     requires { ⌜ 0 < room ⌝ }
-    requires { ⌜ FunctionAsk names (now «book_kinds») (now «book_words») head (now work) ⌝ }
-    ensures { λ r. ⌜ Passed names (now («book_kinds» .entry)) (now («book_words» .entry)) head counter (now (work .entry))
+    requires { ⌜ PassAsk names (now «book_kinds») (now «book_words») first last (now work) ⌝ }
+    ensures { λ r. ⌜ Passed names (now («book_kinds» .entry)) (now («book_words» .entry)) first last counter (now (work .entry))
         r (now (lines .entry)) (now (operands .entry)) (now (lines .exit)) (now (operands .exit)) ⌝ }
 {
     if 2048 < room {
         return many_passes(
             book_kinds,
             book_words,
-            head,
+            first,
+            last,
             work,
             names,
             counter,
@@ -246,7 +268,8 @@ fn passes(
         return passes(
             book_kinds,
             book_words,
-            head,
+            first,
+            last,
             work,
             names,
             counter,
@@ -259,7 +282,8 @@ fn passes(
         return few_passes(
             book_kinds,
             book_words,
-            head,
+            first,
+            last,
             work,
             names,
             counter,
@@ -271,7 +295,8 @@ fn passes(
         return some_passes(
             book_kinds,
             book_words,
-            head,
+            first,
+            last,
             work,
             names,
             counter,
@@ -282,7 +307,8 @@ fn passes(
     more_passes(
         book_kinds,
         book_words,
-        head,
+        first,
+        last,
         work,
         names,
         counter,
@@ -291,7 +317,7 @@ fn passes(
     )
 }
 
-// The lines of a sound book's function. The work words are 0 but for the starts of names.
+// The lines of a sound book's functions. The work words are 0 but for the starts of names.
 pub fn generate(
     book_kinds: &[u64],
     book_words: &[u64],
@@ -305,17 +331,15 @@ pub fn generate(
     requires { ⌜ GenerateAsk (now names) count (now «book_kinds») (now «book_words») (now work) ⌝ }
     ensures { λ r. ⌜ ((ns : List (List ℕ)) (b : Book) → namesOf (now (names .entry)) ≡ some ns
         → decode count (entries (now («book_kinds» .entry)) (now («book_words» .entry))) ≡ some b
-        → Answered (fitted (genFunction (codegenOf ns b) (b .function) counter) (min (length (now (lines .entry))) (length (now (operands .entry)))))
+        → Answered (fitted (genFunctions (codegenOf ns b) (b .functions) counter) (min (length (now (lines .entry))) (length (now (operands .entry)))))
         r (now (lines .entry)) (now (operands .entry)) (now (lines .exit)) (now (operands .exit))) ⌝ }
 {
-    let head = prepare(book_kinds, book_words, names, work, count);
-    if head.refused {
-        return Translation::Refused(head.size);
-    }
+    let first = prepare_book(book_kinds, book_words, names, work, count);
     passes(
         book_kinds,
         book_words,
-        head,
+        first,
+        book_kinds.len(),
         work,
         count,
         counter,

@@ -24,7 +24,7 @@ use Rattle.book_types.specs.Laws.{length-entries}
 use Rattle.book_check.specs.Whole.{Holds, slice-holds, slice-parts}
 use Rattle.lowering.specs.Gen.{Out}
 use Rattle.lowering.specs.Context.{codegenOf}
-use Rattle.lowering.specs.Function.{genFunction}
+use Rattle.lowering.specs.Function.{genFunctions}
 use Rattle.lowering.specs.Printable.{Lent, checked-lent, names-counted}
 use Rattle.lowering.specs.Translate.{generated}
 use Rattle.gen_passes.specs.Passes.{fitted, Answered}
@@ -186,11 +186,11 @@ module _ {book names : List ℕ} {counter lent : ℕ} {work : List ℕ} (a : Sou
       }
 
   -- what is generated
-  generated-is : (k : ℕ) → generated book names counter lent k ≡ fitted (genFunction (codegenOf (s .names) (s .book)) (s .book .function) counter) k
+  generated-is : (k : ℕ) → generated book names counter lent k ≡ fitted (genFunctions (codegenOf (s .names) (s .book)) (s .book .functions) counter) k
   unfolding generated bind
-  generated-is k = ap (λ (r : Result Sound). bind r (λ s. fitted (genFunction (codegenOf (s .names) (s .book)) (s .book .function) counter) k)) is
+  generated-is k = ap (λ (r : Result Sound). bind r (λ s. fitted (genFunctions (codegenOf (s .names) (s .book)) (s .book .functions) counter) k)) is
 
-  pub sound-answer : (k : ℕ) (q : Translation) (ks os ks′ os′ : List ℕ) → Answered (fitted (genFunction (codegenOf (s .names) (s .book)) (s .book .function) counter) k) q ks os ks′ os′
+  pub sound-answer : (k : ℕ) (q : Translation) (ks os ks′ os′ : List ℕ) → Answered (fitted (genFunctions (codegenOf (s .names) (s .book)) (s .book .functions) counter) k) q ks os ks′ os′
       → Answered (generated book names counter lent k) q ks os ks′ os′
   sound-answer k q ks os ks′ os′ h = subst (λ (g : Result Out). Answered g q ks os ks′ os′) (sym (generated-is k)) h
 

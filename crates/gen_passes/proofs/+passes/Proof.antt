@@ -15,7 +15,7 @@ use Rattle.gen_passes.proofs.+passes.{statement}
 use Rattle.gen_passes.proofs.+passes.Tie.{close}
 
 abbrev μ-passes : Measures 5 passes-kinds.ps ℕ
-μ-passes κs a = 2049 - a .1 .1 .1 .1 .1 .1 .1 .1 .0
+μ-passes κs a = 2049 - a .1 .1 .1 .1 .1 .1 .1 .1 .1 .0
 
 abbrev passes-at : ℕ → In 5 passes-kinds.ps
 passes-at t = and 5 passes-kinds.ps (is 5 passes-kinds.ps μ-passes t) passes.Pre
