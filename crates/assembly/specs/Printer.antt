@@ -27,7 +27,7 @@ linesOf names b (k ∷ ks) (x ∷ xs) = consed (lineOf names b k x) (linesOf nam
 -- a comment names a function of the book: the first of that name
 unfoldable pub functionNamed : List Function → ℕ → Function
 functionNamed [] x = record { name = x; retTy = Ty.void; params = []; blocks = [] }
-functionNamed (f ∷ fs) x = cond (eqb (f .name) x) f (functionNamed fs x)
+functionNamed (f ∷ fs) x = cond (eqb x (f .name)) f (functionNamed fs x)
 
 -- a function's opening comment, of kind 0
 unfoldable pub isComment : Line → Bool
