@@ -7,7 +7,7 @@ use mathlib.Core.List.{List, [], _∷_, _++_, map}
 use lib.ListN.{length, take, replicate}
 use Rattle.names.specs.Text.{bytes}
 use Rattle.names.specs.Utf8.{encodes}
-use Rattle.book.specs.Ast.{Ty, Terminator, BasicBlock, Param, Function, Book}
+use Rattle.book.specs.Ast.{Ty, Terminator, BasicBlock, Book}
 use Rattle.assembly.specs.Printer.{Printed, print, printLines, printedNumber, printedBytes}
 use Rattle.assembly.specs.Open.{openAssembly}
 

@@ -1,7 +1,7 @@
 -- "The printer is lent book, names, lines and a text slice. Accepted: a byte count, bytes from 0, the rest unchanged. Refused: the number and 0, nothing
 -- changed." It gives 1, 2, 21, 20 in that order, and takes as many lines as the shorter of the two line slices holds.
 use Prim.Native.Nat.{ℕ}
-use mathlib.Core.Bool.{Bool, true, false, cond, not, _&&_, _||_}
+use mathlib.Core.Bool.{Bool, true, cond, not, _&&_, _||_}
 use mathlib.Core.Option.{Option, none, some}
 use mathlib.Core.List.{List, [], _∷_, _++_}
 use lib.ListN.{length, drop}

@@ -1,13 +1,13 @@
 -- The lines of functions are headed: each function's begin with its comment line.
 use Prim.Native.Nat.{ℕ}
-use mathlib.Core.Path.{_≡_, refl, ap, sym, _∙_}
+use mathlib.Core.Path.{_≡_, ap, sym, _∙_}
 use mathlib.Core.Bool.{true}
 use mathlib.Core.List.{List, [], _∷_, _++_}
 use Rattle.book.specs.Ast.{Function}
 use Rattle.book.specs.Result.{ok, bind, bind-ok}
 use Rattle.assembly.specs.Line.{Line}
 use Rattle.assembly.specs.Number.{kindOf}
-use Rattle.assembly.specs.Printer.{isComment, ofBlock, headed}
+use Rattle.assembly.specs.Printer.{isComment, headed}
 use Rattle.layout.specs.Frame.{framePass, noFrame}
 use Rattle.book.specs.Shape.{allInsts}
 use Rattle.lowering.specs.Gen.{Out, Gen, lines, line, skip, after, _>>=_, _>>_, each}

@@ -7,11 +7,11 @@ use mathlib.Core.Option.{Option, none, some}
 use mathlib.Core.List.{List, [], _∷_, _++_, map, append-nil}
 use native.Mathlib.Numerals.{add-one}
 use native.Mathlib.Omega.{arith}
-use borrow.Author.Tests.{eqb-true, eqb-false, eq-eqb, ne-eqb}
+use borrow.Author.Tests.{eqb-true, eq-eqb, ne-eqb}
 use lib.Dec.{eqb}
 use lib.ListN.{length, getD, set, take, drop, replicate, length-append, length-drop, length-set}
 use lib.Seq.{drop-cons, drop-drop, getD-set-same, getD-set-other}
-use Rattle.numbers.specs.Tests.{lt-or-le, eq-or-ne}
+use Rattle.numbers.specs.Tests.{eq-or-ne}
 use Rattle.book.specs.Ast.{Function, Book}
 use Rattle.book.specs.Entry.{Entry, entry, entries}
 use Rattle.book.specs.Read.{got}
@@ -299,7 +299,7 @@ module _ (m : ℕ) (ks ws : List ℕ) (d : Decoded m ks ws) where
       head-stands n c =
           let o : p + 1 ≡ 1 + p = omega arith in
           let behind : drop 1 (lentFrom ks ws p) ≡ lentFrom ks ws (p + 1) =
-              ap (drop 1) (entries-part p ks ws) ∙ drop-drop 1 p (entries ks ws) ∙ sym (entries-part (p + 1) ks ws) in
+          ap (drop 1) (entries-part p ks ws) ∙ drop-drop 1 p (entries ks ws) ∙ sym (entries-part (p + 1) ks ws) in
           record {
             is = is;
             below = fn-below is;

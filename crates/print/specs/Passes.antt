@@ -119,8 +119,8 @@ module _ {bs : List ℕ} {m from to : ℕ} (d : Named bs m from to) {ks ws : Lis
     under-same =
         let named : fname ≡ nameAt (lines bs) (fnNamed m ks ws own .name) = f ∙ ap (nameAt (lines bs)) (sym (named-name own (bookAt m ks ws .functions))) in
         let typed : typeBytes (lines bs) (typeTo (length (lines bs)) 64 (lentFrom ks ws (p + 1))) ≡ typeText (lines bs) (fnNamed m ks ws own .retTy) =
-            subst (λ (q : ℕ). typeBytes (lines bs) (typeTo q 64 (lentFrom ks ws (p + 1))) ≡ typeText (lines bs) (fnNamed m ks ws own .retTy)) (d .count)
-            (ap (λ (t : Read Ty). typeBytes (lines bs) t) (s .type)) in
+        subst (λ (q : ℕ). typeBytes (lines bs) (typeTo q 64 (lentFrom ks ws (p + 1))) ≡ typeText (lines bs) (fnNamed m ks ws own .retTy)) (d .count)
+        (ap (λ (t : Read Ty). typeBytes (lines bs) t) (s .type)) in
         rw (named, typed, s .count)
 
     pub under-weighed : (lk ops : List ℕ) (before : ℕ) {x y : List ℕ} {r : Weight} → Weighed (allowedAll m own from to lk ops) (before + length (printedAll put lk ops)) x y r

@@ -211,7 +211,7 @@ module _ {own : ℕ} {ks xs : List ℕ} {i o j : ℕ} (s : Segment own ks xs i o
   pub segment-printed : (one : ℕ → ℕ → ℕ → List ℕ) → printedFrom one own (drop i ks) (drop i xs) ≡ printedAll (one o) (part ks) (part xs) ++ printedFrom one o (drop j ks) (drop j xs)
   segment-printed one =
       let turn : printedFrom one own (drop i ks) (drop i xs) ≡ printedFrom one o (drop i ks) (drop i xs) =
-          rw (s .name, drop-cons ks i 0 (s .kinds), drop-cons xs i 0 (s .words)) (printed-turned one own (getD ks i 0) (getD xs i 0) (drop (suc i) ks) (drop (suc i) xs)) in
+      rw (s .name, drop-cons ks i 0 (s .kinds), drop-cons xs i 0 (s .words)) (printed-turned one own (getD ks i 0) (getD xs i 0) (drop (suc i) ks) (drop (suc i) xs)) in
       turn ∙ (rw (behind ks, behind xs, length-is) at (printed-split one o (drop i ks) (drop i xs)))
 
   module _ (is : ℕ → Bool) (n a b : ℕ) where

@@ -6,7 +6,7 @@ use print_lines::weigh::Weight;
 use print_words::word_letters;
 use print_words::word_places;
 ghost use mathlib.Core.Path.{_≡_};
-ghost use mathlib.Core.Bool.{true, _&&_};
+ghost use mathlib.Core.Bool.{_&&_};
 ghost use Prim.Native.Nat.{min};
 ghost use lib.ListN.{length};
 ghost use Rattle.names.specs.Name.{lines};

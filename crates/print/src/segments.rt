@@ -175,7 +175,11 @@ pub fn weigh_segments(
         }
         i = j;
     }
-    if short { Weight::Short } else { Weight::Bytes(n) }
+    if short {
+        Weight::Short
+    } else {
+        Weight::Bytes(n)
+    }
 }
 
 // Writes lines of the function named `own`, which is there, from the index `start` on, where it is known that they fit: gives the index behind them.

@@ -16,7 +16,6 @@ use print_words::put_end;
 use print_words::put_params;
 use print_words::put_syscall;
 use print_words::put_word;
-ghost use mathlib.Core.Path.{_≡_};
 ghost use Prim.Native.Nat.{_+_, _<_, _≤_};
 ghost use lib.ListN.{length};
 ghost use Rattle.names.specs.Name.{lines};

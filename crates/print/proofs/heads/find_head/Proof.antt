@@ -56,9 +56,12 @@ function-params-requires c κs =
 
 returns-3 : tie.Need-returns-3
 returns-3 c =
-    let entry = c .before .before .before .before .before .before .before .before .before in
+    let else2 = c .before .before .before in
+    let after-place = else2 .before in
+    let entry = after-place .before .before .before .before .before in
     let d = entry .pre .book in
-    head-stands (entry .args .count) (entry .args .kinds .now) (entry .args .words .now) d (entry .args .own) _ (c .before .before .before .before .place-of .ensures) (omega (arith, c .before .before .before .if2 .left)) _ (c .function-params .ensures)
+    head-stands (entry .args .count) (entry .args .kinds .now) (entry .args .words .now) d (entry .args .own) _ (after-place .place-of .ensures) (omega (arith, else2 .if2 .left)) _
+    (c .function-params .ensures)
 
 pub find-head-spec : {M : Type 1} → statement M
 find-head-spec =

@@ -32,7 +32,10 @@ shared-slice-read-if2 : tie.Need-shared-slice-read-if2 Inv-loop μ-loop
 shared-slice-read-if2 c = search needs
 
 returns-2 : tie.Need-returns-2 Inv-loop μ-loop
-returns-2 c = ahead-label (c .before .before .before .before .before .loop .inv) (c .before .before .before .before .loop-test .taken) (c .before .before .if1 .left) (c .if2 .taken)
+returns-2 c =
+    let else1 = c .before .before in
+    let in-loop = else1 .before .before in
+    ahead-label (in-loop .before .loop .inv) (in-loop .loop-test .taken) (else1 .if1 .left) (c .if2 .taken)
 
 mul-if3 : tie.Need-mul-if3 Inv-loop μ-loop
 mul-if3 c = search needs
@@ -41,7 +44,11 @@ shared-slice-read-if3 : tie.Need-shared-slice-read-if3 Inv-loop μ-loop
 shared-slice-read-if3 c = search needs
 
 returns-3 : tie.Need-returns-3 Inv-loop μ-loop
-returns-3 c = ahead-jump (c .before .before .before .before .before .before .before .loop .inv) (c .before .before .before .before .before .before .loop-test .taken) (c .before .before .before .before .if1 .left) (c .before .before .if2 .left) (c .if3 .taken)
+returns-3 c =
+    let else2 = c .before .before in
+    let else1 = else2 .before .before in
+    let in-loop = else1 .before .before in
+    ahead-jump (in-loop .before .loop .inv) (in-loop .loop-test .taken) (else1 .if1 .left) (else2 .if2 .left) (c .if3 .taken)
 
 add-i : tie.Need-add-i Inv-loop μ-loop
 add-i c = search needs
@@ -50,7 +57,11 @@ loop-less : tie.Need-loop-less Inv-loop μ-loop
 loop-less c = search needs
 
 loop-again : tie.Need-loop-again Inv-loop μ-loop
-loop-again c = ahead-next (c .before .before .before .before .before .before .before .loop .inv) (c .before .before .before .before .before .before .loop-test .taken) (c .before .before .before .before .if1 .left) (c .before .before .if2 .left) (c .if3 .left)
+loop-again c =
+    let else2 = c .before .before in
+    let else1 = else2 .before .before in
+    let in-loop = else1 .before .before in
+    ahead-next (in-loop .before .loop .inv) (in-loop .loop-test .taken) (else1 .if1 .left) (else2 .if2 .left) (c .if3 .left)
 
 returns-4 : tie.Need-returns-4 Inv-loop μ-loop
 returns-4 c = ahead-end (c .before .loop .inv) (c .loop-test .left)

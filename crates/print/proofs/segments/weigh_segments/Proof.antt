@@ -8,6 +8,8 @@ use Rattle.print.specs.Segments.{Weighing, Segment, weighing-start, weig
 use Rattle.print.specs.Passes.{oneOf}
 use Rattle.print.proofs.segments.weigh_segments.Statement.{statement}
 use Rattle.print.proofs.segments.weigh_segments.Tie as tie
+use Rattle.print.proofs.segments.weigh_segments.Reads as reads
+use Rattle.print.proofs.segments.weigh_segments.Lts as lts
 use Rattle.print.proofs.segments.segment_end.Reads as segment-end-reads
 use Rattle.print.proofs.segments.weigh_under.Reads as weigh-under-reads
 use Rattle.print_forms.proofs.pick.Reads as pick-reads
@@ -19,6 +21,14 @@ Inv-loop text₀ places names starts every kinds words count from to index first
 
 abbrev μ-loop : tie.MeasureT-loop
 μ-loop text₀ places names starts every kinds words count from to index first line-kinds operands own₀ short₀ n₀ i₀ text own short n i = length line-kinds - i
+
+-- the segment that is come to
+here : (c : lts.After-segment-end (pick-reads.Asked, pick-reads.Learnt, segment-end-reads.Asked, segment-end-reads.Learnt, weigh-under-reads.Asked, weigh-under-reads.Learnt) reads.Pre reads.Post Inv-loop μ-loop)
+    → Segment (c .before .before .before .before .before .loop .own) (c .before .before .before .before .before .before .before .before .before .before .before .before .before .before .before .args .line-kinds .now) (c .before .before .before .before .before .before .before .before .before .before .before .before .before .before .before .args .operands .now) (c .before .before .before .before .before .loop .i) (c .before .pick .result) (c .segment-end .result)
+here c =
+    let test = c .before .before .before .before .loop-test .taken in
+    let entry = c .before .before .before .before .before .before .before .before .before .before .before .before .before .before .before in
+    record { kinds = test; words = omega (arith, test, entry .pre .1 .1 .1 .1); name = c .before .pick .ensures; end = c .segment-end .ensures }
 
 loop-holds : tie.Need-loop-holds Inv-loop μ-loop
 loop-holds c = weighing-start _ _ _ _ _ _ _ _ (c .before .before .before .before .before .before .before .before .before .args .text .now)
@@ -41,92 +51,40 @@ pick-requires c κs = search needs
 segment-end-requires : tie.Need-segment-end-requires Inv-loop μ-loop
 segment-end-requires c κs =
     let in-loop = c .before .before .before in
-    let test = in-loop .loop-test .taken in
-    (in-loop .before .before .before .before .before .before .before .before .before .before .before .pre .1 .1 .1 .1, omega (arith, test))
+    let entry = in-loop .before .before .before .before .before .before .before .before .before .before .before in
+    (entry .pre .1 .1 .1 .1, omega (arith, in-loop .loop-test .taken))
 
 mul-weigh-under : tie.Need-mul-weigh-under Inv-loop μ-loop
 mul-weigh-under c =
-    let after-end = c .before in
-    let in-loop = after-end .before .before .before .before in
-    let at-loop = in-loop .before in
-    let entry = at-loop .before .before .before .before .before .before .before .before .before .before in
-    let test = in-loop .loop-test .taken in
-    omega (arith, test, entry .pre .1 .1 .1 .1, entry .good)
+    let in-loop = c .before .before .before .before .before in
+    let entry = in-loop .before .before .before .before .before .before .before .before .before .before .before in
+    omega (arith, in-loop .loop-test .taken, entry .pre .1 .1 .1 .1, entry .good)
 
 sub-weigh-under : tie.Need-sub-weigh-under Inv-loop μ-loop
-sub-weigh-under c =
-    let after-end = c .before in
-    let in-loop = after-end .before .before .before .before in
-    let at-loop = in-loop .before in
-    let entry = at-loop .before .before .before .before .before .before .before .before .before .before in
-    let test = in-loop .loop-test .taken in
-    let g : Segment (at-loop .loop .own) (entry .args .line-kinds .now) (entry .args .operands .now) (at-loop .loop .i) (after-end .before .pick .result) (after-end .segment-end .result) =
-        record { kinds = test; words = omega (arith, test, entry .pre .1 .1 .1 .1); name = after-end .before .pick .ensures; end = after-end .segment-end .ensures } in
-    omega (arith, segment-behind g)
+sub-weigh-under c = omega (arith, segment-behind (here (c .before)))
 
 part-weigh-under-start : tie.Need-part-weigh-under-start Inv-loop μ-loop
-part-weigh-under-start c =
-    let after-end = c .before in
-    let in-loop = after-end .before .before .before .before in
-    let at-loop = in-loop .before in
-    let entry = at-loop .before .before .before .before .before .before .before .before .before .before in
-    let test = in-loop .loop-test .taken in
-    let g : Segment (at-loop .loop .own) (entry .args .line-kinds .now) (entry .args .operands .now) (at-loop .loop .i) (after-end .before .pick .result) (after-end .segment-end .result) =
-        record { kinds = test; words = omega (arith, test, entry .pre .1 .1 .1 .1); name = after-end .before .pick .ensures; end = after-end .segment-end .ensures } in
-    omega (arith, segment-behind g)
+part-weigh-under-start c = omega (arith, segment-behind (here (c .before)))
 
 part-weigh-under-end : tie.Need-part-weigh-under-end Inv-loop μ-loop
-part-weigh-under-end c =
-    let after-end = c .before in
-    let in-loop = after-end .before .before .before .before in
-    let at-loop = in-loop .before in
-    let entry = at-loop .before .before .before .before .before .before .before .before .before .before in
-    let test = in-loop .loop-test .taken in
-    let g : Segment (at-loop .loop .own) (entry .args .line-kinds .now) (entry .args .operands .now) (at-loop .loop .i) (after-end .before .pick .result) (after-end .segment-end .result) =
-        record { kinds = test; words = omega (arith, test, entry .pre .1 .1 .1 .1); name = after-end .before .pick .ensures; end = after-end .segment-end .ensures } in
-    segment-inside g
+part-weigh-under-end c = segment-inside (here (c .before))
 
 mul-weigh-under-2 : tie.Need-mul-weigh-under-2 Inv-loop μ-loop
 mul-weigh-under-2 c =
-    let after-end = c .before .before in
-    let in-loop = after-end .before .before .before .before in
-    let at-loop = in-loop .before in
-    let entry = at-loop .before .before .before .before .before .before .before .before .before .before in
-    let test = in-loop .loop-test .taken in
-    omega (arith, test, entry .pre .1 .1 .1 .1, entry .good)
+    let in-loop = c .before .before .before .before .before .before in
+    let entry = in-loop .before .before .before .before .before .before .before .before .before .before .before in
+    omega (arith, in-loop .loop-test .taken, entry .pre .1 .1 .1 .1, entry .good)
 
 sub-weigh-under-2 : tie.Need-sub-weigh-under-2 Inv-loop μ-loop
-sub-weigh-under-2 c =
-    let after-end = c .before .before in
-    let in-loop = after-end .before .before .before .before in
-    let at-loop = in-loop .before in
-    let entry = at-loop .before .before .before .before .before .before .before .before .before .before in
-    let test = in-loop .loop-test .taken in
-    let g : Segment (at-loop .loop .own) (entry .args .line-kinds .now) (entry .args .operands .now) (at-loop .loop .i) (after-end .before .pick .result) (after-end .segment-end .result) =
-        record { kinds = test; words = omega (arith, test, entry .pre .1 .1 .1 .1); name = after-end .before .pick .ensures; end = after-end .segment-end .ensures } in
-    omega (arith, segment-behind g)
+sub-weigh-under-2 c = omega (arith, segment-behind (here (c .before .before)))
 
 part-weigh-under-start-2 : tie.Need-part-weigh-under-start-2 Inv-loop μ-loop
-part-weigh-under-start-2 c =
-    let after-end = c .before .before in
-    let in-loop = after-end .before .before .before .before in
-    let at-loop = in-loop .before in
-    let entry = at-loop .before .before .before .before .before .before .before .before .before .before in
-    let test = in-loop .loop-test .taken in
-    let g : Segment (at-loop .loop .own) (entry .args .line-kinds .now) (entry .args .operands .now) (at-loop .loop .i) (after-end .before .pick .result) (after-end .segment-end .result) =
-        record { kinds = test; words = omega (arith, test, entry .pre .1 .1 .1 .1); name = after-end .before .pick .ensures; end = after-end .segment-end .ensures } in
-    omega (arith, segment-behind g)
+part-weigh-under-start-2 c = omega (arith, segment-behind (here (c .before .before)))
 
 part-weigh-under-end-2 : tie.Need-part-weigh-under-end-2 Inv-loop μ-loop
 part-weigh-under-end-2 c =
-    let after-end = c .before .before in
-    let in-loop = after-end .before .before .before .before in
-    let at-loop = in-loop .before in
-    let entry = at-loop .before .before .before .before .before .before .before .before .before .before in
-    let test = in-loop .loop-test .taken in
-    let g : Segment (at-loop .loop .own) (entry .args .line-kinds .now) (entry .args .operands .now) (at-loop .loop .i) (after-end .before .pick .result) (after-end .segment-end .result) =
-        record { kinds = test; words = omega (arith, test, entry .pre .1 .1 .1 .1); name = after-end .before .pick .ensures; end = after-end .segment-end .ensures } in
-    omega (arith, segment-inside g, entry .pre .1 .1 .1 .1)
+    let entry = c .before .before .before .before .before .before .before .before .before .before .before .before .before .before .before .before .before in
+    omega (arith, segment-inside (here (c .before .before)), entry .pre .1 .1 .1 .1)
 
 weigh-under-requires : tie.Need-weigh-under-requires Inv-loop μ-loop
 weigh-under-requires c κs =
@@ -146,63 +104,39 @@ enum-told-2 c = search needs
 
 same-length : tie.Need-same-length Inv-loop μ-loop
 same-length c =
-    let weighed = c .before .before .before .before .weigh-under .ensures in
-    ap length (weighed .text ∙ c .before .before .before .before .before .before .before .before .before .before .before .before .before .loop .inv .text)
+    let after-weigh = c .before .before .before .before in
+    ap length (after-weigh .weigh-under .ensures .text ∙ after-weigh .before .before .before .before .before .before .before .before .before .loop .inv .text)
 
 returns : tie.Need-returns Inv-loop μ-loop
 returns c =
-    let after-end = c .before .before .before .before .before .before .before .before in
-    let in-loop = after-end .before .before .before .before in
-    let at-loop = in-loop .before in
-    let entry = at-loop .before .before .before .before .before .before .before .before .before .before in
-    let test = in-loop .loop-test .taken in
-    let g : Segment (at-loop .loop .own) (entry .args .line-kinds .now) (entry .args .operands .now) (at-loop .loop .i) (after-end .before .pick .result) (after-end .segment-end .result) =
-        record { kinds = test; words = omega (arith, test, entry .pre .1 .1 .1 .1); name = after-end .before .pick .ensures; end = after-end .segment-end .ensures } in
-    weighing-barred (at-loop .loop .inv) g (c .before .before .before .before .weigh-under .ensures) (c .enum-told2 .given .1)
+    let after-weigh = c .before .before .before .before in
+    let after-end = after-weigh .before .before .before .before in
+    let at-loop = after-end .before .before .before .before .before in
+    weighing-barred (at-loop .loop .inv) (here after-end) (after-weigh .weigh-under .ensures) (c .enum-told2 .given .1)
 
 loop-less : tie.Need-loop-less Inv-loop μ-loop
 loop-less c =
     let after-end = c .before .before .before .before .before .before .before .before .before in
-    let in-loop = after-end .before .before .before .before in
-    let at-loop = in-loop .before in
-    let entry = at-loop .before .before .before .before .before .before .before .before .before .before in
-    let test = in-loop .loop-test .taken in
-    let g : Segment (at-loop .loop .own) (entry .args .line-kinds .now) (entry .args .operands .now) (at-loop .loop .i) (after-end .before .pick .result) (after-end .segment-end .result) =
-        record { kinds = test; words = omega (arith, test, entry .pre .1 .1 .1 .1); name = after-end .before .pick .ensures; end = after-end .segment-end .ensures } in
-    omega (arith, segment-behind g, test)
+    omega (arith, segment-behind (here after-end), after-end .before .before .before .before .loop-test .taken)
 
 loop-again : tie.Need-loop-again Inv-loop μ-loop
 loop-again c =
-    let after-end = c .before .before .before .before .before .before .before .before .before in
-    let in-loop = after-end .before .before .before .before in
-    let at-loop = in-loop .before in
-    let entry = at-loop .before .before .before .before .before .before .before .before .before .before in
-    let test = in-loop .loop-test .taken in
-    let g : Segment (at-loop .loop .own) (entry .args .line-kinds .now) (entry .args .operands .now) (at-loop .loop .i) (after-end .before .pick .result) (after-end .segment-end .result) =
-        record { kinds = test; words = omega (arith, test, entry .pre .1 .1 .1 .1); name = after-end .before .pick .ensures; end = after-end .segment-end .ensures } in
-    weighing-next (at-loop .loop .inv) g (c .before .before .before .before .before .weigh-under .ensures) _ (c .before .next .given .1)
+    let after-weigh = c .before .before .before .before .before in
+    let after-end = after-weigh .before .before .before .before in
+    let at-loop = after-end .before .before .before .before .before in
+    weighing-next (at-loop .loop .inv) (here after-end) (after-weigh .weigh-under .ensures) _ (c .before .next .given .1)
 
 loop-less-2 : tie.Need-loop-less-2 Inv-loop μ-loop
 loop-less-2 c =
     let after-end = c .before .before .before .before .before .before .before .before in
-    let in-loop = after-end .before .before .before .before in
-    let at-loop = in-loop .before in
-    let entry = at-loop .before .before .before .before .before .before .before .before .before .before in
-    let test = in-loop .loop-test .taken in
-    let g : Segment (at-loop .loop .own) (entry .args .line-kinds .now) (entry .args .operands .now) (at-loop .loop .i) (after-end .before .pick .result) (after-end .segment-end .result) =
-        record { kinds = test; words = omega (arith, test, entry .pre .1 .1 .1 .1); name = after-end .before .pick .ensures; end = after-end .segment-end .ensures } in
-    omega (arith, segment-behind g, test)
+    omega (arith, segment-behind (here after-end), after-end .before .before .before .before .loop-test .taken)
 
 loop-again-2 : tie.Need-loop-again-2 Inv-loop μ-loop
 loop-again-2 c =
-    let after-end = c .before .before .before .before .before .before .before .before in
-    let in-loop = after-end .before .before .before .before in
-    let at-loop = in-loop .before in
-    let entry = at-loop .before .before .before .before .before .before .before .before .before .before in
-    let test = in-loop .loop-test .taken in
-    let g : Segment (at-loop .loop .own) (entry .args .line-kinds .now) (entry .args .operands .now) (at-loop .loop .i) (after-end .before .pick .result) (after-end .segment-end .result) =
-        record { kinds = test; words = omega (arith, test, entry .pre .1 .1 .1 .1); name = after-end .before .pick .ensures; end = after-end .segment-end .ensures } in
-    weighing-short (at-loop .loop .inv) g (c .before .before .before .before .weigh-under .ensures) (c .enum-told .given .1)
+    let after-weigh = c .before .before .before .before in
+    let after-end = after-weigh .before .before .before .before in
+    let at-loop = after-end .before .before .before .before .before in
+    weighing-short (at-loop .loop .inv) (here after-end) (after-weigh .weigh-under .ensures) (c .enum-told .given .1)
 
 same-length-2 : tie.Need-same-length-2 Inv-loop μ-loop
 same-length-2 c = ap length (c .before .before .loop .inv .text)

@@ -7,6 +7,8 @@ use Rattle.print.specs.Segments.{Writing, Segment, writing-start, writin
 use Rattle.print.specs.Passes.{oneOf}
 use Rattle.print.proofs.segments.write_segments.Statement.{statement}
 use Rattle.print.proofs.segments.write_segments.Tie as tie
+use Rattle.print.proofs.segments.write_segments.Reads as reads
+use Rattle.print.proofs.segments.write_segments.Lts as lts
 use Rattle.print.proofs.segments.segment_end.Reads as segment-end-reads
 use Rattle.print.proofs.segments.write_under.Reads as write-under-reads
 use Rattle.print_forms.proofs.pick.Reads as pick-reads
@@ -18,6 +20,14 @@ Inv-loop text₀ end letters places names starts every kinds words count from to
 
 abbrev μ-loop : tie.MeasureT-loop
 μ-loop text₀ end letters places names starts every kinds words count from to index first line-kinds operands own₀ at₀ i₀ text own at i = length line-kinds - i
+
+-- the segment that is come to
+here : (c : lts.After-segment-end (pick-reads.Asked, pick-reads.Learnt, segment-end-reads.Asked, segment-end-reads.Learnt, write-under-reads.Asked, write-under-reads.Learnt) reads.Pre reads.Post Inv-loop μ-loop)
+    → Segment (c .before .before .before .before .before .loop .own) (c .before .before .before .before .before .before .before .before .before .before .before .before .before .before .before .before .args .line-kinds .now) (c .before .before .before .before .before .before .before .before .before .before .before .before .before .before .before .before .args .operands .now) (c .before .before .before .before .before .loop .i) (c .before .pick .result) (c .segment-end .result)
+here c =
+    let test = c .before .before .before .before .loop-test .taken in
+    let entry = c .before .before .before .before .before .before .before .before .before .before .before .before .before .before .before .before in
+    record { kinds = test; words = omega (arith, test, entry .pre .1 .1 .1 .1 .0); name = c .before .pick .ensures; end = c .segment-end .ensures }
 
 loop-holds : tie.Need-loop-holds Inv-loop μ-loop
 loop-holds c =
@@ -42,127 +52,59 @@ pick-requires c κs = search needs
 segment-end-requires : tie.Need-segment-end-requires Inv-loop μ-loop
 segment-end-requires c κs =
     let in-loop = c .before .before .before in
-    let test = in-loop .loop-test .taken in
-    (in-loop .before .before .before .before .before .before .before .before .before .before .before .before .pre .1 .1 .1 .1 .0, omega (arith, test))
+    let entry = in-loop .before .before .before .before .before .before .before .before .before .before .before .before in
+    (entry .pre .1 .1 .1 .1 .0, omega (arith, in-loop .loop-test .taken))
 
 mul-write-under : tie.Need-mul-write-under Inv-loop μ-loop
 mul-write-under c =
-    let after-end = c .before in
-    let in-loop = after-end .before .before .before .before in
-    let at-loop = in-loop .before in
-    let entry = at-loop .before .before .before .before .before .before .before .before .before .before .before in
-    let test = in-loop .loop-test .taken in
-    omega (arith, test, entry .pre .1 .1 .1 .1 .0, entry .good)
+    let in-loop = c .before .before .before .before .before in
+    let entry = in-loop .before .before .before .before .before .before .before .before .before .before .before .before in
+    omega (arith, in-loop .loop-test .taken, entry .pre .1 .1 .1 .1 .0, entry .good)
 
 sub-write-under : tie.Need-sub-write-under Inv-loop μ-loop
-sub-write-under c =
-    let after-end = c .before in
-    let in-loop = after-end .before .before .before .before in
-    let at-loop = in-loop .before in
-    let entry = at-loop .before .before .before .before .before .before .before .before .before .before .before in
-    let test = in-loop .loop-test .taken in
-    let g : Segment (at-loop .loop .own) (entry .args .line-kinds .now) (entry .args .operands .now) (at-loop .loop .i) (after-end .before .pick .result) (after-end .segment-end .result) =
-        record { kinds = test; words = omega (arith, test, entry .pre .1 .1 .1 .1 .0); name = after-end .before .pick .ensures; end = after-end .segment-end .ensures } in
-    omega (arith, segment-behind g)
+sub-write-under c = omega (arith, segment-behind (here (c .before)))
 
 part-write-under-start : tie.Need-part-write-under-start Inv-loop μ-loop
-part-write-under-start c =
-    let after-end = c .before in
-    let in-loop = after-end .before .before .before .before in
-    let at-loop = in-loop .before in
-    let entry = at-loop .before .before .before .before .before .before .before .before .before .before .before in
-    let test = in-loop .loop-test .taken in
-    let g : Segment (at-loop .loop .own) (entry .args .line-kinds .now) (entry .args .operands .now) (at-loop .loop .i) (after-end .before .pick .result) (after-end .segment-end .result) =
-        record { kinds = test; words = omega (arith, test, entry .pre .1 .1 .1 .1 .0); name = after-end .before .pick .ensures; end = after-end .segment-end .ensures } in
-    omega (arith, segment-behind g)
+part-write-under-start c = omega (arith, segment-behind (here (c .before)))
 
 part-write-under-end : tie.Need-part-write-under-end Inv-loop μ-loop
-part-write-under-end c =
-    let after-end = c .before in
-    let in-loop = after-end .before .before .before .before in
-    let at-loop = in-loop .before in
-    let entry = at-loop .before .before .before .before .before .before .before .before .before .before .before in
-    let test = in-loop .loop-test .taken in
-    let g : Segment (at-loop .loop .own) (entry .args .line-kinds .now) (entry .args .operands .now) (at-loop .loop .i) (after-end .before .pick .result) (after-end .segment-end .result) =
-        record { kinds = test; words = omega (arith, test, entry .pre .1 .1 .1 .1 .0); name = after-end .before .pick .ensures; end = after-end .segment-end .ensures } in
-    segment-inside g
+part-write-under-end c = segment-inside (here (c .before))
 
 mul-write-under-2 : tie.Need-mul-write-under-2 Inv-loop μ-loop
 mul-write-under-2 c =
-    let after-end = c .before .before in
-    let in-loop = after-end .before .before .before .before in
-    let at-loop = in-loop .before in
-    let entry = at-loop .before .before .before .before .before .before .before .before .before .before .before in
-    let test = in-loop .loop-test .taken in
-    omega (arith, test, entry .pre .1 .1 .1 .1 .0, entry .good)
+    let in-loop = c .before .before .before .before .before .before in
+    let entry = in-loop .before .before .before .before .before .before .before .before .before .before .before .before in
+    omega (arith, in-loop .loop-test .taken, entry .pre .1 .1 .1 .1 .0, entry .good)
 
 sub-write-under-2 : tie.Need-sub-write-under-2 Inv-loop μ-loop
-sub-write-under-2 c =
-    let after-end = c .before .before in
-    let in-loop = after-end .before .before .before .before in
-    let at-loop = in-loop .before in
-    let entry = at-loop .before .before .before .before .before .before .before .before .before .before .before in
-    let test = in-loop .loop-test .taken in
-    let g : Segment (at-loop .loop .own) (entry .args .line-kinds .now) (entry .args .operands .now) (at-loop .loop .i) (after-end .before .pick .result) (after-end .segment-end .result) =
-        record { kinds = test; words = omega (arith, test, entry .pre .1 .1 .1 .1 .0); name = after-end .before .pick .ensures; end = after-end .segment-end .ensures } in
-    omega (arith, segment-behind g)
+sub-write-under-2 c = omega (arith, segment-behind (here (c .before .before)))
 
 part-write-under-start-2 : tie.Need-part-write-under-start-2 Inv-loop μ-loop
-part-write-under-start-2 c =
-    let after-end = c .before .before in
-    let in-loop = after-end .before .before .before .before in
-    let at-loop = in-loop .before in
-    let entry = at-loop .before .before .before .before .before .before .before .before .before .before .before in
-    let test = in-loop .loop-test .taken in
-    let g : Segment (at-loop .loop .own) (entry .args .line-kinds .now) (entry .args .operands .now) (at-loop .loop .i) (after-end .before .pick .result) (after-end .segment-end .result) =
-        record { kinds = test; words = omega (arith, test, entry .pre .1 .1 .1 .1 .0); name = after-end .before .pick .ensures; end = after-end .segment-end .ensures } in
-    omega (arith, segment-behind g)
+part-write-under-start-2 c = omega (arith, segment-behind (here (c .before .before)))
 
 part-write-under-end-2 : tie.Need-part-write-under-end-2 Inv-loop μ-loop
 part-write-under-end-2 c =
-    let after-end = c .before .before in
-    let in-loop = after-end .before .before .before .before in
-    let at-loop = in-loop .before in
-    let entry = at-loop .before .before .before .before .before .before .before .before .before .before .before in
-    let test = in-loop .loop-test .taken in
-    let g : Segment (at-loop .loop .own) (entry .args .line-kinds .now) (entry .args .operands .now) (at-loop .loop .i) (after-end .before .pick .result) (after-end .segment-end .result) =
-        record { kinds = test; words = omega (arith, test, entry .pre .1 .1 .1 .1 .0); name = after-end .before .pick .ensures; end = after-end .segment-end .ensures } in
-    omega (arith, segment-inside g, entry .pre .1 .1 .1 .1 .0)
+    let entry = c .before .before .before .before .before .before .before .before .before .before .before .before .before .before .before .before .before .before in
+    omega (arith, segment-inside (here (c .before .before)), entry .pre .1 .1 .1 .1 .0)
 
 write-under-requires : tie.Need-write-under-requires Inv-loop μ-loop
 write-under-requires c κs =
     let after-end = c .before .before .before in
-    let in-loop = after-end .before .before .before .before in
-    let at-loop = in-loop .before in
-    let entry = at-loop .before .before .before .before .before .before .before .before .before .before .before in
-    let test = in-loop .loop-test .taken in
-    let g : Segment (at-loop .loop .own) (entry .args .line-kinds .now) (entry .args .operands .now) (at-loop .loop .i) (after-end .before .pick .result) (after-end .segment-end .result) =
-        record { kinds = test; words = omega (arith, test, entry .pre .1 .1 .1 .1 .0); name = after-end .before .pick .ensures; end = after-end .segment-end .ensures } in
-    let p = entry .pre in
+    let at-loop = after-end .before .before .before .before .before in
+    let p = at-loop .before .before .before .before .before .before .before .before .before .before .before .pre in
     let inv = at-loop .loop .inv in
+    let g = here after-end in
     (p .0, (p .1 .0, (p .1 .1 .0, (p .1 .1 .1 .0, (writing-is inv g, (writing-stands inv g, (writing-room inv g, omega (arith, p .1 .1 .1 .1 .1 .1 .1, inv .long))))))))
 
 loop-less : tie.Need-loop-less Inv-loop μ-loop
 loop-less c =
     let after-end = c .before .before .before .before .before .before in
-    let in-loop = after-end .before .before .before .before in
-    let at-loop = in-loop .before in
-    let entry = at-loop .before .before .before .before .before .before .before .before .before .before .before in
-    let test = in-loop .loop-test .taken in
-    let g : Segment (at-loop .loop .own) (entry .args .line-kinds .now) (entry .args .operands .now) (at-loop .loop .i) (after-end .before .pick .result) (after-end .segment-end .result) =
-        record { kinds = test; words = omega (arith, test, entry .pre .1 .1 .1 .1 .0); name = after-end .before .pick .ensures; end = after-end .segment-end .ensures } in
-    omega (arith, segment-behind g, test)
+    omega (arith, segment-behind (here after-end), after-end .before .before .before .before .loop-test .taken)
 
 loop-again : tie.Need-loop-again Inv-loop μ-loop
 loop-again c =
     let after-end = c .before .before .before .before .before .before in
-    let in-loop = after-end .before .before .before .before in
-    let at-loop = in-loop .before in
-    let entry = at-loop .before .before .before .before .before .before .before .before .before .before .before in
-    let test = in-loop .loop-test .taken in
-    let g : Segment (at-loop .loop .own) (entry .args .line-kinds .now) (entry .args .operands .now) (at-loop .loop .i) (after-end .before .pick .result) (after-end .segment-end .result) =
-        record { kinds = test; words = omega (arith, test, entry .pre .1 .1 .1 .1 .0); name = after-end .before .pick .ensures; end = after-end .segment-end .ensures } in
-    writing-next (at-loop .loop .inv) g _ _ (c .before .before .write-under .ensures)
+    writing-next (after-end .before .before .before .before .before .loop .inv) (here after-end) _ _ (c .before .before .write-under .ensures)
 
 same-length : tie.Need-same-length Inv-loop μ-loop
 same-length c = c .before .loop .inv .long
