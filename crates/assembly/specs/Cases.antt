@@ -2,11 +2,13 @@
 use Prim.Native.Nat.{ℕ}
 use Prim.Native.String.{String}
 use mathlib.Core.Path.{_≡_, refl}
+use mathlib.Core.Option.{none}
 use mathlib.Core.List.{List, [], _∷_, _++_, map}
-use lib.ListN.{length, replicate}
+use lib.ListN.{length, take, replicate}
 use Rattle.names.specs.Text.{bytes}
 use Rattle.names.specs.Utf8.{encodes}
-use Rattle.assembly.specs.Printer.{Printed, print, printedNumber}
+use Rattle.book.specs.Ast.{Ty, Terminator, BasicBlock, Book}
+use Rattle.assembly.specs.Printer.{Printed, print, printLines, printedNumber, printedBytes}
 use Rattle.assembly.specs.Open.{openAssembly}
 
 -- texts, each ended by byte 10
@@ -88,7 +90,7 @@ shows k x room = printedNumber (print tiny (unlines tinyNames) (k ∷ []) (x ∷
 
 -- 21 for unknown kinds and operands that aren't allowed, 20 for text that doesn't fit
 pub printer-refusals :
-    (shows 65535 0 64 ∷ shows 94 0 64 ∷ shows 7 0 64 ∷ shows 7 65535 64 ∷ shows 7 65536 64 ∷ shows 2 4 64 ∷ shows 0 1 64 ∷ shows 0 2 64
+    (shows 65535 0 64 ∷ shows 94 0 64 ∷ shows 7 0 64 ∷ shows 7 65535 64 ∷ shows 7 65536 64 ∷ shows 1 4 64 ∷ shows 0 1 64 ∷ shows 0 2 64
     ∷ shows 6 0 64 ∷ shows 6 1 64 ∷ shows 21 1 64 ∷ shows 12 255 64 ∷ shows 12 256 64 ∷ shows 5 1023 64 ∷ shows 5 1024 64
     ∷ shows 8 5 7 ∷ shows 8 5 6 ∷ shows 93 0 0 ∷ [])
     ≡ 21 ∷ 21 ∷ 21 ∷ 0 ∷ 21 ∷ 21 ∷ 21 ∷ 0 ∷ 0 ∷ 21 ∷ 21 ∷ 0 ∷ 21 ∷ 0 ∷ 21 ∷ 20 ∷ 20 ∷ 20 ∷ []
@@ -101,3 +103,52 @@ pub printer-order :
     ≡ record { reply = Printed.refused 1; text = [] } ∷ record { reply = Printed.refused 2; text = 1 ∷ [] } ∷ record { reply = Printed.refused 21; text = 1 ∷ [] } ∷ []
 unfolding openAssembly unlines slice tinyNames tiny
 printer-order = refl
+
+-- ---- a book of two functions: i32 @f(i32) and void @g(), of other types and numbers of parameters and with a block b each
+unfoldable pub twoNames : List (List ℕ)
+twoNames = map bytes ("b" ∷ "f" ∷ "g" ∷ [])
+
+unfoldable pub oneBlock : List BasicBlock
+oneBlock = record { label = 0; insts = []; term = Terminator.unreachable } ∷ []
+
+unfoldable pub twoFunctions : Book
+twoFunctions = record {
+  marks = [];
+  structs = [];
+  functions =
+      record { name = 1; retTy = Ty.int 32; params = record { ty = Ty.int 32; name = none } ∷ []; blocks = oneBlock }
+      ∷ record { name = 2; retTy = Ty.void; params = []; blocks = oneBlock } ∷ [];
+}
+
+-- the text of lines of this book, from their kinds and operands
+unfoldable pub ofTwo : (kinds operands : List ℕ) → List ℕ
+ofTwo ks xs = let p = printLines twoNames twoFunctions ks xs (replicate 200 33) in take (printedBytes (p .reply)) (p .text)
+
+-- a comment prints the return type and the parameters of the function that it names; a block label and a jump take the function of the last
+-- comment line before them, in either order, also where a comment stands twice
+pub two-print :
+    (ofTwo (0 ∷ 1 ∷ 2 ∷ 3 ∷ 0 ∷ 1 ∷ 2 ∷ 3 ∷ []) (1 ∷ 1 ∷ 0 ∷ 0 ∷ 2 ∷ 2 ∷ 0 ∷ 0 ∷ [])
+    ∷ ofTwo (0 ∷ 2 ∷ 0 ∷ 2 ∷ []) (2 ∷ 0 ∷ 1 ∷ 0 ∷ [])
+    ∷ ofTwo (0 ∷ 0 ∷ 2 ∷ 0 ∷ 3 ∷ []) (1 ∷ 2 ∷ 0 ∷ 2 ∷ 0 ∷ []) ∷ [])
+    ≡ unlines ("# i32 @f(1 params)" ∷ "f:" ∷ "f__b:" ∷ "jmp f__b;" ∷ "# void @g(0 params)" ∷ "g:" ∷ "g__b:" ∷ "jmp g__b;" ∷ [])
+    ∷ unlines ("# void @g(0 params)" ∷ "g__b:" ∷ "# i32 @f(1 params)" ∷ "f__b:" ∷ [])
+    ∷ unlines ("# i32 @f(1 params)" ∷ "# void @g(0 params)" ∷ "g__b:" ∷ "# void @g(0 params)" ∷ "jmp g__b;" ∷ []) ∷ []
+unfolding openAssembly unlines twoNames oneBlock twoFunctions ofTwo
+two-print = refl
+
+-- lines without a function's name may stand before any comment line
+pub two-before : ofTwo (1 ∷ 8 ∷ 14 ∷ 0 ∷ 2 ∷ []) (2 ∷ 7 ∷ 7 ∷ 2 ∷ 0 ∷ []) ≡ unlines ("g:" ∷ "push 7;" ∷ "__sel_done_7:" ∷ "# void @g(0 params)" ∷ "g__b:" ∷ [])
+unfolding openAssembly unlines twoNames oneBlock twoFunctions ofTwo
+two-before = refl
+
+-- the reply's number for lines of this book and a text slice of this length
+unfoldable pub showsTwo : (kinds operands : List ℕ) (room : ℕ) → ℕ
+showsTwo ks xs room = printedNumber (printLines twoNames twoFunctions ks xs (replicate room 33) .reply)
+
+-- 21 for a block label or a jump before any comment, though one follows, and for a comment that names no function, both before 20
+pub two-refusals :
+    (showsTwo (2 ∷ 0 ∷ []) (0 ∷ 1 ∷ []) 64 ∷ showsTwo (8 ∷ 3 ∷ 0 ∷ []) (7 ∷ 0 ∷ 1 ∷ []) 64 ∷ showsTwo (0 ∷ 0 ∷ []) (1 ∷ 0 ∷ []) 64 ∷ showsTwo (0 ∷ []) (3 ∷ []) 64
+    ∷ showsTwo (8 ∷ 2 ∷ []) (7 ∷ 0 ∷ []) 0 ∷ showsTwo (0 ∷ 2 ∷ []) (2 ∷ 0 ∷ []) 25 ∷ showsTwo (0 ∷ 2 ∷ []) (2 ∷ 0 ∷ []) 26 ∷ [])
+    ≡ 21 ∷ 21 ∷ 21 ∷ 21 ∷ 21 ∷ 20 ∷ 0 ∷ []
+unfolding openAssembly twoNames oneBlock twoFunctions showsTwo
+two-refusals = refl

@@ -154,7 +154,7 @@ module _ (names : List (List ℕ)) where
   text f Line.threadSet = plain "thread_set 0"
   text f Line.blank = []
 
-  -- each line is ended by byte 10, the empty one too
+  -- lines of the function f: each is ended by byte 10, the empty one too
   unfoldable pub texts : Function → List Line → List ℕ
   texts f [] = []
   texts f (l ∷ ls) = text f l ++ (10 ∷ texts f ls)

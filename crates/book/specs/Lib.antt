@@ -22,3 +22,4 @@ pub mod Cases
 pub mod Map
 pub mod AtLimits
 pub mod TwoFaults
+pub mod Heads

@@ -19,6 +19,7 @@ pub mod Allowed
 pub mod AllowedInsts
 pub mod AllowedBlocks
 pub mod AllowedFunction
+pub mod Headed
 pub mod Printable
 pub mod Bounds
 pub mod Words

@@ -18,9 +18,8 @@ use Rattle.book.specs.AgreeInput.{slice-sound}
 use Rattle.book.specs.Check.{Sound, checked}
 use Rattle.assembly.specs.Line.{Line}
 use Rattle.assembly.specs.Number.{kindOf, operandOf}
-use Rattle.assembly.specs.Text.{texts}
 use Rattle.assembly.specs.Lists.{AllAllowed, lines-of-numbers}
-use Rattle.assembly.specs.Printer.{Printed, printedNumber, refusing, writing, needed, first, print}
+use Rattle.assembly.specs.Printer.{Printed, printedNumber, refusing, writing, needed, headed, bookTexts, printLines, print}
 use Rattle.lowering.specs.Gen.{Out}
 use Rattle.lowering.specs.Context.{codegenOf}
 use Rattle.lowering.specs.Function.{genFunctions}
@@ -28,6 +27,7 @@ use Rattle.lowering.specs.Translate.{generated, Translation, Translating
 use Rattle.lowering.specs.Labels.{sumOf, functionLabels, functions-labels}
 use Rattle.lowering.specs.Allowed.{ok-some}
 use Rattle.lowering.specs.AllowedFunction.{functions-allow}
+use Rattle.lowering.specs.Headed.{functions-headed}
 
 -- ---- a sound book: what was read, and that it keeps its limits
 pub record Lent (book names : List ℕ) (s : Sound) : Type 0 where
@@ -68,9 +68,10 @@ pub record Accepted (book names : List ℕ) (counter : ℕ) (o : Out) : Type 0 w
   pub sound : Sound
   pub lent : Lent book names sound
   pub allowed : AllAllowed (sound .names) (sound .book) (o .lines)
+  pub headed : headed (o .lines) ≡ true
   pub labels : o .next ≡ counter + sumOf functionLabels (sound .book .functions)
 
--- every line is allowed, they fit, and the next counter is the given one and the number of labels
+-- every line is allowed and headed, they fit, and the next counter is the given one and the number of labels
 pub generated-allowed : (book names : List ℕ) (counter work room : ℕ) (o : Out) → generated book names counter work room ≡ ok o → Accepted book names counter o × (length (o .lines) ≤ room)
 unfolding generated
 generated-allowed book names counter work room o h =
@@ -79,8 +80,9 @@ generated-allowed book names counter work room o h =
     let d = given-ok _ _ (c .0) o (c .2) in
     let l = checked-lent book names counter work (a .0) (a .1) in
     let f = functions-allow (a .0 .names) (a .0 .book) (l .limits) .allows counter (c .0) (c .1) in
+    let g = functions-headed (codegenOf (a .0 .names) (a .0 .book)) (a .0 .book .functions) counter (c .0) (c .1) in
     let k = functions-labels (codegenOf (a .0 .names) (a .0 .book)) (a .0 .book .functions) .takes counter (c .0) (c .1) in
-    subst (λ (q : Out). Accepted book names counter q × (length (q .lines) ≤ room)) (d .1) (record { sound = a .0; lent = l; allowed = f; labels = k }, leb-true _ _ (d .0))
+    subst (λ (q : Out). Accepted book names counter q × (length (q .lines) ≤ room)) (d .1) (record { sound = a .0; lent = l; allowed = f; headed = g; labels = k }, leb-true _ _ (d .0))
 
 -- ---- the printer
 pub take-over : (f : Line → ℕ) (ls : List Line) (slice : List ℕ) → take (length ls) (over (map f ls) slice) ≡ map f ls
@@ -93,12 +95,12 @@ take-over f ls slice = go ls (drop (length (map f ls)) slice)
 
 -- the lines of an accepted translation print as their text
 pub prints-lines : (book names : List ℕ) (counter : ℕ) (o : Out) (a : Accepted book names counter o) (text : List ℕ)
-    → print book names (map kindOf (o .lines)) (map operandOf (o .lines)) text ≡ writing (texts (a .sound .names) (first (a .sound .book .functions)) (o .lines)) text
-unfolding print needed
+    → print book names (map kindOf (o .lines)) (map operandOf (o .lines)) text ≡ writing (bookTexts (a .sound .names) (a .sound .book .functions) (o .lines)) text
+unfolding print printLines needed
 prints-lines book names counter o a text =
     let l = a .lent in
     let r = lines-of-numbers (a .sound .names) (a .sound .book) (o .lines) (a .allowed) in
-    rw (l .read, l .spelled, l .same, r)
+    rw (l .read, l .spelled, l .same, r, a .headed)
 
 -- an accepted translation: what was generated, and the line slices from index 0
 pub record Translated (book names : List ℕ) (given n next : ℕ) (t : Translating) : Type 0 where

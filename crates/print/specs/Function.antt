@@ -1,5 +1,5 @@
 -- The function that entries begin with.
-use Prim.Native.Nat.{ℕ, zero, suc, _+_, _-_, _≤_, _<_}
+use Prim.Native.Nat.{ℕ, zero, suc, _+_, _≤_, _<_}
 use mathlib.Core.Path.{_≡_, refl, sym, ap, _∙_, subst}
 use mathlib.Core.Bool.{Bool, true, false, false≢true}
 use mathlib.Core.List.{List, [], _∷_, _++_}
@@ -9,8 +9,7 @@ use borrow.Author.Tests.{eq-eqb, ne-eqb}
 use lib.Dec.{eqb}
 use lib.ListN.{length, getD, take, drop, length-append, length-drop}
 use lib.Seq.{drop-cons, drop-drop, take-append-seam, drop-length}
-use Rattle.names.specs.Name.{lines}
-use Rattle.book.specs.Ast.{Ty, Tys, Sizeless, Param, Function, Book}
+use Rattle.book.specs.Ast.{Ty, Tys, Sizeless, Param, Function}
 use Rattle.book.specs.Entry.{Entry, entry, entries}
 use Rattle.book.specs.Fields.{Item}
 use Rattle.book.specs.Encode.{ending, closed, encTy, encTys, encParam}
@@ -23,11 +22,10 @@ use Rattle.book_types.specs.Found.{foundOf}
 use Rattle.book_types.specs.Passes.{found-got, found-bad}
 use Rattle.book_types.specs.declared.Found.{Found}
 use Rattle.book_types.specs.declared.Found.the-variants as answer
-use Rattle.book_types.specs.Laws.{length-entries, entries-front, entries-part, lentFrom, len-got, len-fits}
+use Rattle.book_types.specs.Laws.{length-entries, entries-part, lentFrom, len-got, len-fits}
 use Rattle.book_types.specs.declared.Length.the-variants as len
 use Rattle.book_types.specs.TypeLaws.{behindFront}
-use Rattle.print_types.specs.Types.{isGot, Typed, typeBytes}
-use Rattle.print.specs.Passes.{Known}
+use Rattle.print_types.specs.Types.{isGot}
 
 -- something was read
 pub record There {A : Type 0} (r : Read A) : Type 0 where
@@ -176,7 +174,7 @@ pub record FunctionParts (m : ℕ) (es : List Entry) (f : Function) : Type 0 whe
   pub more : ℕ
   pub params : many (item m Item.param) (drop size (drop 1 es)) ≡ got (f .params) more
 
-function-parts : (m : ℕ) (es : List Entry) (f : Function) (n : ℕ) → function m es ≡ got f n → FunctionParts m es f
+pub function-parts : (m : ℕ) (es : List Entry) (f : Function) (n : ℕ) → function m es ≡ got f n → FunctionParts m es f
 unfolding function
 function-parts m es f n h =
     let g = mapped-got _ _ es f n h in
@@ -215,24 +213,11 @@ module _ (m : ℕ) (ks ws : List ℕ) (h : FunctionThere m ks ws) where
   pub fn-words : 1 ≤ length ws
   fn-words = omega (arith, some-entry, length-entries ks ws)
 
-  word-is : (f : Function) → entries ks ws ≡ entry 5 (f .name) ∷ drop 1 (entries ks ws) → getD ws 0 0 ≡ f .name
-  word-is f e =
-      let z : (length ks ≡ 0 → ⊥) = λ q. omega (arith, fn-kinds) in
-      let y : (length ws ≡ 0 → ⊥) = λ q. omega (arith, fn-words) in
-      let u : entry (getD ks 0 0) (getD ws 0 0) ≡ entry 5 (f .name) = cc (entries-front ks ws z y) in
-      ap (λ (v : Entry). v .word) u
-
-  pub fn-below : getD ws 0 0 < m
-  fn-below = let e = word-is (found .0) (parts .front) in omega (arith, e, parts .below)
-
   behind-is : behindFront ks ws ≡ drop 1 (entries ks ws)
   behind-is = entries-part 1 ks ws
 
   type-is : typeTo m 64 (behindFront ks ws) ≡ got (found .0 .retTy) (parts .size)
   type-is = ap (typeTo m 64) behind-is ∙ parts .typed
-
-  pub fn-typed : Typed m 64 (take (length ks - 1) (drop 1 ks)) (take (length ws - 1) (drop 1 ws))
-  fn-typed = record { got = ap isGot type-is }
 
   size-is : (n : ℕ) → len.Entries n ≡ lenOf (typeTo m 64 (behindFront ks ws)) → n ≡ parts .size
   size-is n e = let u : len.Entries n ≡ len.Entries (parts .size) = e ∙ ap lenOf type-is in cc
@@ -263,17 +248,6 @@ module _ (m : ℕ) (ks ws : List ℕ) (h : FunctionThere m ks ws) where
 
     pub fn-params : (r : ℕ) → r ≡ readCount (many (item m Item.param) (lentFrom ks ws (n + 1))) → r ≡ paramsRead (function m (entries ks ws))
     fn-params r e = e ∙ ap readCount (params-are n (size-is n l)) ∙ sym (ap paramsRead (found .1 .1))
-
-  -- what the printing of its lines asks for
-  pub fn-known : (bs : List ℕ) → m ≡ length (lines bs) → (params : ℕ) → params ≡ paramsRead (function m (entries ks ws)) → (b : Book) (n : ℕ) → function m (entries ks ws) ≡ got (b .function) n
-      → Known bs (take (length ks - 1) (drop 1 ks)) (take (length ws - 1) (drop 1 ws)) (getD ws 0 0) params b
-  fn-known bs e params r b n g =
-      let p = function-parts m (entries ks ws) (b .function) n g in
-      record {
-        name = sym (word-is (b .function) (p .front));
-        type = rw (← e) (ap (λ (t : Read Ty). typeBytes (lines bs) t) (ap (typeTo m 64) behind-is ∙ p .typed));
-        count = sym (r ∙ ap paramsRead g);
-      }
 
 -- ---- a list of parameters, as the code counts it
 -- from what a list was found to be to its length

@@ -1,4 +1,7 @@
+pub mod Function
+pub mod Heads
+pub mod Segments
 pub mod Passes
 pub mod Names
-pub mod Function
 pub mod Book
+pub mod Any

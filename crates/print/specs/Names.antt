@@ -18,9 +18,9 @@ use Rattle.names_check.specs.declared.Names.the-variants as names
 use Rattle.book.specs.Ast.{Book}
 use Rattle.book.specs.Rule.{pick}
 use Rattle.book.specs.Input.{namesIn}
-use Rattle.assembly.specs.Printer.{Printing, refusing, needed}
+use Rattle.assembly.specs.Printer.{Printing, refusing, needed, printLines}
 use Rattle.print_types.specs.Starts.{Starts, sound, starts-noted}
-use Rattle.print.specs.Passes.{printing, definition, withNames, Named}
+use Rattle.print.specs.Passes.{printing, withNames, Named}
 use Rattle.print.specs.declared.passes.Printed.the-variants.{Refused}
 
 module _ (m : ℕ) (bs : List ℕ) (r : Names)
@@ -29,7 +29,7 @@ module _ (m : ℕ) (bs : List ℕ) (r : Names)
   unfolding withNames accepted namesIn needed refusing
   names-barred f b ks xs x = go (counts m (namesOf bs)) (bad-read _ _ _ (sym e ∙ f))
     where
-      go : (t : Bool) → t ≡ false → printing (Refused 2) x ≡ needed 2 x (pick t (namesOf bs) none) (λ ns. definition ns b ks xs x)
+      go : (t : Bool) → t ≡ false → printing (Refused 2) x ≡ needed 2 x (pick t (namesOf bs) none) (λ ns. printLines ns b ks xs x)
       go true e = absurd (false≢true (sym e))
       go false e = refl
 
@@ -54,6 +54,6 @@ module _ (m : ℕ) (bs : List ℕ) (r : Names)
         let some : 0 < length starts = omega arith in
         starts-noted (n (sorted .0)) (d .sound) (d .count) (omega (arith, length-set starts 0 0)) (getD-set-same starts 0 0 0 some)
 
-    pub names-printed : (b : Book) (ks xs x : List ℕ) (g : Printing) → g ≡ definition (lines bs) b ks xs x → g ≡ withNames m bs b ks xs x
+    pub names-printed : (b : Book) (ks xs x : List ℕ) (g : Printing) → g ≡ printLines (lines bs) b ks xs x → g ≡ withNames m bs b ks xs x
     unfolding withNames namesIn accepted needed
     names-printed b ks xs x g p = p ∙ sym (rw (sorted .0, named .1 ∙ ap some (sym (names-lines bs (named .0) (named .1)))))

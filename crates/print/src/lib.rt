@@ -1,7 +1,10 @@
 // The printer: lines of the stack machine, as kinds and operands, become text.
 pub mod booked;
-pub mod function;
+pub mod heads;
+pub mod params;
 pub mod passes;
+pub mod rooms;
+pub mod segments;
 
 use crate::booked::print_booked;
 use crate::passes::Printed;

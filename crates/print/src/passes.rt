@@ -1,24 +1,20 @@
 // The two passes over the lines: one tests them and counts the bytes, the other stores them if they fit.
+use crate::segments::headed;
+use crate::segments::weigh_segments;
+use crate::segments::write_segments;
 use print_lines::weigh::Weight;
-use print_lines::weigh::weigh_lines;
-use print_lines::write_lines;
-use print_types::starts::name_of;
 use print_words::word_letters;
 use print_words::word_places;
 ghost use mathlib.Core.Path.{_≡_};
-ghost use mathlib.Core.List.{List};
-ghost use Prim.Native.Nat.{ℕ, _<_};
+ghost use mathlib.Core.Bool.{_&&_};
+ghost use Prim.Native.Nat.{min};
 ghost use lib.ListN.{length};
 ghost use Rattle.names.specs.Name.{lines};
-ghost use Rattle.book.specs.Ast.{Book};
-ghost use Rattle.book.specs.Entry.{entries};
-ghost use Rattle.book.specs.Decode.{typeTo};
+ghost use Rattle.assembly.specs.Printer.{printLines};
 ghost use Rattle.print_types.specs.Starts.{Starts};
-ghost use Rattle.print_types.specs.Types.{typeBytes, Typed};
-ghost use Rattle.print_lines.specs.Lines.{printed};
-ghost use Rattle.print_forms.specs.All.{Callable, allowedAll};
-ghost use Rattle.print_lines.specs.All.{printedAll};
-ghost use Rattle.print.specs.Passes.{printing, passed, Named, Known, definition};
+ghost use Rattle.print.specs.Heads.{bookAt, isFn, firstOf, Indexed};
+ghost use Rattle.print.specs.Segments.{headedKinds, standFrom, printedFrom};
+ghost use Rattle.print.specs.Passes.{printing, passed, Named, oneOf};
 
 // The bytes put from index 0 on, or a refusal's number.
 pub enum Printed {
@@ -26,52 +22,53 @@ pub enum Printed {
     Refused(u64),
 }
 
-// Weighs the lines and writes them, or refuses with 21, then with 20. There are `count` names, the function's is `own`; those from
-// `from` up to `to` start with `__uvm_`.
+// Weighs the lines and writes them, or refuses with 21, then with 20. Those before the first comment line belong to the function named `first`.
 fn put_twice(
     names: &[u8],
     starts: &[u64],
     every: bool,
-    function: &[u8],
     kinds: &[u64],
     words: &[u64],
-    params: u64,
+    count: u64,
+    from: u64,
+    to: u64,
+    index: &[u16],
+    first: u64,
     line_kinds: &[u16],
     operands: &[u64],
     text: &mut [u8],
-    count: u64,
-    own: u64,
-    from: u64,
-    to: u64,
 ) -> Printed
     requires { ⌜ Starts every (now names) (now starts) ⌝ }
-    requires { ⌜ Typed (length (lines (now names))) 64 (now kinds) (now words) ⌝ }
-    requires { ⌜ Callable (lines (now names)) count from to ⌝ }
-    ensures { λ r. ⌜ printing r (now (text .exit)) ≡ passed (allowedAll count own from to (now («line_kinds» .entry)) (now (operands .entry)))
-        (printedAll (printed (lines (now (names .entry))) (now (function .entry)) (typeBytes (lines (now (names .entry))) (typeTo (length (lines (now (names .entry)))) 64 (entries (now (kinds .entry)) (now (words .entry))))) params) (now («line_kinds» .entry)) (now (operands .entry))) (now (text .entry)) ⌝ }
+    requires { ⌜ Named (now names) count from to ⌝ }
+    requires { ⌜ Indexed count (now kinds) (now words) (now index) ⌝ }
+    requires { ⌜ length (now «line_kinds») ≡ length (now operands) ⌝ }
+    ensures { λ r. ⌜ printing r (now (text .exit)) ≡ passed (headedKinds (now («line_kinds» .entry)) && standFrom (isFn count (now (kinds .entry)) (now (words .entry))) count from to first (now («line_kinds» .entry)) (now (operands .entry)))
+        (printedFrom (oneOf (now (names .entry)) count (now (kinds .entry)) (now (words .entry))) first (now («line_kinds» .entry)) (now (operands .entry))) (now (text .entry)) ⌝ }
 {
+    if !headed(line_kinds) {
+        return Printed::Refused(21);
+    }
     let letters = word_letters();
     let places = word_places();
-    let weighed = weigh_lines(
+    let weighed = weigh_segments(
         text,
         &places,
         names,
         starts,
         every,
-        function,
         kinds,
         words,
-        params,
-        line_kinds,
-        operands,
         count,
-        own,
         from,
         to,
+        index,
+        first,
+        line_kinds,
+        operands,
     );
     match weighed {
         Weight::Bytes(n) => {
-            write_lines(
+            write_segments(
                 text,
                 n,
                 &letters,
@@ -79,10 +76,13 @@ fn put_twice(
                 names,
                 starts,
                 every,
-                function,
                 kinds,
                 words,
-                params,
+                count,
+                from,
+                to,
+                index,
+                first,
                 line_kinds,
                 operands,
             );
@@ -93,43 +93,52 @@ fn put_twice(
     }
 }
 
-// Prints the lines of a function whose name, return type and number of parameters are known: refuses with 21, then with 20.
+// How many lines there are: as many as both slices hold.
+fn line_count(line_kinds: &[u16], operands: &[u64]) -> usize
+    ensures { λ r. ⌜ r ≡ min (length (now («line_kinds» .entry))) (length (now (operands .entry))) ⌝ }
+{
+    if operands.len() < line_kinds.len() {
+        return operands.len();
+    }
+    line_kinds.len()
+}
+
+// Prints lines of a book whose functions are noted, of which `first` is the first one's name: refuses with 21, then with 20.
 pub fn print_known(
     names: &[u8],
     starts: &[u64],
     every: bool,
-    function: u64,
+    kinds: &[u64],
+    words: &[u64],
     count: u64,
     from: u64,
     to: u64,
-    kinds: &[u64],
-    words: &[u64],
-    params: u64,
+    index: &[u16],
+    first: u64,
     line_kinds: &[u16],
     operands: &[u64],
     text: &mut [u8],
 ) -> Printed
     requires { ⌜ Starts every (now names) (now starts) ⌝ }
-    requires { ⌜ Typed (length (lines (now names))) 64 (now kinds) (now words) ⌝ }
     requires { ⌜ Named (now names) count from to ⌝ }
-    requires { ⌜ function < count ⌝ }
-    ensures { λ r. ⌜ ((b : Book) → Known (now (names .entry)) (now (kinds .entry)) (now (words .entry)) function params b
-        → printing r (now (text .exit)) ≡ definition (lines (now (names .entry))) b (now («line_kinds» .entry)) (now (operands .entry)) (now (text .entry))) ⌝ }
+    requires { ⌜ Indexed count (now kinds) (now words) (now index) ⌝ }
+    requires { ⌜ first ≡ firstOf count (now kinds) (now words) ⌝ }
+    ensures { λ r. ⌜ printing r (now (text .exit)) ≡ printLines (lines (now (names .entry))) (bookAt count (now (kinds .entry)) (now (words .entry))) (now («line_kinds» .entry)) (now (operands .entry)) (now (text .entry)) ⌝ }
 {
+    let n = line_count(line_kinds, operands);
     put_twice(
         names,
         starts,
         every,
-        name_of(names, starts, every, function),
         kinds,
         words,
-        params,
-        line_kinds,
-        operands,
-        text,
         count,
-        function,
         from,
         to,
+        index,
+        first,
+        &line_kinds[..n],
+        &operands[..n],
+        text,
     )
 }

@@ -19,9 +19,10 @@ use Rattle.names.specs.Prefix.{PrefixRange, pastWith}
 use Rattle.names.specs.Lines.{names-lines}
 use Rattle.names.specs.Ranges.{range-test, range-order}
 use Rattle.book.specs.Ast.{Book}
+use Rattle.book.specs.Decode.{member, functionNames}
 use Rattle.assembly.specs.Line.{Line}
 use Rattle.assembly.specs.Number.{bins, preds, operations, withOperand, bare, applied, kept, formOf as lineForm, isName, allowed, ifAllowed, lineOf}
-use Rattle.assembly.specs.Printer.{consed, linesOf}
+use Rattle.assembly.specs.Printer.{consed}
 use Rattle.book_types.specs.Tables.{From, in-range}
 use Rattle.print_forms.specs.Forms.{numberForm, nameForm, formOf, allowedBy}
 use Rattle.print_forms.specs.Kinds.{bare-form, unknown-form, known-form}
@@ -97,7 +98,7 @@ module _ (ns : List (List ℕ)) (b : Book) where
   -- ---- lines with one
   module _ (from to : ℕ) (range : (x : ℕ) → (leb from x && ltb x to) ≡ (isName ns b x && isSyscall (nameAt ns x))) where
     abbrev Agrees : ℕ → Type 0
-    Agrees k = (x : ℕ) → allowedBy (formOf k) x (length ns) (b .function .name) from to ≡ isSome (lineOf ns b k x)
+    Agrees k = (x own : ℕ) → allowedBy (formOf k) x (length ns) own from to ≡ isSome (lineOf ns b k x)
 
     call-kept : (x : ℕ) → ltb (x / 256) (length ns) ≡ isSome (lineOf ns b 5 x)
     unfolding lineOf lineForm ifAllowed applied withOperand allowed isName
@@ -105,36 +106,34 @@ module _ (ns : List (List ℕ)) (b : Book) where
         let z : x % 256 ≤ 255 = omega arith in
         rw (le-leb (x % 256) 255 z) (and-true (ltb (x / 256) (length ns)) (Line.call (x / 256) (x % 256)))
 
-    with-lines : From Agrees 0 21
+    -- kinds 1 to 20
+    with-lines : From Agrees 1 20
     unfolding lineOf lineForm ifAllowed applied withOperand allowed isName formOf numberForm nameForm kept
     with-lines = (
-      λ x. kept-is (eqb x (b .function .name)) (Line.comment x),
+      λ x own. kept-is (ltb x (length ns)) (Line.fnLabel x),
       (
-        λ x. kept-is (ltb x (length ns)) (Line.fnLabel x),
+        λ x own. kept-is (ltb x (length ns)) (Line.blockLabel x),
         (
-          λ x. kept-is (ltb x (length ns)) (Line.blockLabel x),
+          λ x own. kept-is (ltb x (length ns)) (Line.jmpBlock x),
           (
-            λ x. kept-is (ltb x (length ns)) (Line.jmpBlock x),
+            λ x own. kept-is (ltb x (length ns)) (Line.pushName x),
             (
-              λ x. kept-is (ltb x (length ns)) (Line.pushName x),
+              λ x own. call-kept x,
               (
-                λ x. call-kept x,
+                λ x own. range x ∙ kept-is (ltb x (length ns) && isSyscall (nameAt ns x)) (Line.syscall x),
                 (
-                  λ x. range x ∙ kept-is (ltb x (length ns) && isSyscall (nameAt ns x)) (Line.syscall x),
+                  λ x own. kept-is (leb 1 x && leb x 65535) (Line.push0n x),
                   (
-                    λ x. kept-is (leb 1 x && leb x 65535) (Line.push0n x),
+                    λ x own. refl,
                     (
-                      λ x. refl,
+                      λ x own. refl,
                       (
-                        λ x. refl,
+                        λ x own. kept-is (leb x 65535) (Line.getLocal x),
                         (
-                          λ x. kept-is (leb x 65535) (Line.getLocal x),
+                          λ x own. kept-is (leb x 65535) (Line.setLocal x),
                           (
-                            λ x. kept-is (leb x 65535) (Line.setLocal x),
-                            (
-                              λ x. kept-is (leb x 255) (Line.callFp x),
-                              (λ x. refl, (λ x. refl, (λ x. refl, (λ x. refl, (λ x. refl, (λ x. refl, (λ x. refl, (λ x. refl, tt)))))))),
-                            ),
+                            λ x own. kept-is (leb x 255) (Line.callFp x),
+                            (λ x own. refl, (λ x own. refl, (λ x own. refl, (λ x own. refl, (λ x own. refl, (λ x own. refl, (λ x own. refl, (λ x own. refl, tt)))))))),
                           ),
                         ),
                       ),
@@ -148,24 +147,23 @@ module _ (ns : List (List ℕ)) (b : Book) where
       ),
     )
 
-    -- the code allows what the definition allows
-    pub allowed-line : (k x : ℕ) → allowedBy (formOf k) x (length ns) (b .function .name) from to ≡ isSome (lineOf ns b k x)
-    allowed-line k x =
-        ⊎-elim (λ h. in-range Agrees 0 21 with-lines k (omega arith) (omega arith) x)
+    -- the code allows what the definition allows, whichever function a line but a comment belongs to
+    pub allowed-line : (own k x : ℕ) → 1 ≤ k → allowedBy (formOf k) x (length ns) own from to ≡ isSome (lineOf ns b k x)
+    allowed-line own k x l =
+        ⊎-elim (λ h. in-range Agrees 1 20 with-lines k (omega arith) (omega arith) x own)
         (λ h. ⊎-elim (λ g. rw (bare-form k h g) (bare-line k x h g)) (λ g. rw (unknown-form k g) (no-line k x g)) (lt-or-le k 94))
         (lt-or-le k 21)
 
-    consed-is : (o : Option Line) (os : Option (List Line)) → (isSome o && isSome os) ≡ isSome (consed o os)
-    unfolding consed
-    consed-is none os = refl
-    consed-is (some l) none = refl
-    consed-is (some l) (some ls) = refl
+  -- a comment names a function of the book
+  pub allowed-comment : (x : ℕ) → member x (functionNames b) ≡ isSome (lineOf ns b 0 x)
+  unfolding lineOf lineForm ifAllowed applied withOperand allowed
+  allowed-comment x = kept-is (member x (functionNames b)) (Line.comment x)
 
-    pub allowed-lines : (ks xs : List ℕ) → allowedAll (length ns) (b .function .name) from to ks xs ≡ isSome (linesOf ns b ks xs)
-    unfolding linesOf
-    allowed-lines [] xs = refl
-    allowed-lines (k ∷ ks) [] = refl
-    allowed-lines (k ∷ ks) (x ∷ xs) = rw (allowed-line k x, allowed-lines ks xs) (consed-is (lineOf ns b k x) (linesOf ns b ks xs))
+pub consed-is : (o : Option Line) (os : Option (List Line)) → (isSome o && isSome os) ≡ isSome (consed o os)
+unfolding consed
+consed-is none os = refl
+consed-is (some l) none = refl
+consed-is (some l) (some ls) = refl
 
 -- ---- what is allowed is ready to be put
 six : length (bytes "__uvm_") ≡ 6

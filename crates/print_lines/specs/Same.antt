@@ -1,6 +1,6 @@
 -- The text that the code puts for a line is the line's.
 use Prim.Native.Nat.{ℕ, _+_, _*_, _/_, _%_, _≤_}
-use mathlib.Core.Path.{_≡_, refl, sym, ap, _∙_}
+use mathlib.Core.Path.{_≡_, refl}
 use mathlib.Core.Bool.{true}
 use mathlib.Core.Option.{Option, none, some}
 use mathlib.Core.List.{List, [], _∷_, _++_, append-assoc}
@@ -14,14 +14,13 @@ use Rattle.names.specs.Name.{nameAt}
 use Rattle.book.specs.Ast.{BinOp, ICmpPred, Book, Function}
 use Rattle.assembly.specs.Line.{Line, Work, Mem, Narrow, Hint}
 use Rattle.assembly.specs.Number.{openNumber, kindOf, operandOf, isName, allowed, lineOf}
-use Rattle.assembly.specs.Text.{workText, memText, narrowText, binText, icmpText, hintText, jumpText, hinted, plain, sized, with1, labelled, clean, typeText, blockText, commentText, text, texts}
+use Rattle.assembly.specs.Text.{workText, memText, narrowText, binText, icmpText, hintText, jumpText, hinted, plain, sized, with1, labelled, clean, typeText, blockText, commentText, text}
 use Rattle.assembly.specs.Laws.{number-of-line}
-use Rattle.assembly.specs.Printer.{consed, linesOf}
+use Rattle.assembly.specs.Printer.{consed}
 use Rattle.print_forms.specs.Forms.{numberForm, nameForm, formOf}
 use Rattle.print_words.specs.Ends.{isLabel, ending, paramsText}
 use Rattle.print_words.specs.Words.{word, wordTable, ended}
 use Rattle.print_lines.specs.Lines.{partsText, comment, printed}
-use Rattle.print_lines.specs.All.{printedAll}
 
 -- opens the definitions of both texts
 unfoldable openTexts : Unit {0}
@@ -163,23 +162,13 @@ module _ (ns : List (List ℕ)) (f : Function) where
         let n = number-of-line ns b k x l e in
         rw (n .0 .kind, n .0 .operand) at (same l (n .1))
 
-    no-lines : {X : Type 0} (ls : List Line) → _≡_ {A = Option (List Line)} none (some ls) → X
-    no-lines ls h = absurd (let z : _≡_ {A = ℕ} 0 1 = cc in omega arith)
+no-lines : {X : Type 0} (ls : List Line) → _≡_ {A = Option (List Line)} none (some ls) → X
+no-lines ls h = absurd (let z : _≡_ {A = ℕ} 0 1 = cc in omega arith)
 
-    consed-some : (o : Option Line) (os : Option (List Line)) (ls : List Line) → consed o os ≡ some ls
-        → (l : Line) × ((ms : List Line) × ((o ≡ some l) × ((os ≡ some ms) × (ls ≡ l ∷ ms))))
-    unfolding consed
-    consed-some none os ls h = no-lines ls h
-    consed-some (some l) none ls h = no-lines ls h
-    consed-some (some l) (some ms) ls h = (l, (ms, (refl, (refl, cc))))
-
-    -- and so for all lines
-    pub lines-same : (ks xs : List ℕ) (ls : List Line) → linesOf ns b ks xs ≡ some ls → texts ns f ls ≡ printedAll putFor ks xs
-    unfolding linesOf texts
-    lines-same [] xs ls h = let e : [] ≡ ls = cc in rw (← e)
-    lines-same (k ∷ ks) [] ls h = let e : [] ≡ ls = cc in rw (← e)
-    lines-same (k ∷ ks) (x ∷ xs) ls h =
-        let w = consed-some (lineOf ns b k x) (linesOf ns b ks xs) ls h in
-        let one = line-same k x (w .0) (w .1 .1 .0) in
-        let rest = lines-same ks xs (w .1 .0) (w .1 .1 .1 .0) in
-        ap (texts ns f) (w .1 .1 .1 .1) ∙ sym (append-assoc (text ns f (w .0)) (10 ∷ []) (texts ns f (w .1 .0))) ∙ rw (one, rest)
+-- lines have a first one where both parts are there
+pub consed-some : (o : Option Line) (os : Option (List Line)) (ls : List Line) → consed o os ≡ some ls
+    → (l : Line) × ((ms : List Line) × ((o ≡ some l) × ((os ≡ some ms) × (ls ≡ l ∷ ms))))
+unfolding consed
+consed-some none os ls h = no-lines ls h
+consed-some (some l) none ls h = no-lines ls h
+consed-some (some l) (some ms) ls h = (l, (ms, (refl, (refl, cc))))

@@ -76,26 +76,26 @@ module _ (t : Bool) (size room : ℕ) where
   barred-is h = rw h
 
 -- ---- line after line
--- i lines that may stand have n bytes, which fit, and nothing was written
-pub record Weighing (m f a b : ℕ) (one : ℕ → ℕ → List ℕ) (ks xs x : List ℕ) (i : ℕ) (y : List ℕ) (n : ℕ) : Type 0 where
+-- s bytes and those of i lines that may stand are n, which fit, and nothing was written
+pub record Weighing (m f a b : ℕ) (one : ℕ → ℕ → List ℕ) (ks xs x : List ℕ) (s i : ℕ) (y : List ℕ) (n : ℕ) : Type 0 where
   pub stand : allowedAll m f a b ks xs ≡ allowedAll m f a b (drop i ks) (drop i xs)
-  pub size : n + length (printedAll one (drop i ks) (drop i xs)) ≡ length (printedAll one ks xs)
+  pub size : n + length (printedAll one (drop i ks) (drop i xs)) ≡ s + length (printedAll one ks xs)
   pub inside : n ≤ length x
   pub text : y ≡ x
 
-pub weighing-start : (m f a b : ℕ) (one : ℕ → ℕ → List ℕ) (ks xs x : List ℕ) → Weighing m f a b one ks xs x 0 x 0
-weighing-start m f a b one ks xs x = record { stand = refl; size = omega arith; inside = omega arith; text = refl }
+pub weighing-start : (m f a b : ℕ) (one : ℕ → ℕ → List ℕ) (ks xs x : List ℕ) (s : ℕ) → s ≤ length x → Weighing m f a b one ks xs x s 0 x s
+weighing-start m f a b one ks xs x s h = record { stand = refl; size = omega arith; inside = h; text = refl }
 
-module _ {m f a b : ℕ} {one : ℕ → ℕ → List ℕ} {ks xs x : List ℕ} {i : ℕ} {y : List ℕ} {n : ℕ} (s : Weighing m f a b one ks xs x i y n) where
-  weighing-end : allowedAll m f a b (drop i ks) (drop i xs) ≡ true → printedAll one (drop i ks) (drop i xs) ≡ [] → Weighed (allowedAll m f a b ks xs) (length (printedAll one ks xs)) x y (Bytes n)
+module _ {m f a b : ℕ} {one : ℕ → ℕ → List ℕ} {ks xs x : List ℕ} {start i : ℕ} {y : List ℕ} {n : ℕ} (s : Weighing m f a b one ks xs x start i y n) where
+  weighing-end : allowedAll m f a b (drop i ks) (drop i xs) ≡ true → printedAll one (drop i ks) (drop i xs) ≡ [] → Weighed (allowedAll m f a b ks xs) (start + length (printedAll one ks xs)) x y (Bytes n)
   weighing-end e g =
-      let same : n ≡ length (printedAll one ks xs) = omega (arith, s .size, ap length g) in
+      let same : n ≡ start + length (printedAll one ks xs) = omega (arith, s .size, ap length g) in
       record { is = rw same (bytes-are _ _ _ (s .stand ∙ e) (omega (arith, s .inside))); text = s .text }
 
-  pub weighing-kinds : length ks ≤ i → Weighed (allowedAll m f a b ks xs) (length (printedAll one ks xs)) x y (Bytes n)
+  pub weighing-kinds : length ks ≤ i → Weighed (allowedAll m f a b ks xs) (start + length (printedAll one ks xs)) x y (Bytes n)
   weighing-kinds h = weighing-end (checked-kinds m f a b ks xs i h) (no-kind one (drop i ks) (drop i xs) (omega (arith, length-drop i ks)))
 
-  pub weighing-operands : length xs ≤ i → Weighed (allowedAll m f a b ks xs) (length (printedAll one ks xs)) x y (Bytes n)
+  pub weighing-operands : length xs ≤ i → Weighed (allowedAll m f a b ks xs) (start + length (printedAll one ks xs)) x y (Bytes n)
   weighing-operands h = weighing-end (checked-operands m f a b ks xs i h) (no-operand one (drop i ks) (drop i xs) (omega (arith, length-drop i xs)))
 
   -- the next line
@@ -107,7 +107,7 @@ module _ {m f a b : ℕ} {one : ℕ → ℕ → List ℕ} {ks xs x : List ℕ} {
     same : z ≡ x
     same = w .text ∙ s .text
 
-    pub weighing-next : (k : ℕ) → r ≡ Bytes k → Weighing m f a b one ks xs x (i + 1) z k
+    pub weighing-next : (k : ℕ) → r ≡ Bytes k → Weighing m f a b one ks xs x start (i + 1) z k
     weighing-next k e =
         let t = is-bytes _ _ _ k (sym (w .is) ∙ e) in
         record {
@@ -117,12 +117,12 @@ module _ {m f a b : ℕ} {one : ℕ → ℕ → List ℕ} {ks xs x : List ℕ} {
           text = same;
         }
 
-    pub weighing-short : (q : Weight) → r ≡ Short → q ≡ cond (allowedAll m f a b (drop i ks) (drop i xs)) Short Barred → Weighed (allowedAll m f a b ks xs) (length (printedAll one ks xs)) x z q
+    pub weighing-short : (q : Weight) → r ≡ Short → q ≡ cond (allowedAll m f a b (drop i ks) (drop i xs)) Short Barred → Weighed (allowedAll m f a b ks xs) (start + length (printedAll one ks xs)) x z q
     weighing-short q e d =
         let t = is-short _ _ _ (sym (w .is) ∙ e) in
         record { is = d ∙ rw (s .stand) (short-is _ _ _ (omega (arith, t .1, s .size, more, ap length (s .text)))); text = same }
 
-    pub weighing-barred : r ≡ Barred → Weighed (allowedAll m f a b ks xs) (length (printedAll one ks xs)) x z Barred
+    pub weighing-barred : r ≡ Barred → Weighed (allowedAll m f a b ks xs) (start + length (printedAll one ks xs)) x z Barred
     weighing-barred e =
         let t = is-barred _ _ _ (sym (w .is) ∙ e) in
         record { is = barred-is _ _ _ (s .stand ∙ checked-false m f a b ks xs i h g t); text = same }

@@ -16,10 +16,8 @@ use print_words::put_end;
 use print_words::put_params;
 use print_words::put_syscall;
 use print_words::put_word;
-ghost use mathlib.Core.Path.{_≡_};
-ghost use mathlib.Core.List.{_++_};
 ghost use Prim.Native.Nat.{_+_, _<_, _≤_};
-ghost use lib.ListN.{length, drop};
+ghost use lib.ListN.{length};
 ghost use Rattle.names.specs.Name.{lines};
 ghost use Rattle.book.specs.Entry.{entries};
 ghost use Rattle.book.specs.Decode.{typeTo};
@@ -210,9 +208,10 @@ fn write_line(
     }
 }
 
-// Writes as many lines as both slices hold, of `end` bytes in all, which fit.
+// Writes as many lines as both slices hold from the index `start` on, where it is known that they fit: gives the index behind them.
 pub fn write_lines(
     text: &mut [u8],
+    start: usize,
     end: usize,
     letters: &[u8],
     places: &[u16],
@@ -225,20 +224,20 @@ pub fn write_lines(
     params: u64,
     line_kinds: &[u16],
     operands: &[u64],
-)
+) -> usize
     requires { ⌜ Tables (now letters) (now places) ⌝ }
     requires { ⌜ Starts every (now names) (now starts) ⌝ }
     requires { ⌜ Typed (length (lines (now names))) 64 (now kinds) (now words) ⌝ }
     requires { ⌜ AllReady (lines (now names)) (now «line_kinds») (now operands) ⌝ }
-    requires { ⌜ end ≡ length (printedAll (printed (lines (now names)) (now function) (typeBytes (lines (now names)) (typeTo (length (lines (now names))) 64 (entries (now kinds) (now words)))) params) (now «line_kinds») (now operands)) ⌝ }
+    requires { ⌜ start + length (printedAll (printed (lines (now names)) (now function) (typeBytes (lines (now names)) (typeTo (length (lines (now names))) 64 (entries (now kinds) (now words)))) params) (now «line_kinds») (now operands)) ≤ end ⌝ }
     requires { ⌜ end ≤ length (now text) ⌝ }
-    ensures { λ _. ⌜ now (text .exit) ≡ printedAll (printed (lines (now (names .entry))) (now (function .entry)) (typeBytes (lines (now (names .entry))) (typeTo (length (lines (now (names .entry)))) 64 (entries (now (kinds .entry)) (now (words .entry))))) params) (now («line_kinds» .entry)) (now (operands .entry)) ++ drop end (now (text .entry)) ⌝ }
+    ensures { λ r. ⌜ Wrote (printedAll (printed (lines (now (names .entry))) (now (function .entry)) (typeBytes (lines (now (names .entry))) (typeTo (length (lines (now (names .entry)))) 64 (entries (now (kinds .entry)) (now (words .entry))))) params) (now («line_kinds» .entry)) (now (operands .entry))) start end (now (text .entry)) (now (text .exit)) r ⌝ }
 {
-    let mut at: usize = 0;
+    let mut at = start;
     let mut i: usize = 0;
     while i < line_kinds.len() {
         if operands.len() <= i {
-            return;
+            return at;
         }
         at = write_line(
             text,
@@ -258,4 +257,5 @@ pub fn write_lines(
         );
         i += 1;
     }
+    at
 }

@@ -217,9 +217,10 @@ fn weigh_rest(
     }
 }
 
-// Weighs as many lines as both slices hold. Nothing is written.
+// Weighs as many lines as both slices hold behind `before` bytes. Nothing is written.
 pub fn weigh_lines(
     text: &mut [u8],
+    before: usize,
     places: &[u16],
     names: &[u8],
     starts: &[u64],
@@ -239,12 +240,13 @@ pub fn weigh_lines(
     requires { ⌜ Starts every (now names) (now starts) ⌝ }
     requires { ⌜ Typed (length (lines (now names))) 64 (now kinds) (now words) ⌝ }
     requires { ⌜ Callable (lines (now names)) count from to ⌝ }
+    requires { ⌜ before ≤ length (now text) ⌝ }
     ensures { λ r. ⌜ Weighed (allowedAll count own from to (now («line_kinds» .entry)) (now (operands .entry)))
-        (length (printedAll (printed (lines (now (names .entry))) (now (function .entry)) (typeBytes (lines (now (names .entry))) (typeTo (length (lines (now (names .entry)))) 64 (entries (now (kinds .entry)) (now (words .entry))))) params) (now («line_kinds» .entry)) (now (operands .entry))))
+        (before + length (printedAll (printed (lines (now (names .entry))) (now (function .entry)) (typeBytes (lines (now (names .entry))) (typeTo (length (lines (now (names .entry)))) 64 (entries (now (kinds .entry)) (now (words .entry))))) params) (now («line_kinds» .entry)) (now (operands .entry))))
         (now (text .entry)) (now (text .exit)) r ⌝ }
 {
     let label = clean_len(function);
-    let mut n: usize = 0;
+    let mut n = before;
     let mut i: usize = 0;
     while i < line_kinds.len() {
         if operands.len() <= i {

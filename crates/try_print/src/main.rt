@@ -344,6 +344,21 @@ fn every_length() {
     );
 }
 
+// Lines of the book above, into a text of 48 bytes.
+fn show_lines(line_kinds: &[u16], operands: &[u64]) {
+    let mut text = [b'!'; 48];
+    show(line_kinds, operands, &mut text);
+}
+
+// Before the first comment line a block label or a jump may not stand, but other lines may; the comment may stand twice, and names a function.
+fn heads() {
+    show_lines(&[2, 0], &[1, 2]);
+    show_lines(&[8, 3, 0], &[7, 1, 2]);
+    show_lines(&[8, 14, 0, 2], &[7, 7, 2, 1]);
+    show_lines(&[0, 0, 3], &[2, 2, 1]);
+    show_lines(&[0, 2, 0], &[2, 1, 1]);
+}
+
 fn main() {
     every_kind();
     names();
@@ -353,4 +368,5 @@ fn main() {
     orders();
     every_byte();
     every_length();
+    heads();
 }

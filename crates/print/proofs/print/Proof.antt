@@ -1,7 +1,7 @@
 -- `print::print` meets its contract: what is no book is refused with 1, and a book is printed.
 use borrow.Author.Tests.{not-true, not-false}
 use borrow.Author.Needs.{needs}
-use Rattle.print.specs.Book.{is-booked, no-book}
+use Rattle.print.specs.Any.{is-booked, no-book}
 use Rattle.print.proofs.print.Statement.{statement}
 use Rattle.print.proofs.print.Tie as tie
 use Rattle.print.proofs.booked.print_booked.Reads as print-booked-reads

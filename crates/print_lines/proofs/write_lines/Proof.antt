@@ -14,16 +14,16 @@ use Rattle.print_lines.proofs.write_lines.Tie as tie
 use Rattle.print_lines.proofs.write_line.Reads as write-line-reads
 
 abbrev Inv-loop : tie.InvT-loop
-Inv-loop text₀ end letters places names starts every function kinds words params line-kinds operands at₀ i₀ text at i =
-    Written (printed (lines names) function (typeBytes (lines names) (typeTo (length (lines names)) 64 (entries kinds words))) params) line-kinds operands text₀ end i text at
+Inv-loop text₀ start end letters places names starts every function kinds words params line-kinds operands at₀ i₀ text at i =
+    Written (printed (lines names) function (typeBytes (lines names) (typeTo (length (lines names)) 64 (entries kinds words))) params) line-kinds operands text₀ start end i text at
 
 abbrev μ-loop : tie.MeasureT-loop
-μ-loop text₀ end letters places names starts every function kinds words params line-kinds operands at₀ i₀ text at i =
+μ-loop text₀ start end letters places names starts every function kinds words params line-kinds operands at₀ i₀ text at i =
     length line-kinds - i
 
 loop-holds : tie.Need-loop-holds Inv-loop μ-loop
 loop-holds c =
-    written-start _ _ _ _ _ (c .before .before .before .before .before .before .before .before .before .before .pre .1 .1 .1 .1 .0)
+    written-start _ _ _ _ _ _ (c .before .before .before .before .before .before .before .before .before .before .pre .1 .1 .1 .1 .0)
 
 same-length : tie.Need-same-length Inv-loop μ-loop
 same-length c = search needs

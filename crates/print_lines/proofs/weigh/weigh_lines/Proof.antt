@@ -17,18 +17,20 @@ use Rattle.print_lines.proofs.weigh.weigh_line.Reads as weigh-line-read
 use Rattle.print_lines.proofs.weigh.weigh_rest.Reads as weigh-rest-reads
 
 abbrev Inv-loop : tie.InvT-loop
-Inv-loop text₀ places names starts every function kinds words params line-kinds operands count own from to label n₀ i₀ text n i =
-    Weighing count own from to (printed (lines names) function (typeBytes (lines names) (typeTo (length (lines names)) 64 (entries kinds words))) params) line-kinds operands text₀ i text n
+Inv-loop text₀ before places names starts every function kinds words params line-kinds operands count own from to label n₀ i₀ text n i =
+    Weighing count own from to (printed (lines names) function (typeBytes (lines names) (typeTo (length (lines names)) 64 (entries kinds words))) params) line-kinds operands text₀ before i text n
 
 abbrev μ-loop : tie.MeasureT-loop
-μ-loop text₀ places names starts every function kinds words params line-kinds operands count own from to label n₀ i₀ text n i =
+μ-loop text₀ before places names starts every function kinds words params line-kinds operands count own from to label n₀ i₀ text n i =
     length line-kinds - i
 
 clean-len-requires : tie.Need-clean-len-requires Inv-loop μ-loop
 clean-len-requires c κs = search needs
 
 loop-holds : tie.Need-loop-holds Inv-loop μ-loop
-loop-holds c = weighing-start _ _ _ _ _ _ _ (c .before .before .before .before .before .before .before .before .before .before .args .text .now)
+loop-holds c =
+    let entry = c .before .before .before .before .before .before .before .before .before .before in
+    weighing-start _ _ _ _ _ _ _ (entry .args .text .now) _ (entry .pre .1 .1 .1 .1)
 
 same-length : tie.Need-same-length Inv-loop μ-loop
 same-length c = search needs
@@ -54,7 +56,7 @@ weigh-line-requires c κs =
     let after-label = at-loop .before in
     let p = after-label .before .before .before .before .before .before .before .before .before .before .pre in
     let i = at-loop .loop .inv in
-    (p .0, (p .1 .0, (p .1 .1 .0, (p .1 .1 .1, (omega (arith, i .inside, ap length (i .text)), after-label .clean-len .ensures)))))
+    (p .0, (p .1 .0, (p .1 .1 .0, (p .1 .1 .1 .0, (omega (arith, i .inside, ap length (i .text)), after-label .clean-len .ensures)))))
 
 enum-known-next : tie.Need-enum-known-next Inv-loop μ-loop
 enum-known-next c = search needs
