@@ -22,6 +22,7 @@ mod names;
 #[cfg(proved)]
 mod neighbours;
 mod oracle;
+mod pieces;
 mod program;
 #[cfg(proved)]
 mod printing;
@@ -76,6 +77,8 @@ const USAGE: &str = "usage:
   compare names SEED COUNT COMMAND.. whether a program like `try_compare` does
   compare names cases SEED COUNT FOLDER
                                      what such a program reads and writes, as crates/try_compare has it
+  compare pieces SEED COUNT          whether a book of several functions has the lines, next counter and refusals of its functions
+                                     one by one: by the Rust, and by the proved translator where that is built in
   compare runs SEED COUNT            whether a function's run by the manual and the run of its lines on the machine agree, by
                                      two interpreters and by computation of the definitions, on random functions
   compare table SEED COUNT FILE      random books with the Rust's answers as a checked table of crates/lowering
@@ -147,6 +150,7 @@ fn run(args: &[&str]) -> Result<(), String> {
         ["names", seed, count, command @ ..] if !command.is_empty() => names::compare(number(seed)?, number(count)?, command),
         ["definitions", "names", seed, count] => names::definitions(number(seed)?, number(count)?),
         ["definitions", "utf8", seed, count] => utf8::definitions(number(seed)?, number(count)?),
+        ["pieces", seed, count] => pieces::compare(number(seed)?, number(count)?),
         ["runs", seed, count] => two_runs::compare(number(seed)?, number(count)?),
         ["written", folder] => written::write(folder),
         ["table", seed, count, file] => table::write(number(seed)?, number(count)?, file),

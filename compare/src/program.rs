@@ -38,7 +38,7 @@ pub fn compare(seed: u64, count: u64, command: &[&str]) -> Result<(), String> {
 
 /// A function without blocks, and as many names as a file holds with it: all of one byte, all of two, the rest of three.
 fn most_names() -> Slices {
-    let entries = [(kind::FUNCTION, 0), (kind::VOID, 0), (kind::END, 0), (kind::END, 0)];
+    let entries = [(kind::FUNCTION, 0), (kind::VOID, 0), (kind::END, 0), (kind::END, 0), (kind::END, 0)];
     let bytes: Vec<String> = (' '..='~').map(String::from).collect();
     let mut two: Vec<String> = bytes.iter().flat_map(|first| bytes.iter().map(move |second| format!("{first}{second}"))).collect();
     two.extend(('\u{80}'..='\u{7ff}').map(String::from));
