@@ -4,6 +4,7 @@ use crate::check::{check, Verdict};
 use crate::expect::{expected, Expected};
 use crate::pieces;
 use crate::random;
+use crate::segments;
 use crate::stats;
 use crate::two_runs;
 use crate::written::{self, notation};
@@ -41,6 +42,7 @@ pub fn test() -> Result<(), String> {
     say("counting labels", labels());
     say("read what was written", round_trips());
     say("pieces one by one", pieces::test(3, PIECES));
+    say("segments", segments::test(3, PIECES));
     for (name, result) in written::tests() {
         say(&format!("written: {name}"), result);
     }

@@ -199,19 +199,19 @@ mod proved {
     }
 
     pub fn compare(lent: &Lent) -> Result<(), String> {
-        let (lines, bytes) = match expected(lent)? {
-            Expected::Accepted(accepted) => (accepted.lines.len(), accepted.text().len()),
-            _ => (1 << 16, 0),
+        let (refusal, lines, bytes) = match expected(lent)? {
+            Expected::Accepted(accepted) => (Some(0), accepted.lines.len(), accepted.text().len()),
+            Expected::Refused(number) => (Some(number as u64), 0, 0),
+            Expected::Open(_) => (None, 0, 0),
         };
         let whole = call(&lent.slices, lent.counter, lent.work, lines);
         let ones = ones(&lent.slices);
-        let alone: Vec<Given> = ones.iter().map(|one| call(one, 0, lent.work, 1 << 16)).collect();
-        let three = alone.iter().any(|given| given.reply.refusal == 3);
-        let first = alone.iter().map(|given| given.reply.refusal).find(|refusal| *refusal != 0).unwrap_or(0);
-        let owed = if three { 3 } else { first };
-        if whole.reply.refusal != owed {
-            let refusals: Vec<u64> = alone.iter().map(|given| given.reply.refusal).collect();
-            return Err(format!("refused with {} as a whole, one by one {refusals:?}", whole.reply.refusal));
+        // Without room for lines an accepted one is a 20, and no other is.
+        let alone: Vec<u64> = ones.iter().map(|one| call(one, 0, lent.work, 0).reply.refusal % 20).collect();
+        let first = alone.iter().copied().find(|refusal| *refusal != 0).unwrap_or(0);
+        let owed = if alone.contains(&3) { 3 } else { first };
+        if whole.reply.refusal != owed || refusal.is_some_and(|refusal| refusal != owed) {
+            return Err(format!("refused with {} as a whole, one by one {alone:?}, owed is {refusal:?}", whole.reply.refusal));
         }
         if owed != 0 {
             return Ok(());

@@ -4,13 +4,14 @@ use crate::check::{check, Verdict};
 use crate::expect::{expected, Expected};
 use crate::features::{FEATURES, WHOLE};
 use crate::oracle;
-use crate::random;
+use crate::random::{self, MOST_FUNCTIONS};
 use crate::refusal;
 use crate::runs;
 use crate::written::faulty;
 use std::time::Instant;
 
 const COPIES: u64 = 4;
+const PIECE_COPIES: u64 = 2;
 
 /// How often each answer came.
 #[derive(Default)]
@@ -111,9 +112,9 @@ pub fn faulty(seed: u64, count: u64) -> Result<(), String> {
     Ok(())
 }
 
-/// Damaged copies of random books.
+/// Damaged copies of random books, and of books of several functions.
 pub fn damaged(seed: u64, count: u64) -> Result<(), String> {
-    let mut tally = Tally::default();
+    let (mut tally, mut pieces) = (Tally::default(), Tally::default());
     for index in 0..count {
         let lent = runs::book(seed, index, false);
         for number in 0..COPIES {
@@ -122,8 +123,17 @@ pub fn damaged(seed: u64, count: u64) -> Result<(), String> {
             tally.add(&expected(&copy).map_err(place)?);
             written_again(&copy).map_err(place)?;
         }
+        let piece = runs::piece(seed, index, MOST_FUNCTIONS);
+        for number in 0..PIECE_COPIES {
+            let copy = runs::piece_copy(&piece, seed, index, number);
+            let place = |error| format!("seed {seed}, piece {index}, copy {number}: {error}");
+            pieces.add(&expected(&copy).map_err(place)?);
+            written_again(&copy).map_err(place)?;
+        }
     }
     tally.print();
+    println!("copies of books of several functions:");
+    pieces.print();
     Ok(())
 }
 

@@ -60,9 +60,13 @@ impl Calls<'_> {
         desk.judge(found, &owed).map_err(|found| at(found, self.lent.counter, lengths))
     }
 
-    /// Some lengths of line slices, often short ones.
+    /// Some lengths of line slices, often short ones: they may end inside the first of several functions, whose lines are then counted all the same.
     fn lengths(&mut self, work: usize) -> Lengths {
-        let mut length = || if self.rng.chance(300) { 0 } else { self.rng.below(64) };
+        let mut length = || match self.rng.below(20) {
+            0..=5 => 0,
+            6..=8 => 3000 + self.rng.below(64),
+            _ => self.rng.below(64),
+        };
         Lengths { work, kinds: length(), operands: length() }
     }
 
@@ -116,6 +120,13 @@ impl Calls<'_> {
         let short = [(less, count), (count, less), (less, less), (0, 0), (0, count), (any, count + 1), (count + 1, any)];
         let (kinds, operands) = *self.rng.pick(&short);
         self.refused(20, self.lent.counter, Lengths { work, kinds, operands })?;
+        if let [_, second, ..] = lines.functions()[..] {
+            // Slices that the first function fills, or ends in.
+            let early = self.rng.below(second);
+            let inside = *self.rng.pick(&[second, second - 1, second + 1, early]);
+            let operands = if self.rng.chance(500) { inside } else { count };
+            self.refused(20, self.lent.counter, Lengths { work, kinds: inside.min(less), operands })?;
+        }
         self.spoiled(None)
     }
 

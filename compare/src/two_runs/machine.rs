@@ -38,6 +38,10 @@ impl Code {
         Ok(code)
     }
 
+    pub fn length(&self) -> usize {
+        self.lines.len()
+    }
+
     /// The naming conditions have no label twice.
     pub fn label_twice(&self) -> Option<&str> {
         self.twice.as_deref()
