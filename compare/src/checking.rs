@@ -1,5 +1,5 @@
-//! Compares the proved check of a book, and the printer's, with `check.rs`: books at the large limits, random books, books of several functions, damaged
-//! copies of each, all books one change away from some, lists of long names, and names of every first and second byte.
+//! Compares the proved check of a book, and the printer's, with `check.rs`: books at the large limits, random books, books of several
+//! functions, damaged copies of each, all books one change away from some, lists of long names, and names of every first and second byte.
 use crate::book::Lent;
 use crate::check::{check, Verdict, HIGHEST_COUNTER};
 use crate::large;

@@ -1,7 +1,9 @@
-//! A book of several functions against its functions one by one: "Lines and counter equal those of translating them one by one." First the published
-//! Rust alone, our own reading beside it; then, where the proved translator is built in, a call for the whole book against a call for each function.
+//! A book of several functions against its functions one by one: "Lines and counter equal those of translating them one by
+//! one." First the published Rust alone, our own reading beside it; then, where the proved translator is built in, a call for the
+//! whole book against a call for each function.
 //!
-//! One by one, a function stands in a book of its own with the same names, marks and structs; the others, where they have no mark, are marked as defined.
+//! One by one, a function stands in a book of its own with the same names, marks and structs; the others, where they have no
+//! mark, are marked as defined.
 use crate::book::{Book, Lent, Slices};
 use crate::check::{check, Verdict};
 use crate::expect::{expected_of, Expected};
@@ -28,7 +30,8 @@ struct Counts {
 
 impl Counts {
     fn print(&self) {
-        println!("{} books, {} functions, {} lines of accepted ones, {} functions begun above 2^32", self.books, self.functions, self.lines, self.above);
+        let Counts { books, functions, lines, above, .. } = self;
+        println!("{books} books, {functions} functions, {lines} lines of accepted ones, {above} functions begun above 2^32");
         let refused = self.refused.iter().enumerate().filter(|(_, count)| **count > 0);
         let refused: Vec<String> = refused.map(|(number, count)| format!("{number}: {count}")).collect();
         println!("refused, by number: {}; with another refusal behind: {}; open: {}", refused.join(", "), self.others, self.open);

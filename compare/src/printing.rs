@@ -94,7 +94,8 @@ fn row(seed: u64, count: u64, many: u64, outside: usize, functions: usize) -> Re
     let short = proved::print(&book, names.as_bytes(), &lines.kinds, &lines.operands, &mut text[..room]);
     let share = outside / 10;
     let functions = lines.functions.len();
-    println!("{count} lines, {functions} functions, {many} names, {share} % of their characters outside ASCII, {} bytes: {printed:?} proved, {written:?} by std's formatting", owed.len());
+    print!("{count} lines, {functions} functions, {many} names, {share} % of their characters outside ASCII, {} bytes: ", owed.len());
+    println!("{printed:?} proved, {written:?} by std's formatting");
     if answer != (0, owed.len() as u64) || &text[..owed.len()] != owed.as_bytes() || text[owed.len()] != b'!' {
         return Err(format!("the texts differ: the proved printer answers {answer:?}"));
     }

@@ -10,8 +10,8 @@ use std::process::{Command, Stdio};
 /// A longer file is a 1 for such a program.
 const MOST_BYTES: usize = 65_536;
 
-/// The file with the most names, then random books and books of several functions, one damaged copy of each, and faulty statements, as many of each. The first
-/// difference is an error.
+/// The file with the most names, then random books and books of several functions, one damaged copy of each, and faulty statements,
+/// as many of each. The first difference is an error.
 pub fn compare(seed: u64, count: u64, command: &[&str]) -> Result<(), String> {
     let mut compared = 0;
     let mut add = |what: String, slices: &Slices| {
@@ -32,8 +32,8 @@ pub fn compare(seed: u64, count: u64, command: &[&str]) -> Result<(), String> {
         let statement = faulty::lent(seed, index);
         let piece = runs::piece(seed, index, MOST_FUNCTIONS);
         let cut = runs::piece_copy(&piece, seed, index, 0);
-        let books = [("book", &lent), ("damaged copy of book", &copy), ("faulty book", &statement), ("piece", &piece), ("damaged copy of piece", &cut)];
-        for (what, lent) in books {
+        let single = [("book", &lent), ("damaged copy of book", &copy), ("faulty book", &statement)];
+        for (what, lent) in single.into_iter().chain([("piece", &piece), ("damaged copy of piece", &cut)]) {
             add(format!("seed {seed}, {what} {index}"), &lent.slices)?;
         }
     }

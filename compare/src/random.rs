@@ -1,7 +1,8 @@
 //! Random books. A seed and an index always give the same one.
 //!
-//! A book has one function or several that call each other. Most functions are well typed. Some are loose: operands of any type, names used twice, phis in odd places, which the
-//! Rust accepts or not. Some are spoiled on purpose (spoil.rs), so that every refusal comes often.
+//! A book has one function or several that call each other. Most functions are well typed. Some are loose: operands of any type,
+//! names used twice, phis in odd places, which the Rust accepts or not. Some are spoiled on purpose (spoil.rs), so that every
+//! refusal comes often.
 use crate::book::*;
 use crate::hash::Set;
 use crate::oracle::is_reserved;

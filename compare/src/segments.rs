@@ -1,5 +1,6 @@
-//! Lines of books put together otherwise: functions' lines in another order, twice or not at all; comments lost, repeated or of other names; block labels and
-//! jumps before any comment; lines that are none. Two readings of which lines the printer takes (21), two printers of ours, and the proved one.
+//! Lines of books put together otherwise: functions' lines in another order, twice or not at all; comments lost, repeated or of
+//! other names; block labels and jumps before any comment; lines that are none. Two readings of which lines the printer takes
+//! (21), two printers of ours, and the proved one.
 use crate::book::{Book, Lent};
 use crate::expect::{expected_of, Expected};
 use crate::lines::{self, Lines, Printer};
@@ -100,9 +101,9 @@ enum Fault {
     Other,
 }
 
-/// Document 01: "Allowed are names of the book (for a syscall with `__uvm_`, for a comment a function here), slots to 65,535, `push_0n` 1 to 65,535, `call_fp` to
-/// 255, any number for `push`, `get_arg` and numbered labels, else 0." Document 02: "A block label or jump takes the function of the last comment line before it,
-/// else 21." The first fault.
+/// Document 01: "Allowed are names of the book (for a syscall with `__uvm_`, for a comment a function here), slots to 65,535,
+/// `push_0n` 1 to 65,535, `call_fp` to 255, any number for `push`, `get_arg` and numbered labels, else 0." Document 02: "A block
+/// label or jump takes the function of the last comment line before it, else 21." The first fault.
 fn fault(book: &Book, lines: &Lines) -> Option<Fault> {
     let mut commented = false;
     let name = |number: u64| usize::try_from(number).ok().and_then(|number| book.names.get(number));

@@ -123,8 +123,8 @@ fn call(lent: Lent, rng: &mut Rng) -> Result<Option<Call>, String> {
 }
 
 /// The sheets, refusals and limits of `cases.rs`, but for books of more than 66,000 entries or 1,000 bytes of names: each with line
-/// slices that are exactly full, one of them a line short, and such as end with or in the first of several functions; the first at the largest counter, at one more, and with a work slice that is a
-/// word short.
+/// slices that are exactly full, one of them a line short, and such as end with or in the first of several functions; the first at the
+/// largest counter, at one more, and with a work slice that is a word short.
 fn fixed() -> Result<Vec<Call>, String> {
     let mut calls = vec![];
     for (what, slices) in cases::books() {

@@ -180,7 +180,8 @@ fn smaller_function() -> Result<(), String> {
             let whole = Whole { seed: 5, index, place: 0, counter: 0 };
             let smallest = shrink(whole, &mut differ).ok_or("nothing")?;
             let (many, few) = (program.book.instructions().count(), smallest.book.instructions().count());
-            return if loads(&smallest) && few < many && smallest.book.functions.len() == 1 { Ok(()) } else { Err(format!("{many} instructions became {few}")) };
+            let small = few < many && smallest.book.functions.len() == 1;
+            return if loads(&smallest) && small { Ok(()) } else { Err(format!("{many} instructions became {few}")) };
         }
     }
     Err("no function loads".to_string())

@@ -1,6 +1,6 @@
 //! The two runs by the definitions: an equation for each run, computed in a scratch repository. What both definitions show
-//! at each block must be what the Rust runs showed: on the lines of the whole book, and on the function's own. How the definitions are asked stands in one place
-//! of show.txt.
+//! at each block must be what the Rust runs showed: on the lines of the whole book, and on the function's own. How the
+//! definitions are asked stands in one place of show.txt.
 use super::agree::{cells, Held, Seen};
 use super::program::Program;
 use super::source::Stop;

@@ -1,5 +1,5 @@
-//! Random functions that run, one to a book or some that call each other: well typed, every operand set before it is read, loops that end or not. A small share of
-//! operands and instructions is wrong on purpose, so that runs stop too.
+//! Random functions that run, one to a book or some that call each other: well typed, every operand set before it is read, loops
+//! that end or not. A small share of operands and instructions is wrong on purpose, so that runs stop too.
 use super::world::Shape;
 use crate::book::*;
 use crate::rng::Rng;
