@@ -39,19 +39,21 @@ struct Subject {
     text: usize,
 }
 
-/// How many entries a book has, how many books, and how often its blocks are copied.
+/// How many entries a book has, how many books, how often its blocks are copied, and whether it may have several functions.
 struct Class {
     name: &'static str,
     entries: std::ops::Range<u64>,
     books: usize,
     copies: usize,
+    several: bool,
 }
 
-const CLASSES: [Class; 4] = [
-    Class { name: "small", entries: 10..80, books: 400, copies: 1 },
-    Class { name: "middle", entries: 150..500, books: 200, copies: 1 },
-    Class { name: "large", entries: 150..500, books: 12, copies: 60 },
-    Class { name: "any", entries: 0..u64::MAX, books: 1000, copies: 1 },
+const CLASSES: [Class; 5] = [
+    Class { name: "small", entries: 10..80, books: 400, copies: 1, several: false },
+    Class { name: "middle", entries: 150..500, books: 200, copies: 1, several: false },
+    Class { name: "large", entries: 150..500, books: 12, copies: 60, several: false },
+    Class { name: "any", entries: 0..u64::MAX, books: 1000, copies: 1, several: false },
+    Class { name: "pieces", entries: 0..u64::MAX, books: 400, copies: 1, several: true },
 ];
 
 /// How the books of a class are met.
@@ -82,11 +84,11 @@ pub fn bench(seed: u64) -> Result<(), String> {
     hostile::table()
 }
 
-/// The time that the Rust's `gen_function` takes for a sound book, in nanoseconds: the best of three calls, of one if it is long.
+/// The time that the Rust's `gen_function` takes for the functions of a sound book, in nanoseconds: the best of three calls, of one if it is long.
 pub fn rust_time(lent: &Lent) -> Result<u128, String> {
     let Verdict::Sound(book) = check(lent) else { return Err("the book is not sound".to_string()) };
     let module = oracle::module(&book);
-    let call = || black_box(access::gen_function(&module, &book.function, 0)).is_ok();
+    let call = || black_box(access::gen_functions(&module, &book.functions, 0)).is_ok();
     let (_, first) = best(1, call);
     let least = if first < Duration::from_secs(1) { best(2, call).1.min(first) } else { first };
     Ok(least.as_nanos())
@@ -97,9 +99,10 @@ fn subjects(class: &Class, seed: u64, books: usize) -> Result<Vec<Subject>, Stri
     let mut found = vec![];
     let mut index = 0;
     while found.len() < books {
-        let mut lent = runs::plain(seed, index);
+        let mut lent = if class.several { runs::plain_piece(seed, index) } else { runs::plain(seed, index) };
         index += 1;
-        if !class.entries.contains(&lent.slices.book[0]) {
+        let functions = lent.slices.functions().len();
+        if !class.entries.contains(&lent.slices.book[0]) || functions > 1 && !class.several {
             continue;
         }
         lent.counter = 0;

@@ -1,4 +1,6 @@
-//! The book: one function with its marks and named structs, over the published ast.rs, and how it is written as entries.
+//! The book: functions with their marks and named structs, over the published ast.rs, and how it is written as entries.
+use crate::hash::{Map, Set};
+use std::ops::Range;
 pub use uvclang::ast::{
     BasicBlock, BinOp, ConvOp, FuncType, Function, ICmpPred, Inst, InstKind, Linkage, Param, StructBody, Terminator, Type,
     TypedVal, Value,
@@ -87,7 +89,8 @@ pub struct Book {
     pub marks: Vec<(Mark, String)>,
     /// No body: opaque.
     pub structs: Vec<(String, Option<StructBody>)>,
-    pub function: Function,
+    /// One or more, each name once.
+    pub functions: Vec<Function>,
 }
 
 impl Book {
@@ -95,9 +98,20 @@ impl Book {
         self.marks.iter().any(|(mark, marked)| *mark == Mark::Reserved && marked == name)
     }
 
+    /// Those of all functions.
     pub fn instructions(&self) -> impl Iterator<Item = &Inst> {
-        self.function.blocks.iter().flat_map(|block| &block.insts)
+        self.functions.iter().flat_map(instructions)
     }
+
+    /// Each name's number.
+    pub fn numbers(&self) -> Map<&str, u64> {
+        self.names.iter().enumerate().map(|(number, name)| (name.as_str(), number as u64)).collect()
+    }
+}
+
+/// A function's instructions, block by block.
+pub fn instructions(function: &Function) -> impl Iterator<Item = &Inst> {
+    function.blocks.iter().flat_map(|block| &block.insts)
 }
 
 /// A value of kind 37. ast.rs has several; one stands for all.
@@ -130,6 +144,38 @@ impl Slices {
         &self.book[2..2 + self.book[0] as usize]
     }
 
+    /// The entries of a sound book, kind beside word.
+    pub fn entries(&self) -> Vec<(u64, u64)> {
+        let words = &self.book[2 + self.book[0] as usize..];
+        self.kinds().iter().copied().zip(words.iter().copied()).collect()
+    }
+
+    /// Where the entries of each function stand in a sound book: kind 5 begins a function and stands nowhere else.
+    pub fn functions(&self) -> Vec<Range<usize>> {
+        function_places(self.kinds())
+    }
+
+    /// A sound book with one of its functions alone. The others count as defined still: those without a mark get one.
+    pub fn alone(&self, place: usize) -> Slices {
+        let (entries, functions) = (self.entries(), self.functions());
+        let head = &entries[..functions[0].start];
+        let marks = head.iter().take_while(|entry| entry.0 < kind::NAMED_STRUCT).count();
+        let (marks, structs) = head.split_at(marks);
+        let marked: Set<u64> = marks.iter().map(|entry| entry.1).collect();
+        let others = functions.iter().enumerate().filter(|(other, _)| *other != place).map(|(_, range)| entries[range.start].1);
+        let defined: Vec<(u64, u64)> = others.filter(|name| !marked.contains(name)).map(|name| (kind::DEFINED, name)).collect();
+        let own = &entries[functions[place].clone()];
+        self.with_entries(&[marks, &defined, structs, own, &[(kind::END, 0)]].concat())
+    }
+
+    /// The same names with other entries.
+    pub fn with_entries(&self, entries: &[(u64, u64)]) -> Slices {
+        let mut book = vec![entries.len() as u64, self.book.get(1).copied().unwrap_or(0)];
+        book.extend(entries.iter().map(|entry| entry.0));
+        book.extend(entries.iter().map(|entry| entry.1));
+        Slices { book, names: self.names.clone() }
+    }
+
     /// The bytes of a book file: the u64s little-endian, then the names.
     pub fn to_file(&self) -> Vec<u8> {
         let mut bytes: Vec<u8> = self.book.iter().flat_map(|word| word.to_le_bytes()).collect();
@@ -144,6 +190,13 @@ impl Slices {
         let book = bytes.get(..length)?.chunks_exact(8).map(|word| u64::from_le_bytes(word.try_into().unwrap())).collect();
         Some(Slices { book, names: bytes[length..].to_vec() })
     }
+}
+
+/// Each function from its kind 5 to the next one, the last to before the entry that closes the list.
+pub fn function_places(kinds: &[u64]) -> Vec<Range<usize>> {
+    let mut starts: Vec<usize> = (0..kinds.len()).filter(|place| kinds[*place] == kind::FUNCTION).collect();
+    starts.push(kinds.len().saturating_sub(1));
+    starts.windows(2).map(|two| two[0]..two[1]).collect()
 }
 
 /// Everything that the translator's reply depends on, but for the length of the line slices.
@@ -172,7 +225,8 @@ pub fn encode(book: &Book) -> Slices {
             Some(body) => writer.body(body),
         }
     }
-    writer.function(&book.function);
+    book.functions.iter().for_each(|function| writer.function(function));
+    writer.end();
 
     let mut words = vec![writer.kinds.len() as u64, book.names.len() as u64];
     words.append(&mut writer.kinds);

@@ -2,12 +2,15 @@
 use crate::book::*;
 use crate::check::{check, Verdict};
 use crate::expect::{expected, Expected};
+use crate::pieces;
 use crate::random;
+use crate::segments;
 use crate::stats;
 use crate::two_runs;
-use crate::written;
+use crate::written::{self, notation};
 
 const RANDOM_BOOKS: u64 = 20_000;
+const PIECES: u64 = 4_000;
 
 pub fn test() -> Result<(), String> {
     let mut failures = 0;
@@ -33,10 +36,13 @@ pub fn test() -> Result<(), String> {
     }
     say("counter 2^32", answers(&add1(), 1 << 32, None));
     say("counter 2^32 + 1", answers(&add1(), (1 << 32) + 1, Some(1)));
+    say("counters of two functions", counters());
     say("work slice", work_slice());
     say("structs that double", doubling());
     say("counting labels", labels());
     say("read what was written", round_trips());
+    say("pieces one by one", pieces::test(3, PIECES));
+    say("segments", segments::test(3, PIECES));
     for (name, result) in written::tests() {
         say(&format!("written: {name}"), result);
     }
@@ -88,6 +94,7 @@ type Entries = Vec<(u64, u64)>;
 
 const ADD1: &[(u64, u64)] = &[
     (5, 1), (11, 32), (6, 1), (11, 32), (0, 0), (7, 2), (40, 4), (11, 32), (30, 0), (32, 1), (90, 0), (11, 32), (30, 3), (0, 0),
+    (0, 0),
 ];
 
 fn add1() -> Slices {
@@ -110,8 +117,18 @@ fn with_insts(insts: &[(u64, u64)]) -> Slices {
 fn with_block(entries: &[(u64, u64)]) -> Slices {
     let mut all: Entries = vec![(3, 2), (4, 0), (5, 1), (10, 0), (6, PARAM + 1), (12, 0), (0, 0), (7, BLOCK)];
     all.extend_from_slice(entries);
-    all.push((0, 0));
+    all.extend([(0, 0), (0, 0)]);
     Slices::new(&all, NAMES)
+}
+
+/// `void @f(ptr %p)` as above, then `void @x()` with one block of these instructions, ending with `ret void`.
+fn with_two(insts: &[(u64, u64)], more: &[(u64, u64)]) -> Slices {
+    let mut entries = with_insts(insts).entries();
+    entries.pop();
+    entries.extend([(5, 6), (10, 0), (0, 0), (7, BLOCK)]);
+    entries.extend(more);
+    entries.extend([(90, 0), (21, 0), (0, 0), (0, 0)]);
+    Slices::new(&entries, NAMES)
 }
 
 struct Sheet {
@@ -141,7 +158,7 @@ fn conversion(kind: u64, from: u64, to: u64) -> Slices {
 fn outside() -> Slices {
     let call = |name: u64| [(76, 0), (10, 0), (31, name), (0, 0)];
     let head = [(1, 1), (5, 2), (13, 2), (15, 4), (0, 0), (7, 3)];
-    let rest = [(72, 0), (12, 0), (31, 4), (33, 0), (21, 0), (91, 0), (21, 0), (23, 3), (21, 0), (0, 0)];
+    let rest = [(72, 0), (12, 0), (31, 4), (33, 0), (21, 0), (91, 0), (21, 0), (23, 3), (21, 0), (0, 0), (0, 0)];
     Slices::new(&[&head[..], &call(1), &call(0), &rest].concat(), &["__uvm_říct", "zpěv", "árie", "č", "Ž€😀"])
 }
 
@@ -176,6 +193,7 @@ fn sheets() -> Vec<Sheet> {
         (5, 1), (10, 0), (0, 0), (7, 0), (91, 0), (21, 0), (23, 2), (21, 0),
         (7, 2), (75, 4), (11, 32), (32, 1), (23, 0), (30, 4), (23, 2), (0, 0),
         (75, 5), (11, 32), (32, 2), (23, 0), (30, 3), (23, 2), (0, 0), (91, 0), (21, 0), (23, 2), (21, 0), (0, 0),
+        (0, 0),
     ];
     sheet("phis that trade", Slices::new(&phis, &["e", "f", "l", "x", "y"]), vec![
         "# void @f(0 params)", "f:", "push_0n 2;", "f__e:", "push 1;", "push 2;", "set_local 1;", "set_local 0;", "jmp f__l;",
@@ -194,7 +212,20 @@ fn sheets() -> Vec<Sheet> {
     sheet("a switch without cases never reads its value",
         with_block(&[(92, 0), (11, 8), (30, Q), (23, BLOCK), (0, 0)]),
         vec!["# void @f(1 params)", "f:", "f__e:", "jmp f__e;", ""]);
-    sheet("no block", Slices::new(&[(5, 0), (15, 1), (0, 0), (0, 0)], &["a.b", "c d"]), vec!["# %c d @a.b(0 params)", "a_b:", ""]);
+    sheet("no block", Slices::new(&[(5, 0), (15, 1), (0, 0), (0, 0), (0, 0)], &["a.b", "c d"]), vec!["# %c d @a.b(0 params)", "a_b:", ""]);
+    let two = "func:f i8 param:p i8 . block:e q=select %p i8 1 2 r=call i8 @g i8 %q . ret i8 %r . \
+        func:g i8 param:p i8 param:q i8 . block:e x=alloca i8 - - br - :e - . .";
+    sheet("two functions", notation::read(two).expect("words of the notation"), vec![
+        "# i8 @f(1 params)", "f:", "push_0n 2;", "f__e:", "get_arg 0;", "jz __sel_false_0;", "push 1;", "jmp __sel_done_1;", "__sel_false_0:",
+        "push 2;", "__sel_done_1:", "set_local 0;", "get_local 0;", "call g, 1;", "set_local 1;", "get_local 1;", "ret;", "",
+        "# i8 @g(2 params)", "g:", "push_0n 2;", "thread_get 0;", "dup;", "set_local 1;", "push 8;", "add_u64;", "thread_set 0;", "g__e:",
+        "get_local 1;", "set_local 0;", "jmp g__e;", "",
+    ]);
+    let labels = "func:f void . block:e br 1 :e :e . func:g void . block:e br 1 :e :e . .";
+    sheet("labels are counted on", notation::read(labels).expect("words of the notation"), vec![
+        "# void @f(0 params)", "f:", "f__e:", "push 1;", "jz __br_false_0;", "jmp f__e;", "__br_false_0:", "jmp f__e;", "",
+        "# void @g(0 params)", "g:", "g__e:", "push 1;", "jz __br_false_1;", "jmp g__e;", "__br_false_1:", "jmp g__e;", "",
+    ]);
     sheet("letters outside ASCII", outside(), vec![
         "# [2 x %Ž€😀] @árie(0 params)", "_rie:", "_rie___:", "call zp_v, 0;", "pop;", "syscall říct;", "push 0;", "push ___;", "store_u64;",
         "jmp _rie___;", "",
@@ -211,9 +242,9 @@ fn refused() -> Vec<(&'static str, u8, Slices)> {
     many_args.push((0, 0));
     let call = |callee| with_insts(&[(76, Q + 1), i32_, callee, (0, 0)]);
     let named_call = |name: &str| {
-        Slices::new(&[(5, 1), (10, 0), (0, 0), (7, 0), (76, 0), (10, 0), (31, 2), (0, 0), (93, 0), (0, 0)], &["e", "f", name])
+        Slices::new(&[(5, 1), (10, 0), (0, 0), (7, 0), (76, 0), (10, 0), (31, 2), (0, 0), (93, 0), (0, 0), (0, 0)], &["e", "f", name])
     };
-    let marked = [(2, 2), (5, 1), (10, 0), (0, 0), (7, 0), (76, 0), (10, 0), (31, 2), (0, 0), (93, 0), (0, 0)];
+    let marked = [(2, 2), (5, 1), (10, 0), (0, 0), (7, 0), (76, 0), (10, 0), (31, 2), (0, 0), (93, 0), (0, 0), (0, 0)];
     let cmpxchg = [(80, Q + 1), (12, 0), (30, PARAM), (32, 0), one];
     vec![
         ("kind 37", 3, with_insts(&[(40, Q + 1), i32_, (37, 0), one])),
@@ -273,8 +304,12 @@ fn broken() -> Vec<(&'static str, u8, Slices)> {
         ("a word too many", 1, longer),
         ("2^63 entries", 1, slice(&[1 << 63, 4])),
         ("cut short", 1, entries(&ADD1[..13])),
+        ("no end of the functions", 1, entries(&ADD1[..14])),
         ("one entry more", 1, entries(&[ADD1, &[(0, 0)]].concat())),
-        ("two functions", 1, entries(&[ADD1, ADD1].concat())),
+        ("a word at the end of the functions", 1, changed(14, (0, 1))),
+        ("two books", 1, entries(&[ADD1, ADD1].concat())),
+        ("a function twice", 1, entries(&[&ADD1[..14], ADD1].concat())),
+        ("no function", 1, entries(&[(1, 0), (0, 0)])),
         ("i7", 1, changed(1, (11, 7))),
         ("i128", 1, changed(1, (11, 128))),
         ("name out of range", 1, changed(0, (5, 4))),
@@ -335,7 +370,7 @@ fn chain(count: u64) -> Slices {
         entries.extend([(3, number), (16, 0), field, (0, 0)]);
     }
     entries.extend([(5, count), (10, 0), (0, 0), (7, count + 1), (71, count + 3), (15, count - 1), (33, 0), (21, 0)]);
-    entries.extend([(93, 0), (0, 0)]);
+    entries.extend([(93, 0), (0, 0), (0, 0)]);
     Slices::new(&entries, &names.iter().map(String::as_str).collect::<Vec<_>>())
 }
 
@@ -343,7 +378,7 @@ fn chain(count: u64) -> Slices {
 fn frozen(arrays: usize, defined: bool) -> Slices {
     let name = if defined { 3 } else { 0 };
     let head = [(3, 3), (16, 0), (0, 0), (5, 1), (10, 0), (0, 0), (7, 0), (77, 3)];
-    let entries = [&head[..], &vec![(13, 1); arrays], &[(15, name), (32, 1), (93, 0), (0, 0)]].concat();
+    let entries = [&head[..], &vec![(13, 1); arrays], &[(15, name), (32, 1), (93, 0), (0, 0), (0, 0)]].concat();
     Slices::new(&entries, &["e", "f", "r", "s"])
 }
 
@@ -351,13 +386,13 @@ fn frozen(arrays: usize, defined: bool) -> Slices {
 fn many_names(count: usize) -> Slices {
     let names: Vec<String> = (0..count).map(|number| format!("{number:06}")).collect();
     let names: Vec<&str> = names.iter().map(String::as_str).collect();
-    Slices::new(&[(5, 0), (10, 0), (0, 0), (7, 1), (93, 0), (0, 0)], &names)
+    Slices::new(&[(5, 0), (10, 0), (0, 0), (7, 1), (93, 0), (0, 0), (0, 0)], &names)
 }
 
 /// So many entries, most of them in a phi that no edge enters.
 fn many_entries(count: usize) -> Slices {
     let mut entries: Entries = vec![(5, 0), (10, 0), (0, 0), (7, 1), (75, 0), (10, 0)];
-    let tail = [(0, 0), (93, 0), (0, 0)];
+    let tail = [(0, 0), (93, 0), (0, 0), (0, 0)];
     let room = count - entries.len() - tail.len();
     entries.extend([(33, 0), (23, 0)].repeat(room / 2));
     entries.push(tail[0]);
@@ -370,7 +405,8 @@ fn many_entries(count: usize) -> Slices {
 fn limits() -> Vec<(&'static str, Option<u8>, Slices)> {
     let load = |ty: &[(u64, u64)]| with_insts(&[&[(71, Q + 1)], ty, &[(30, PARAM), (21, 0)]].concat());
     let freeze = |ty: &[(u64, u64)]| with_insts(&[&[(77, Q + 1)], ty, &[(32, 1)]].concat());
-    let frame = |count: u64| with_insts(&[(73, Q + 1), (11, 8), (11, 64), (32, count), (21, 0)]);
+    let place = |count: u64| [(73, Q + 1), (11, 8), (11, 64), (32, count), (21, 0)];
+    let frame = |count: u64| with_insts(&place(count));
     let empty_places = with_insts(&[(73, Q + 1), (16, 0), (0, 0), (11, 64), (32, u64::MAX), (21, 0)]);
     let slots = |count: usize| with_insts(&vec![(82, Q + 1); count]);
     let slots_and_place = |count: usize| {
@@ -378,7 +414,7 @@ fn limits() -> Vec<(&'static str, Option<u8>, Slices)> {
     };
     let args_of = |callee: (u64, u64), arg: (u64, u64), count: usize| {
         let head = [(5, 2), (10, 0), (6, 5), (12, 0), (0, 0), (7, 1), (76, 0), (10, 0), callee];
-        let entries = [&head[..], &[(11, 32), arg].repeat(count), &[(0, 0), (93, 0), (0, 0)]].concat();
+        let entries = [&head[..], &[(11, 32), arg].repeat(count), &[(0, 0), (93, 0), (0, 0), (0, 0)]].concat();
         Slices::new(&entries, &["__uvm_a", "e", "f", "memcmp", "p", "u"])
     };
     let args = |callee: u64, count: usize| args_of((31, callee), (32, 0), count);
@@ -411,6 +447,12 @@ fn limits() -> Vec<(&'static str, Option<u8>, Slices)> {
         ("65,536 slots", Some(8), slots(65_536)),
         ("65,534 slots with a frame", None, slots_and_place(65_533)),
         ("65,535 slots with a frame", Some(8), slots_and_place(65_534)),
+        ("65,535 slots in each of two functions", None, with_two(&vec![(82, Q + 1); 65_535], &vec![(82, Q + 1); 65_535])),
+        ("65,536 slots in the second function", Some(8), with_two(&[], &vec![(82, Q + 1); 65_536])),
+        ("65,536 slots, then a frame without a name", Some(8), with_two(&vec![(82, Q + 1); 65_536], &[(73, 0), (10, 0), (21, 0), (21, 0)])),
+        ("a name missing, then 65,536 slots", Some(5), with_two(&[(40, 0), (11, 32), (32, 1), (32, 1)], &vec![(82, Q + 1); 65_536])),
+        ("frames of 2^31 in two functions", None, with_two(&place(1 << 31), &place(1 << 31))),
+        ("a frame of 2^31 + 1 in the second function", Some(7), with_two(&place(1), &place((1 << 31) + 1))),
         ("255 arguments", None, args(2, 255)),
         ("256 arguments", Some(15), args(2, 256)),
         ("255 arguments for a local", None, args_of((30, 4), (32, 0), 255)),
@@ -469,7 +511,7 @@ fn doubling() -> Result<(), String> {
     for number in 1..30 {
         entries.extend([(3, number), (16, 0), (15, number - 1), (15, number - 1), (0, 0)]);
     }
-    entries.extend([(5, 0), (10, 0), (0, 0), (7, 0), (77, 1), (15, 29), (33, 0), (93, 0), (0, 0)]);
+    entries.extend([(5, 0), (10, 0), (0, 0), (7, 0), (77, 1), (15, 29), (33, 0), (93, 0), (0, 0), (0, 0)]);
     match reply(&Slices::new(&entries, &names), 0)? {
         Expected::Open(_) => Ok(()),
         _ => Err("the Rust was asked".to_string()),
@@ -485,6 +527,19 @@ fn labels() -> Result<(), String> {
         "push 0;", "__sel_done_4294967297:", "set_local 0;",
     ]);
     if accepted.lines == expected && accepted.next == (1 << 32) + 2 { Ok(()) } else { Err(format!("{:?}", accepted.lines)) }
+}
+
+/// Only the first counter is held to 2^32: a second function may begin above it.
+fn counters() -> Result<(), String> {
+    let slices = notation::read("func:f void . block:e br 1 :e :e . func:g void . block:e br 1 :e :e . .")?;
+    for (counter, begins) in [((1u64 << 32) - 1, 1u64 << 32), (1 << 32, (1 << 32) + 1)] {
+        let Expected::Accepted(accepted) = reply(&slices, counter)? else { return Err(format!("refused at {counter}")) };
+        let label = format!("__br_false_{begins}:");
+        if !accepted.lines.contains(&label) || accepted.next != counter + 2 {
+            return Err(format!("at {counter}: {:?}", accepted.lines));
+        }
+    }
+    answers(&slices, (1 << 32) + 1, Some(1))
 }
 
 /// `check` reads back what `encode` wrote.

@@ -28,8 +28,8 @@ pub fn check(lent: &Lent) -> Verdict {
     let names_fit = names.is_some();
     let names = names.unwrap_or_else(|| vec![String::new(); count]);
 
-    let mut reader = Reader { entries: &entries, names: &names, reserved: Set::default(), forbidden: false };
-    let Ok((marks, structs, function)) = reader.book() else { return Verdict::Refused(1) };
+    let mut reader = Reader::new(&entries, &names);
+    let Ok((marks, structs, functions)) = reader.book() else { return Verdict::Refused(1) };
     let forbidden = reader.forbidden;
     if lent.counter > HIGHEST_COUNTER {
         return Verdict::Refused(1);
@@ -43,15 +43,14 @@ pub fn check(lent: &Lent) -> Verdict {
     if lent.work < work_needed(count) {
         return Verdict::Refused(4);
     }
-    Verdict::Sound(Book { names, marks, structs, function })
+    Verdict::Sound(Book { names, marks, structs, functions })
 }
 
 /// The book that the entries stand for with other names than those lent, which need not ascend; none where they are none.
 pub fn read_with(book: &[u64], names: Vec<String>) -> Option<Book> {
     let (entries, _) = split_entries(book).ok()?;
-    let mut reader = Reader { entries: &entries, names: &names, reserved: Set::default(), forbidden: false };
-    let (marks, structs, function) = reader.book().ok()?;
-    Some(Book { names, marks, structs, function })
+    let (marks, structs, functions) = Reader::new(&entries, &names).book().ok()?;
+    Some(Book { names, marks, structs, functions })
 }
 
 /// Refusal 1.
@@ -99,11 +98,20 @@ struct Reader<'a> {
     entries: &'a [(u64, u64)],
     names: &'a [String],
     reserved: Set<u64>,
+    /// The numbers of the functions' names: names that are lent wrongly still tell functions apart.
+    functions: Set<u64>,
     /// A value of kind 37, or a call that refusal 3 is for.
     forbidden: bool,
 }
 
-impl Reader<'_> {
+/// Marks, structs and functions.
+type Parts = (Vec<(Mark, String)>, Vec<(String, Option<StructBody>)>, Vec<Function>);
+
+impl<'a> Reader<'a> {
+    fn new(entries: &'a [(u64, u64)], names: &'a [String]) -> Reader<'a> {
+        Reader { entries, names, reserved: Set::default(), functions: Set::default(), forbidden: false }
+    }
+
     fn peek(&self) -> Read<u64> {
         self.entries.first().map(|entry| entry.0).ok_or(Broken)
     }
@@ -148,7 +156,7 @@ impl Reader<'_> {
         }
     }
 
-    fn book(&mut self) -> Read<(Vec<(Mark, String)>, Vec<(String, Option<StructBody>)>, Function)> {
+    fn book(&mut self) -> Read<Parts> {
         let mut marks = vec![];
         let mut marked = Set::default();
         while matches!(self.peek()?, kind::DEFINED | kind::RESERVED) {
@@ -168,9 +176,9 @@ impl Reader<'_> {
             must(declared.insert(word))?;
             structs.push((name, self.body()?));
         }
-        let function = self.function()?;
-        must(self.entries.is_empty())?;
-        Ok((marks, structs, function))
+        let functions = self.list(Self::function)?;
+        must(!functions.is_empty() && self.entries.is_empty())?;
+        Ok((marks, structs, functions))
     }
 
     fn body(&mut self) -> Read<Option<StructBody>> {
@@ -187,6 +195,7 @@ impl Reader<'_> {
     fn function(&mut self) -> Read<Function> {
         let word = self.word(kind::FUNCTION)?;
         let name = self.name(word)?;
+        must(self.functions.insert(word))?;
         let ret_ty = self.ty()?;
         let params = self.list(Self::param)?;
         let blocks = self.list(Self::block)?;

@@ -1,11 +1,12 @@
-//! Compares the proved check of a book, and the printer's, with `check.rs`: books at the large limits, random books, damaged copies of each,
-//! all books one change away from some, lists of long names, and names of every first and second byte.
+//! Compares the proved check of a book, and the printer's, with `check.rs`: books at the large limits, random books, books of several
+//! functions, damaged copies of each, all books one change away from some, lists of long names, and names of every first and second byte.
 use crate::book::Lent;
 use crate::check::{check, Verdict, HIGHEST_COUNTER};
 use crate::large;
 use crate::names;
 use crate::neighbours::neighbours;
 use crate::proved;
+use crate::random::MOST_FUNCTIONS;
 use crate::runs;
 use crate::show;
 use crate::utf8;
@@ -91,7 +92,7 @@ fn printer(lent: &Lent, owed: u64) -> Result<(), String> {
 
 pub fn compare(seed: u64, count: u64) -> Result<(), String> {
     large_books()?;
-    let [mut books, mut copies, mut near, mut lists, mut bytes] = [(); 5].map(|()| Run::default());
+    let [mut books, mut copies, mut pieces, mut cut, mut near, mut lists, mut bytes] = [(); 7].map(|()| Run::default());
     for index in 0..count {
         let lent = runs::book(seed, index, true);
         books.add(&lent, || format!("seed {seed}, book {index}"));
@@ -99,20 +100,33 @@ pub fn compare(seed: u64, count: u64) -> Result<(), String> {
             let copy = runs::copy(&lent, seed, index, number);
             copies.add(&copy, || format!("seed {seed}, book {index}, copy {number}"));
         }
+        let piece = runs::piece(seed, index, MOST_FUNCTIONS);
+        pieces.add(&piece, || format!("seed {seed}, piece {index}"));
+        for number in 0..COPIES {
+            let copy = runs::piece_copy(&piece, seed, index, number);
+            cut.add(&copy, || format!("seed {seed}, piece {index}, copy {number}"));
+        }
         lists.add(&names::list(seed, index), || format!("seed {seed}, list of names {index}"));
         if index % STRIDE == 0 && lent.slices.book[0] <= SMALL {
             neighbours(&lent, |other, what, place| {
                 near.add(other, || format!("seed {seed}, book {index}, {what} at {place}"));
             });
         }
+        if index % STRIDE == 0 && piece.slices.book[0] <= SMALL {
+            neighbours(&piece, |other, what, place| {
+                near.add(other, || format!("seed {seed}, piece {index}, {what} at {place}"));
+            });
+        }
     }
     utf8::every(seed, |lent, sequence| bytes.add(lent, || format!("bytes {sequence:x?}")));
     books.print("random books");
     copies.print("damaged copies");
+    pieces.print("books of several functions");
+    cut.print("damaged copies of these");
     near.print("books one change away");
     lists.print("lists of long names");
     bytes.print("every first and second byte, every character");
-    [books, copies, near, lists, bytes].into_iter().try_for_each(Run::result)
+    [books, copies, pieces, cut, near, lists, bytes].into_iter().try_for_each(Run::result)
 }
 
 /// Prints the time of each, the best of three.

@@ -1,5 +1,5 @@
 //! Damaged copies of a book: what a translator may be lent by mistake. `check` gives the verdict; some copies stay sound.
-use crate::book::{kind, Lent, Slices};
+use crate::book::{function_places, kind, Lent, Slices};
 use crate::letters::{ill_formed, letter};
 use crate::rng::Rng;
 
@@ -15,6 +15,67 @@ pub fn damage(lent: &Lent, rng: &mut Rng) -> Lent {
         }
     }
     copy
+}
+
+/// A copy of a book of several functions: its list of functions is changed, or it is damaged like any other.
+pub fn damage_piece(lent: &Lent, rng: &mut Rng) -> Lent {
+    if rng.chance(500) {
+        return damage(lent, rng);
+    }
+    let mut copy = lent.clone();
+    change_functions(&mut copy.slices, rng);
+    if rng.chance(200) { damage(&copy, rng) } else { copy }
+}
+
+/// Changes of the list of functions. Names that stand twice, and ends that are missing or stand twice, are a 1; other orders and fewer functions
+/// leave a sound book, in which some calls may find no function.
+fn change_functions(slices: &mut Slices, rng: &mut Rng) {
+    let mut entries = entries_of(&slices.book);
+    let places = function_places(&entries.iter().map(|entry| entry.0).collect::<Vec<_>>());
+    if places.is_empty() {
+        return;
+    }
+    let one = rng.pick(&places).clone();
+    let other = rng.pick(&places).clone();
+    let end = (kind::END, 0);
+    match rng.below(14) {
+        // A name twice, or one that any other entry has.
+        0..=1 => entries[one.start].1 = entries[other.start].1,
+        2 => entries[one.start].1 = rng.below(slices.book.get(1).map_or(1, |count| *count as usize).max(1)) as u64,
+        3 => {
+            entries.pop();
+        }
+        4 => entries.push(end),
+        5 => entries.insert(one.start, end),
+        // The end of a function's blocks.
+        6 => {
+            entries.remove(one.end - 1);
+        }
+        7 => entries.insert(one.end, end),
+        // A function goes, stands twice, or trades places.
+        8 => {
+            entries.drain(one);
+        }
+        9 => {
+            let part = entries[one].to_vec();
+            entries.splice(other.start..other.start, part);
+        }
+        10..=11 => {
+            let (first, second) = if one.start <= other.start { (one, other) } else { (other, one) };
+            if first.start < second.start {
+                let swapped = [&entries[second.clone()], &entries[first.end..second.start], &entries[first.clone()]].concat();
+                entries.splice(first.start..second.end, swapped);
+            }
+        }
+        // A mark or a struct behind a function, or for one.
+        12 => {
+            let name = entries[other.start].1;
+            let part = *rng.pick(&[(kind::DEFINED, name), (kind::RESERVED, name), (kind::NAMED_STRUCT, name), (kind::OPAQUE, 0)]);
+            entries.insert(if rng.chance(500) { one.start } else { 0 }, part);
+        }
+        _ => entries.truncate(one.end),
+    }
+    *slices = slices.with_entries(&entries);
 }
 
 /// The entries of a slice, as far as it has them.
@@ -53,10 +114,7 @@ fn change_entries(slices: &mut Slices, rng: &mut Rng) {
         11 => entries[at] = entries[from],
         _ => change_meaning(&mut entries, rng),
     }
-    let mut book = vec![entries.len() as u64, slices.book.get(1).copied().unwrap_or(0)];
-    book.extend(entries.iter().map(|entry| entry.0));
-    book.extend(entries.iter().map(|entry| entry.1));
-    slices.book = book;
+    *slices = slices.with_entries(&entries);
 }
 
 /// Changes that often leave a sound book which says something else.

@@ -57,7 +57,12 @@ pub enum Sort {
     Damaged,
     /// Statements whose parts are right or wrong.
     Faulty,
+    /// Books of up to four functions, and a damaged copy of every third.
+    Pieces,
 }
+
+/// So many functions at most: the definition computes for long on more.
+const MOST_FUNCTIONS: usize = 4;
 
 pub fn compare(seed: u64, count: u64, sort: Sort) -> Result<(), String> {
     let mut cases = vec![];
@@ -69,6 +74,13 @@ pub fn compare(seed: u64, count: u64, sort: Sort) -> Result<(), String> {
                 (format!("seed {seed}, damaged copy of book {index}"), runs::copy(&lent, seed, index, 0))
             }
             Sort::Faulty => (format!("seed {seed}, faulty book {index}"), faulty::lent(seed, index)),
+            Sort::Pieces => {
+                let lent = runs::piece(seed, index, MOST_FUNCTIONS);
+                match index % 3 {
+                    2 => (format!("seed {seed}, damaged copy of piece {index}"), runs::piece_copy(&lent, seed, index, 0)),
+                    _ => (format!("seed {seed}, piece {index}"), lent),
+                }
+            }
         };
         cases.extend(case(name, lent, MOST_WORDS)?);
     }

@@ -30,13 +30,18 @@ pub fn expected_of(lent: &Lent) -> Result<(Expected, Option<Book>), String> {
 
 fn of_book(book: &Book, counter: u64) -> Result<Expected, String> {
     let first = refusal::first(book);
+    let asked = !oracle::calls_others(book) && first.steps <= MOST_STEPS;
     if first.refusal == Some(7) {
+        // The functions before it must have no fault.
+        if asked && first.place > 0 && !matches!(oracle::answer_before(book, first.place, counter), Answer::Accepted(_)) {
+            return Err(format!("by our reading function {} is the first with a refusal, 7; the Rust has one before", first.place));
+        }
         return Ok(Expected::Refused(7));
     }
     if oracle::calls_others(book) {
         return Ok(Expected::Open("it calls a name that should be marked as reserved"));
     }
-    if first.steps > MOST_STEPS {
+    if !asked {
         return Ok(Expected::Open("the Rust would measure its types for too long"));
     }
     let (found, expected) = match oracle::answer(book, counter) {

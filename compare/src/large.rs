@@ -19,7 +19,7 @@ const VOID: (u64, u64) = (kind::VOID, 0);
 const BYTE: (u64, u64) = (kind::INT, 8);
 
 pub fn books() -> Vec<Large> {
-    [counts(), marks(), types(), lists(), calls(), names()].into_iter().flatten().collect()
+    [counts(), marks(), types(), lists(), calls(), names(), functions()].into_iter().flatten().collect()
 }
 
 // ---- makers
@@ -36,9 +36,9 @@ pub fn large(what: &'static str, answer: u64, entries: &[(u64, u64)], names: usi
     Large { what, answer, lent }
 }
 
-/// `void` function 0 without parameters, with one block of these instructions and this terminator.
+/// `void` function 0 without parameters, with one block of these instructions and this terminator, and no other function.
 pub fn function(insts: &[(u64, u64)], term: &[(u64, u64)]) -> Entries {
-    [&[(kind::FUNCTION, 0), VOID, END, (kind::BLOCK, 0)], insts, term, &[END]].concat()
+    [&[(kind::FUNCTION, 0), VOID, END, (kind::BLOCK, 0)], insts, term, &[END, END]].concat()
 }
 
 pub fn unreachable(insts: &[(u64, u64)]) -> Entries {
@@ -75,7 +75,7 @@ fn counts() -> Vec<Large> {
     let add = |name: u64| [(kind::BIN, name + 1), (kind::INT, 32), (kind::LOCAL, name), (kind::INTEGER, 1)];
     let adds: Entries = (0..ENTRIES as u64 / 4 - 2).flat_map(|number| add(number % MOST_NAMES)).collect();
     let mut largest = unreachable(&adds);
-    largest.splice(3..3, vec![(kind::BLOCK, 0), (kind::UNREACHABLE, 0)]);
+    largest.insert(4, (kind::FENCE, 0));
     assert_eq!(largest.len(), ENTRIES);
     let mut short = large("131,072 names and a work slice one short", 4, &unreachable(&[]), NAMES);
     short.lent.work -= 1;
@@ -110,17 +110,17 @@ fn marks() -> Vec<Large> {
 /// `void` function 0 with parameters of these types and no block.
 fn parameters(types: &[Entries]) -> Entries {
     let types = types.iter().flat_map(|entries| [&[(kind::PARAM, 0)], &entries[..]].concat());
-    [vec![(kind::FUNCTION, 0), VOID], types.collect(), vec![END, END]].concat()
+    [vec![(kind::FUNCTION, 0), VOID], types.collect(), vec![END, END, END]].concat()
 }
 
 /// Function 0 of this return type, with no parameters and no block.
 fn returning(ty: &[(u64, u64)]) -> Entries {
-    [&[(kind::FUNCTION, 0)], ty, &[END, END]].concat()
+    [&[(kind::FUNCTION, 0)], ty, &[END, END, END]].concat()
 }
 
 fn types() -> Vec<Large> {
-    let wide = ENTRIES - 3 - 2 * LEVELS;
-    let deep = vec![arrays(LEVELS); (ENTRIES - 4) / (LEVELS + 1) - 1];
+    let wide = ENTRIES - 2 - 2 * LEVELS;
+    let deep = vec![arrays(LEVELS); (ENTRIES - 5) / (LEVELS + 1) - 1];
     let last = |levels: usize| [deep.clone(), vec![arrays(levels)]].concat();
     vec![
         large("64 levels of arrays", 0, &returning(&arrays(LEVELS)), 1),
@@ -129,11 +129,11 @@ fn types() -> Vec<Large> {
         large("65 levels of structs", 1, &returning(&nested(LEVELS + 1, &[])), 1),
         large("64 levels in each parameter", 0, &parameters(&last(LEVELS)), 1),
         large("65 levels in the last parameter", 1, &parameters(&last(LEVELS + 1)), 1),
-        large("a struct of as many fields as fit", 0, &returning(&nested(1, &vec![BYTE; ENTRIES - 5])), 1),
+        large("a struct of as many fields as fit", 0, &returning(&nested(1, &vec![BYTE; ENTRIES - 6])), 1),
         large("64 levels, the last one wide", 0, &returning(&nested(LEVELS - 1, &vec![BYTE; wide])), 1),
         large("64 levels, the last one wide, its last field deeper", 1, &returning(&nested(LEVELS - 1, &deeper(wide))), 1),
-        large("structs of structs, side by side", 0, &returning(&nested(1, &repeated(&nested(LEVELS - 1, &[]), 5))), 1),
-        large("more arrays in one another than the book has levels", 1, &returning(&arrays(ENTRIES - 3)), 1),
+        large("structs of structs, side by side", 0, &returning(&nested(1, &repeated(&nested(LEVELS - 1, &[]), 6))), 1),
+        large("more arrays in one another than the book has levels", 1, &returning(&arrays(ENTRIES - 4)), 1),
         large("more structs in one another than the book has levels", 1, &returning(&nested(ENTRIES / 2 - 2, &[])), 1),
     ]
 }
@@ -158,7 +158,7 @@ fn lists() -> Vec<Large> {
     let phi = [vec![(kind::PHI, 0), BYTE], repeated(&pair, 20), vec![END]].concat();
     let switch_on = vec![(kind::SWITCH, 0), BYTE, (kind::NULL, 0), (kind::TARGET, 0)];
     let switch = [switch_on, repeated(&case, 20), vec![END]].concat();
-    let blocks = [vec![(kind::FUNCTION, 0), VOID, END], repeated(&[(kind::BLOCK, 0), (kind::UNREACHABLE, 0)], 4), vec![END]];
+    let blocks = [vec![(kind::FUNCTION, 0), VOID, END], repeated(&[(kind::BLOCK, 0), (kind::UNREACHABLE, 0)], 5), vec![END, END]];
     vec![
         large("a call of as many arguments as fit", 0, &unreachable(&call), 1),
         large("a phi of as many pairs as fit", 0, &unreachable(&phi), 1),
@@ -180,8 +180,8 @@ fn calls() -> Vec<Large> {
         large("as many calls as fit", 0, &marked(many(&[])), NAMES),
         large("as many calls as fit, the last of a reserved name", 3, &marked(many(&call(MOST_NAMES - 1))), NAMES),
         large("as many calls as fit, then kind 37", 3, &marked(many(&other)), NAMES),
-        large("as many calls of 64 levels as fit", 0, &unreachable(&repeated(&deep, 6)), 1),
-        large("as many calls of 4,000 fields as fit", 0, &unreachable(&repeated(&wide, 6)), 1),
+        large("as many calls of 64 levels as fit", 0, &unreachable(&repeated(&deep, 7)), 1),
+        large("as many calls of 4,000 fields as fit", 0, &unreachable(&repeated(&wide, 7)), 1),
     ]
 }
 
@@ -214,4 +214,62 @@ fn names() -> Vec<Large> {
         named("1,000 names outside ASCII that differ in their ends", 0, 1000, (0..1000).flat_map(|number| accents(number).into_bytes()).collect()),
         named("16,777,216 ends of names", 2, NAMES, vec![b'\n'; 1 << 24]),
     ]
+}
+
+/// A `void` function of this name without parameters; with one block of these instructions, which returns.
+pub fn small(name: u64, insts: &[(u64, u64)]) -> Entries {
+    [&[(kind::FUNCTION, name), VOID, END, (kind::BLOCK, name)], insts, &[(kind::RET, 0), (kind::ABSENT, 0), END]].concat()
+}
+
+/// The same without a block.
+fn bare(name: u64) -> Entries {
+    vec![(kind::FUNCTION, name), VOID, END, END]
+}
+
+/// These functions, closed.
+pub fn closed(functions: impl Iterator<Item = Entries>) -> Entries {
+    functions.flatten().chain([END]).collect()
+}
+
+/// As many functions as there are names, in as many entries as there may be: all but the last have a fence.
+pub fn most_functions() -> Entries {
+    let fence = |name: u64| if name + 1 < MOST_NAMES { vec![(kind::FENCE, 0)] } else { vec![] };
+    let entries = closed((0..MOST_NAMES).map(|name| small(name, &fence(name))));
+    assert_eq!(entries.len(), ENTRIES);
+    entries
+}
+
+fn functions() -> Vec<Large> {
+    let all = || (0..MOST_NAMES).map(bare);
+    let marks = |kind: u64| (0..MOST_NAMES).map(move |name| (kind, name));
+    let marked = |kind: u64| marks(kind).chain(closed(all())).collect::<Entries>();
+    let again = |name: u64| closed(all().chain([bare(name)]));
+    let open: Entries = all().flatten().collect();
+    let callee = |name: u64| [(kind::CALL, 0), VOID, (kind::GLOBAL, (name * 77_777 + 1) % 80_000), END];
+    let mut between = closed(all());
+    between.insert(4 * NAMES / 2, END);
+    vec![
+        large("131,072 functions in 1,048,576 entries", 0, &most_functions(), NAMES),
+        large("131,072 functions without blocks", 0, &closed(all()), NAMES),
+        large("131,072 functions, backwards", 0, &closed((0..MOST_NAMES).rev().map(bare)), NAMES),
+        large("131,072 functions out of order", 0, &closed((0..MOST_NAMES).map(|name| bare(name * 77_777 % MOST_NAMES))), NAMES),
+        large("131,072 functions and the first one again", 1, &again(0), NAMES),
+        large("131,072 functions and the last one again", 1, &again(MOST_NAMES - 1), NAMES),
+        large("131,072 functions, not closed", 1, &open, NAMES),
+        large("131,072 functions, closed twice", 1, &[open.clone(), vec![END, END]].concat(), NAMES),
+        large("131,072 functions, closed in the middle too", 1, &between, NAMES),
+        large("131,072 functions, each marked defined", 0, &marked(kind::DEFINED), NAMES),
+        large("131,072 functions, each marked reserved", 0, &marked(kind::RESERVED), NAMES),
+        large("80,000 functions that call others", 0, &closed((0..80_000).map(|name| small(name, &callee(name)))), NAMES),
+        large("a function that calls a reserved one, the last of 131,071", 3, &last_call(), NAMES),
+        large("no function", 1, &[END], 1),
+        large("marks and no function", 1, &marks(kind::DEFINED).chain([END]).collect::<Entries>(), NAMES),
+    ]
+}
+
+/// Functions without blocks, one of them reserved, and a last one that calls it.
+fn last_call() -> Entries {
+    let call = [(kind::CALL, 0), VOID, (kind::GLOBAL, 7), END];
+    let functions = (0..MOST_NAMES - 2).map(bare).chain([small(MOST_NAMES - 1, &call)]);
+    [vec![(kind::RESERVED, 7)], closed(functions)].concat()
 }

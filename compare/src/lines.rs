@@ -44,39 +44,54 @@ fn type_text(ty: &Type) -> String {
     }
 }
 
-/// What the lines of a book's function are printed with.
+/// What the lines of a book are printed with.
 pub struct Printer<'a> {
     names: &'a [String],
     /// Each name as labels have it.
     printed: Vec<String>,
-    /// The number of the function's name.
-    function: u64,
-    /// Line kind 0.
-    comment: String,
+    /// The numbers of the functions' names, in order.
+    functions: Vec<u64>,
+    /// Line kind 0 of each function, by its name's number.
+    comments: Map<u64, String>,
 }
 
+/// The number of the function that the last comment line names; none before the first one.
+type Current = Option<u64>;
+
 impl<'a> Printer<'a> {
-    pub fn new(names: &'a [String], function: u64, return_type: &Type, params: usize) -> Printer<'a> {
+    /// Of each function the name's number, return type and count of parameters.
+    pub fn new<'t>(names: &'a [String], functions: impl Iterator<Item = (u64, &'t Type, usize)>) -> Printer<'a> {
         let printed = names.iter().map(|name| sanitize(name)).collect();
-        let comment = format!("# {} @{}({params} params)", type_text(return_type), names[function as usize]);
-        Printer { names, printed, function, comment }
+        let mut printer = Printer { names, printed, functions: vec![], comments: Map::default() };
+        for (function, return_type, params) in functions {
+            let comment = format!("# {} @{}({params} params)", type_text(return_type), names[function as usize]);
+            printer.functions.push(function);
+            printer.comments.insert(function, comment);
+        }
+        printer
     }
 
     pub fn of_book(book: &'a Book) -> Printer<'a> {
-        let function = book.names.iter().position(|name| *name == book.function.name).expect("a name of the book");
-        Printer::new(&book.names, function as u64, &book.function.ret_ty, book.function.params.len())
+        let numbers = book.numbers();
+        let functions = book.functions.iter().map(|function| (numbers[function.name.as_str()], &function.ret_ty, function.params.len()));
+        Printer::new(&book.names, functions)
     }
 
-    /// Prints one line; none where no line has this kind and operand.
-    pub fn line(&self, out: &mut String, line: u16, x: u64) -> Option<()> {
+    /// Prints one line; none where no line has this kind and operand. A comment names a function of the book; a block's label and a jump to it
+    /// stand behind the name of the function that the last comment named.
+    fn line(&self, out: &mut String, current: &mut Current, line: u16, x: u64) -> Option<()> {
         let name = |x: u64| self.printed.get(usize::try_from(x).ok()?).map(String::as_str);
         let hint = |line: u16| HINTS[(line as usize - 13) % 4];
-        let own = &self.printed[self.function as usize];
+        let own = |current: &Current| Some(self.printed[(*current)? as usize].as_str());
         match line {
-            0 if x == self.function => writeln!(out, "{}", self.comment),
+            0 => {
+                let comment = self.comments.get(&x)?;
+                *current = Some(x);
+                writeln!(out, "{comment}")
+            }
             1 => writeln!(out, "{}:", name(x)?),
-            2 => writeln!(out, "{own}__{}:", name(x)?),
-            3 => writeln!(out, "jmp {own}__{};", name(x)?),
+            2 => writeln!(out, "{}__{}:", own(current)?, name(x)?),
+            3 => writeln!(out, "jmp {}__{};", own(current)?, name(x)?),
             4 => writeln!(out, "push {};", name(x)?),
             5 => writeln!(out, "call {}, {};", name(x / 256)?, x % 256),
             6 => writeln!(out, "syscall {};", self.names.get(usize::try_from(x).ok()?)?.strip_prefix(SYSCALL)?),
@@ -98,16 +113,19 @@ impl<'a> Printer<'a> {
         Some(())
     }
 
-    /// One line as codegen.rs makes it: a string by itself, each name cleaned where it stands.
-    fn string(&self, line: u16, x: u64) -> Option<String> {
+    /// One line as codegen.rs makes it: a string by itself, each name cleaned where it stands. The lines are ones that the printer prints.
+    fn string(&self, current: &mut Current, line: u16, x: u64) -> Option<String> {
         let name = |x: u64| self.names.get(usize::try_from(x).ok()?).map(|name| sanitize(name));
-        let own = || sanitize(&self.names[self.function as usize]);
+        let own = |current: &Current| name((*current)?);
         let hint = |line: u16| HINTS[(line as usize - 13) % 4];
         Some(match line {
-            0 => self.comment.clone(),
+            0 => {
+                *current = Some(x);
+                self.comments.get(&x)?.clone()
+            }
             1 => format!("{}:", name(x)?),
-            2 => format!("{}__{}:", own(), name(x)?),
-            3 => format!("jmp {}__{};", own(), name(x)?),
+            2 => format!("{}__{}:", own(current)?, name(x)?),
+            3 => format!("jmp {}__{};", own(current)?, name(x)?),
             4 => format!("push {};", name(x)?),
             5 => format!("call {}, {};", name(x / 256)?, x % 256),
             6 => format!("syscall {};", self.names.get(usize::try_from(x).ok()?)?.strip_prefix(SYSCALL)?),
@@ -129,14 +147,16 @@ impl<'a> Printer<'a> {
 
     /// All lines so, in a list, as `gen_function` leaves them.
     pub fn strings(&self, kinds: &[u16], operands: &[u64]) -> Option<Vec<String>> {
-        kinds.iter().zip(operands).map(|(&line, &x)| self.string(line, x)).collect()
+        let mut current = None;
+        kinds.iter().zip(operands).map(|(&line, &x)| self.string(&mut current, line, x)).collect()
     }
 
     /// All lines; none where one of them is no line.
     pub fn text(&self, kinds: &[u16], operands: &[u64]) -> Option<String> {
         let mut out = String::with_capacity(16 * kinds.len());
+        let mut current = None;
         for (&line, &x) in kinds.iter().zip(operands) {
-            self.line(&mut out, line, x)?;
+            self.line(&mut out, &mut current, line, x)?;
         }
         Some(out)
     }
@@ -149,6 +169,18 @@ impl<'a> Printer<'a> {
 pub struct Lines {
     pub kinds: Vec<u16>,
     pub operands: Vec<u64>,
+}
+
+impl Lines {
+    pub fn push(&mut self, kind: u16, operand: u64) {
+        self.kinds.push(kind);
+        self.operands.push(operand);
+    }
+
+    /// Where the lines of each function begin: at its comment.
+    pub fn functions(&self) -> Vec<usize> {
+        (0..self.kinds.len()).filter(|place| self.kinds[*place] == 0).collect()
+    }
 }
 
 /// The kinds without operand by their text, filled once.
@@ -175,8 +207,14 @@ struct Reader<'a> {
     printed: Map<&'a str, u64>,
     /// Names of syscalls.
     syscalls: Map<&'a str, u64>,
-    own: &'a str,
+    printer: &'a Printer<'a>,
+}
+
+/// Where a reader stands: the name of the function whose lines these are, as labels have it, and whether its own label comes next.
+struct Place<'a> {
     function: u64,
+    own: &'a str,
+    opened: bool,
 }
 
 /// Stands in a map for a print that several names have.
@@ -190,8 +228,7 @@ impl<'a> Reader<'a> {
         }
         let names = printer.names.iter().enumerate();
         let syscalls = names.filter_map(|(number, name)| Some((name.strip_prefix(SYSCALL)?, number as u64))).collect();
-        let own = &printer.printed[printer.function as usize];
-        Reader { printed, syscalls, own, function: printer.function }
+        Reader { printed, syscalls, printer }
     }
 
     fn name(&self, text: &str) -> Result<u64, Unread> {
@@ -203,28 +240,29 @@ impl<'a> Reader<'a> {
     }
 
     /// The name behind the function's in a block's label.
-    fn block(&self, label: &str) -> Result<u64, Unread> {
-        let rest = label.strip_prefix(self.own).and_then(|rest| rest.strip_prefix("__")).ok_or(Unread::None)?;
+    fn block(&self, own: &str, label: &str) -> Result<u64, Unread> {
+        let rest = label.strip_prefix(own).and_then(|rest| rest.strip_prefix("__")).ok_or(Unread::None)?;
         self.name(rest)
     }
 
     /// A block's name may stand behind any function's, so a numbered label is told from it by its digits alone.
-    fn label(&self, label: &str, first: u16, block: u16) -> Result<(u16, u64), Unread> {
+    fn label(&self, own: &str, label: &str, first: u16, block: u16) -> Result<(u16, u64), Unread> {
         for (place, hint) in HINTS.iter().enumerate() {
             let number = label.strip_prefix("__").and_then(|rest| rest.strip_prefix(hint)).and_then(|rest| rest.strip_prefix('_'));
             if let Some(number) = number.and_then(digits) {
                 return Ok((first + place as u16, number));
             }
         }
-        Ok((block, self.block(label)?))
+        Ok((block, self.block(own, label)?))
     }
 
-    fn line(&self, place: usize, text: &str) -> Result<(u16, u64), Unread> {
-        if place < 2 {
-            return Ok((place as u16, self.function));
+    /// A line behind a function's comment.
+    fn line(&self, place: &mut Place, text: &str) -> Result<(u16, u64), Unread> {
+        if std::mem::take(&mut place.opened) {
+            return Ok((1, place.function));
         }
         if let Some(label) = text.strip_suffix(':') {
-            return self.label(label, 13, 2);
+            return self.label(place.own, label, 13, 2);
         }
         if let Some(kind) = plain_kinds().get(text) {
             let memcmp = text == "syscall memcmp;" && self.syscalls.contains_key("memcmp");
@@ -233,7 +271,7 @@ impl<'a> Reader<'a> {
         let (word, rest) = text.strip_suffix(';').and_then(|text| text.split_once(' ')).ok_or(Unread::None)?;
         let number = |kind: u16| digits(rest).map(|x| (kind, x)).ok_or(Unread::None);
         match word {
-            "jz" | "jmp" | "jnz" => self.label(rest, 17, 3),
+            "jz" | "jmp" | "jnz" => self.label(place.own, rest, 17, 3),
             "push" => match (digits(rest), self.printed.get(rest)) {
                 (Some(_), Some(_)) => Err(Unread::Several),
                 (Some(x), None) => Ok((8, x)),
@@ -253,14 +291,25 @@ impl<'a> Reader<'a> {
         }
     }
 
+    /// The functions' lines come in order, each from its comment on; no other line begins with `#`.
     fn lines(&self, texts: &[String]) -> Result<Lines, Unread> {
         let mut lines = Lines { kinds: Vec::with_capacity(texts.len()), operands: Vec::with_capacity(texts.len()) };
-        for (place, text) in texts.iter().enumerate() {
-            let (kind, operand) = self.line(place, text)?;
-            lines.kinds.push(kind);
-            lines.operands.push(operand);
+        let mut functions = self.printer.functions.iter();
+        let mut place = Place { function: 0, own: "", opened: false };
+        for text in texts {
+            if !text.starts_with('#') {
+                let (kind, operand) = self.line(&mut place, text)?;
+                lines.push(kind, operand);
+                continue;
+            }
+            let function = *functions.next().ok_or(Unread::None)?;
+            if self.printer.comments[&function] != *text {
+                return Err(Unread::None);
+            }
+            place = Place { function, own: &self.printer.printed[function as usize], opened: true };
+            lines.push(0, function);
         }
-        Ok(lines)
+        if functions.next().is_some() { Err(Unread::None) } else { Ok(lines) }
     }
 }
 

@@ -22,6 +22,7 @@ mod names;
 #[cfg(proved)]
 mod neighbours;
 mod oracle;
+mod pieces;
 mod program;
 #[cfg(proved)]
 mod printing;
@@ -32,6 +33,7 @@ mod refusal;
 mod rng;
 mod runs;
 mod scratch;
+mod segments;
 mod show;
 #[cfg(translating)]
 mod stack;
@@ -55,6 +57,7 @@ const USAGE: &str = "usage:
   compare oracle [COUNTER] < BOOK    the published Rust's text for a book file, or the refusal's number
   compare show < BOOK                the entries of a book file
   compare book SEED INDEX > BOOK     one random book as a file
+  compare piece SEED INDEX > BOOK    one random book of several functions as a file
   compare stats SEED COUNT           what random books meet
   compare checks SEED COUNT          what damaged copies meet
   compare vectors SEED COUNT DIR [MOST]
@@ -66,7 +69,7 @@ const USAGE: &str = "usage:
   compare faulty SEED COUNT          what random statements meet whose parts are right or wrong
   compare faulty book SEED INDEX > BOOK
                                      one of these as a file
-  compare definitions SEED COUNT [--damaged | --faulty]
+  compare definitions SEED COUNT [--damaged | --faulty | --pieces]
                                      whether the definition in crates/lowering answers as the Rust does, by computation
   compare definitions names SEED COUNT
                                      whether the definition in crates/names orders two names as Rust does, in the steps of card 4
@@ -76,6 +79,11 @@ const USAGE: &str = "usage:
   compare names SEED COUNT COMMAND.. whether a program like `try_compare` does
   compare names cases SEED COUNT FOLDER
                                      what such a program reads and writes, as crates/try_compare has it
+  compare pieces SEED COUNT          whether a book of several functions has the lines, next counter and refusals of its functions
+                                     one by one: by the Rust, and by the proved translator where that is built in
+  compare segments SEED COUNT        whether lines put together otherwise (functions' lines in another order, comments lost, repeated or
+                                     of other names) print as docs/LINES.md says, or are a 21: by two printers and two readings of
+                                     ours, and by the proved printer where that is built in
   compare runs SEED COUNT            whether a function's run by the manual and the run of its lines on the machine agree, by
                                      two interpreters and by computation of the definitions, on random functions
   compare table SEED COUNT FILE      random books with the Rust's answers as a checked table of crates/lowering
@@ -138,6 +146,11 @@ fn run(args: &[&str]) -> Result<(), String> {
         ["definitions", seed, count] => definitions::compare(number(seed)?, number(count)?, Sort::Random),
         ["definitions", seed, count, "--damaged"] => definitions::compare(number(seed)?, number(count)?, Sort::Damaged),
         ["definitions", seed, count, "--faulty"] => definitions::compare(number(seed)?, number(count)?, Sort::Faulty),
+        ["definitions", seed, count, "--pieces"] => definitions::compare(number(seed)?, number(count)?, Sort::Pieces),
+        ["piece", seed, index] => {
+            let slices = runs::piece(number(seed)?, number(index)?, random::MOST_FUNCTIONS).slices;
+            std::io::stdout().write_all(&slices.to_file()).map_err(|error| error.to_string())
+        }
         ["faulty", seed, count] => stats::faulty(number(seed)?, number(count)?),
         ["faulty", "book", seed, index] => {
             let slices = written::faulty::lent(number(seed)?, number(index)?).slices;
@@ -147,6 +160,8 @@ fn run(args: &[&str]) -> Result<(), String> {
         ["names", seed, count, command @ ..] if !command.is_empty() => names::compare(number(seed)?, number(count)?, command),
         ["definitions", "names", seed, count] => names::definitions(number(seed)?, number(count)?),
         ["definitions", "utf8", seed, count] => utf8::definitions(number(seed)?, number(count)?),
+        ["segments", seed, count] => segments::compare(number(seed)?, number(count)?),
+        ["pieces", seed, count] => pieces::compare(number(seed)?, number(count)?),
         ["runs", seed, count] => two_runs::compare(number(seed)?, number(count)?),
         ["written", folder] => written::write(folder),
         ["table", seed, count, file] => table::write(number(seed)?, number(count)?, file),

@@ -10,10 +10,11 @@ const WORDS: [u64; 20] = [
     u64::MAX << 31, (u64::MAX << 31) - 1, u64::MAX,
 ];
 
-/// Hands each of them on, with what was changed. The book is sound, so it has a name.
+/// Hands each of them on, with what was changed: where a function begins, each other function's name too. The book is sound, so it has a name.
 pub fn neighbours(lent: &Lent, mut each: impl FnMut(&Lent, &str, usize)) {
     let [count, names] = [lent.slices.book[0], lent.slices.book[1]];
     let count = count as usize;
+    let functions: Vec<u64> = lent.slices.functions().iter().map(|function| lent.slices.book[2 + count + function.start]).collect();
     for place in 0..count {
         let mut copy = lent.clone();
         for kind in KINDS {
@@ -23,7 +24,8 @@ pub fn neighbours(lent: &Lent, mut each: impl FnMut(&Lent, &str, usize)) {
         copy.slices.book[2 + place] = lent.slices.book[2 + place];
         let word = lent.slices.book[2 + count + place];
         let near = [names - 1, names, names + 1, word.wrapping_sub(1), word.wrapping_add(1)];
-        for word in WORDS.into_iter().chain(near) {
+        let others = if lent.slices.book[2 + place] == kind::FUNCTION { &functions[..] } else { &[] };
+        for word in WORDS.into_iter().chain(near).chain(others.iter().copied()) {
             copy.slices.book[2 + count + place] = word;
             each(&copy, "word", place);
         }

@@ -42,10 +42,15 @@ pub fn calls_others(book: &Book) -> bool {
     })
 }
 
-/// Runs `gen_function`. The first fault must be no 7: the Rust would go down into a struct that holds itself for ever.
+/// Runs `gen_function` for each function, in order. The first fault must be no 7: the Rust would go down into a struct that holds itself for ever.
 pub fn answer(book: &Book, counter: u64) -> Answer {
+    answer_before(book, book.functions.len(), counter)
+}
+
+/// The same for the functions before this one alone; all of the book's count as defined.
+pub fn answer_before(book: &Book, place: usize, counter: u64) -> Answer {
     let module = module(book);
-    let result = quietly(|| access::gen_function(&module, &book.function, counter as usize));
+    let result = quietly(|| access::gen_functions(&module, &book.functions[..place], counter as usize));
     match result {
         Ok(Ok((lines, next))) => Answer::Accepted(Accepted { lines, next: next as u64 }),
         Ok(Err(message)) => match refusal_of_error(&message) {
@@ -65,7 +70,7 @@ pub fn module(book: &Book) -> Module {
     for (name, body) in &book.structs {
         module.struct_types.insert(name.clone(), body.clone());
     }
-    module.functions.push(stub(&book.function.name));
+    module.functions.extend(book.functions.iter().map(|function| stub(&function.name)));
     for (mark, name) in &book.marks {
         if *mark == Mark::Defined {
             module.functions.push(stub(name));

@@ -1,5 +1,5 @@
 //! Compares the proved printer with a printer written from docs/LINES.md, on random lines of every kind, and times both.
-use crate::book::{kind, Type};
+use crate::book::{kind, Slices, Type};
 use crate::clock::best;
 use crate::letters::character;
 use crate::lines::Printer;
@@ -9,14 +9,13 @@ use crate::rng::Rng;
 /// The best of so many calls is printed.
 const CALLS: usize = 5;
 
-/// How many characters of a name in a thousand are outside ASCII, a row for each.
-const OUTSIDE: [usize; 3] = [0, 100, 900];
+/// How many characters of a name in a thousand are outside ASCII, and how many functions the book has, a row for each.
+const ROWS: [(usize, usize); 6] = [(0, 1), (100, 1), (900, 1), (0, 40), (100, 40), (0, 10_000)];
 
 struct Made {
     names: Vec<String>,
-    function: u64,
-    /// The number of the struct that the function returns.
-    returned: u64,
+    /// Of each function the name's number and that of the struct that it returns.
+    functions: Vec<[u64; 2]>,
     kinds: Vec<u16>,
     operands: Vec<u64>,
 }
@@ -34,18 +33,20 @@ fn names(rng: &mut Rng, count: usize, outside: usize) -> Vec<String> {
     names
 }
 
-fn lines(seed: u64, count: usize, many: usize, outside: usize) -> Made {
+/// The first line is a comment, so that blocks have a function from there on.
+fn lines(seed: u64, count: usize, many: usize, outside: usize, functions: usize) -> Made {
     let mut rng = Rng::new(seed, 0);
     let names = names(&mut rng, many, outside);
     let calls: Vec<usize> = (0..many).filter(|&x| names[x].starts_with("__uvm_")).collect();
-    let [function, returned] = [(); 2].map(|()| rng.below(many) as u64);
+    let step = (many / functions).max(1);
+    let functions: Vec<[u64; 2]> = (0..functions.min(many)).map(|place| [(place * step) as u64, rng.below(many) as u64]).collect();
     let (mut kinds, mut operands) = (vec![], vec![]);
-    for _ in 0..count {
-        let line = rng.below(94) as u16;
+    for place in 0..count {
+        let line = if place == 0 { 0 } else { rng.below(94) as u16 };
         let name = rng.below(many) as u64;
         let digits = rng.below(64);
         operands.push(match line {
-            0 => function,
+            0 => rng.pick(&functions)[0],
             1..=4 => name,
             5 => name * 256 + rng.below(256) as u64,
             6 => *rng.pick(&calls) as u64,
@@ -57,30 +58,33 @@ fn lines(seed: u64, count: usize, many: usize, outside: usize) -> Made {
         });
         kinds.push(line);
     }
-    Made { names, function, returned, kinds, operands }
+    Made { names, functions, kinds, operands }
 }
 
 impl Made {
-    /// A function that returns a struct, without parameters, with one empty block.
+    /// Functions that return a struct each, without parameters, with one empty block.
     fn book(&self) -> Vec<u64> {
-        let kinds = [kind::FUNCTION, kind::NAMED, kind::END, kind::BLOCK, kind::UNREACHABLE, kind::END];
-        let words = [self.function, self.returned, 0, 0, 0, 0];
-        [&[6, self.names.len() as u64][..], &kinds, &words].concat()
+        let function = |[name, returned]: &[u64; 2]| {
+            [(kind::FUNCTION, *name), (kind::NAMED, *returned), (kind::END, 0), (kind::BLOCK, 0), (kind::UNREACHABLE, 0), (kind::END, 0)]
+        };
+        let entries: Vec<(u64, u64)> = self.functions.iter().flat_map(function).chain([(kind::END, 0)]).collect();
+        Slices { book: vec![0, self.names.len() as u64], names: vec![] }.with_entries(&entries).book
     }
 
     fn text(&self) -> String {
-        let returned = Type::NamedStruct(self.names[self.returned as usize].clone());
-        let printer = Printer::new(&self.names, self.function, &returned, 0);
+        let returned = |[_, returned]: &[u64; 2]| Type::NamedStruct(self.names[*returned as usize].clone());
+        let types: Vec<Type> = self.functions.iter().map(returned).collect();
+        let printer = Printer::new(&self.names, self.functions.iter().zip(&types).map(|([name, _], ty)| (*name, ty, 0)));
         printer.text(&self.kinds, &self.operands).expect("every line is one of docs/LINES.md")
     }
 }
 
 pub fn compare(seed: u64, count: u64, many: u64) -> Result<(), String> {
-    OUTSIDE.into_iter().try_for_each(|outside| row(seed, count, many, outside))
+    ROWS.into_iter().try_for_each(|(outside, functions)| row(seed, count.max(1), many.max(1), outside, functions))
 }
 
-fn row(seed: u64, count: u64, many: u64, outside: usize) -> Result<(), String> {
-    let lines = lines(seed, count as usize, many.max(1) as usize, outside);
+fn row(seed: u64, count: u64, many: u64, outside: usize, functions: usize) -> Result<(), String> {
+    let lines = lines(seed, count as usize, many as usize, outside, functions);
     let (book, names) = (lines.book(), lines.names.iter().map(|name| format!("{name}\n")).collect::<String>());
     let (owed, written) = best(CALLS, || lines.text());
     let mut text = vec![b'!'; owed.len() + 1];
@@ -89,7 +93,9 @@ fn row(seed: u64, count: u64, many: u64, outside: usize) -> Result<(), String> {
     let room = owed.len() - 1;
     let short = proved::print(&book, names.as_bytes(), &lines.kinds, &lines.operands, &mut text[..room]);
     let share = outside / 10;
-    println!("{count} lines, {many} names, {share} % of their characters outside ASCII, {} bytes: {printed:?} proved, {written:?} by std's formatting", owed.len());
+    let functions = lines.functions.len();
+    print!("{count} lines, {functions} functions, {many} names, {share} % of their characters outside ASCII, {} bytes: ", owed.len());
+    println!("{printed:?} proved, {written:?} by std's formatting");
     if answer != (0, owed.len() as u64) || &text[..owed.len()] != owed.as_bytes() || text[owed.len()] != b'!' {
         return Err(format!("the texts differ: the proved printer answers {answer:?}"));
     }

@@ -1,6 +1,7 @@
 //! Compares a program that reads a book file and prints the text or the refusal's number, as `lines` does.
 use crate::book::{kind, Lent, Slices};
 use crate::expect::{expected, Expected};
+use crate::random::MOST_FUNCTIONS;
 use crate::runs;
 use crate::written::faulty;
 use std::io::Write;
@@ -9,7 +10,8 @@ use std::process::{Command, Stdio};
 /// A longer file is a 1 for such a program.
 const MOST_BYTES: usize = 65_536;
 
-/// The file with the most names, then random books, one damaged copy of each, and as many faulty statements. The first difference is an error.
+/// The file with the most names, then random books and books of several functions, one damaged copy of each, and faulty statements,
+/// as many of each. The first difference is an error.
 pub fn compare(seed: u64, count: u64, command: &[&str]) -> Result<(), String> {
     let mut compared = 0;
     let mut add = |what: String, slices: &Slices| {
@@ -28,7 +30,10 @@ pub fn compare(seed: u64, count: u64, command: &[&str]) -> Result<(), String> {
         let lent = runs::book(seed, index, false);
         let copy = runs::copy(&lent, seed, index, 0);
         let statement = faulty::lent(seed, index);
-        for (what, lent) in [("book", &lent), ("damaged copy of book", &copy), ("faulty book", &statement)] {
+        let piece = runs::piece(seed, index, MOST_FUNCTIONS);
+        let cut = runs::piece_copy(&piece, seed, index, 0);
+        let single = [("book", &lent), ("damaged copy of book", &copy), ("faulty book", &statement)];
+        for (what, lent) in single.into_iter().chain([("piece", &piece), ("damaged copy of piece", &cut)]) {
             add(format!("seed {seed}, {what} {index}"), &lent.slices)?;
         }
     }
@@ -38,7 +43,7 @@ pub fn compare(seed: u64, count: u64, command: &[&str]) -> Result<(), String> {
 
 /// A function without blocks, and as many names as a file holds with it: all of one byte, all of two, the rest of three.
 fn most_names() -> Slices {
-    let entries = [(kind::FUNCTION, 0), (kind::VOID, 0), (kind::END, 0), (kind::END, 0)];
+    let entries = [(kind::FUNCTION, 0), (kind::VOID, 0), (kind::END, 0), (kind::END, 0), (kind::END, 0)];
     let bytes: Vec<String> = (' '..='~').map(String::from).collect();
     let mut two: Vec<String> = bytes.iter().flat_map(|first| bytes.iter().map(move |second| format!("{first}{second}"))).collect();
     two.extend(('\u{80}'..='\u{7ff}').map(String::from));

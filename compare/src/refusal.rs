@@ -10,21 +10,37 @@ const MOST_ARGS: usize = 255;
 
 pub struct First {
     pub refusal: Option<u8>,
+    /// The place of the function that has it; behind the last one where there is none.
+    pub place: usize,
     /// Steps that measuring types takes the Rust.
     pub steps: u64,
 }
 
+/// Functions are walked over in order.
 pub fn first(book: &Book) -> First {
-    let mut walk = Walk::new(book);
-    let refusal = walk.function(&book.function).err();
-    First { refusal, steps: walk.measure.steps }
+    let mut measure = Measure::new(book);
+    let defined = defined(book);
+    let mut place = 0;
+    let refusal = book.functions.iter().find_map(|function| {
+        let refusal = Walk::new(&mut measure, &defined, function).function(function).err();
+        place += refusal.is_none() as usize;
+        refusal
+    });
+    First { refusal, place, steps: measure.steps }
+}
+
+/// The names marked 1, and those of the book's functions.
+fn defined(book: &Book) -> Set<&str> {
+    let marked = book.marks.iter().filter(|(mark, _)| *mark == Mark::Defined).map(|(_, name)| name.as_str());
+    marked.chain(book.functions.iter().map(|function| function.name.as_str())).collect()
 }
 
 /// Nothing, or the refusal.
 type Pass = Result<(), u8>;
 
-struct Walk<'a> {
-    measure: Measure<'a>,
+/// One function's.
+struct Walk<'w, 'a> {
+    measure: &'w mut Measure<'a>,
     params: Set<&'a str>,
     /// Names with a slot.
     slots: Set<&'a str>,
@@ -32,7 +48,7 @@ struct Walk<'a> {
     blocks: Map<&'a str, &'a BasicBlock>,
     /// Names with a fixed place.
     places: Set<&'a str>,
-    defined: Set<&'a str>,
+    defined: &'w Set<&'a str>,
 }
 
 fn must(holds: bool, refusal: u8) -> Pass {
@@ -62,16 +78,12 @@ fn fixed_count(count: &Option<TypedVal>) -> Option<u64> {
     }
 }
 
-impl<'a> Walk<'a> {
-    fn new(book: &'a Book) -> Walk<'a> {
-        let function = &book.function;
-        let mut defined: Set<&str> =
-            book.marks.iter().filter(|(mark, _)| *mark == Mark::Defined).map(|(_, name)| name.as_str()).collect();
-        defined.insert(&function.name);
+impl<'w, 'a> Walk<'w, 'a> {
+    fn new(measure: &'w mut Measure<'a>, defined: &'w Set<&'a str>, function: &'a Function) -> Walk<'w, 'a> {
         Walk {
-            measure: Measure::new(book),
+            measure,
             params: function.params.iter().filter_map(|param| param.name.as_deref()).collect(),
-            slots: book.instructions().filter_map(|inst| inst.dest.as_deref()).collect(),
+            slots: instructions(function).filter_map(|inst| inst.dest.as_deref()).collect(),
             blocks: function.blocks.iter().map(|block| (block.label.as_str(), block)).collect(),
             places: Set::default(),
             defined,
@@ -80,8 +92,7 @@ impl<'a> Walk<'a> {
 
     fn function(&mut self, function: &'a Function) -> Pass {
         let has_frame = self.frame(function)?;
-        let insts = function.blocks.iter().flat_map(|block| &block.insts);
-        let slots: usize = insts.filter(|inst| inst.dest.is_some()).map(|inst| slots_of(&inst.kind)).sum();
+        let slots: usize = instructions(function).filter(|inst| inst.dest.is_some()).map(|inst| slots_of(&inst.kind)).sum();
         must(slots + has_frame as usize <= MOST_SLOTS, 8)?;
         for block in &function.blocks {
             for inst in &block.insts {
@@ -96,7 +107,7 @@ impl<'a> Walk<'a> {
     fn frame(&mut self, function: &'a Function) -> Result<bool, u8> {
         let mut end = 0;
         let mut varies = false;
-        for inst in function.blocks.iter().flat_map(|block| &block.insts) {
+        for inst in instructions(function) {
             let InstKind::Alloca { ty, count, .. } = &inst.kind else { continue };
             let dest = inst.dest.as_deref().ok_or(5)?;
             let Some(count) = fixed_count(count) else {

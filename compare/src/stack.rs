@@ -5,6 +5,7 @@ use crate::cases;
 use crate::check::{work_needed, MOST_NAMES};
 use crate::large;
 use crate::proved;
+use crate::random::MOST_FUNCTIONS;
 use crate::runs;
 use std::process::{Command, Stdio};
 
@@ -14,7 +15,7 @@ const STEP: u64 = 8;
 /// Nothing may take more, in KiB.
 const MOST: u64 = 512;
 
-/// So many random books beside those of hostile shape, at the limits and of the sheets.
+/// So many random books, and as many of several functions, beside those of hostile shape, at the limits and of the sheets.
 const RANDOM: u64 = 2000;
 
 /// Lines and bytes of text beyond these are not made room for: a call is then refused with 20 at its end.
@@ -61,7 +62,8 @@ fn books() -> Vec<Lent> {
         let names = slices.book.get(1).map_or(0, |names| *names.min(&MOST_NAMES));
         Lent { work: work_needed(names as usize), counter: 0, slices }
     });
-    shapes.chain(sheets).chain((0..RANDOM).map(|index| runs::book(1, index, true))).collect()
+    let random = (0..RANDOM).map(|index| runs::book(1, index, true));
+    shapes.chain(sheets).chain(random).chain((0..RANDOM).map(|index| runs::piece(1, index, MOST_FUNCTIONS))).collect()
 }
 
 fn calls(books: &[Lent]) {

@@ -2,15 +2,16 @@
 use crate::book::{encode, Lent};
 use crate::check::{check, Verdict};
 use crate::expect::{expected, Expected};
-use crate::features::FEATURES;
+use crate::features::{FEATURES, WHOLE};
 use crate::oracle;
-use crate::random;
+use crate::random::{self, MOST_FUNCTIONS};
 use crate::refusal;
 use crate::runs;
 use crate::written::faulty;
 use std::time::Instant;
 
 const COPIES: u64 = 4;
+const PIECE_COPIES: u64 = 2;
 
 /// How often each answer came.
 #[derive(Default)]
@@ -52,7 +53,7 @@ pub fn books(seed: u64, count: u64) -> Result<(), String> {
     rate(seed, count, true);
     let mut tally = Tally::default();
     let mut kinds = [0u64; 96];
-    let mut features = vec![0u64; FEATURES.len()];
+    let (mut features, mut whole) = (vec![0u64; FEATURES.len()], vec![0u64; WHOLE.len()]);
     let mut entries = 0;
     for index in 0..count {
         let lent = runs::book(seed, index, true);
@@ -67,6 +68,9 @@ pub fn books(seed: u64, count: u64) -> Result<(), String> {
             lent.slices.kinds().iter().for_each(|kind| kinds[*kind as usize] += 1);
             let Verdict::Sound(book) = check(&lent) else { unreachable!() };
             for (found, (_, has)) in features.iter_mut().zip(FEATURES) {
+                *found += book.functions.iter().any(|function| has(&book, function)) as u64;
+            }
+            for (found, (_, has)) in whole.iter_mut().zip(WHOLE) {
                 *found += has(&book) as u64;
             }
         }
@@ -77,7 +81,8 @@ pub fn books(seed: u64, count: u64) -> Result<(), String> {
     let rarest = (40..=82).chain(90..=93).filter(|kind| *kind != 59).min_by_key(|kind| kinds[*kind]).unwrap();
     println!("rarest instruction or terminator in accepted books: kind {rarest}, {} times", kinds[rarest]);
     println!("accepted books with:");
-    for (found, (what, _)) in features.iter().zip(FEATURES) {
+    let whats = FEATURES.iter().map(|(what, _)| what).chain(WHOLE.iter().map(|(what, _)| what));
+    for (found, what) in features.iter().chain(&whole).zip(whats) {
         println!("{found:>9}  {what}");
     }
     Ok(())
@@ -107,9 +112,9 @@ pub fn faulty(seed: u64, count: u64) -> Result<(), String> {
     Ok(())
 }
 
-/// Damaged copies of random books.
+/// Damaged copies of random books, and of books of several functions.
 pub fn damaged(seed: u64, count: u64) -> Result<(), String> {
-    let mut tally = Tally::default();
+    let (mut tally, mut pieces) = (Tally::default(), Tally::default());
     for index in 0..count {
         let lent = runs::book(seed, index, false);
         for number in 0..COPIES {
@@ -118,8 +123,17 @@ pub fn damaged(seed: u64, count: u64) -> Result<(), String> {
             tally.add(&expected(&copy).map_err(place)?);
             written_again(&copy).map_err(place)?;
         }
+        let piece = runs::piece(seed, index, MOST_FUNCTIONS);
+        for number in 0..PIECE_COPIES {
+            let copy = runs::piece_copy(&piece, seed, index, number);
+            let place = |error| format!("seed {seed}, piece {index}, copy {number}: {error}");
+            pieces.add(&expected(&copy).map_err(place)?);
+            written_again(&copy).map_err(place)?;
+        }
     }
     tally.print();
+    println!("copies of books of several functions:");
+    pieces.print();
     Ok(())
 }
 

@@ -1,11 +1,12 @@
-//! Compares the proved translator with the published Rust: books at the limits and written by hand, random books, damaged
-//! copies, statements whose parts are right or wrong, books one change away from some; each lent in several ways.
+//! Compares the proved translator with the published Rust: books at the limits and written by hand, random books, books of several
+//! functions, damaged copies of both, statements whose parts are right or wrong, books one change away from some; each lent in several ways.
 use crate::bench;
 use crate::book::Lent;
 use crate::cases;
-use crate::check::work_needed;
+use crate::check::{work_needed, HIGHEST_COUNTER};
 use crate::large;
 use crate::neighbours::neighbours;
+use crate::random::MOST_FUNCTIONS;
 use crate::rng::Rng;
 use crate::runs;
 use crate::written::{self, faulty};
@@ -28,6 +29,9 @@ const LARGE: u64 = 8;
 const STRIDE: u64 = 5000;
 const SMALL: u64 = 200;
 
+/// One index in so many has a book of several functions too.
+const PIECES: u64 = 2;
+
 /// Indices that a thread takes at once.
 const STEP: u64 = 64;
 
@@ -42,9 +46,12 @@ pub enum Sort {
     Damaged,
     Faulty,
     Near,
+    Pieces,
+    /// Damaged copies of pieces.
+    CutPieces,
 }
 
-pub const SORTS: [&str; 5] = ["limits", "random", "damaged", "faulty", "near"];
+pub const SORTS: [&str; 7] = ["limits", "random", "damaged", "faulty", "near", "pieces", "cut pieces"];
 
 /// Counters for books that do not ask for one.
 const COUNTERS: [u64; 6] = [0, 0, 1, 7, (1 << 32) - 1, 1 << 32];
@@ -97,7 +104,7 @@ fn random(tally: &mut Tally, examiner: &mut Examiner, seed: u64, index: u64) {
         let copy = runs::copy(&lent, seed, index, number);
         tally.add(Sort::Damaged, examiner, &copy, rng.next(), || format!("seed {seed}, book {index}, copy {number}"));
     }
-    lent.counter = if rng.chance(200) { rng.next() >> 32 } else { *rng.pick(&COUNTERS) };
+    lent.counter = counter(&mut rng);
     tally.add(Sort::Random, examiner, &lent, rng.next(), || format!("seed {seed}, book {index}"));
     let statement = faulty::lent(seed, index);
     tally.add(Sort::Faulty, examiner, &statement, rng.next(), || format!("seed {seed}, faulty book {index}"));
@@ -105,6 +112,33 @@ fn random(tally: &mut Tally, examiner: &mut Examiner, seed: u64, index: u64) {
         neighbours(&lent, |other, what, place| {
             tally.add(Sort::Near, examiner, other, rng.next(), || format!("seed {seed}, book {index}, {what} at {place}"));
         });
+    }
+    if index % PIECES == 0 {
+        piece(tally, examiner, seed, index, &mut rng);
+    }
+}
+
+/// A book of several functions, a damaged copy of it, and for some all books one change away.
+fn piece(tally: &mut Tally, examiner: &mut Examiner, seed: u64, index: u64, rng: &mut Rng) {
+    let mut lent = runs::piece(seed, index, MOST_FUNCTIONS);
+    let copy = runs::piece_copy(&lent, seed, index, 0);
+    tally.add(Sort::CutPieces, examiner, &copy, rng.next(), || format!("seed {seed}, copy of piece {index}"));
+    lent.counter = counter(rng);
+    tally.add(Sort::Pieces, examiner, &lent, rng.next(), || format!("seed {seed}, piece {index}"));
+    let small = runs::piece(seed, index, 3);
+    if index % STRIDE == 0 && small.slices.book[0] <= SMALL {
+        neighbours(&small, |other, what, place| {
+            tally.add(Sort::Near, examiner, other, rng.next(), || format!("seed {seed}, piece {index} of at most 3 functions, {what} at {place}"));
+        });
+    }
+}
+
+/// Any counter that may be lent; now and then one so near to 2^32 that a later function begins above it.
+fn counter(rng: &mut Rng) -> u64 {
+    match rng.below(10) {
+        0..=1 => rng.next() >> 32,
+        2..=3 => HIGHEST_COUNTER - rng.below(30) as u64,
+        _ => *rng.pick(&COUNTERS),
     }
 }
 

@@ -1,4 +1,4 @@
-//! Holds a function's run by the manual against the run of its lines on the stack machine, on random functions and inputs:
+//! Holds a function's run by the manual against the run of its lines on the stack machine, on random books and inputs, each function by itself:
 //! first by two interpreters written here from document 01, then by the definitions in crates/manual and crates/machine.
 mod agree;
 mod cases;
@@ -17,6 +17,7 @@ use agree::{hold, Held};
 use counts::Counts;
 use equations::Case;
 use program::Program;
+use shrink::Whole;
 use world::Input;
 
 pub use cases::tests;
@@ -25,10 +26,10 @@ pub use cases::tests;
 const BOUND: usize = 12;
 const FAR_BOUND: usize = 40;
 
-/// Inputs for each function.
+/// Inputs for each function of a book.
 const INPUTS: u64 = 2;
 
-/// For each function that is computed, so many are only run here.
+/// For each book that is computed, so many are only run here.
 const RUN_HERE: u64 = 100;
 
 const COUNTERS: [u64; 3] = [0, 7, 1 << 32];
@@ -42,22 +43,23 @@ const SCRATCH: Scratch = Scratch {
     unfolding: "openShow",
 };
 
-/// A run by its names: the function's seed and index, the input's number.
+/// A run by its names: the book's seed and index, the function's place in it, the input's number.
 #[derive(Clone, Copy)]
 struct Run {
     seed: u64,
     index: u64,
+    place: usize,
     number: u64,
     bound: usize,
 }
 
 impl Run {
     fn counter(&self) -> u64 {
-        COUNTERS[self.index as usize % COUNTERS.len()]
+        counter(self.index)
     }
 
     fn name(&self) -> String {
-        format!("seed {}, function {}, input {}", self.seed, self.index, self.number)
+        format!("seed {}, book {}, function {}, input {}", self.seed, self.index, self.place, self.number)
     }
 
     fn input(&self, program: &Program) -> Input {
@@ -78,8 +80,9 @@ impl Run {
 
     /// The function that still differs when no instruction can be left out, with its lines and input.
     fn smaller(&self, differ: &mut dyn FnMut(&[Program]) -> Vec<bool>) -> Option<(Program, String)> {
-        let program = shrink::shrink(self.seed, self.index, self.counter(), differ)?;
-        let text = format!("{:?}\n{}\n{:?}", program.book.function, program.lines.join("\n"), self.input(&program));
+        let whole = Whole { seed: self.seed, index: self.index, place: self.place, counter: self.counter() };
+        let program = shrink::shrink(whole, differ)?;
+        let text = format!("{:?}\n{}\n{:?}", program.function(), program.lines.join("\n"), self.input(&program));
         Some((program, text))
     }
 }
@@ -94,12 +97,16 @@ pub fn compare(seed: u64, count: u64) -> Result<(), String> {
     let mut computed = Counts::default();
     let mut cases = vec![];
     for index in 0..count {
-        let program = function(seed, index, &mut computed)?;
-        for number in 0..INPUTS {
-            let run = Run { seed, index, number, bound: BOUND };
-            let (input, held) = run.hold(&program)?;
-            computed.add(&held);
-            cases.push(equations::case(run, &program, &input, &held));
+        let mut program = book(seed, index)?;
+        for place in 0..program.book.functions.len() {
+            program.enter(place)?;
+            computed.functions += 1;
+            for number in 0..INPUTS {
+                let run = Run { seed, index, place, number, bound: BOUND };
+                let (input, held) = run.hold(&program)?;
+                computed.add(&held);
+                cases.push(equations::case(run, &program, &input, &held));
+            }
         }
     }
     computed.print(BOUND);
@@ -108,31 +115,38 @@ pub fn compare(seed: u64, count: u64) -> Result<(), String> {
     if here.lacks_a_kind() { Err("the maker has lost what was never run".to_string()) } else { Ok(()) }
 }
 
-fn function(seed: u64, index: u64, counts: &mut Counts) -> Result<Program, String> {
-    let run = Run { seed, index, number: 0, bound: 0 };
-    let program = Program::new(make::make(seed, index), run.counter()).and_then(|made| made.ok_or("refused".to_string()));
-    counts.functions += 1;
-    program.map_err(|error| format!("seed {seed}, function {index}: {error}"))
+fn counter(index: u64) -> u64 {
+    COUNTERS[index as usize % COUNTERS.len()]
 }
 
-/// Runs functions by the two interpreters.
+fn book(seed: u64, index: u64) -> Result<Program, String> {
+    let program = Program::new(make::make(seed, index), counter(index)).and_then(|made| made.ok_or("refused".to_string()));
+    program.map_err(|error| format!("seed {seed}, book {index}: {error}"))
+}
+
+/// Runs each function of the books by the two interpreters.
 fn run_here(seed: u64, count: u64) -> Result<Counts, String> {
     let mut counts = Counts::default();
     for index in 0..count {
-        let program = function(seed, index, &mut counts)?;
-        for number in 0..INPUTS {
-            let run = Run { seed, index, number, bound: FAR_BOUND };
-            match run.hold(&program) {
-                Ok((_, held)) => counts.add(&held),
-                Err(error) => {
-                    let mut differ = |programs: &[Program]| programs.iter().map(|program| run.hold(program).is_err()).collect();
-                    let text = run.smaller(&mut differ).map_or(String::new(), |(_, text)| text);
-                    return Err(format!("{}: {error}; made smaller:\n{text}", run.name()));
-                }
+        let mut program = book(seed, index)?;
+        for place in 0..program.book.functions.len() {
+            program.enter(place)?;
+            counts.functions += 1;
+            for number in 0..INPUTS {
+                counts.add(&run_one(&program, Run { seed, index, place, number, bound: FAR_BOUND })?);
             }
         }
     }
     Ok(counts)
+}
+
+/// One run; where the two differ, an error with the book made smaller.
+fn run_one(program: &Program, run: Run) -> Result<Held, String> {
+    run.hold(program).map(|(_, held)| held).map_err(|error| {
+        let mut differ = |programs: &[Program]| programs.iter().map(|program| run.hold(program).is_err()).collect();
+        let text = run.smaller(&mut differ).map_or(String::new(), |(_, text)| text);
+        format!("{}: {error}; made smaller:\n{text}", run.name())
+    })
 }
 
 /// The places of the runs that the definitions don't show as they were seen here.

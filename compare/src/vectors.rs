@@ -112,7 +112,8 @@ fn call(lent: Lent, rng: &mut Rng) -> Result<Option<Call>, String> {
     let Some(mut call) = owed(lent)? else { return Ok(None) };
     let count = call.room[0];
     if call.refusal == 0 && rng.chance(150) {
-        let room = *rng.pick(&[[count - 1, count], [count, count - 1], [0, 0], [count / 2, count + 1]]);
+        let first = call.lines.functions().get(1).copied().unwrap_or(0);
+        let room = *rng.pick(&[[count - 1, count], [count, count - 1], [0, 0], [count / 2, count + 1], [first, first]]);
         return Ok(Some(call.short(room)));
     }
     if !rng.chance(500) {
@@ -122,8 +123,8 @@ fn call(lent: Lent, rng: &mut Rng) -> Result<Option<Call>, String> {
 }
 
 /// The sheets, refusals and limits of `cases.rs`, but for books of more than 66,000 entries or 1,000 bytes of names: each with line
-/// slices that are exactly full, and one of them a line short; the first at the largest counter, at one more, and with a work slice that is a
-/// word short.
+/// slices that are exactly full, one of them a line short, and such as end with or in the first of several functions; the first at the
+/// largest counter, at one more, and with a work slice that is a word short.
 fn fixed() -> Result<Vec<Call>, String> {
     let mut calls = vec![];
     for (what, slices) in cases::books() {
@@ -141,7 +142,8 @@ fn fixed() -> Result<Vec<Call>, String> {
             let call = owed(lent).map_err(|error| format!("{what}: {error}"))?.ok_or(format!("{what}: no answer"))?;
             let count = call.room[0];
             if call.refusal == 0 {
-                calls.extend([[count - 1, count], [count, count - 1]].map(|room| call.short(room)));
+                let ends = call.lines.functions().get(1).map_or(vec![], |second| vec![[*second; 2], [*second - 1, count]]);
+                calls.extend([[count - 1, count], [count, count - 1]].into_iter().chain(ends).map(|room| call.short(room)));
             }
             calls.push(call);
         }
@@ -161,10 +163,12 @@ pub fn write_numbers(seed: u64, count: u64, file: &str, most: u64) -> Result<(),
     let fixed = fixed()?;
     for index in 0..count * LOOKED_AT {
         let mut rng = Rng::new(seed ^ 0x5eed, index);
-        let lent = match index % 3 {
+        let lent = match index % 5 {
             0 => runs::book(seed, index, false),
             1 => runs::copy(&runs::book(seed, index, false), seed, index, 0),
-            _ => faulty::lent(seed, index),
+            2 => faulty::lent(seed, index),
+            3 => runs::piece(seed, index, 4),
+            _ => runs::piece_copy(&runs::piece(seed, index, 4), seed, index, 0),
         };
         if lent.slices.book.len() as u64 > 2 * most + 2 {
             continue;

@@ -1,5 +1,5 @@
-//! Small books written by hand, where random ones come seldom: chains of faults inside one statement, corners, and books
-//! with two faults before any statement. The Rust's answer must be the one that stands beside a book; `compare written` writes
+//! Small books written by hand, where random ones come seldom: chains of faults inside one statement, corners, books with two
+//! faults before any statement, and books of several functions. The Rust's answer must be the one that stands beside a book; `compare written` writes
 //! them as checked tables of crates/lowering.
 use crate::book::Lent;
 #[cfg(translating)]
@@ -10,7 +10,8 @@ use crate::table::{self, Row};
 mod chains;
 mod corners;
 pub mod faulty;
-mod notation;
+pub mod notation;
+mod pieces;
 
 /// A book, and the refusal that it gets: 0 for none.
 struct Written {
@@ -20,7 +21,7 @@ struct Written {
 }
 
 /// The tables: file, name, what stands over it, books.
-fn tables() -> [(&'static str, &'static str, &'static str, Vec<Written>); 7] {
+fn tables() -> [(&'static str, &'static str, &'static str, Vec<Written>); 8] {
     [
         ("ChainsValues", "chains", CHAINS, chains::values()),
         ("ChainsMemory", "chains", CHAINS, chains::memory()),
@@ -29,6 +30,7 @@ fn tables() -> [(&'static str, &'static str, &'static str, Vec<Written>); 7] {
         ("CornersPlaces", "corners", CORNERS, corners::places_and_steps()),
         ("CornersCalls", "corners", CORNERS, corners::calls()),
         ("CornersBlocks", "corners", CORNERS, corners::values_and_blocks()),
+        ("Pieces", "pieces", PIECES, pieces::pieces()),
     ]
 }
 
@@ -41,6 +43,11 @@ const CHAINS: &str = "-- \"The first fault `Codegen::gen_function` meets in its 
 const CORNERS: &str = "-- Corners that random books meet seldom, both sides of each: counts and indices of odd types, strides of 0 and 1, results
 -- that a call may have, names that nearly are special, maps with two of one name. With the answers of the published Rust;
 -- written by `compare written`, in whose notation each book stands over its row.
+";
+
+const PIECES: &str = "-- Books of several functions: what each has of its own, what they share, how the list of them is closed, and which refusal of
+-- several comes first. With the answers of the published Rust, asked function by function; written by `compare written`, in whose notation
+-- each book stands over its row.
 ";
 
 /// Writes the tables to a folder.
@@ -93,6 +100,6 @@ fn insts(text: &str) -> String {
 /// The same with its blocks.
 fn blocks(text: &str) -> String {
     let (head, text) = text.split_once('|').unwrap_or(("", text));
-    let text = format!("{head} func:f void param:p ptr . {text} .");
+    let text = format!("{head} func:f void param:p ptr . {text} . .");
     text.split_whitespace().collect::<Vec<_>>().join(" ")
 }

@@ -65,9 +65,12 @@ fn row(large: &Large) {
     let (book, bytes) = (&lent.slices.book, &lent.slices.names);
     let size = entries as usize + names as usize + bytes.len() / BYTES;
     let mut text = vec![0; if lines == 0 { 0 } else { (64 * lines + bytes.len() * 2).min(MOST_TEXT) }];
-    let print = || proved::print(book, bytes, &kinds[..lines], &operands[..lines], &mut text);
+    let print = |text: &mut Vec<u8>| proved::print(book, bytes, &kinds[..lines], &operands[..lines], text);
+    while print(&mut text).0 == 20 && text.len() < MOST_TEXT {
+        text.resize((4 * text.len()).min(MOST_TEXT), 0);
+    }
     let printed = if lines > 0 {
-        let ((_, count), time) = least(print);
+        let ((_, count), time) = least(|| print(&mut text));
         format!("{:.1}", time / (size + lines + count as usize / BYTES) as f64)
     } else {
         String::new()
@@ -185,7 +188,7 @@ fn phis(what: &'static str, blocks: u64, phis: u64, backwards: bool) -> Large {
         entries.extend((0..blocks).flat_map(pair));
         entries.push(END);
     }
-    entries.extend([(kind::UNREACHABLE, 0), END]);
+    entries.extend([(kind::UNREACHABLE, 0), END, END]);
     large::large(what, 0, &entries, (join + 1 + phis) as usize)
 }
 
@@ -197,8 +200,31 @@ fn switch(what: &'static str, cases: usize, phis: u64) -> Large {
     entries.extend(case.repeat(cases));
     entries.extend([END, (kind::BLOCK, 1)]);
     entries.extend((0..phis).flat_map(|phi| [(kind::PHI, 3 + phi), WORD, NULL, (kind::TARGET, 0), END]));
-    entries.extend([(kind::UNREACHABLE, 0), END]);
+    entries.extend([(kind::UNREACHABLE, 0), END, END]);
     large::large(what, 0, &entries, 2 + phis as usize)
+}
+
+/// So many functions, whose names stand all over a book of as many names as there may be. Each has a frame, labels of its own, a phi, and calls
+/// another one; where `shared`, all have the same parameter, blocks and results.
+fn functions(what: &'static str, count: u64, shared: bool) -> Large {
+    let step = MOST_NAMES / count;
+    let function = |place: u64| {
+        let own = place * step;
+        let local = |number: u64| if shared { number } else { own + number };
+        let callee = (place * 7919 + 1) % count * step;
+        let [param, first, last, slot, select, phi, reply] = [1, 2, 3, 4, 5, 6, 7].map(local);
+        vec![
+            (kind::FUNCTION, own), WORD, (kind::PARAM, param + 1), WORD, END, (kind::BLOCK, first),
+            (kind::ALLOCA, slot + 1), WORD, (kind::ABSENT, 0), (kind::ABSENT, 0),
+            (kind::SELECT, select + 1), (kind::LOCAL, param), WORD, (kind::LOCAL, param), NULL,
+            (kind::STORE, 0), WORD, (kind::LOCAL, select), (kind::LOCAL, slot), (kind::ABSENT, 0),
+            (kind::BR, 0), (kind::LOCAL, select), (kind::TARGET, last), (kind::TARGET, last),
+            (kind::BLOCK, last), (kind::PHI, phi + 1), WORD, (kind::LOCAL, select), (kind::TARGET, first), END,
+            (kind::CALL, reply + 1), WORD, (kind::GLOBAL, callee), WORD, (kind::LOCAL, phi), END,
+            (kind::RET, 0), WORD, (kind::LOCAL, reply), END,
+        ]
+    };
+    large::large(what, 0, &large::closed((0..count).map(function)), NAMES)
 }
 
 /// A function that stores the address of each name, so that each is printed.
@@ -206,6 +232,21 @@ fn every_name(what: &'static str, names: Vec<String>) -> Large {
     let store = |name: u64| [(kind::STORE, 0), (kind::PTR, 0), (kind::GLOBAL, name), NULL, (kind::ABSENT, 0)];
     let stores: Entries = (0..names.len() as u64).flat_map(store).collect();
     named(what, &unreachable(&stores), names)
+}
+
+/// So many functions that each freeze one struct of so many fields: what is measured for one should serve the next.
+fn structs_of_functions(what: &'static str, count: u64, fields: usize) -> Large {
+    let body = [vec![(kind::NAMED_STRUCT, 0), (kind::STRUCT, 0)], [BYTE, WORD].repeat(fields / 2), vec![END]].concat();
+    let freeze = [(kind::FREEZE, 2), (kind::NAMED, 0), NULL];
+    let functions = large::closed((0..count).map(|name| large::small(name + 2, &freeze)));
+    large::large(what, 0, &[body, functions].concat(), count as usize + 2)
+}
+
+/// So many functions of names so long, each with blocks that jump to each other: every label has the function's name.
+fn piece_named(what: &'static str, count: u64, length: usize) -> Large {
+    let jump = |from: u64, to: u64| [(kind::BLOCK, from), (kind::BR, 0), (kind::ABSENT, 0), (kind::TARGET, to), (kind::ABSENT, 0)];
+    let function = |name: u64| [&[(kind::FUNCTION, name), VOID, END][..], &jump(0, 1).repeat(4), &jump(1, 0).repeat(4), &[END]].concat();
+    named(what, &large::closed((0..count).map(function)), long_names("a", count as usize, length))
 }
 
 /// Names of one to three bytes, as many as a book may have.
@@ -265,6 +306,11 @@ pub fn shapes() -> Vec<Large> {
         every_name("16,384 names of 1,000 bytes, each pushed", long_names("a", 16_384, 1000)),
         every_name("131,072 names of 100 bytes outside ASCII, each pushed", long_names("ř", NAMES, 100)),
         named("131,072 names of 1,000 bytes", &unreachable(&[]), long_names("a", NAMES, 1000)),
+        functions("forty small functions over 131,072 names", 40, false),
+        functions("10,000 small functions over 131,072 names", 10_000, false),
+        functions("10,000 small functions that share their names", 10_000, true),
+        structs_of_functions("10,000 functions that each measure a struct of 20,000 fields", 10_000, 20_000),
+        piece_named("1,000 functions whose names are 1,000 bytes long and alike", 1000, 1000),
     ]
 }
 

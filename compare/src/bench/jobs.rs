@@ -13,7 +13,7 @@ pub enum Job {
     Print,
     /// The translator, and the printer upon its lines.
     Both,
-    /// The Rust's `gen_function`, its module made before.
+    /// The Rust's `gen_function` for each function, its module made before.
     Generate,
     /// The lines as strings by `format!`.
     Format,
@@ -79,7 +79,7 @@ impl<'a> Bench<'a> {
                 }
             }
             Job::Generate => {
-                let _ = black_box(access::gen_function(module, &ast.function, 0));
+                let _ = black_box(access::gen_functions(module, &ast.functions, 0));
             }
             Job::Format => {
                 black_box(self.printers[book].strings(kinds, operands));

@@ -23,10 +23,26 @@ impl Ending {
 }
 
 impl Maker {
-    pub fn function(&mut self) -> Function {
-        let name = self.spelling("f");
-        self.own = self.note(&name);
+    /// The name of the next function, which no other has.
+    pub fn name_function(&mut self) {
+        let mut name = self.spelling("f");
+        while self.functions.contains(&name) {
+            name.push(self.letter());
+        }
+        let name = self.note(&name);
         self.globals.push(name.clone());
+        self.functions.push(name);
+    }
+
+    /// The function of this place; the more there are, the smaller they are.
+    pub fn function(&mut self, place: usize) -> Function {
+        let name = self.functions[place].clone();
+        self.own = name.clone();
+        let (most_blocks, most_insts) = match self.functions.len() {
+            1 => (6, 11),
+            2..=4 => (4, 8),
+            _ => (3, 5),
+        };
         let ret_ty = match self.rng.below(10) {
             0..=6 => self.scalar(),
             7..=8 => Type::Void,
@@ -34,7 +50,7 @@ impl Maker {
         };
         let params = (0..self.rng.below(5)).map(|_| self.param()).collect();
 
-        let count = if self.rng.chance(10) { 0 } else { self.rng.range(1, 6) };
+        let count = if self.rng.chance(10) { 0 } else { self.rng.range(1, most_blocks) };
         let labels: Vec<String> = (0..count).map(|_| self.new_label("b")).collect();
         let endings: Vec<Ending> = (0..count).map(|block| self.ending(block, count)).collect();
         let mut blocks = vec![];
@@ -45,7 +61,7 @@ impl Maker {
                     insts.push(self.phi());
                 }
             }
-            for _ in 0..self.rng.below(11) {
+            for _ in 0..self.rng.below(most_insts) {
                 self.inst(&mut insts);
             }
             let term = self.term(&endings[place], &labels, &ret_ty);
@@ -61,7 +77,7 @@ impl Maker {
             return Param { ty, name: None };
         }
         let name = self.new_local("p");
-        self.locals.push((name.clone(), ty.clone()));
+        self.scope.locals.push((name.clone(), ty.clone()));
         Param { ty, name: Some(name) }
     }
 

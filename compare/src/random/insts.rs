@@ -209,6 +209,7 @@ impl Maker {
 
     fn call(&mut self) -> Inst {
         let callee = match self.rng.below(10) {
+            _ if self.functions.len() > 1 && self.rng.chance(400) => self.function_of_book(),
             0 => self.note_global(&["bcmp", "memcmp"]),
             1..=3 => self.note_global(&["__uvm_print", "__uvm_", "__uvm_memcmp", "__uvm_a b", "__uvm_x.with.overflow.y"]),
             4..=5 => {
@@ -220,7 +221,8 @@ impl Maker {
                 self.defined.push(name.clone());
                 Value::Global(name)
             }
-            7 => Value::Global(self.own.clone()),
+            7 if self.functions.len() == 1 => Value::Global(self.own.clone()),
+            7 => self.function_of_book(),
             _ => Value::Global(self.rng.pick(&self.defined).clone()),
         };
         let callee = match callee {
@@ -237,6 +239,11 @@ impl Maker {
         let named = if ret_ty == Type::Void { self.loose && self.rng.chance(300) } else { self.rng.chance(800) };
         let dest = if named { self.result(ret_ty.clone()) } else { None };
         Inst { dest, kind: InstKind::Call { ret_ty, fn_ty: None, callee, args } }
+    }
+
+    /// The function itself, one before it or one behind it.
+    fn function_of_book(&mut self) -> Value {
+        Value::Global(self.rng.pick(&self.functions).clone())
     }
 
     fn note_global(&mut self, names: &[&str]) -> Value {
@@ -263,7 +270,7 @@ impl Maker {
             }
         }
         if self.loose && self.rng.chance(300) {
-            self.locals.push((name, pair));
+            self.scope.locals.push((name, pair));
         }
     }
 }

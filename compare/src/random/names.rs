@@ -35,7 +35,7 @@ impl Maker {
     /// A name that no parameter or result has yet.
     pub fn new_local(&mut self, hint: &str) -> String {
         let mut name = self.spelling(hint);
-        while !self.local_names.insert(name.clone()) {
+        while !self.scope.local_names.insert(name.clone()) {
             name.push(self.letter());
         }
         self.note(&name)
@@ -44,19 +44,19 @@ impl Maker {
     /// A name that no block has yet.
     pub fn new_label(&mut self, hint: &str) -> String {
         let mut name = self.spelling(hint);
-        while !self.labels.insert(name.clone()) {
+        while !self.scope.labels.insert(name.clone()) {
             name.push(self.letter());
         }
         self.note(&name)
     }
 
-    fn letter(&mut self) -> char {
+    pub fn letter(&mut self) -> char {
         self.rng.range(b'a' as usize, b'z' as usize) as u8 as char
     }
 
     pub fn result(&mut self, ty: Type) -> Option<String> {
         let name = self.new_local("r");
-        self.locals.push((name.clone(), ty));
+        self.scope.locals.push((name.clone(), ty));
         Some(name)
     }
 }

@@ -9,6 +9,27 @@ const AIMS: &[u8] = &[5, 5, 6, 6, 7, 9, 9, 10, 10, 11, 12, 13, 14, 14, 15, 15, 1
 
 pub fn spoil(maker: &mut Maker, function: &mut Function) {
     let aim = if maker.rng.chance(15) { 3 } else { *maker.rng.pick(AIMS) };
+    spoil_for(maker, function, aim);
+}
+
+/// A fault that an instruction or terminator has where it stands.
+pub fn spoil_instruction(maker: &mut Maker, function: &mut Function) {
+    let aim = *maker.rng.pick(&[9, 10, 11, 12, 13, 14, 15, 16, 17, 18, 19]);
+    spoil_for(maker, function, aim);
+}
+
+/// A fault that the frame pass meets: 5, 6 or 7.
+pub fn spoil_frame(maker: &mut Maker, function: &mut Function) {
+    let ty = match maker.rng.below(3) {
+        0 => maker.scalar(),
+        1 => maker.unmeasurable(),
+        _ => large(maker),
+    };
+    let dest = if maker.rng.chance(700) { Some(maker.new_local("r")) } else { None };
+    insert(maker, function, Inst { dest, kind: InstKind::Alloca { ty, count: None, align: None } });
+}
+
+fn spoil_for(maker: &mut Maker, function: &mut Function, aim: u8) {
     match aim {
         3 => forbid(maker, function),
         5 => unname(maker, function),

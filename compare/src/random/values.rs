@@ -48,14 +48,14 @@ impl Maker {
     }
 
     pub fn any_local(&mut self) -> Option<String> {
-        if self.locals.is_empty() { None } else { Some(self.rng.pick(&self.locals).0.clone()) }
+        if self.scope.locals.is_empty() { None } else { Some(self.rng.pick(&self.scope.locals).0.clone()) }
     }
 
     /// A local of this type.
     pub fn local(&mut self, ty: &Type) -> Option<String> {
-        let count = self.locals.len();
+        let count = self.scope.locals.len();
         let start = if count == 0 { 0 } else { self.rng.below(count) };
-        let (before, after) = self.locals.split_at(start);
+        let (before, after) = self.scope.locals.split_at(start);
         after.iter().chain(before).find(|(_, other)| other == ty).map(|(name, _)| name.clone())
     }
 

@@ -5,8 +5,9 @@ use crate::book::{Book, Lent};
 use crate::check::{work_needed, HIGHEST_COUNTER};
 use crate::expect::{expected_of, Expected};
 use crate::lines::{self, Lines, Printer};
-use crate::oracle::Accepted;
+use crate::oracle::{self, Accepted};
 use crate::proved::{self, Reply};
+use crate::refusal;
 use crate::rng::Rng;
 
 #[derive(Default)]
@@ -60,9 +61,13 @@ impl Calls<'_> {
         desk.judge(found, &owed).map_err(|found| at(found, self.lent.counter, lengths))
     }
 
-    /// Some lengths of line slices, often short ones.
+    /// Some lengths of line slices, often short ones: they may end inside the first of several functions, whose lines are then counted all the same.
     fn lengths(&mut self, work: usize) -> Lengths {
-        let mut length = || if self.rng.chance(300) { 0 } else { self.rng.below(64) };
+        let mut length = || match self.rng.below(20) {
+            0..=5 => 0,
+            6..=8 => 3000 + self.rng.below(64),
+            _ => self.rng.below(64),
+        };
         Lengths { work, kinds: length(), operands: length() }
     }
 
@@ -91,10 +96,15 @@ impl Calls<'_> {
         match (answer, book) {
             (Expected::Accepted(accepted), Some(book)) => self.all_accepted(accepted, book),
             (Expected::Accepted(_), None) => unreachable!("an accepted book is sound"),
-            (Expected::Refused(number), _) => {
+            (Expected::Refused(number), book) => {
                 let work = if *number == 4 { self.lent.work } else { self.work() };
                 let lengths = self.lengths(work);
                 self.refused(*number as u64, self.lent.counter, lengths)?;
+                if let Some(count) = book.and_then(lines_before) {
+                    // Slices that the functions before the refused one fill, or just don't.
+                    let [kinds, operands] = [(); 2].map(|()| count - self.rng.below(2).min(count));
+                    self.refused(*number as u64, self.lent.counter, Lengths { work, kinds, operands })?;
+                }
                 self.spoiled(Some(*number))
             }
             (Expected::Open(_), _) => self.open(),
@@ -116,6 +126,13 @@ impl Calls<'_> {
         let short = [(less, count), (count, less), (less, less), (0, 0), (0, count), (any, count + 1), (count + 1, any)];
         let (kinds, operands) = *self.rng.pick(&short);
         self.refused(20, self.lent.counter, Lengths { work, kinds, operands })?;
+        if let [_, second, ..] = lines.functions()[..] {
+            // Slices that the first function fills, or ends in.
+            let early = self.rng.below(second);
+            let inside = *self.rng.pick(&[second, second - 1, second + 1, early]);
+            let operands = if self.rng.chance(500) { inside } else { count };
+            self.refused(20, self.lent.counter, Lengths { work, kinds: inside.min(less), operands })?;
+        }
         self.spoiled(None)
     }
 
@@ -160,6 +177,20 @@ impl Calls<'_> {
         };
         let kept = if numbers { desk.kept(lines) } else { Err((Difference::Count, format!("{found:?}"))) };
         kept.map_err(|found| at(found, counter, lengths))
+    }
+}
+
+/// How many lines the functions have that stand before a refused one; none where that is the first.
+fn lines_before(book: &Book) -> Option<usize> {
+    if book.functions.len() == 1 || oracle::calls_others(book) {
+        return None;
+    }
+    match refusal::first(book).place {
+        0 => None,
+        place => match oracle::answer_before(book, place, 0) {
+            oracle::Answer::Accepted(accepted) => Some(accepted.lines.len()),
+            _ => None,
+        },
     }
 }
 

@@ -27,21 +27,25 @@ pub struct Held {
     pub touched: BTreeSet<u64>,
 }
 
-/// Runs both for at most so many blocks. An error is a difference.
+/// Runs both for at most so many blocks, the lines of the whole book and the function's own. An error is a difference.
 pub fn hold(program: &Program, input: &Input, bound: usize) -> Result<Held, String> {
     let mut held = Held::default();
-    let mut source = match Source::begin(&program.book, program.layout(), input) {
+    let mut source = match Source::begin(program.function(), program.layout(), input) {
         Ok(source) => source,
         Err(halt) => {
             held.stop(halt);
             return Ok(held);
         }
     };
-    let mut machine = Machine::begin(&program.code, input);
+    let mut machine = Machine::begin(&program.code, program.begins, input);
+    let mut alone = Machine::begin(&program.own_code, 0, input);
     for passed in 0..=bound {
         let begun = machine.steps;
         let comes = machine.go();
         held.steps.push(machine.steps - begun);
+        if alone.go() != comes || !machine.stands_like(&alone) {
+            return Err(format!("after {passed} blocks: the function's own lines come elsewhere than the lines of the whole book"));
+        }
         same(program, &source, &machine, comes, passed).map_err(|what| format!("after {passed} blocks: {what}"))?;
         held.seen.push(see(program, &source));
         if passed == bound || matches!(source.stand, Stand::Gave(_)) {

@@ -4,7 +4,7 @@ use super::make::{make, Made};
 use super::program::Program;
 use super::source::{values, Halt, Stop};
 use super::world::{Input, Memory, Reply, Target};
-use super::{counts::Counts, inputs, shrink::shrink, BOUND};
+use super::{counts::Counts, inputs, shrink::{shrink, Whole}, BOUND};
 use crate::book::*;
 use functions::{act, call, gives, load, local, returning, set, stopping, swapping, typed, Case, Ends};
 use std::collections::BTreeSet;
@@ -18,6 +18,7 @@ pub fn tests() -> Vec<(String, Result<(), String>)> {
         ("lines that are wrong".to_string(), wrong_lines()),
         ("random functions".to_string(), random_functions()),
         ("a smaller function".to_string(), smaller_function()),
+        ("two functions with blocks of one name".to_string(), two_functions()),
     ];
     for case in returning().into_iter().chain(stopping()) {
         results.push((case.name.to_string(), ends_so(case)));
@@ -119,19 +120,50 @@ fn wrong_lines() -> Result<(), String> {
 /// Accepted, under the naming conditions, and far enough.
 fn random_functions() -> Result<(), String> {
     let mut counts = Counts::default();
-    for index in 0..2000 {
-        let program = Program::new(make(5, index), 0)?.ok_or(format!("function {index} is refused"))?;
-        let names: Vec<&str> = program.names().collect();
-        if names.iter().collect::<BTreeSet<_>>().len() < names.len() {
-            return Err(format!("function {index} has a name twice"));
+    let mut shared = 0;
+    for index in 0..1500 {
+        let mut program = Program::new(make(5, index), 0)?.ok_or(format!("book {index} is refused"))?;
+        let mut seen = BTreeSet::new();
+        for place in 0..program.book.functions.len() {
+            program.enter(place)?;
+            let names: Vec<&str> = program.names().collect();
+            if names.iter().collect::<BTreeSet<_>>().len() < names.len() {
+                return Err(format!("book {index}: function {place} has a name twice"));
+            }
+            shared += names.iter().any(|name| seen.contains(*name)) as u64;
+            seen.extend(names.iter().map(|name| name.to_string()));
+            if program.book.instructions().any(compares_itself) {
+                return Err(format!("book {index} compares with its own result"));
+            }
+            counts.functions += 1;
+            counts.add(&hold(&program, &inputs::input(&program, 5, index, 0, BOUND), BOUND)?);
         }
-        if program.book.instructions().any(compares_itself) {
-            return Err(format!("function {index} compares with its own result"));
-        }
-        counts.functions += 1;
-        counts.add(&hold(&program, &inputs::input(&program, 5, index, 0, BOUND), BOUND)?);
+    }
+    if shared < 100 {
+        return Err("functions share no names".to_string());
     }
     if counts.lacks_a_kind() || !counts.goes_far() { Err("they don't go far".to_string()) } else { Ok(()) }
+}
+
+/// Two functions whose blocks, parameters and results have the same names: each runs its own lines, wherever they stand.
+fn two_functions() -> Result<(), String> {
+    let (mut both, other) = (swapping(2), swapping(1));
+    both.book.functions.extend(other.book.functions);
+    both.book.functions[1].name = "go".to_string();
+    let mut program = Program::new(both, 0)?.ok_or("refused")?;
+    for (place, owed) in [(0, 249), (1, 7)] {
+        program.enter(place)?;
+        let held = hold(&program, &input(&program, &[9, 2]), BOUND)?;
+        match held.seen.last() {
+            Some(Seen::Gave { value, .. }) if *value == owed => {}
+            _ => return Err(format!("function {place} does not give {owed}")),
+        }
+    }
+    // A jump of the second into the first is found wrong.
+    let line = program.lines.iter().position(|line| line.starts_with("jmp go__b")).ok_or("no jump")?;
+    program.lines[line] = program.lines[line].replace("go__", "f__");
+    program.read_lines()?;
+    if hold(&program, &input(&program, &[9, 2]), BOUND).is_ok() { Err("a jump into another function".to_string()) } else { Ok(()) }
 }
 
 fn compares_itself(inst: &Inst) -> bool {
@@ -145,9 +177,11 @@ fn smaller_function() -> Result<(), String> {
         let program = Program::new(make(5, index), 0)?.ok_or("refused")?;
         if loads(&program) {
             let mut differ = |programs: &[Program]| programs.iter().map(loads).collect();
-            let smallest = shrink(5, index, 0, &mut differ).ok_or("nothing")?;
+            let whole = Whole { seed: 5, index, place: 0, counter: 0 };
+            let smallest = shrink(whole, &mut differ).ok_or("nothing")?;
             let (many, few) = (program.book.instructions().count(), smallest.book.instructions().count());
-            return if loads(&smallest) && few < many { Ok(()) } else { Err(format!("{many} instructions became {few}")) };
+            let small = few < many && smallest.book.functions.len() == 1;
+            return if loads(&smallest) && small { Ok(()) } else { Err(format!("{many} instructions became {few}")) };
         }
     }
     Err("no function loads".to_string())

@@ -1,5 +1,6 @@
 //! The two runs by the definitions: an equation for each run, computed in a scratch repository. What both definitions show
-//! at each block must be what the Rust runs showed.
+//! at each block must be what the Rust runs showed: on the lines of the whole book, and on the function's own. How the
+//! definitions are asked stands in one place of show.txt.
 use super::agree::{cells, Held, Seen};
 use super::program::Program;
 use super::source::Stop;
@@ -82,8 +83,11 @@ fn given(equation: &mut String, program: &Program, input: &Input, held: &Held, l
     }
     let _ = write!(
         equation,
-        "record {{ args = {}; memory = {}; sp = {};\n    globals = {}; shapes = {shapes};
+        "record {{ place = {}; position = {}; length = {}; args = {}; memory = {}; sp = {};\n    globals = {}; shapes = {shapes};
     replies = {replies};\n    looked = {}; counts = {} }}",
+        program.place,
+        program.begins,
+        program.own_code.length(),
         numbers(&input.args),
         stored(&input.memory),
         input.sp,

@@ -9,14 +9,15 @@ use std::collections::BTreeMap;
 
 const REPLIES: usize = 10;
 
-/// The input of this number for the function of an index. Its replies fit the widths of the calls that take them.
+/// The input of this number for the function of a book. Its replies fit the widths of the calls that take them.
 pub fn input(program: &Program, seed: u64, index: u64, number: u64, bound: usize) -> Input {
+    let number = number.wrapping_add(100 * program.place as u64);
     let mut rng = Rng::new(seed ^ 0x696e_7075_7473, index.wrapping_mul(1000).wrapping_add(number));
     let sp = stack_pointer(&mut rng);
     let globals: BTreeMap<String, u64> =
         program.book.names.iter().enumerate().map(|(place, name)| (name.clone(), global(&mut rng, place))).collect();
     let places = [4096, sp, globals.values().next().copied().unwrap_or(0)];
-    let args = program.book.function.params.iter().map(|param| {
+    let args = program.function().params.iter().map(|param| {
         let width = width_of(&param.ty).unwrap_or(64);
         argument(&mut rng, width, &places)
     });

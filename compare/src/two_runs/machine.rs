@@ -5,11 +5,14 @@ use std::collections::{BTreeMap, BTreeSet};
 
 mod lines;
 
-/// A function's lines with the places of their labels.
+/// Lines of one function or of several, with the places of their labels.
 #[derive(Default)]
 pub struct Code {
     lines: Vec<Line>,
+    /// The first line of each label as it is printed. A block's label has the name of the function whose comment stands before it.
     labels: BTreeMap<String, usize>,
+    /// A label that a second line has too.
+    twice: Option<String>,
     /// Those of the labels that are blocks.
     blocks: BTreeSet<String>,
     /// The book's names as they are printed.
@@ -19,17 +22,29 @@ pub struct Code {
 impl Code {
     /// `blocks` are the printed labels of the blocks, `symbols` the names by their printed form.
     pub fn new(lines: &[String], blocks: BTreeSet<String>, symbols: BTreeMap<String, String>) -> Result<Code, String> {
-        let mut code = Code { lines: vec![], labels: BTreeMap::new(), blocks, symbols };
+        let mut code = Code { lines: vec![], labels: BTreeMap::new(), twice: None, blocks, symbols };
         for (place, text) in lines.iter().enumerate() {
             let line = read(text).ok_or_else(|| format!("no line: {text:?}"))?;
             if let Line::Label(label) = &line {
-                if code.labels.insert(label.clone(), place).is_some() {
-                    return Err(format!("two lines have the label {label}"));
+                match code.labels.get(label) {
+                    Some(_) => code.twice = Some(label.clone()),
+                    None => {
+                        code.labels.insert(label.clone(), place);
+                    }
                 }
             }
             code.lines.push(line);
         }
         Ok(code)
+    }
+
+    pub fn length(&self) -> usize {
+        self.lines.len()
+    }
+
+    /// The naming conditions have no label twice.
+    pub fn label_twice(&self) -> Option<&str> {
+        self.twice.as_deref()
     }
 
     /// The label of the block that begins at this line.
@@ -73,11 +88,12 @@ enum End {
 const MOST_STEPS: u64 = 100_000;
 
 impl<'a> Machine<'a> {
-    pub fn begin(code: &'a Code, input: &'a Input) -> Machine<'a> {
+    /// At this line.
+    pub fn begin(code: &'a Code, place: usize, input: &'a Input) -> Machine<'a> {
         Machine {
             code,
             input,
-            place: 0,
+            place,
             slots: vec![],
             operands: vec![],
             memory: input.memory.clone(),
@@ -105,6 +121,13 @@ impl<'a> Machine<'a> {
             }
         }
         Comes::Failed("no block label in sight")
+    }
+
+    /// Whether this machine and one on other lines have done the same.
+    pub fn stands_like(&self, other: &Machine) -> bool {
+        let (slots, operands) = (self.slots == other.slots, self.operands == other.operands);
+        let outside = self.memory == other.memory && self.calls == other.calls && self.sp == other.sp;
+        slots && operands && outside && [self.passed as u64, self.steps] == [other.passed as u64, other.steps]
     }
 
     fn pop(&mut self) -> Result<u64, End> {

@@ -1,10 +1,10 @@
-//! Random functions that run: well typed, every operand set before it is read, loops that end or not. A small share of
-//! operands and instructions is wrong on purpose, so that runs stop too.
+//! Random functions that run, one to a book or some that call each other: well typed, every operand set before it is read, loops
+//! that end or not. A small share of operands and instructions is wrong on purpose, so that runs stop too.
 use super::world::Shape;
 use crate::book::*;
 use crate::rng::Rng;
 use flow::Flow;
-use std::collections::BTreeMap;
+use std::collections::{BTreeMap, BTreeSet};
 
 mod calls;
 mod edges;
@@ -33,7 +33,9 @@ pub struct Maker {
     pub risk: usize,
     pub names: Vec<String>,
     pub structs: Vec<(String, StructBody)>,
+    /// The name of the function that is made.
     pub own: String,
+    /// Those of all functions that may be called.
     pub functions: Vec<String>,
     pub globals: Vec<String>,
     pub shapes: BTreeMap<String, Shape>,
@@ -45,9 +47,16 @@ pub struct Maker {
     pub block: usize,
     pub in_loop: bool,
     fresh: usize,
+    /// Names of parameters, blocks and results in the functions before.
+    earlier: Vec<String>,
+    /// Those of the function that is made.
+    taken: BTreeSet<String>,
 }
 
-/// The function of this index.
+/// Of a thousand books so many have several functions.
+const SEVERAL: usize = 400;
+
+/// The book of this index.
 pub fn make(seed: u64, index: u64) -> Made {
     let mut rng = Rng::new(seed ^ 0x7275_6e73, index);
     let risk = if rng.chance(250) { rng.range(2, 30) } else { 0 };
@@ -66,10 +75,13 @@ pub fn make(seed: u64, index: u64) -> Made {
         block: 0,
         in_loop: false,
         fresh: 0,
+        earlier: vec![],
+        taken: BTreeSet::new(),
     };
-    maker.outside();
-    let function = maker.function();
-    maker.finish(function)
+    let count = if maker.rng.chance(SEVERAL) { maker.rng.range(2, 5) } else { 1 };
+    maker.outside(count);
+    let functions = (0..count).map(|place| maker.function(place)).collect();
+    maker.finish(functions)
 }
 
 impl Maker {
@@ -85,9 +97,17 @@ impl Maker {
         self.note(format!("{hint}{}", self.fresh))
     }
 
-    /// What the function may name: structs, functions, globals, syscalls.
-    fn outside(&mut self) {
-        self.own = self.name(&["f", "act.", "scene ", "dějství"]);
+    /// A name of a parameter, block or result: often one that another function has for something.
+    fn inner_name(&mut self, hints: &[&str]) -> String {
+        let known = if self.earlier.is_empty() || self.rng.chance(400) { None } else { Some(self.rng.pick(&self.earlier).clone()) };
+        let name = known.filter(|name| !self.taken.contains(name)).unwrap_or_else(|| self.name(hints));
+        self.taken.insert(name.clone());
+        name
+    }
+
+    /// What the functions may name: themselves, structs, functions, globals, syscalls.
+    fn outside(&mut self, count: usize) {
+        self.functions = (0..count).map(|_| self.name(&["f", "act.", "scene ", "dějství"])).collect();
         for _ in 0..self.rng.below(3) {
             let name = self.name(&["s", "struct.", "část"]);
             let body = self.body(1);
@@ -97,7 +117,7 @@ impl Maker {
             let name = self.name(hints);
             self.globals.push(name);
         }
-        self.functions = vec![self.own.clone(), self.globals[1].clone()];
+        self.functions.push(self.globals[1].clone());
         for _ in 0..2 {
             let name = self.name(&["__uvm_put", "__uvm_take a", "__uvm_", "__uvm_řekni"]);
             let shape = Shape { args: self.rng.below(4), replies: self.rng.chance(500) };
@@ -105,11 +125,15 @@ impl Maker {
         }
     }
 
-    fn function(&mut self) -> Function {
+    fn function(&mut self, place: usize) -> Function {
+        self.own = self.functions[place].clone();
+        self.locals.clear();
+        self.pairs.clear();
+        self.earlier.extend(std::mem::take(&mut self.taken));
         let ret_ty = self.result_type();
         let params = (0..self.rng.range(1, 4)).map(|_| self.param()).collect();
         let count = if self.rng.below(5000) < self.risk { 0 } else { self.rng.range(2, 8) };
-        let labels: Vec<String> = (0..count).map(|_| self.name(&["b", "for.", "if-", "ž", "€😀"])).collect();
+        let labels: Vec<String> = (0..count).map(|_| self.inner_name(&["b", "for.", "if-", "ž", "€😀"])).collect();
         let flow = Flow::new(&mut self.rng, count);
 
         let mut blocks: Vec<Option<BasicBlock>> = (0..count).map(|_| None).collect();
@@ -141,13 +165,13 @@ impl Maker {
         if self.rng.chance(30) {
             return Param { ty, name: None };
         }
-        let name = self.name(&["p", "p.", "č"]);
+        let name = self.inner_name(&["p", "p.", "č"]);
         self.locals.push(Local { name: name.clone(), ty: ty.clone(), block: None });
         Param { ty, name: Some(name) }
     }
 
     fn new_result(&mut self) -> String {
-        self.name(&["v", "v", "v", "v.", "v-", "ű"])
+        self.inner_name(&["v", "v", "v", "v.", "v-", "ű"])
     }
 
     pub fn result(&mut self, ty: Type) -> Option<String> {
@@ -163,12 +187,15 @@ impl Maker {
     }
 
     /// Marks and the list of names.
-    fn finish(mut self, function: Function) -> Made {
+    fn finish(mut self, functions: Vec<Function>) -> Made {
         self.names.sort_unstable();
         self.names.dedup();
-        let marks = vec![(Mark::Defined, self.globals[1].clone())];
+        let mut marks = vec![(Mark::Defined, self.globals[1].clone())];
+        if self.rng.chance(200) {
+            marks.push((Mark::Defined, self.rng.pick(&functions).name.clone()));
+        }
         let structs = self.structs.into_iter().map(|(name, body)| (name, Some(body))).collect();
-        Made { book: Book { names: self.names, marks, structs, function }, shapes: self.shapes }
+        Made { book: Book { names: self.names, marks, structs, functions }, shapes: self.shapes }
     }
 
     // ---- types

@@ -55,7 +55,7 @@ pub enum Stand {
 }
 
 pub struct Source<'a> {
-    pub(super) book: &'a Book,
+    function: &'a Function,
     pub(super) layout: Layout<'a>,
     pub(super) input: &'a Input,
     /// Offsets of the fixed places, and whether there is a frame at all.
@@ -77,15 +77,15 @@ pub struct Source<'a> {
 pub const KINDS: usize = kind::UNREACHABLE as usize + 1;
 
 impl<'a> Source<'a> {
-    /// At the first block, with no block passed. The book is one that the translator accepts.
-    pub fn begin(book: &'a Book, layout: Layout<'a>, input: &'a Input) -> Result<Source<'a>, Halt> {
+    /// At the function's first block, with no block passed. Its book is one that the translator accepts.
+    pub fn begin(function: &'a Function, layout: Layout<'a>, input: &'a Input) -> Result<Source<'a>, Halt> {
         let mut source = Source {
-            book,
+            function,
             layout,
             input,
             places: BTreeMap::new(),
             framed: false,
-            stand: Stand::At(book.function.blocks.first().ok_or(Stop::NoBlock)?.label.clone()),
+            stand: Stand::At(function.blocks.first().ok_or(Stop::NoBlock)?.label.clone()),
             env: BTreeMap::new(),
             memory: input.memory.clone(),
             calls: vec![],
@@ -95,7 +95,7 @@ impl<'a> Source<'a> {
             touched: BTreeSet::new(),
         };
         source.enter_frame();
-        for (param, cell) in book.function.params.iter().zip(&input.args) {
+        for (param, cell) in function.params.iter().zip(&input.args) {
             if let (Some(name), Ok(width)) = (&param.name, width_of(&param.ty)) {
                 source.env.insert(name, Named::One { width, value: *cell });
             }
@@ -108,7 +108,7 @@ impl<'a> Source<'a> {
     fn enter_frame(&mut self) {
         let mut end = 0u64;
         let mut varying = false;
-        for inst in self.book.instructions() {
+        for inst in instructions(self.function) {
             let (InstKind::Alloca { ty, count, .. }, Some(name)) = (&inst.kind, &inst.dest) else { continue };
             let Some(count) = fixed_count(count) else {
                 varying = true;
@@ -131,7 +131,7 @@ impl<'a> Source<'a> {
     }
 
     fn block_named(&self, label: &str) -> Result<&'a BasicBlock, Stop> {
-        self.book.function.blocks.iter().find(|block| block.label == label).ok_or(Stop::NoBlock)
+        self.function.blocks.iter().find(|block| block.label == label).ok_or(Stop::NoBlock)
     }
 
     /// Runs the block that it stands at, to the next one or to the return.
@@ -172,7 +172,7 @@ impl<'a> Source<'a> {
     }
 
     fn returned(&mut self, val: Option<&TypedVal>) -> Result<u64, Halt> {
-        let result = result_width(&self.book.function.ret_ty)?;
+        let result = result_width(&self.function.ret_ty)?;
         match (val, result) {
             (None, None) => Ok(0),
             (Some(val), Some(width)) if width_of(&val.ty)? == width => Ok(self.operand(width, &val.val)?),

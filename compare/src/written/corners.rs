@@ -143,12 +143,12 @@ const BLOCKS: &[Corner] = &[
 
 /// Whole books.
 const WHOLE: &[Corner] = &[
-    ("a parameter without name between", 0, "func:f i8 param:p i8 param ptr param:q i8 . block:e x=add i8 %p %q ret i8 %x ."),
-    ("two parameters of one name", 0, "func:f i8 param:p i8 param:p i8 . block:e ret i8 %p ."),
-    ("a parameter of label type", 0, "func:f label param:p label . block:e ret i8 %p ."),
+    ("a parameter without name between", 0, "func:f i8 param:p i8 param ptr param:q i8 . block:e x=add i8 %p %q ret i8 %x . ."),
+    ("two parameters of one name", 0, "func:f i8 param:p i8 param:p i8 . block:e ret i8 %p . ."),
+    ("a parameter of label type", 0, "func:f label param:p label . block:e ret i8 %p . ."),
     ("a call through a local with .with.overflow. takes one slot", 0,
-        "func:f void param:a.with.overflow.b ptr . block:e q=call i8 %a.with.overflow.b . x=fence ret - ."),
-    ("a struct of the function's name", 0, "struct:f { i8 } func:f %%f . block:f q=alloca %%f - - ret - ."),
+        "func:f void param:a.with.overflow.b ptr . block:e q=call i8 %a.with.overflow.b . x=fence ret - . ."),
+    ("a struct of the function's name", 0, "struct:f { i8 } func:f %%f . block:f q=alloca %%f - - ret - . ."),
 ];
 
 /// A call of an undefined function of this name, and its refusal.

@@ -41,7 +41,7 @@ pub fn lent(seed: u64, index: u64) -> Lent {
     for _ in 0..rng.range(0, 2) {
         draw(&mut rng, "N=phi T P", &mut words);
     }
-    draw(&mut rng, "N=add T V V ret T V .", &mut words);
+    draw(&mut rng, "N=add T V V ret T V . .", &mut words);
     let slices = notation::read(&words.join(" ")).expect("words of the notation");
     Lent { work: work_needed(slices.book[1] as usize), counter: 0, slices }
 }

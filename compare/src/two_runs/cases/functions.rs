@@ -84,7 +84,7 @@ fn function(ret_ty: Type, params: &[(&str, Type)], blocks: Vec<Block>) -> Made {
     let function =
         Function { name: "f".to_string(), ret_ty, params, varargs: false, linkage: Linkage::External, blocks };
     let marks = vec![(Mark::Defined, "go".to_string())];
-    let book = Book { names: names.into_iter().collect(), marks, structs: vec![], function };
+    let book = Book { names: names.into_iter().collect(), marks, structs: vec![], functions: vec![function] };
     Made { book, shapes: BTreeMap::from([("put".to_string(), Shape { args: 1, replies: false })]) }
 }
 
