@@ -78,7 +78,13 @@ fn struct_len(kinds: &[u64], words: &[u64], names: u64) -> Found
 }
 
 // The functions, one or more whose names are new, and the entry that closes them.
-fn functions_len(kinds: &[u64], words: &[u64], names: u64, barred: &[u64], defined: &mut [u64]) -> Found
+fn functions_len(
+    kinds: &[u64],
+    words: &[u64],
+    names: u64,
+    barred: &[u64],
+    defined: &mut [u64],
+) -> Found
     ensures { λ r. ⌜ r ≡ functionsFound (now (barred .entry)) (now (defined .entry)) (functions names (entries (now (kinds .entry)) (now (words .entry)))) ⌝ }
 {
     let end = shorter(kinds, words);

@@ -179,7 +179,8 @@ same-length-5 c = c .before .before .before .mark-new .kept .0 ∙ c .before .be
 
 returns-5 : tie.Need-returns-5 Inv-loop μ-loop
 returns-5 c =
-    let after-n = c .before .before .before .before .before .before .before .before in
+    let after-mark-new = c .before .before .before in
+    let after-n = after-mark-new .before .before .before .before .before in
     let after-function-len = after-n .before .before in
     let else1 = after-function-len .before .before .before in
     let in-loop = else1 .before .before in
@@ -189,7 +190,7 @@ returns-5 c =
     let a = entry .args in
     parts.functions-repeated (a .barred .now) (a .defined .now) (a .names) (a .kinds .now) (a .words .now) _ _ _ _ (at-loop .loop .inv .0)
     (omega (arith, in-loop .loop-test .taken, after-shorter .shorter .ensures)) (else1 .if1 .left) _ (after-function-len .function-len .ensures) _ _ (after-n .n .given .1) _
-    (c .before .before .before .mark-new .ensures .0) (not-true _ (c .if4 .taken))
+    (after-mark-new .mark-new .ensures .0) (not-true _ (c .if4 .taken))
 
 add-at : tie.Need-add-at Inv-loop μ-loop
 add-at c =
@@ -213,19 +214,20 @@ loop-less c = omega (arith, c .before .before .before .before .before .before .i
 
 loop-again : tie.Need-loop-again Inv-loop μ-loop
 loop-again c =
-    let after-n = c .before .before .before .before .before .before .before .before in
+    let after-mark-new = c .before .before .before in
+    let else3 = after-mark-new .before .before .before in
+    let after-n = else3 .before .before in
     let after-function-len = after-n .before .before in
     let else1 = after-function-len .before .before .before in
     let in-loop = else1 .before .before in
     let at-loop = in-loop .before in
     let after-shorter = at-loop .before in
     let entry = after-shorter .before .before .before .before .before in
-    let a = entry .args in
-    (
+    let a = entry .args in (
       parts.functions-next (a .barred .now) (a .defined .now) (a .names) (a .kinds .now) (a .words .now) _ _ _ _ (at-loop .loop .inv .0)
-    (omega (arith, in-loop .loop-test .taken, after-shorter .shorter .ensures)) (else1 .if1 .left) _ (after-function-len .function-len .ensures) _ _ (after-n .n .given .1) _
-          (c .before .before .before .mark-new .ensures .0) (not-false _ (c .if4 .left)) _ (c .before .before .before .mark-new .ensures .1) (c .before .before .before .before .before .before .if3 .left),
-      c .before .before .before .mark-new .kept .0 ∙ at-loop .loop .inv .1,
+          (omega (arith, in-loop .loop-test .taken, after-shorter .shorter .ensures)) (else1 .if1 .left) _ (after-function-len .function-len .ensures) _ _ (after-n .n .given .1) _
+          (after-mark-new .mark-new .ensures .0) (not-false _ (c .if4 .left)) _ (after-mark-new .mark-new .ensures .1) (else3 .if3 .left),
+      after-mark-new .mark-new .kept .0 ∙ at-loop .loop .inv .1,
     )
 
 same-length-6 : tie.Need-same-length-6 Inv-loop μ-loop

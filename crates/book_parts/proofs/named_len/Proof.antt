@@ -207,7 +207,8 @@ same-length-8 c = ap length (c .before .before .before .before .before .before .
 
 returns-4 : tie.Need-returns-4 Inv-loop μ-loop
 returns-4 c =
-    let after-n = c .before .before .before .before .before .before .before .before in
+    let after-mark-new = c .before .before .before in
+    let after-n = after-mark-new .before .before .before .before .before in
     let after-struct-len = after-n .before .before in
     let else1 = after-struct-len .before .before .before in
     let in-loop = else1 .before .before in
@@ -217,7 +218,7 @@ returns-4 c =
     let a = entry .args in
     parts.named-repeated (a .barred .now) (a .defined .now) (a .named .now) (a .names) (a .kinds .now) (a .words .now) _ _ _ (at-loop .loop .inv .0)
     (omega (arith, in-loop .loop-test .taken, after-shorter .shorter .ensures)) (else1 .if1 .left) _ (after-struct-len .struct-len .ensures) _ _ (after-n .n .given .1) _
-    (c .before .before .before .mark-new .ensures .0) (not-true _ (c .if3 .taken))
+    (after-mark-new .mark-new .ensures .0) (not-true _ (c .if3 .taken))
 
 add-at : tie.Need-add-at Inv-loop μ-loop
 add-at c =
@@ -241,19 +242,20 @@ loop-less c = omega (arith, c .before .before .before .before .before .before .i
 
 loop-again : tie.Need-loop-again Inv-loop μ-loop
 loop-again c =
-    let after-n = c .before .before .before .before .before .before .before .before in
+    let after-mark-new = c .before .before .before in
+    let else2 = after-mark-new .before .before .before in
+    let after-n = else2 .before .before in
     let after-struct-len = after-n .before .before in
     let else1 = after-struct-len .before .before .before in
     let in-loop = else1 .before .before in
     let at-loop = in-loop .before in
     let after-shorter = at-loop .before in
     let entry = after-shorter .before .before .before .before .before .before in
-    let a = entry .args in
-    (
+    let a = entry .args in (
       parts.named-next (a .barred .now) (a .defined .now) (a .named .now) (a .names) (a .kinds .now) (a .words .now) _ _ _ (at-loop .loop .inv .0)
-    (omega (arith, in-loop .loop-test .taken, after-shorter .shorter .ensures)) (else1 .if1 .left) _ (after-struct-len .struct-len .ensures) _ _ (after-n .n .given .1) _
-          (c .before .before .before .mark-new .ensures .0) (not-false _ (c .if3 .left)) _ (c .before .before .before .mark-new .ensures .1) (c .before .before .before .before .before .before .if2 .left),
-      c .before .before .before .mark-new .kept .0 ∙ at-loop .loop .inv .1,
+          (omega (arith, in-loop .loop-test .taken, after-shorter .shorter .ensures)) (else1 .if1 .left) _ (after-struct-len .struct-len .ensures) _ _ (after-n .n .given .1) _
+          (after-mark-new .mark-new .ensures .0) (not-false _ (c .if3 .left)) _ (after-mark-new .mark-new .ensures .1) (else2 .if2 .left),
+      after-mark-new .mark-new .kept .0 ∙ at-loop .loop .inv .1,
       at-loop .loop .inv .2,
     )
 
