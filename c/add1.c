@@ -5,19 +5,19 @@
 
 enum { NAMES = 4, WORK = 8 * NAMES + 64, LINES = 16, TEXT = 256 };
 
-/* 14 entries and 4 names; the kinds, then the words. */
+/* 15 entries and 4 names; the kinds, then the words. */
 static const uint64_t book[] = {
-    14, NAMES,
+    15, NAMES,
     5, 11, 6, 11, 0, /* function, i32, parameter, i32, end of the parameters */
     7,               /* block */
     40, 11, 30, 32,  /* add, i32, local, integer */
     90, 11, 30,      /* ret, i32, local */
-    0,               /* end of the blocks */
+    0, 0,            /* end of the blocks, end of the functions */
     1, 32, 1, 32, 0, /* add1, width, a (its number + 1), width */
     2,               /* entry */
     4, 32, 0, 1,     /* r (its number + 1), width, a, 1 */
     0, 32, 3,        /* width, r */
-    0,
+    0, 0,
 };
 static const uint8_t names[] = "a\nadd1\nentry\nr\n";
 

@@ -25,7 +25,7 @@ unfoldable pub tinyNames : List String
 tinyNames = "__uvm_time" ∷ "b" ∷ "f" ∷ "g" ∷ []
 
 unfoldable pub tiny : List ℕ
-tiny = slice ((5, 2) ∷ (11, 32) ∷ (6, 0) ∷ (11, 32) ∷ (0, 0) ∷ (7, 1) ∷ (93, 0) ∷ (0, 0) ∷ []) tinyNames
+tiny = slice ((5, 2) ∷ (11, 32) ∷ (6, 0) ∷ (11, 32) ∷ (0, 0) ∷ (7, 1) ∷ (93, 0) ∷ (0, 0) ∷ (0, 0) ∷ []) tinyNames
 
 unfoldable pub allKinds : List ℕ
 allKinds =
@@ -61,7 +61,7 @@ kinds-print = refl
 
 -- other shapes of operands: a name that isn't a label, large numbers
 pub others-print :
-    print (slice ((5, 1) ∷ (14, 2) ∷ (15, 2) ∷ (0, 0) ∷ (7, 0) ∷ (93, 0) ∷ (0, 0) ∷ []) ("e-1" ∷ "f" ∷ "v$" ∷ [])) (unlines ("e-1" ∷ "f" ∷ "v$" ∷ []))
+    print (slice ((5, 1) ∷ (14, 2) ∷ (15, 2) ∷ (0, 0) ∷ (7, 0) ∷ (93, 0) ∷ (0, 0) ∷ (0, 0) ∷ []) ("e-1" ∷ "f" ∷ "v$" ∷ [])) (unlines ("e-1" ∷ "f" ∷ "v$" ∷ []))
     (0 ∷ 2 ∷ 4 ∷ 5 ∷ 8 ∷ []) (1 ∷ 0 ∷ 2 ∷ 767 ∷ 18446744073709551615 ∷ []) (replicate 83 33)
     ≡ record {
       reply = Printed.accepted 83;
@@ -75,7 +75,7 @@ unfoldable pub letters : List String
 letters = "__uvm_říct" ∷ "zpěv" ∷ "árie" ∷ "č" ∷ "Ž€😀" ∷ []
 
 pub letters-print :
-    print (slice ((5, 2) ∷ (13, 2) ∷ (15, 4) ∷ (0, 0) ∷ (7, 3) ∷ (93, 0) ∷ (0, 0) ∷ []) letters) (encodes (unlines letters))
+    print (slice ((5, 2) ∷ (13, 2) ∷ (15, 4) ∷ (0, 0) ∷ (7, 3) ∷ (93, 0) ∷ (0, 0) ∷ (0, 0) ∷ []) letters) (encodes (unlines letters))
     (0 ∷ 1 ∷ 2 ∷ 3 ∷ 4 ∷ 5 ∷ 6 ∷ []) (2 ∷ 2 ∷ 3 ∷ 3 ∷ 4 ∷ 257 ∷ 0 ∷ []) (replicate 104 33)
     ≡ record {
       reply = Printed.accepted 104;

@@ -6,7 +6,7 @@ use mathlib.Core.Bool.{Bool, true, false, _&&_}
 use mathlib.Core.Option.{Option, none, some}
 use mathlib.Core.List.{List, [], _∷_, _++_, append-nil}
 use native.Mathlib.Omega.{arith}
-use borrow.Author.Tests.{eqb-true, eq-eqb, ltb-true, lt-ltb, lt-leb}
+use borrow.Author.Tests.{eqb-true, eq-eqb, ltb-true, lt-ltb, lt-leb, leb-true, le-leb}
 use lib.ListN.{length, drop}
 use lib.Seq.{drop-length}
 use lib.Dec.{eqb, ltb, leb}
@@ -19,7 +19,7 @@ use Rattle.book.specs.Read.{Read, got, bad, andThen, taking, choose, sto
 use Rattle.book.specs.Decode.{name, type, inst, term, body, basicBlock, item, function, markAs, mark, bodyOf, structBody, structType, functions, structsAndFunctions, parts, markName, bookOf, onceEach, whole, decode}
 use Rattle.book.specs.Encode.{ending, closed, encTy, encInst, encTerm, encBasicBlock, encParam, encFunction, encFunctions, markEntry, encMark, encBody, encStruct, encode}
 use Rattle.book.specs.Limits.{Each, TyLimits, NameLimits, InstLimits, TermLimits, BlockLimits, ParamLimits, FunctionLimits, FunctionsLimits, BodyLimits, StructLimits, Limits}
-use Rattle.book.specs.Agree.{Begins, Sound, Complete, Heads, Agrees, no-got, no-some, moved, when-some, entry-is, agrees-one, agrees-both, agrees-mapped, agrees-all}
+use Rattle.book.specs.Agree.{Begins, Sound, Complete, Heads, Agrees, no-got, no-some, moved, when-some, entry-is, agrees-one, agrees-both, agrees-mapped, agrees-filtered, agrees-all}
 use Rattle.book.specs.AgreeTy.{find-every, agrees-many, agrees-type}
 use Rattle.book.specs.AgreeInst.{inst-found, term-found, agrees-name, agrees-items, agrees-inst, agrees-term}
 
@@ -144,24 +144,20 @@ module _ (m : ℕ) where
       (agrees-both (word 3 (name m)) (structBody m) (λ x. entry 3 x ∷ []) encBody (NameLimits m) (BodyLimits m) (agrees-name m 3) agrees-structBody)
 
   -- ---- the book
-  -- one function
+  -- one function or more, closed
   pub agrees-functions : Agrees (functions m) encFunctions (FunctionsLimits m)
-  unfolding functions mapped ending
-  agrees-functions = record { sound = λ es fs n h. sound es fs n (function m es) refl h; complete = complete }
+  unfolding functions encFunction stops
+  agrees-functions = record {
+    sound = λ es fs n h. sound es fs n (a .sound es fs n h);
+    complete = λ fs r k. a .complete fs r (k .1, le-leb 1 (length fs) (k .0));
+  }
     where
-      sound : (es : List Entry) (fs : List Function) (n : ℕ) (r : Read Function) → function m es ≡ r → andThen r (λ f k. got (f ∷ []) k) ≡ got fs n
-          → Begins encFunctions (FunctionsLimits m) es fs n
-      sound es fs n (got f k) er h =
-          let s = agrees-function .sound es f k er in
-          let e = append-nil (encFunction f) in
-          moved encFunctions (FunctionsLimits m) es (f ∷ []) fs k n h
-          (record { here = s .here ∙ ap (λ x. x ++ drop k es) (sym e); size = s .size ∙ ap length (sym e); keeps = (refl, (s .keeps, tt)) })
-      sound es fs n bad er h = no-got fs n h
+      a : Agrees (functions m) encFunctions (λ fs. Each (FunctionLimits m) fs × (leb 1 (length fs) ≡ true))
+      a = agrees-filtered (λ fs. leb 1 (length fs)) (many (function m)) encFunctions (Each (FunctionLimits m)) (agrees-many (function m) encFunction (FunctionLimits m) (λ f r k. refl) agrees-function)
 
-      complete : Complete encFunctions (FunctionsLimits m) (functions m)
-      complete [] r k = absurd (omega (arith, k .0))
-      complete (f ∷ []) r k = rw (append-nil (encFunction f), agrees-function .complete f r (k .1 .0))
-      complete (f ∷ g ∷ fs) r k = absurd (omega (arith, k .0))
+      sound : (es : List Entry) (fs : List Function) (n : ℕ) → Begins encFunctions (λ fs. Each (FunctionLimits m) fs × (leb 1 (length fs) ≡ true)) es fs n
+          → Begins encFunctions (FunctionsLimits m) es fs n
+      sound es fs n s = record { here = s .here; size = s .size; keeps = (leb-true 1 (length fs) (s .keeps .1), s .keeps .0) }
 
   -- there is one at least
   pub functions-begin : (fs : List Function) → FunctionsLimits m fs → Five (encFunctions fs)

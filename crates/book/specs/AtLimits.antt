@@ -25,7 +25,7 @@ whole es = refusalOf (checked (lent es 4) fourNames 0 96)
 
 -- void @f(ptr %p), with these blocks; with one block e of these entries; with these instructions before its `unreachable`
 unfoldable pub blocks : Entries → ℕ
-blocks es = whole ((5, 1) ∷ (10, 0) ∷ (6, 3) ∷ (12, 0) ∷ (0, 0) ∷ (es ++ (0, 0) ∷ []))
+blocks es = whole ((5, 1) ∷ (10, 0) ∷ (6, 3) ∷ (12, 0) ∷ (0, 0) ∷ (es ++ (0, 0) ∷ (0, 0) ∷ []))
 
 unfoldable pub inBlock : Entries → ℕ
 inBlock es = blocks ((7, 0) ∷ es)
@@ -33,9 +33,12 @@ inBlock es = blocks ((7, 0) ∷ es)
 unfoldable pub insts : Entries → ℕ
 insts es = inBlock (es ++ (93, 0) ∷ [])
 
--- void @f() without blocks
+-- a function without parameters and blocks; void @f() and the entry that closes the functions
+abbrev pub bare : ℕ → Entries
+bare x = (5, x) ∷ (10, 0) ∷ (0, 0) ∷ (0, 0) ∷ []
+
 abbrev pub end : Entries
-end = (5, 1) ∷ (10, 0) ∷ (0, 0) ∷ (0, 0) ∷ []
+end = bare 1 ++ (0, 0) ∷ []
 
 -- these entries so many times
 unfoldable pub times : ℕ → Entries → Entries
@@ -114,7 +117,7 @@ unfoldable pub nested : ℕ → Entries → ℕ
 nested n t = insts ((77, 4) ∷ (times n ((13, 1) ∷ []) ++ (t ++ (32, 0) ∷ [])))
 
 unfoldable pub bodied : ℕ → ℕ
-bodied n = whole ((3, 3) ∷ (17, 0) ∷ (times n ((14, 1) ∷ []) ++ (15, 3) ∷ (0, 0) ∷ (5, 1) ∷ (10, 0) ∷ (0, 0) ∷ (0, 0) ∷ []))
+bodied n = whole ((3, 3) ∷ (17, 0) ∷ (times n ((14, 1) ∷ []) ++ (15, 3) ∷ (0, 0) ∷ end))
 
 pub levels-hold :
     map (λ n. nested n ((11, 8) ∷ [])) (0 ∷ 63 ∷ 64 ∷ [])
@@ -128,13 +131,12 @@ levels-hold = refl
 -- ---- names: below their count; result and parameter words at most it
 unfoldable pub named : ℕ → List ℕ
 named x =
-    whole ((1, x) ∷ (5, 1) ∷ (10, 0) ∷ (0, 0) ∷ (0, 0) ∷ []) ∷ whole ((2, x) ∷ (5, 1) ∷ (10, 0) ∷ (0, 0) ∷ (0, 0) ∷ [])
-    ∷ whole ((3, x) ∷ (4, 0) ∷ (5, 1) ∷ (10, 0) ∷ (0, 0) ∷ (0, 0) ∷ []) ∷ whole ((5, x) ∷ (10, 0) ∷ (0, 0) ∷ (0, 0) ∷ [])
-    ∷ whole ((5, 1) ∷ (15, x) ∷ (0, 0) ∷ (0, 0) ∷ []) ∷ blocks ((7, x) ∷ (93, 0) ∷ []) ∷ inBlock ((91, 0) ∷ (21, 0) ∷ (23, x) ∷ (21, 0) ∷ [])
+    whole ((1, x) ∷ end) ∷ whole ((2, x) ∷ end) ∷ whole ((3, x) ∷ (4, 0) ∷ end) ∷ whole (bare x ++ (0, 0) ∷ [])
+    ∷ whole ((5, 1) ∷ (15, x) ∷ (0, 0) ∷ (0, 0) ∷ (0, 0) ∷ []) ∷ blocks ((7, x) ∷ (93, 0) ∷ []) ∷ inBlock ((91, 0) ∷ (21, 0) ∷ (23, x) ∷ (21, 0) ∷ [])
     ∷ inBlock ((90, 0) ∷ (11, 8) ∷ (30, x) ∷ []) ∷ inBlock ((90, 0) ∷ (11, 8) ∷ (31, x) ∷ []) ∷ []
 
 unfoldable pub resulting : ℕ → List ℕ
-resulting w = whole ((5, 1) ∷ (10, 0) ∷ (6, w) ∷ (12, 0) ∷ (0, 0) ∷ (0, 0) ∷ []) ∷ insts ((82, w) ∷ []) ∷ insts ((40, w) ∷ (11, 8) ∷ (32, 0) ∷ (32, 0) ∷ []) ∷ []
+resulting w = whole ((5, 1) ∷ (10, 0) ∷ (6, w) ∷ (12, 0) ∷ (0, 0) ∷ (0, 0) ∷ (0, 0) ∷ []) ∷ insts ((82, w) ∷ []) ∷ insts ((40, w) ∷ (11, 8) ∷ (32, 0) ∷ (32, 0) ∷ []) ∷ []
 
 abbrev nine : ℕ → List ℕ
 nine n = n ∷ n ∷ n ∷ n ∷ n ∷ n ∷ n ∷ n ∷ n ∷ []
@@ -156,11 +158,11 @@ unmentioned w =
     ∷ insts ((77, 4) ∷ (11, 8) ∷ (33, w) ∷ []) ∷ insts ((77, 4) ∷ (11, 8) ∷ (34, w) ∷ []) ∷ insts ((77, 4) ∷ (11, 8) ∷ (35, w) ∷ [])
     ∷ insts ((77, 4) ∷ (11, 8) ∷ (36, w) ∷ []) ∷ insts ((71, 4) ∷ (11, 8) ∷ (30, 2) ∷ (21, w) ∷ []) ∷ insts ((75, 4) ∷ (11, 8) ∷ (0, w) ∷ [])
     ∷ inBlock ((90, w) ∷ (21, 0) ∷ []) ∷ inBlock ((91, w) ∷ (21, 0) ∷ (23, 0) ∷ (21, 0) ∷ []) ∷ inBlock ((92, w) ∷ (11, 8) ∷ (33, 0) ∷ (23, 0) ∷ (0, 0) ∷ [])
-    ∷ inBlock ((93, w) ∷ []) ∷ whole ((3, 3) ∷ (4, w) ∷ (5, 1) ∷ (10, 0) ∷ (0, 0) ∷ (0, 0) ∷ []) ∷ whole ((5, 1) ∷ (10, 0) ∷ (0, w) ∷ (0, 0) ∷ [])
-    ∷ whole ((5, 1) ∷ (10, 0) ∷ (0, 0) ∷ (0, w) ∷ []) ∷ []
+    ∷ inBlock ((93, w) ∷ []) ∷ whole ((3, 3) ∷ (4, w) ∷ end) ∷ whole ((5, 1) ∷ (10, 0) ∷ (0, w) ∷ (0, 0) ∷ (0, 0) ∷ [])
+    ∷ whole ((5, 1) ∷ (10, 0) ∷ (0, 0) ∷ (0, w) ∷ (0, 0) ∷ []) ∷ whole (bare 1 ++ (0, w) ∷ []) ∷ []
 
 abbrev many : ℕ → List ℕ
-many n = nine n ++ (nine n ++ three n)
+many n = nine n ++ (nine n ++ (n ∷ three n))
 
 pub unmentioned-hold : map unmentioned (0 ∷ 1 ∷ []) ≡ many 0 ∷ many 1 ∷ []
 unfolding openHere unmentioned
@@ -186,7 +188,7 @@ pub others-hold :
     map (λ k. inBlock ((92, 0) ∷ (11, 8) ∷ (33, 0) ∷ (23, 0) ∷ (k, 0) ∷ (23, 0) ∷ (0, 0) ∷ [])) (32 ∷ 22 ∷ 33 ∷ [])
     ++ map (λ k. inBlock ((91, 0) ∷ (21, 0) ∷ (k, 0) ∷ (21, 0) ∷ [])) (23 ∷ 22 ∷ 30 ∷ 21 ∷ [])
     ++ map (λ k. insts ((71, 4) ∷ (11, 8) ∷ (30, 2) ∷ (k, 1) ∷ [])) (22 ∷ 23 ∷ 32 ∷ [])
-    ++ map (λ k. whole ((5, 1) ∷ (10, 0) ∷ (k, 0) ∷ (12, 0) ∷ (0, 0) ∷ (0, 0) ∷ [])) (6 ∷ 5 ∷ 7 ∷ [])
+    ++ map (λ k. whole ((5, 1) ∷ (10, 0) ∷ (k, 0) ∷ (12, 0) ∷ (0, 0) ∷ (0, 0) ∷ (0, 0) ∷ [])) (6 ∷ 5 ∷ 7 ∷ [])
     ++ map (λ k. blocks ((k, 0) ∷ (93, 0) ∷ [])) (7 ∷ 6 ∷ 23 ∷ [])
     ++ map (λ k. whole ((3, 3) ∷ (k, 0) ∷ (0, 0) ∷ end)) (16 ∷ 17 ∷ 13 ∷ 12 ∷ [])
     ≡ 0 ∷ 1 ∷ 1 ∷ 0 ∷ 1 ∷ 1 ∷ 1 ∷ 0 ∷ 1 ∷ 1 ∷ 0 ∷ 1 ∷ 1 ∷ 0 ∷ 1 ∷ 1 ∷ 0 ∷ 0 ∷ 1 ∷ 1 ∷ []
@@ -204,10 +206,29 @@ pub order-holds :
 unfolding openHere
 order-holds = refl
 
+-- document 02, card 1: "one or more, each name once", closed by kind 0, word 0. In order: one function, two, three; none; the closing entry missing after one and
+-- after two, doubled, with a word; a name twice, side by side and apart; a function behind the closing entry; a struct or a mark between two functions
+pub functions-hold :
+    map whole
+    ((bare 1 ++ (0, 0) ∷ []) ∷ (bare 1 ++ (bare 0 ++ (0, 0) ∷ [])) ∷ (bare 2 ++ (bare 0 ++ end)) ∷ ((0, 0) ∷ []) ∷ bare 1 ∷ (bare 1 ++ bare 2)
+    ∷ (end ++ (0, 0) ∷ []) ∷ (bare 1 ++ (0, 1) ∷ []) ∷ (bare 1 ++ end) ∷ (bare 1 ++ (bare 2 ++ end)) ∷ (end ++ bare 2) ∷ (end ++ (bare 2 ++ (0, 0) ∷ []))
+    ∷ (bare 2 ++ (3, 3) ∷ (4, 0) ∷ end) ∷ (bare 2 ++ (1, 3) ∷ end) ∷ [])
+    ≡ 0 ∷ 0 ∷ 0 ∷ 1 ∷ 1 ∷ 1 ∷ 1 ∷ 1 ∷ 1 ∷ 1 ∷ 1 ∷ 1 ∷ 1 ∷ 1 ∷ []
+unfolding openHere
+functions-hold = refl
+
+-- a function's name may be marked, once, 1 or 2, and be a struct's
+pub marked-hold :
+    map (λ es. whole (es ++ (bare 2 ++ end)))
+    (((1, 1) ∷ []) ∷ ((2, 1) ∷ []) ∷ ((1, 2) ∷ (2, 1) ∷ []) ∷ ((1, 1) ∷ (2, 1) ∷ []) ∷ ((1, 1) ∷ (3, 1) ∷ (4, 0) ∷ (3, 2) ∷ (4, 0) ∷ []) ∷ [])
+    ≡ 0 ∷ 0 ∷ 0 ∷ 1 ∷ 0 ∷ []
+unfolding openHere
+marked-hold = refl
+
 -- repeated block, parameter and result names are no fault; a block has one terminator, behind its instructions
 pub blocks-hold :
     blocks ((7, 0) ∷ (82, 4) ∷ (82, 4) ∷ (93, 0) ∷ (7, 0) ∷ (93, 0) ∷ [])
-    ∷ whole ((5, 1) ∷ (10, 0) ∷ (6, 3) ∷ (12, 0) ∷ (6, 3) ∷ (12, 0) ∷ (0, 0) ∷ (0, 0) ∷ [])
+    ∷ whole ((5, 1) ∷ (10, 0) ∷ (6, 3) ∷ (12, 0) ∷ (6, 3) ∷ (12, 0) ∷ (0, 0) ∷ (0, 0) ∷ (0, 0) ∷ [])
     ∷ inBlock [] ∷ inBlock ((82, 0) ∷ []) ∷ inBlock ((93, 0) ∷ (93, 0) ∷ []) ∷ inBlock ((93, 0) ∷ (82, 0) ∷ []) ∷ blocks []
     ∷ []
     ≡ 0 ∷ 0 ∷ 1 ∷ 1 ∷ 1 ∷ 1 ∷ 0 ∷ []

@@ -17,9 +17,9 @@ add1Names = join (bytes "a" ∷ bytes "add1" ∷ bytes "entry" ∷ bytes "r" ∷
 
 abbrev add1 : List ℕ
 add1 =
-    14 ∷ 4
-    ∷ 5 ∷ 11 ∷ 6 ∷ 11 ∷ 0 ∷ 7 ∷ 40 ∷ 11 ∷ 30 ∷ 32 ∷ 90 ∷ 11 ∷ 30 ∷ 0
-    ∷ 1 ∷ 32 ∷ 1 ∷ 32 ∷ 0 ∷ 2 ∷ 4 ∷ 32 ∷ 0 ∷ 1 ∷ 0 ∷ 32 ∷ 3 ∷ 0 ∷ []
+    15 ∷ 4
+    ∷ 5 ∷ 11 ∷ 6 ∷ 11 ∷ 0 ∷ 7 ∷ 40 ∷ 11 ∷ 30 ∷ 32 ∷ 90 ∷ 11 ∷ 30 ∷ 0 ∷ 0
+    ∷ 1 ∷ 32 ∷ 1 ∷ 32 ∷ 0 ∷ 2 ∷ 4 ∷ 32 ∷ 0 ∷ 1 ∷ 0 ∷ 32 ∷ 3 ∷ 0 ∷ 0 ∷ []
 
 abbrev add1Book : Counted
 add1Book = record {
@@ -56,9 +56,9 @@ put i v s = lib.ListN.set s i v
 -- a function `f` with one block `b` that calls a global and returns: names `b`, `f`, then the callee's
 abbrev calls : ℕ → List ℕ
 calls callee =
-    10 ∷ 3
-    ∷ 5 ∷ 10 ∷ 0 ∷ 7 ∷ 76 ∷ 10 ∷ 31 ∷ 0 ∷ 93 ∷ 0
-    ∷ 1 ∷ 0 ∷ 0 ∷ 0 ∷ 0 ∷ 0 ∷ callee ∷ 0 ∷ 0 ∷ 0 ∷ []
+    11 ∷ 3
+    ∷ 5 ∷ 10 ∷ 0 ∷ 7 ∷ 76 ∷ 10 ∷ 31 ∷ 0 ∷ 93 ∷ 0 ∷ 0
+    ∷ 1 ∷ 0 ∷ 0 ∷ 0 ∷ 0 ∷ 0 ∷ callee ∷ 0 ∷ 0 ∷ 0 ∷ 0 ∷ []
 
 abbrev callNames : List ℕ
 callNames = join (bytes "b" ∷ bytes "f" ∷ bytes "llvm.trap" ∷ [])
@@ -66,9 +66,9 @@ callNames = join (bytes "b" ∷ bytes "f" ∷ bytes "llvm.trap" ∷ [])
 -- the same with the callee marked reserved
 abbrev marked : List ℕ
 marked =
-    11 ∷ 3
-    ∷ 2 ∷ 5 ∷ 10 ∷ 0 ∷ 7 ∷ 76 ∷ 10 ∷ 31 ∷ 0 ∷ 93 ∷ 0
-    ∷ 2 ∷ 1 ∷ 0 ∷ 0 ∷ 0 ∷ 0 ∷ 0 ∷ 2 ∷ 0 ∷ 0 ∷ 0 ∷ []
+    12 ∷ 3
+    ∷ 2 ∷ 5 ∷ 10 ∷ 0 ∷ 7 ∷ 76 ∷ 10 ∷ 31 ∷ 0 ∷ 93 ∷ 0 ∷ 0
+    ∷ 2 ∷ 1 ∷ 0 ∷ 0 ∷ 0 ∷ 0 ∷ 0 ∷ 2 ∷ 0 ∷ 0 ∷ 0 ∷ 0 ∷ []
 
 abbrev markedNames : List ℕ
 markedNames = join (bytes "b" ∷ bytes "f" ∷ bytes "sinf" ∷ [])
@@ -85,14 +85,14 @@ pub answers :
     ∷ answer add1 add1Names (2 ^ 32 + 1) 96
     ∷ answer add1 (join (bytes "b" ∷ bytes "a" ∷ bytes "entry" ∷ bytes "r" ∷ [])) 0 96
     ∷ answer add1 (add1Names ++ join (bytes "s" ∷ [])) 0 96
-    ∷ answer (put 11 37 (put 25 0 add1)) add1Names 0 96
+    ∷ answer (put 11 37 (put 26 0 add1)) add1Names 0 96
     ∷ answer (calls 2) callNames 0 88
     ∷ answer marked markedNames 0 88
     ∷ answer add1 add1Names 0 0
     ∷ answer add1 add1Names 0 95
-    ∷ answer (put 11 37 (put 25 0 (put 12 94 add1))) [] 0 0
-    ∷ answer (put 11 37 (put 25 0 add1)) [] 0 0
-    ∷ answer (put 11 37 (put 25 0 add1)) add1Names 0 0
+    ∷ answer (put 11 37 (put 26 0 (put 12 94 add1))) [] 0 0
+    ∷ answer (put 11 37 (put 26 0 add1)) [] 0 0
+    ∷ answer (put 11 37 (put 26 0 add1)) add1Names 0 0
     ∷ []
     ≡ 0 ∷ 1 ∷ 0 ∷ 1 ∷ 2 ∷ 2 ∷ 3 ∷ 3 ∷ 3 ∷ 4 ∷ 4 ∷ 1 ∷ 2 ∷ 3 ∷ []
 unfolding openBook

@@ -171,9 +171,9 @@ module _ (m : ℕ) where
   unfoldable pub structType : Reader StructType
   structType = mapped (λ p. record { name = p .0; body = p .1 }) (both (word 3 name) structBody)
 
-  -- "exactly one 5, function"
+  -- document 02, card 1: "one or more, .. closed by kind 0"
   unfoldable pub functions : Reader (List Function)
-  functions = mapped (λ f. f ∷ []) function
+  functions = filtered (λ fs. leb 1 (length fs)) (many function)
 
   -- marks, then structs, then the functions
   unfoldable pub structsAndFunctions : Reader (List StructType × List Function)
@@ -201,11 +201,11 @@ functionNames b = map (λ f. f .name) (b .functions)
 abbrev pub bookOf : List Mark × (List StructType × List Function) → Book
 bookOf p = record { marks = p .0; structs = p .1 .0; functions = p .1 .1 }
 
--- "Each name has at most one such mark", "each name once"
+-- "Each name has at most one such mark", "each name once" of structs and, by card 1, of functions
 unfoldable pub onceEach : Book → Bool
-onceEach b = distinct (map markName (b .marks)) && distinct (map (λ s. s .name) (b .structs))
+onceEach b = distinct (map markName (b .marks)) && (distinct (map (λ s. s .name) (b .structs)) && distinct (functionNames b))
 
--- nothing after the functions
+-- nothing after the entry that closes the functions
 abbrev pub whole : List Entry → Read Book → Option Book
 whole es (got b n) = when (eqb n (length es) && onceEach b) b
 whole es bad = none

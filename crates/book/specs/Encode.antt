@@ -135,7 +135,7 @@ unfoldable pub encStruct : StructType → List Entry
 encStruct s = entry 3 (s .name) ∷ encBody (s .body)
 
 abbrev pub encFunctions : List Function → List Entry
-encFunctions = ending encFunction []
+encFunctions = closed encFunction
 
 unfoldable pub encode : Book → List Entry
 encode b = ending encMark (ending encStruct (encFunctions (b .functions)) (b .structs)) (b .marks)

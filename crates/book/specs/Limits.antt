@@ -115,9 +115,9 @@ module _ (m : ℕ) where
   abbrev pub StructLimits : StructType → Type 0
   StructLimits s = (s .name < m) × BodyLimits (s .body)
 
-  -- "exactly one 5, function"
+  -- document 02, card 1: "one or more"
   abbrev pub FunctionsLimits : List Function → Type 0
-  FunctionsLimits fs = (length fs ≡ 1) × Each FunctionLimits fs
+  FunctionsLimits fs = (1 ≤ length fs) × Each FunctionLimits fs
 
   pub record Limits (b : Book) : Type 0 where
     pub marks : Each (λ k. markName k < m) (b .marks)

@@ -8,7 +8,7 @@ use Rattle.names.specs.Text.{bytes}
 use Rattle.names.specs.Name.{join}
 use Rattle.book.specs.Input.{entriesFit, namesFit}
 use Rattle.book.specs.Check.{checked, refusalOf}
-use Rattle.book.specs.AtLimits.{Entries, lent, fourNames, insts, inBlock, end, openHere}
+use Rattle.book.specs.AtLimits.{Entries, lent, fourNames, insts, inBlock, bare, end, openHere}
 
 -- ---- lengths: the entry count, the name count
 pub counts-hold : (map entriesFit (0 ∷ 1048576 ∷ 1048577 ∷ []) ≡ true ∷ true ∷ false ∷ []) × (map namesFit (0 ∷ 131072 ∷ 131073 ∷ []) ≡ true ∷ true ∷ false ∷ [])
@@ -16,17 +16,17 @@ counts-hold = (refl, refl)
 
 -- of the function alone, with these two counts before its kinds and words; a name count that the names don't match is a 2, one above 131,072 a 1
 unfoldable pub counted : ℕ × ℕ → ℕ
-counted c = refusalOf (checked (c .0 ∷ c .1 ∷ 5 ∷ 10 ∷ 0 ∷ 0 ∷ 1 ∷ 0 ∷ 0 ∷ 0 ∷ []) fourNames 0 1048704)
+counted c = refusalOf (checked (c .0 ∷ c .1 ∷ 5 ∷ 10 ∷ 0 ∷ 0 ∷ 0 ∷ 1 ∷ 0 ∷ 0 ∷ 0 ∷ 0 ∷ []) fourNames 0 1048704)
 
 pub lengths-hold :
-    map counted ((4, 4) ∷ (3, 4) ∷ (5, 4) ∷ (0, 4) ∷ (1048576, 4) ∷ (1048577, 4) ∷ (4, 3) ∷ (4, 5) ∷ (4, 1) ∷ (4, 131072) ∷ (4, 131073) ∷ [])
+    map counted ((5, 4) ∷ (4, 4) ∷ (6, 4) ∷ (0, 4) ∷ (1048576, 4) ∷ (1048577, 4) ∷ (5, 3) ∷ (5, 5) ∷ (5, 1) ∷ (5, 131072) ∷ (5, 131073) ∷ [])
     ≡ 0 ∷ 1 ∷ 1 ∷ 1 ∷ 1 ∷ 1 ∷ 2 ∷ 2 ∷ 1 ∷ 2 ∷ 1 ∷ []
 unfolding openHere counted
 lengths-hold = refl
 
 -- ---- "1, 2, 3, 4 over the whole book": of two faults the lower number. A book with a call of `@llvm.a`, or one without, or one that is no book; names, counter, work
 unfoldable pub calling : Entries
-calling = (5, 1) ∷ (10, 0) ∷ (0, 0) ∷ (7, 0) ∷ (76, 0) ∷ (10, 0) ∷ (31, 2) ∷ (0, 0) ∷ (93, 0) ∷ (0, 0) ∷ []
+calling = (5, 1) ∷ (10, 0) ∷ (0, 0) ∷ (7, 0) ∷ (76, 0) ∷ (10, 0) ∷ (31, 2) ∷ (0, 0) ∷ (93, 0) ∷ (0, 0) ∷ (0, 0) ∷ []
 
 abbrev rightNames : List ℕ
 rightNames = join (bytes "e" ∷ bytes "f" ∷ bytes "llvm.a" ∷ bytes "q" ∷ [])
@@ -57,7 +57,7 @@ first-holds = refl
 unfoldable pub callOf : Entries → ℕ × ℕ → List ℕ → ℕ
 callOf marks callee last =
     refusalOf (checked
-    (lent (marks ++ (5, 1) ∷ (10, 0) ∷ (0, 0) ∷ (7, 0) ∷ (76, 0) ∷ (10, 0) ∷ callee ∷ (12, 0) ∷ (31, 2) ∷ (0, 0) ∷ (93, 0) ∷ (0, 0) ∷ []) 3)
+    (lent (marks ++ (5, 1) ∷ (10, 0) ∷ (0, 0) ∷ (7, 0) ∷ (76, 0) ∷ (10, 0) ∷ callee ∷ (12, 0) ∷ (31, 2) ∷ (0, 0) ∷ (93, 0) ∷ (0, 0) ∷ (0, 0) ∷ []) 3)
     (join (bytes "e" ∷ bytes "f" ∷ last ∷ [])) 0 88)
 
 pub callees-hold :
@@ -69,6 +69,24 @@ pub callees-hold :
     ≡ 3 ∷ 3 ∷ 0 ∷ 0 ∷ 0 ∷ 0 ∷ 0 ∷ 0 ∷ 0 ∷ 3 ∷ 0 ∷ 0 ∷ 3 ∷ 0 ∷ 0 ∷ 3 ∷ 0 ∷ []
 unfolding openHere callOf
 callees-hold = refl
+
+-- a function behind the first: a call of `@llvm.a`, a value of kind 37, a call of another; a call in the third, in the first of three, in both of two; a 1 comes
+-- before them, for a function's name that is there twice and for the closing entry that is missing
+unfoldable pub behindFirst : Entries → ℕ
+behindFirst es =
+    twice (bare 0 ++ ((5, 1) ∷ (10, 0) ∷ (0, 0) ∷ (7, 0) ∷ es ++ ((93, 0) ∷ (0, 0) ∷ (0, 0) ∷ []))) rightNames 0 96
+
+unfoldable pub callFrom : ℕ → Entries
+callFrom x = (5, x) ∷ (10, 0) ∷ (0, 0) ∷ (7, 0) ∷ (76, 0) ∷ (10, 0) ∷ (31, 2) ∷ (0, 0) ∷ (93, 0) ∷ (0, 0) ∷ []
+
+pub second-holds :
+    map behindFirst
+    (((76, 0) ∷ (10, 0) ∷ (31, 2) ∷ (0, 0) ∷ []) ∷ ((77, 4) ∷ (11, 8) ∷ (37, 0) ∷ []) ∷ ((76, 0) ∷ (10, 0) ∷ (31, 3) ∷ (0, 0) ∷ []) ∷ [])
+    ++ twice (bare 0 ++ (bare 3 ++ calling)) rightNames 0 96 ∷ twice (callFrom 0 ++ (bare 3 ++ end)) rightNames 0 96
+    ∷ twice (callFrom 0 ++ calling) rightNames 0 96 ∷ twice (bare 1 ++ calling) rightNames 0 96 ∷ twice (callFrom 0 ++ bare 1) rightNames 0 96 ∷ []
+    ≡ 3 ∷ 3 ∷ 0 ∷ 3 ∷ 3 ∷ 3 ∷ 1 ∷ 1 ∷ []
+unfolding openHere calling twice behindFirst callFrom
+second-holds = refl
 
 -- a value of kind 37 in each place that has a value
 pub others-hold :

@@ -23,7 +23,7 @@ use Rattle.book.specs.Ast.{Book}
 use Rattle.book.specs.Decode.{member}
 use Rattle.book.specs.Result.{bind, okOr, given, require}
 use Rattle.book.specs.Input.{Counted, bookIn, namesIn}
-use Rattle.book.specs.Forbidden.{reservedBy, uncallable, forbiddenFunction, forbidden}
+use Rattle.book.specs.Forbidden.{any, reservedBy, uncallable, forbiddenFunction, forbidden}
 use Rattle.book.specs.Check.{workFor, checked, refusalOf}
 use Rattle.book_marks.specs.Range.{bit-range}
 use Rattle.book_check.specs.Whole.{there, barredWith, barredRange, readingIn, Holds, slice-holds}
@@ -85,9 +85,9 @@ module _ (bs : List ℕ) (ns : List (List ℕ)) (en : namesOf bs ≡ some ns) wh
       ap (λ t. member x (reservedBy (b .marks)) || t)
       (bit-range (replicate 2048 0) from to (omega (arith, past-fits, length-replicate {A = ℕ} 2048 0)) x ∙ rw (in-range x, bit-none 2048 x) (or-false (isIntrinsic (nameAt ns x))))
 
-  pub book-forbidden : length ns ≤ 131072 → (b : Book) → forbiddenFunction (barredWith (barredRange from to) b) (b .function) ≡ forbidden ns b
+  pub book-forbidden : length ns ≤ 131072 → (b : Book) → any (forbiddenFunction (barredWith (barredRange from to) b)) (b .functions) ≡ forbidden ns b
   unfolding forbidden
-  book-forbidden few b = ap (λ t. forbiddenFunction t (b .function)) (fun-ext (uncallable-bits few b))
+  book-forbidden few b = ap (λ t. any (forbiddenFunction t) (b .functions)) (fun-ext (uncallable-bits few b))
 
 -- ---- the refusals in order
 module _ (s bs : List ℕ) (counter work : ℕ) where
@@ -143,7 +143,7 @@ module _ (s bs : List ℕ) (counter work : ℕ) where
     sized ns en el false ev false et = says-work s bs counter work c ec fits ns en el ev (rw (holds .count) (leb-false _ _ et))
 
     listed : accepted bs (getD s 1 0) ≡ true
-        → says s bs counter work (numberOf (namesVerdict true (forbiddenFunction (barredWith (barredRange (firstWith intrinsic (lines bs)) (pastWith intrinsic (lines bs))) (c .book)) (c .book .function)) (getD s 1 0) work))
+        → says s bs counter work (numberOf (namesVerdict true (any (forbiddenFunction (barredWith (barredRange (firstWith intrinsic (lines bs)) (pastWith intrinsic (lines bs))) (c .book))) (c .book .functions)) (getD s 1 0) work))
     listed eu =
         let n = accepted-iff bs (getD s 1 0) .0 eu in
         let el : length (n .0) ≡ c .count = n .2 ∙ sym (holds .count) in
@@ -155,7 +155,7 @@ module _ (s bs : List ℕ) (counter work : ℕ) where
 
   -- a book or none, with a counter or another
   by-book : (named : Bool) (from to : ℕ)
-      → ((c : Counted) → bookIn s ≡ some c → counter ≤ 2 ^ 32 → says s bs counter work (numberOf (namesVerdict named (forbiddenFunction (barredWith (barredRange from to) (c .book)) (c .book .function)) (getD s 1 0) work)))
+      → ((c : Counted) → bookIn s ≡ some c → counter ≤ 2 ^ 32 → says s bs counter work (numberOf (namesVerdict named (any (forbiddenFunction (barredWith (barredRange from to) (c .book))) (c .book .functions)) (getD s 1 0) work)))
       → says s bs counter work (numberOf (verdictOf (readingIn (barredRange from to) (bookIn s)) named counter (getD s 1 0) work))
   by-book named from to next = book (bookIn s) refl
     where
@@ -163,7 +163,7 @@ module _ (s bs : List ℕ) (counter work : ℕ) where
       book none e = says-book s bs counter work (ap there e)
       book (some c) e = counted (leb counter (2 ^ 32)) refl
         where
-          counted : (t : Bool) → leb counter (2 ^ 32) ≡ t → says s bs counter work (numberOf (pickVerdict t (namesVerdict named (forbiddenFunction (barredWith (barredRange from to) (c .book)) (c .book .function)) (getD s 1 0) work) verdict.BadBook))
+          counted : (t : Bool) → leb counter (2 ^ 32) ≡ t → says s bs counter work (numberOf (pickVerdict t (namesVerdict named (any (forbiddenFunction (barredWith (barredRange from to) (c .book))) (c .book .functions)) (getD s 1 0) work) verdict.BadBook))
           counted true et = next c e (leb-true counter (2 ^ 32) et)
           counted false et = says-counter s bs counter work c e (leb-false counter (2 ^ 32) et)
 

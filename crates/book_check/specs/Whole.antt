@@ -18,7 +18,7 @@ use Rattle.book.specs.Read.{Read, got, bad, mapped, andThen}
 use Rattle.book.specs.Decode.{parts, bookOf, onceEach, whole, decode}
 use Rattle.book.specs.Encode.{encode}
 use Rattle.book.specs.Limits.{Limits}
-use Rattle.book.specs.Forbidden.{forbiddenFunction}
+use Rattle.book.specs.Forbidden.{any, forbiddenFunction}
 use Rattle.book.specs.AgreeBook.{PartsLimits, agrees-book}
 use Rattle.book.specs.AgreeInput.{slice, slice-sound, entries-back, length-kinds, length-words}
 use Rattle.book.specs.Input.{Counted, counted, bookIn}
@@ -36,7 +36,7 @@ barredWith barred b = barredBy (bitAt barred) (b .marks)
 
 abbrev pub readingOf : List ℕ → Option Book → Reading
 readingOf barred none = reading.Bad
-readingOf barred (some b) = reading.Book (forbiddenFunction (barredWith barred b) (b .function))
+readingOf barred (some b) = reading.Book (any (forbiddenFunction (barredWith barred b)) (b .functions))
 
 -- the map of the names from one number to another, with a bit for each of 131,072
 abbrev pub barredRange : ℕ → ℕ → List ℕ
@@ -67,29 +67,29 @@ book-there barred (some c) = refl
 module _ (m : ℕ) (few : m ≤ 131072) where
   module _ (barred : List ℕ) (size : length barred ≡ 2048) (es : List Entry) (f : Found) (ef : f ≡ partsFound barred (parts m es)) where
     -- what was read, as a book
-    book-read : (b : Book) (n : ℕ) → mapped bookOf (parts m) es ≡ got b n → f ≡ answered n (when (onceEach b) (forbiddenFunction (barredWith barred b) (b .function)))
+    book-read : (b : Book) (n : ℕ) → mapped bookOf (parts m) es ≡ got b n → f ≡ answered n (when (onceEach b) (any (forbiddenFunction (barredWith barred b)) (b .functions)))
     unfolding mapped
     book-read b n e = go (parts m es) refl
       where
         keeps : PartsLimits m b
         keeps = agrees-book m .sound es b n e .keeps
 
-        go : (r : Read (List Mark × (List StructType × Function))) → parts m es ≡ r → f ≡ answered n (when (onceEach b) (forbiddenFunction (barredWith barred b) (b .function)))
+        go : (r : Read (List Mark × (List StructType × List Function))) → parts m es ≡ r → f ≡ answered n (when (onceEach b) (any (forbiddenFunction (barredWith barred b)) (b .functions)))
         go (got p k) h =
             let eb : got (bookOf p) k ≡ got b n = sym (ap (λ r. andThen r (λ a n. got (bookOf a) n)) h) ∙ e in
             let fb : bookOf p ≡ b = cc in
             let fk : k ≡ n = cc in
             ef ∙ ap (partsFound barred) h
             ∙ parts-answer m 2048 (omega arith) barred size (bookOf p) k (subst (PartsLimits m) (sym fb) keeps)
-            ∙ ap (λ c. answered k (when (onceEach c) (forbiddenFunction (barredWith barred c) (c .function)))) fb
-            ∙ ap (λ i. answered i (when (onceEach b) (forbiddenFunction (barredWith barred b) (b .function)))) fk
+            ∙ ap (λ c. answered k (when (onceEach c) (any (forbiddenFunction (barredWith barred c)) (c .functions)))) fb
+            ∙ ap (λ i. answered i (when (onceEach b) (any (forbiddenFunction (barredWith barred b)) (b .functions)))) fk
         go bad h = absurd (let z : bad ≡ got b n = sym (ap (λ r. andThen r (λ a n. got (bookOf a) n)) h) ∙ e in let y : _≡_ {A = ℕ} 0 1 = cc in omega arith)
 
     none-read : mapped bookOf (parts m) es ≡ bad → partsFound barred (parts m es) ≡ found.Bad
     unfolding mapped
     none-read e = by (parts m es) refl
       where
-        by : (r : Read (List Mark × (List StructType × Function))) → parts m es ≡ r → partsFound barred r ≡ found.Bad
+        by : (r : Read (List Mark × (List StructType × List Function))) → parts m es ≡ r → partsFound barred r ≡ found.Bad
         by (got p k) z = absurd (let y : got (bookOf p) k ≡ bad = sym (ap (λ r. andThen r (λ a n. got (bookOf a) n)) z) ∙ e in let w : _≡_ {A = ℕ} 0 1 = cc in omega arith)
         by bad z = refl
 
@@ -104,7 +104,7 @@ module _ (m : ℕ) (few : m ≤ 131072) where
         go : (r : Read Book) → mapped bookOf (parts m) es ≡ r → reading.Bad ≡ readingOf barred (whole es r)
         go (got b n) e = once (onceEach b) (sym h ∙ book-read b n e)
           where
-            once : (t : Bool) → found.Bad ≡ answered n (when t (forbiddenFunction (barredWith barred b) (b .function))) → reading.Bad ≡ readingOf barred (when (eqb n (length es) && t) b)
+            once : (t : Bool) → found.Bad ≡ answered n (when t (any (forbiddenFunction (barredWith barred b)) (b .functions))) → reading.Bad ≡ readingOf barred (when (eqb n (length es) && t) b)
             once true z = absurd (let y : _≡_ {A = ℕ} 0 1 = cc in omega arith)
             once false z = last (eqb n (length es))
               where
@@ -120,7 +120,7 @@ module _ (m : ℕ) (few : m ≤ 131072) where
           go : (r : Read Book) → mapped bookOf (parts m) es ≡ r → reading.Bad ≡ readingOf barred (whole es r)
           go (got b k) e = once (onceEach b) (sym h ∙ book-read b k e)
             where
-              once : (t : Bool) → found.Entries n x ≡ answered k (when t (forbiddenFunction (barredWith barred b) (b .function))) → reading.Bad ≡ readingOf barred (when (eqb k (length es) && t) b)
+              once : (t : Bool) → found.Entries n x ≡ answered k (when t (any (forbiddenFunction (barredWith barred b)) (b .functions))) → reading.Bad ≡ readingOf barred (when (eqb k (length es) && t) b)
               once true z = let y : n ≡ k = cc in rw (ne-eqb k (length es) (λ q. d (y ∙ q)))
               once false z = absurd (let y : _≡_ {A = ℕ} 0 1 = cc in omega arith)
           go bad e = refl
@@ -131,8 +131,8 @@ module _ (m : ℕ) (few : m ≤ 131072) where
           go : (r : Read Book) → mapped bookOf (parts m) es ≡ r → reading.Book x ≡ readingOf barred (whole es r)
           go (got b k) e = once (onceEach b) (sym h ∙ book-read b k e)
             where
-              once : (t : Bool) → found.Entries n x ≡ answered k (when t (forbiddenFunction (barredWith barred b) (b .function))) → reading.Book x ≡ readingOf barred (when (eqb k (length es) && t) b)
-              once true z = let y : n ≡ k = cc in let v : x ≡ forbiddenFunction (barredWith barred b) (b .function) = cc in rw (eq-eqb k (length es) (sym y ∙ l)) (ap reading.Book v)
+              once : (t : Bool) → found.Entries n x ≡ answered k (when t (any (forbiddenFunction (barredWith barred b)) (b .functions))) → reading.Book x ≡ readingOf barred (when (eqb k (length es) && t) b)
+              once true z = let y : n ≡ k = cc in let v : x ≡ any (forbiddenFunction (barredWith barred b)) (b .functions) = cc in rw (eq-eqb k (length es) (sym y ∙ l)) (ap reading.Book v)
               once false z = absurd (let y : _≡_ {A = ℕ} 0 1 = cc in omega arith)
           go bad e = absurd (let y : found.Entries n x ≡ found.Bad = sym h ∙ ef ∙ none-read e in let w : _≡_ {A = ℕ} 0 1 = cc in omega arith)
 

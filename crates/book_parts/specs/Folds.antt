@@ -1,22 +1,22 @@
--- Laws on items that each change a state or are refused, and on the loops over named structs and marks.
+-- Laws on items that each change a state or are refused, and on the loops over functions, named structs and marks.
 use Prim.Native.Nat.{ℕ, zero, suc, _+_, _-_, _≤_}
 use mathlib.Core.Path.{_≡_, refl, ap, sym, _∙_}
 use mathlib.Core.Bool.{Bool, true, false}
 use mathlib.Core.Option.{Option, none, some}
-use mathlib.Core.List.{List, [], _∷_}
+use mathlib.Core.List.{List, [], _∷_, _++_}
 use native.Mathlib.Numerals.{sub-one}
 use native.Mathlib.Nat.{add-assoc, zero-add}
 use native.Mathlib.Omega.{arith}
-use lib.ListN.{length, drop}
+use lib.ListN.{length, getD, drop, length-append, length-drop}
 use lib.Seq.{drop-drop}
-use Rattle.book.specs.Entry.{Entry, entries}
+use Rattle.book.specs.Entry.{Entry, entry, entries}
 use Rattle.book.specs.Read.{Read, got, bad, Reader, andThen, stops, mapped, until}
-use Rattle.book_types.specs.Laws.{within-kinds, within-words}
-use Rattle.book_types.specs.Found.{foundOf, joined, nextOf, lastOf, pickPass, passOf}
+use Rattle.book.specs.Agree.{Begins, Agrees}
+use Rattle.book_types.specs.Laws.{entry-at, entries-part, within-kinds, within-words, lentFrom}
+use Rattle.book_types.specs.Found.{foundOf, joined}
+use Rattle.book_types.specs.Passes.{found-got, found-bad}
 use Rattle.book_types.specs.declared.Found.{Found}
 use Rattle.book_types.specs.declared.Found.the-variants as found
-use Rattle.book_types.specs.declared.Pass.{Pass}
-use Rattle.book_types.specs.declared.Pass.the-variants as pass
 use Rattle.book_parts.specs.Reading.{goes, answered, folded, endFound, allFound}
 
 behind-behind : (a b : ℕ) (f : Found) → joined a false (joined b false f) ≡ joined (a + b) false f
@@ -121,39 +121,41 @@ module _ {S A B : Type 0} (taken : S → A → Option S) (ended : S → B → Op
               fold (a + k) (left - 1) u f
               (l .whole ∙ ap (joined a false) (all-taken s left (drop a (entries ks ws)) t x k e u r z) ∙ behind-behind a k (all u (left - 1) (drop k (drop a (entries ks ws)))) ∙ ap (λ q. joined (a + k) false (all u (left - 1) q)) (drop-drop k a (entries ks ws)))
 
--- ---- from a step of a loop to what was read
-module _ {A B : Type 0} (ta : A → Bool) (tb : B → Bool) (stop : ℕ → Bool) (item : Reader A) (end : Reader B) (es : List Entry) where
-  abbrev Step : Bool → Read B → Read A → Pass
-  Step t r q = pickPass t (lastOf (foundOf tb r)) (nextOf (foundOf ta q))
+-- ---- items that begin with their name
+abbrev pub NameFirst : List Entry → ℕ → Type 0
+NameFirst es x = (k : ℕ) × ((rest : List Entry) × (es ≡ entry k x ∷ rest))
 
-  pub pass-done : (k : ℕ) (b : Bool) → passOf ta tb stop item end es ≡ pass.Done k b → (stops stop es ≡ true) × (foundOf tb (end es) ≡ found.Entries k b)
-  pass-done k b h = go (stops stop es) (end es) (item es) refl h
-    where
-      go : (t : Bool) (r : Read B) (q : Read A) → stops stop es ≡ t → Step t r q ≡ pass.Done k b → (stops stop es ≡ true) × (foundOf tb r ≡ found.Entries k b)
-      go true (got x n) q t e = (t, cc)
-      go true bad q t e = absurd (let z : _≡_ {A = ℕ} 0 1 = cc in omega arith)
-      go false r (got x n) t e = absurd (let z : _≡_ {A = ℕ} 0 1 = cc in omega arith)
-      go false r bad t e = absurd (let z : _≡_ {A = ℕ} 0 1 = cc in omega arith)
+-- an item of k entries at the place a: its name is the word in front
+pub record ItemAt {A : Type 0} (item : Reader A) (test : A → Bool) (nameOf : A → ℕ) (ks ws : List ℕ) (a k : ℕ) (b : Bool) : Type 0 where
+  pub value : A
+  pub read : item (drop a (entries ks ws)) ≡ got value k
+  pub tested : test value ≡ b
+  pub name : nameOf value ≡ getD ws a 0
+  pub long : 1 ≤ k
+  pub there : a + k ≤ length (entries ks ws)
 
-  pub pass-next : (k : ℕ) (b : Bool) → passOf ta tb stop item end es ≡ pass.Next k b → (stops stop es ≡ false) × ((x : A) × (item es ≡ got x k))
-  pass-next k b h = go (stops stop es) (end es) (item es) refl refl h
-    where
-      go : (t : Bool) (r : Read B) (q : Read A) → stops stop es ≡ t → item es ≡ q → Step t r q ≡ pass.Next k b → (stops stop es ≡ false) × ((x : A) × (item es ≡ got x k))
-      go true (got x n) q t i e = absurd (let z : _≡_ {A = ℕ} 0 1 = cc in omega arith)
-      go true bad q t i e = absurd (let z : _≡_ {A = ℕ} 0 1 = cc in omega arith)
-      go false r (got x n) t i e = let z : n ≡ k = cc in (t, (x, i ∙ ap (got x) z))
-      go false r bad t i e = absurd (let z : _≡_ {A = ℕ} 0 1 = cc in omega arith)
+front-word : (xs ys : List Entry) {x y : Entry} → x ∷ xs ≡ y ∷ ys → x .word ≡ y .word
+front-word xs ys {x} {y} q = let z : x ≡ y = cc in ap (λ e. e .word) z
 
-  pub pass-last : stops stop es ≡ true → passOf ta tb stop item end es ≡ pass.Bad → foundOf tb (end es) ≡ found.Bad
-  pass-last t h = go (end es) (rw t at h)
-    where
-      go : (r : Read B) → lastOf (foundOf tb r) ≡ pass.Bad → foundOf tb r ≡ found.Bad
-      go (got x n) e = absurd (let z : _≡_ {A = ℕ} 0 1 = cc in omega arith)
-      go bad e = refl
+-- from what the code found there
+module _ {A : Type 0} {item : Reader A} {write : A → List Entry} {Keeps : A → Type 0} (agrees : Agrees item write Keeps) (test : A → Bool) (nameOf : A → ℕ)
+    (first : (x : A) → NameFirst (write x) (nameOf x)) (ks ws : List ℕ) (a : ℕ) (in-book : a ≤ length (entries ks ws)) (f : Found) (ef : f ≡ foundOf test (item (lentFrom ks ws a))) where
+  abbrev rest : List Entry
+  rest = drop a (entries ks ws)
 
-  pub pass-item-bad : stops stop es ≡ false → passOf ta tb stop item end es ≡ pass.Bad → item es ≡ bad
-  pass-item-bad t h = go (item es) (rw t at h)
-    where
-      go : (r : Read A) → nextOf (foundOf ta r) ≡ pass.Bad → r ≡ bad
-      go (got x n) e = absurd (let z : _≡_ {A = ℕ} 0 1 = cc in omega arith)
-      go bad e = refl
+  at-rest : f ≡ foundOf test (item rest)
+  at-rest = rw (entries-part a ks ws) at ef
+
+  pub item-none : f ≡ found.Bad → item rest ≡ bad
+  item-none h = found-bad test (item rest) (sym at-rest ∙ h)
+
+  pub item-at : (k : ℕ) (b : Bool) → f ≡ found.Entries k b → ItemAt item test nameOf ks ws a k b
+  item-at k b h =
+      let r = found-got test (item rest) k b (sym at-rest ∙ h) in
+      let x = r .0 in
+      let s : Begins write Keeps rest x k = agrees .sound rest x k (r .1 .0) in
+      let q = first x .1 .1 in
+      let long : 1 ≤ k = omega (arith, s .size, ap length q) in
+      let there : a + k ≤ length (entries ks ws) = omega (arith, s .size, ap length (s .here), length-append (write x) (drop k rest), length-drop a (entries ks ws)) in
+      let name = front-word _ _ (sym (entry-at ks ws a (omega arith)) ∙ s .here ∙ ap (λ es. es ++ drop k rest) q) in
+      record { value = x; read = r .1 .0; tested = r .1 .1; name = sym name; long = long; there = there }

@@ -1,6 +1,6 @@
-// The parts of a book in one pass: marks, named structs, the function. Repeated marks and struct names are found by maps with a
-// bit for each name. `barred` has a bit set for each name that may not be called; reserved names are added to it before the
-// function is read.
+// The parts of a book in one pass: marks, named structs, the functions. Repeated marks, struct names and function names are found by
+// maps with a bit for each name. `barred` has a bit set for each name that may not be called; reserved names are added to it before
+// the functions are read.
 use book_blocks::function_len;
 use book_marks::mark_bit;
 use book_marks::mark_new;
@@ -8,12 +8,9 @@ use book_marks::mark_range;
 use book_types::Found;
 use book_types::Front;
 use book_types::Length;
-use book_types::Pass;
 use book_types::entry_if;
 use book_types::first_entry;
 use book_types::join_found;
-use book_types::last_pass;
-use book_types::next_pass;
 use book_types::plain;
 use book_types::shorter;
 use book_types::types::TypeGroup;
@@ -23,18 +20,16 @@ use book_values::word_len;
 ghost use mathlib.Core.Path.{_≡_};
 ghost use Prim.Native.Nat.{_<_, _≤_};
 ghost use mathlib.Core.Bool.{_&&_};
-ghost use lib.Dec.{leb, eqb};
+ghost use lib.Dec.{eqb};
 ghost use lib.ListN.{replicate};
-ghost use Rattle.numbers.specs.Bits.{bitAt};
 ghost use Rattle.book.specs.Entry.{entries};
-ghost use Rattle.book.specs.Decode.{structBody, structType, function, structsAndFunction, parts};
-ghost use Rattle.book.specs.Forbidden.{forbiddenFunction};
+ghost use Rattle.book.specs.Decode.{structBody, structType, functions, structsAndFunctions, parts};
 ghost use Rattle.book_types.specs.Length.{lenOf};
 ghost use Rattle.book_marks.specs.Once.{setIf};
 ghost use Rattle.book_marks.specs.Range.{markedRange};
-ghost use Rattle.book_types.specs.Found.{foundOf, passOf, never};
+ghost use Rattle.book_types.specs.Found.{foundOf, never};
 ghost use Rattle.book_parts.specs.Parts.{isStructGroup};
-ghost use Rattle.book_parts.specs.Reading.{markTaken, namedFound, marksFound, partsFound};
+ghost use Rattle.book_parts.specs.Reading.{markTaken, functionsFound, namedFound, marksFound, partsFound};
 
 fn is_struct(group: TypeGroup) -> bool
     ensures { λ r. ⌜ r ≡ isStructGroup group ⌝ }
@@ -82,42 +77,79 @@ fn struct_len(kinds: &[u64], words: &[u64], names: u64) -> Found
     )
 }
 
-// What comes next behind the marks: a named struct or the function.
-fn struct_step(kinds: &[u64], words: &[u64], names: u64, barred: &[u64]) -> Pass
-    ensures { λ r. ⌜ r ≡ passOf never (forbiddenFunction (bitAt (now (barred .entry)))) (leb 4) (structType names) (function names) (entries (now (kinds .entry)) (now (words .entry))) ⌝ }
+// The functions, one or more whose names are new, and the entry that closes them.
+fn functions_len(
+    kinds: &[u64],
+    words: &[u64],
+    names: u64,
+    barred: &[u64],
+    defined: &mut [u64],
+) -> Found
+    ensures { λ r. ⌜ r ≡ functionsFound (now (barred .entry)) (now (defined .entry)) (functions names (entries (now (kinds .entry)) (now (words .entry)))) ⌝ }
 {
-    let Front::Entry(kind, _) = first_entry(kinds, words) else {
-        return Pass::Bad;
-    };
-    if 4 <= kind {
-        last_pass(function_len(kinds, words, names, barred))
-    } else {
-        next_pass(struct_len(kinds, words, names))
+    let end = shorter(kinds, words);
+    let mut at: usize = 0;
+    let mut left: usize = end;
+    let mut seen = false;
+    while at < end {
+        if kinds[at] == 0 {
+            if (at == 0) | (words[at] != 0) {
+                return Found::Bad;
+            }
+            return Found::Entries(at + 1, seen);
+        }
+        let Found::Entries(n, forbidden) = function_len(&kinds[at..], &words[at..], names, barred)
+        else {
+            return Found::Bad;
+        };
+        if left == 0 {
+            return Found::Bad;
+        }
+        if !mark_new(defined, words[at] as usize) {
+            return Found::Bad;
+        }
+        seen = seen | forbidden;
+        at = at + n;
+        left = left - 1;
     }
+    Found::Bad
 }
 
-// Named structs whose names are new, and the function.
-fn named_len(kinds: &[u64], words: &[u64], names: u64, barred: &[u64], named: &mut [u64]) -> Found
-    ensures { λ r. ⌜ r ≡ namedFound (now (barred .entry)) (now (named .entry)) (structsAndFunction names (entries (now (kinds .entry)) (now (words .entry)))) ⌝ }
+// Named structs whose names are new, and the functions.
+fn named_len(
+    kinds: &[u64],
+    words: &[u64],
+    names: u64,
+    barred: &[u64],
+    named: &mut [u64],
+    defined: &mut [u64],
+) -> Found
+    ensures { λ r. ⌜ r ≡ namedFound (now (barred .entry)) (now (defined .entry)) (now (named .entry)) (structsAndFunctions names (entries (now (kinds .entry)) (now (words .entry)))) ⌝ }
 {
+    let end = shorter(kinds, words);
     let mut at: usize = 0;
-    let mut left: usize = shorter(kinds, words);
-    loop {
-        match struct_step(&kinds[at..], &words[at..], names, barred) {
-            Pass::Done(n, forbidden) => return Found::Entries(at + n, forbidden),
-            Pass::Bad => return Found::Bad,
-            Pass::Next(n, _) => {
-                if left == 0 {
-                    return Found::Bad;
-                }
-                if !mark_new(named, words[at] as usize) {
-                    return Found::Bad;
-                }
-                at = at + n;
-                left = left - 1;
-            }
+    let mut left: usize = end;
+    while at < end {
+        if 4 <= kinds[at] {
+            return join_found(
+                at,
+                false,
+                functions_len(&kinds[at..], &words[at..], names, barred, defined),
+            );
         }
+        let Found::Entries(n, _) = struct_len(&kinds[at..], &words[at..], names) else {
+            return Found::Bad;
+        };
+        if left == 0 {
+            return Found::Bad;
+        }
+        if !mark_new(named, words[at] as usize) {
+            return Found::Bad;
+        }
+        at = at + n;
+        left = left - 1;
     }
+    Found::Bad
 }
 
 // Whether a name has its first mark here, kind 1 or 2; then it is marked, and barred if it is reserved.
@@ -152,8 +184,9 @@ fn marks_len(
     marked: &mut [u64],
     barred: &mut [u64],
     named: &mut [u64],
+    defined: &mut [u64],
 ) -> Found
-    ensures { λ r. ⌜ r ≡ marksFound (now (named .entry)) (now (marked .entry)) (now (barred .entry)) (parts names (entries (now (kinds .entry)) (now (words .entry)))) ⌝ }
+    ensures { λ r. ⌜ r ≡ marksFound (now (named .entry)) (now (defined .entry)) (now (marked .entry)) (now (barred .entry)) (parts names (entries (now (kinds .entry)) (now (words .entry)))) ⌝ }
 {
     let n = shorter(kinds, words);
     let mut at: usize = 0;
@@ -162,7 +195,7 @@ fn marks_len(
             return join_found(
                 at,
                 false,
-                named_len(&kinds[at..], &words[at..], names, barred, named),
+                named_len(&kinds[at..], &words[at..], names, barred, named, defined),
             );
         }
         if !mark(kinds[at], words[at], names, marked, barred) {
@@ -183,11 +216,12 @@ fn ranged_len(
     marked: &mut [u64],
     barred: &mut [u64],
     named: &mut [u64],
+    defined: &mut [u64],
 ) -> Found
-    ensures { λ r. ⌜ r ≡ marksFound (now (named .entry)) (now (marked .entry)) (markedRange (now (barred .entry)) from to) (parts names (entries (now (kinds .entry)) (now (words .entry)))) ⌝ }
+    ensures { λ r. ⌜ r ≡ marksFound (now (named .entry)) (now (defined .entry)) (now (marked .entry)) (markedRange (now (barred .entry)) from to) (parts names (entries (now (kinds .entry)) (now (words .entry)))) ⌝ }
 {
     mark_range(barred, from, to);
-    marks_len(kinds, words, names, marked, barred, named)
+    marks_len(kinds, words, names, marked, barred, named, defined)
 }
 
 // The same from maps of 32 words, which have a bit for each of 2,048 names; they find what longer ones do.
@@ -198,6 +232,7 @@ fn few_len(kinds: &[u64], words: &[u64], names: u64, from: u64, to: u64) -> Foun
     let mut marked = [0u64; 32];
     let mut barred = [0u64; 32];
     let mut named = [0u64; 32];
+    let mut defined = [0u64; 32];
     ranged_len(
         kinds,
         words,
@@ -207,6 +242,7 @@ fn few_len(kinds: &[u64], words: &[u64], names: u64, from: u64, to: u64) -> Foun
         &mut marked,
         &mut barred,
         &mut named,
+        &mut defined,
     )
 }
 
@@ -217,6 +253,7 @@ fn many_len(kinds: &[u64], words: &[u64], names: u64, from: u64, to: u64) -> Fou
     let mut marked = [0u64; 2048];
     let mut barred = [0u64; 2048];
     let mut named = [0u64; 2048];
+    let mut defined = [0u64; 2048];
     ranged_len(
         kinds,
         words,
@@ -226,6 +263,7 @@ fn many_len(kinds: &[u64], words: &[u64], names: u64, from: u64, to: u64) -> Fou
         &mut marked,
         &mut barred,
         &mut named,
+        &mut defined,
     )
 }
 
@@ -251,7 +289,7 @@ fn maps_len(kinds: &[u64], words: &[u64], names: u64, from: u64, to: u64, room: 
     few_len(kinds, words, names, from, to)
 }
 
-// Marks, each name once, named structs and the function. The names from `from` up to and without `to` may not be called, nor may
+// Marks, each name once, named structs and the functions. The names from `from` up to and without `to` may not be called, nor may
 // the reserved ones.
 pub fn parts_len(kinds: &[u64], words: &[u64], names: u64, from: u64, to: u64) -> Found
     ensures { λ r. ⌜ r ≡ partsFound (markedRange (replicate 2048 0) from to) (parts names (entries (now (kinds .entry)) (now (words .entry)))) ⌝ }

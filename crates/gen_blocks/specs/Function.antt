@@ -120,9 +120,9 @@ pub functions-are : (m : ℕ) (es : List Entry) (b : Book) → decode m es ≡ s
 unfolding functionsIn
 functions-are m es b e = ap functionsOr e
 
--- the place behind the last function
+-- the place behind the last function: the entry that closes them, which is the last
 abbrev pub lastOf : List Entry → ℕ
-lastOf es = length es
+lastOf es = length es - 1
 
 -- ---- before the first: no entry of kind 5
 abbrev Other : Entry → Type 0
@@ -194,8 +194,9 @@ module _ (m : ℕ) (ks ws : List ℕ) (a : ℕ) (s : Scanning m (entries ks ws) 
   view [] h o =
       let f = functions-begin m fs (s .limits) in
       let q = entry-at ks ws a _ _ (h ∙ f .1 .1) in
-      let there : a ≤ length es = omega (arith, ap length (h ∙ f .1 .1), length-drop a es) in
-      (q .2, ((λ _. record { end = []; here = h; limits = s .limits .1; ends = omega arith; there = there; few = s .few }), λ n. absurd (n (q .0))))
+      let long = ap length (h ∙ f .1 .1) in
+      let there : a ≤ length es = omega (arith, long, length-drop a es) in
+      (q .2, ((λ _. record { end = entry 0 0 ∷ []; here = h; limits = s .limits .1; ends = omega (arith, long, length-drop a es); there = there; few = s .few }), λ n. absurd (n (q .0))))
   view (e ∷ pre) h o =
       let q = entry-at ks ws a _ _ h in
       (q .2, ((λ k. absurd (o .0 (sym (q .0) ∙ k))), λ _. record { pre = pre; here = q .4; other = o .1; limits = s .limits; few = s .few }))

@@ -97,8 +97,9 @@ function-defines f =
     (plain-append ps bs (plain-ending encParam param-plain (entry 0 0 ∷ []) closing (f .params)) (plain-ending encBasicBlock block-plain (entry 0 0 ∷ []) closing (f .blocks))) in
     ap (λ (l : List ℕ). f .name ∷ l) (none-of (encTy (f .retTy) ++ (ps ++ bs)) all)
 
+-- each function defines its name, and the entry that closes them defines none
 functions-define : (fs : List Function) → definers (encFunctions fs) ≡ map (λ (f : Function). f .name) fs
-unfolding ending definers
+unfolding ending definers defines
 functions-define [] = refl
 functions-define (f ∷ fs) =
     definers-append (encFunction f) (encFunctions fs) ∙ ap (λ (l : List ℕ). l ++ definers (encFunctions fs)) (function-defines f) ∙ ap (λ (l : List ℕ). f .name ∷ l) (functions-define fs)

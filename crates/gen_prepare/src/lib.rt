@@ -56,7 +56,13 @@ fn framed(at: usize, placed: Placed, f: Frame) -> Prepared
 
 // What the functions share: the structs, and how names are called. Answers the place of the first function. The names are `count`,
 // the entries the whole book's.
-pub fn prepare_book(kinds: &[u64], words: &[u64], names: &[u8], work: &mut [u64], count: u64) -> usize
+pub fn prepare_book(
+    kinds: &[u64],
+    words: &[u64],
+    names: &[u8],
+    work: &mut [u64],
+    count: u64,
+) -> usize
     requires { ⌜ BookAsk (now names) count (entries (now kinds) (now words)) (now work) ⌝ }
     ensures { λ r. ⌜ BookDone (now (names .entry)) count (entries (now (kinds .entry)) (now (words .entry))) (now (work .exit)) r ⌝ }
 {

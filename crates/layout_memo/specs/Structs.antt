@@ -14,7 +14,7 @@ use Rattle.book.specs.Ast.{Ty, StructBody, StructType, Mark, Book}
 use Rattle.book.specs.Rule.{find, pick}
 use Rattle.book.specs.Result.{ok, okOr}
 use Rattle.book.specs.Kinds.{TyTag, tyKind}
-use Rattle.book.specs.Decode.{decode, member, distinct, onceEach, markName}
+use Rattle.book.specs.Decode.{decode, member, distinct, onceEach, markName, functionNames}
 use Rattle.book.specs.Encode.{ending, encTy, encMark, markEntry, encStruct, encBody, encFunctions, encode}
 use Rattle.book.specs.Limits.{Each, StructLimits, BodyLimits}
 use Rattle.book.specs.AgreeBook.{Five, functions-begin, decode-sound}
@@ -61,13 +61,16 @@ unfolding structsIn encode onceEach
 marks-start m es b =
     let s = decode-sound m es (b .book) (b .says) in
     let e : structsIn m es ≡ b .book .structs = ap structsOr (b .says) in
+    let marked = distinct (map markName (b .book .marks)) in
+    let named = distinct (map nameOf (b .book .structs)) in
+    let defined = distinct (functionNames (b .book)) in
     record {
       marks = b .book .marks;
       tail = encFunctions (b .book .functions);
       five = functions-begin m (b .book .functions) (s .1 .functions);
       here = s .0 ∙ ap (λ (x : List StructType). ending encMark (ending encStruct (encFunctions (b .book .functions)) x) (b .book .marks)) (sym e);
       limits = subst (Each (StructLimits m)) (sym e) (s .1 .structs);
-      once = ap (λ (x : List StructType). distinct (map nameOf x)) e ∙ both (distinct (map markName (b .book .marks))) (distinct (map nameOf (b .book .structs))) (s .1 .once) .1;
+      once = ap (λ (x : List StructType). distinct (map nameOf x)) e ∙ both named defined (both marked (named && defined) (s .1 .once) .1) .0;
       few = b .few;
     }
 

@@ -20,7 +20,7 @@ names = "a" ∷ "add1" ∷ "entry" ∷ "r" ∷ []
 unfoldable pub input : List ℕ
 input =
     bytesOf (slice
-    ((5, 1) ∷ (11, 32) ∷ (6, 1) ∷ (11, 32) ∷ (0, 0) ∷ (7, 2) ∷ (40, 4) ∷ (11, 32) ∷ (30, 0) ∷ (32, 1) ∷ (90, 0) ∷ (11, 32) ∷ (30, 3) ∷ (0, 0) ∷ []) names)
+    ((5, 1) ∷ (11, 32) ∷ (6, 1) ∷ (11, 32) ∷ (0, 0) ∷ (7, 2) ∷ (40, 4) ∷ (11, 32) ∷ (30, 0) ∷ (32, 1) ∷ (90, 0) ∷ (11, 32) ∷ (30, 3) ∷ (0, 0) ∷ (0, 0) ∷ []) names)
     ++ unlines names
 
 unfoldable pub theirText : List ℕ
@@ -33,12 +33,12 @@ theirText =
 unfoldable pub cut : (bytes lines text : ℕ) → Printing
 cut bytes lines text = shown (take bytes input) (replicate lines 7) (replicate lines 7) (replicate text 33)
 
-pub add1-shown : cut 255 11 113 ≡ record { reply = Printed.accepted 112; text = theirText ++ (33 ∷ []) }
+pub add1-shown : cut 271 11 113 ≡ record { reply = Printed.accepted 112; text = theirText ++ (33 ∷ []) }
 unfolding openLowering openShown unlines slice bytesOf names input theirText cut
 add1-shown = refl
 
 -- inside the book, inside a name, a line short, a byte short
-pub cuts-shown : (cut 0 11 112 .reply ≡ Printed.refused 1) × (cut 239 11 112 .reply ≡ Printed.refused 1) × (cut 254 11 112 .reply ≡ Printed.refused 2)
-    × (cut 255 10 112 .reply ≡ Printed.refused 20) × (cut 255 11 111 .reply ≡ Printed.refused 20)
+pub cuts-shown : (cut 0 11 112 .reply ≡ Printed.refused 1) × (cut 255 11 112 .reply ≡ Printed.refused 1) × (cut 270 11 112 .reply ≡ Printed.refused 2)
+    × (cut 271 10 112 .reply ≡ Printed.refused 20) × (cut 271 11 111 .reply ≡ Printed.refused 20)
 unfolding openLowering openShown unlines slice bytesOf names input theirText cut
 cuts-shown = (refl, refl, refl, refl, refl)

@@ -19,7 +19,7 @@ names = "__uvm_a" ∷ "e" ∷ "f" ∷ "memcmp" ∷ "p" ∷ "q" ∷ "s" ∷ "u" �
 
 -- void @f(ptr %p), one block e with these instructions, which returns; %s is {i8}, %q no struct, %u nothing
 unfoldable pub entriesOf : Entries → Entries
-entriesOf es = (3, 6) ∷ (16, 0) ∷ (11, 8) ∷ (0, 0) ∷ (5, 2) ∷ (10, 0) ∷ (6, 5) ∷ (12, 0) ∷ (0, 0) ∷ (7, 1) ∷ (es ++ (90, 0) ∷ (21, 0) ∷ (0, 0) ∷ [])
+entriesOf es = (3, 6) ∷ (16, 0) ∷ (11, 8) ∷ (0, 0) ∷ (5, 2) ∷ (10, 0) ∷ (6, 5) ∷ (12, 0) ∷ (0, 0) ∷ (7, 1) ∷ (es ++ (90, 0) ∷ (21, 0) ∷ (0, 0) ∷ (0, 0) ∷ [])
 
 -- with slices of these lengths, at a counter
 unfoldable pub within : (work lines bytes counter : ℕ) → Entries → Answer

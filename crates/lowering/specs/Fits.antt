@@ -141,7 +141,7 @@ book-sized b =
     let fs = encFunctions (b .functions) in
     let l : length fs ≤ length (encode b) = omega (arith, ending-end encStruct fs (b .structs), ending-end encMark (ending encStruct fs (b .structs)) (b .marks)) in
     record {
-      labels = omega (arith, sum-within encFunction functionLabels (λ f. function-sized f .labels) [] (b .functions));
+      labels = omega (arith, sum-within encFunction functionLabels (λ f. function-sized f .labels) (entry 0 0 ∷ []) (b .functions));
       params = params-sized (length (encode b)) (b .functions) l;
     }
 

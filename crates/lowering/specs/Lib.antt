@@ -44,3 +44,4 @@ pub mod CornersPlaces
 pub mod CornersCalls
 pub mod CornersBlocks
 pub mod AtLimits
+pub mod Pieces

@@ -16,7 +16,7 @@ use Rattle.lowering.specs.Open.{openLowering}
 
 -- void @f(), block e: ret void
 unfoldable pub tiny : List ℕ
-tiny = slice ((5, 1) ∷ (10, 0) ∷ (0, 0) ∷ (7, 0) ∷ (90, 0) ∷ (21, 0) ∷ (0, 0) ∷ []) ("e" ∷ "f" ∷ [])
+tiny = slice ((5, 1) ∷ (10, 0) ∷ (0, 0) ∷ (7, 0) ∷ (90, 0) ∷ (21, 0) ∷ (0, 0) ∷ (0, 0) ∷ []) ("e" ∷ "f" ∷ [])
 
 unfoldable pub called : List String → (counter work kinds operands : ℕ) → Translating
 called names counter work kinds operands = translate tiny (unlines names) counter (replicate work 7) (replicate kinds 8) (replicate operands 9)

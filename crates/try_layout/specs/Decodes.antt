@@ -19,7 +19,7 @@ decodes = refl
 
 few : length (entries kinds words) ≤ 2 ^ 20
 unfolding kinds
-few = let a = length-entries kinds words in let b : length kinds ≡ 943 = refl in omega arith
+few = let a = length-entries kinds words in let b : length kinds ≡ 944 = refl in omega arith
 
 pub this-book : IsBook 72 (entries kinds words)
 this-book = is-book 72 (entries kinds words) decodes few

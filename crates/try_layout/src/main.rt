@@ -14,7 +14,7 @@ ghost use Rattle.try_layout.specs.Laws.{Measuring};
 
 // %0 is empty, and each of %1 to %60 has two of the one before; %61 is {i8, i32, i8}, %62 the same, packed; %63 is opaque and
 // %64 not defined; %65 holds itself; %66 has 2^24 bytes, %67 one more; %68 is {%61, i64}, %69 is {i8}.
-const KINDS: [u64; 943] = [
+const KINDS: [u64; 944] = [
     1,
     3,
     16,
@@ -958,9 +958,10 @@ const KINDS: [u64; 943] = [
     7,
     93,
     0,
+    0,
 ];
 
-const WORDS: [u64; 943] = [
+const WORDS: [u64; 944] = [
     70,
     0,
     0,
@@ -1902,6 +1903,7 @@ const WORDS: [u64; 943] = [
     0,
     0,
     71,
+    0,
     0,
     0,
 ];

@@ -16,13 +16,16 @@ slice-aggregate-ranged-len-2 c = search needs
 slice-aggregate-ranged-len-3 : tie.Need-slice-aggregate-ranged-len-3
 slice-aggregate-ranged-len-3 c = search needs
 
+slice-aggregate-ranged-len-4 : tie.Need-slice-aggregate-ranged-len-4
+slice-aggregate-ranged-len-4 c = search needs
+
 ranged-len-requires : tie.Need-ranged-len-requires
 ranged-len-requires c κs = search needs
 
 returns : tie.Need-returns
 returns c =
-    let after-ranged = c .before .before .before in
-    let entry = after-ranged .before .before .before .before .before .before in
+    let after-ranged = c .before .before .before .before in
+    let entry = after-ranged .before .before .before .before .before .before .before in
     let a = entry .args in
     after-ranged .ranged-len .ensures
     ∙ parts-few (a .names) (entry .pre .0) (entries (a .kinds .now) (a .words .now)) (a .from) (a .to) (entry .pre .1)
@@ -34,5 +37,6 @@ few-len-spec =
     slice-aggregate-ranged-len
     slice-aggregate-ranged-len-2
     slice-aggregate-ranged-len-3
+    slice-aggregate-ranged-len-4
     ranged-len-requires
     returns)

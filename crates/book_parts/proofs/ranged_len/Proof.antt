@@ -24,13 +24,16 @@ same-length-2 c = search needs
 same-length-3 : tie.Need-same-length-3
 same-length-3 c = search needs
 
+same-length-4 : tie.Need-same-length-4
+same-length-4 c = search needs
+
 returns : tie.Need-returns
 returns c =
-    let after-marks = c .before .before .before .before .before .before in
-    let after-range = after-marks .before .before .before .before .before .before in
-    let a = after-range .before .before .before .before .before .before .before .args in
+    let after-marks = c .before .before .before .before .before .before .before .before in
+    let after-range = after-marks .before .before .before .before .before .before .before in
+    let a = after-range .before .before .before .before .before .before .before .before .args in
     after-marks .marks-len .ensures
-    ∙ ap (λ b. marksFound (a .named .now) (a .marked .now) b (parts (a .names) (entries (a .kinds .now) (a .words .now)))) (after-range .mark-range .ensures)
+    ∙ ap (λ b. marksFound (a .named .now) (a .defined .now) (a .marked .now) b (parts (a .names) (entries (a .kinds .now) (a .words .now)))) (after-range .mark-range .ensures)
 
 pub ranged-len-spec : {M : Type 1} → statement M
 ranged-len-spec =
@@ -41,4 +44,5 @@ ranged-len-spec =
     same-length
     same-length-2
     same-length-3
+    same-length-4
     returns)
