@@ -16,10 +16,12 @@ uint64_t mivolanjy_check(const uint64_t *book, size_t book_length,
                          const uint8_t *names, size_t names_length,
                          uint64_t counter, size_t work_length);
 
-/* Translates a book into lines: 0 with *lines lines from the start of kinds and operands, the rest of both
-   unchanged, and *next the next label counter; or the refusal's number (1 to 20) with *lines 0, *next the
-   given counter, and both unchanged. The shorter of the two bounds the lines (20). The work slice needs 8 words
-   for each name and 64 more (4); whatever its length, it is all zero after the call. */
+/* Translates a book's functions in their order, each beginning with the label counter that the last one left:
+   0 with *lines lines from the start of kinds and operands, the rest of both unchanged, and *next the next
+   label counter; or the refusal's number (1 to 20) with *lines 0, *next the given counter, and both unchanged.
+   The first refusal is given, in the functions' order, and 20 after all others: the shorter of the two bounds
+   the lines of all. The work slice needs 8 words for each name and 64 more (4); whatever its length, it is all
+   zero after the call. */
 uint64_t mivolanjy_translate(const uint64_t *book, size_t book_length,
                              const uint8_t *names, size_t names_length,
                              uint64_t counter,
@@ -28,8 +30,9 @@ uint64_t mivolanjy_translate(const uint64_t *book, size_t book_length,
                              uint64_t *operands, size_t operands_length,
                              uint64_t *lines, uint64_t *next);
 
-/* Prints the lines of a book into the text: 0 with *count bytes written from the start of the text and
-   the rest unchanged, or the refusal's number (1, 2, 21 or 20) with *count 0 and the text unchanged. As many lines
+/* Prints lines of a book's functions into the text: 0 with *count bytes written from the start of the text and
+   the rest unchanged, or the refusal's number (1, 2, 21 or 20) with *count 0 and the text unchanged. A block's
+   label or jump takes the function of the last comment line before it (21 where there is none). As many lines
    are taken as the shorter of the two line slices holds. */
 uint64_t mivolanjy_print(const uint64_t *book, size_t book_length,
                          const uint8_t *names, size_t names_length,

@@ -9,7 +9,7 @@ use Rattle.lowering.specs.Sheet.{Sheet, Answer, answers, saysOf, openShe
 
 unfoldable pub chains : List Sheet
 chains =
-    -- getelementptr: func:f void param:p ptr . block:e getelementptr { label [16777217 i8 } %u label %u label %u . ret - .
+    -- getelementptr: func:f void param:p ptr . block:e getelementptr { label [16777217 i8 } %u label %u label %u . ret - . .
     record {
       entries =
           (5, 1) ∷ (10, 0) ∷ (6, 3) ∷ (12, 0) ∷ (0, 0) ∷ (7, 0) ∷ (74, 0) ∷ (16, 0) ∷ (19, 0) ∷ (13, 16777217) ∷ (11, 8) ∷ (0, 0) ∷ (30, 3) ∷ (19, 0)
@@ -18,7 +18,7 @@ chains =
           "e" ∷ "f" ∷ "p" ∷ "u" ∷ [];
       says = Answer.refusal 6;
     } ∷
-    -- getelementptr: func:f void param:p ptr . block:e getelementptr { [16777217 i8 label } %u label %u label %u . ret - .
+    -- getelementptr: func:f void param:p ptr . block:e getelementptr { [16777217 i8 label } %u label %u label %u . ret - . .
     record {
       entries =
           (5, 1) ∷ (10, 0) ∷ (6, 3) ∷ (12, 0) ∷ (0, 0) ∷ (7, 0) ∷ (74, 0) ∷ (16, 0) ∷ (13, 16777217) ∷ (11, 8) ∷ (19, 0) ∷ (0, 0) ∷ (30, 3) ∷ (19, 0)
@@ -27,7 +27,7 @@ chains =
           "e" ∷ "f" ∷ "p" ∷ "u" ∷ [];
       says = Answer.refusal 7;
     } ∷
-    -- getelementptr: func:f void param:p ptr . block:e getelementptr i32 %u label %u i32 %u . ret - .
+    -- getelementptr: func:f void param:p ptr . block:e getelementptr i32 %u label %u i32 %u . ret - . .
     record {
       entries =
           (5, 1) ∷ (10, 0) ∷ (6, 3) ∷ (12, 0) ∷ (0, 0) ∷ (7, 0) ∷ (74, 0) ∷ (11, 32) ∷ (30, 3) ∷ (19, 0) ∷ (30, 3) ∷ (11, 32) ∷ (30, 3) ∷ (0, 0) ∷ (90, 0)
@@ -36,7 +36,7 @@ chains =
           "e" ∷ "f" ∷ "p" ∷ "u" ∷ [];
       says = Answer.refusal 9;
     } ∷
-    -- getelementptr: func:f void param:p ptr . block:e getelementptr i32 %u i32 %u label %u . ret - .
+    -- getelementptr: func:f void param:p ptr . block:e getelementptr i32 %u i32 %u label %u . ret - . .
     record {
       entries =
           (5, 1) ∷ (10, 0) ∷ (6, 3) ∷ (12, 0) ∷ (0, 0) ∷ (7, 0) ∷ (74, 0) ∷ (11, 32) ∷ (30, 3) ∷ (11, 32) ∷ (30, 3) ∷ (19, 0) ∷ (30, 3) ∷ (0, 0) ∷ (90, 0)
@@ -45,7 +45,7 @@ chains =
           "e" ∷ "f" ∷ "p" ∷ "u" ∷ [];
       says = Answer.refusal 14;
     } ∷
-    -- getelementptr: func:f void param:p ptr . block:e getelementptr i32 %u i32 %u . ret - .
+    -- getelementptr: func:f void param:p ptr . block:e getelementptr i32 %u i32 %u . ret - . .
     record {
       entries =
           (5, 1) ∷ (10, 0) ∷ (6, 3) ∷ (12, 0) ∷ (0, 0) ∷ (7, 0) ∷ (74, 0) ∷ (11, 32) ∷ (30, 3) ∷ (11, 32) ∷ (30, 3) ∷ (0, 0) ∷ (90, 0) ∷ (21, 0) ∷ (0, 0)
@@ -54,7 +54,7 @@ chains =
           "e" ∷ "f" ∷ "p" ∷ "u" ∷ [];
       says = Answer.refusal 10;
     } ∷
-    -- getelementptr: func:f void param:p ptr . block:e getelementptr i32 %p i32 %u . ret - .
+    -- getelementptr: func:f void param:p ptr . block:e getelementptr i32 %p i32 %u . ret - . .
     record {
       entries =
           (5, 1) ∷ (10, 0) ∷ (6, 3) ∷ (12, 0) ∷ (0, 0) ∷ (7, 0) ∷ (74, 0) ∷ (11, 32) ∷ (30, 2) ∷ (11, 32) ∷ (30, 3) ∷ (0, 0) ∷ (90, 0) ∷ (21, 0) ∷ (0, 0)
@@ -63,7 +63,7 @@ chains =
           "e" ∷ "f" ∷ "p" ∷ "u" ∷ [];
       says = Answer.refusal 10;
     } ∷
-    -- getelementptr: func:f void param:p ptr . block:e getelementptr i32 %p i32 0 . ret - .
+    -- getelementptr: func:f void param:p ptr . block:e getelementptr i32 %p i32 0 . ret - . .
     record {
       entries =
           (5, 1) ∷ (10, 0) ∷ (6, 3) ∷ (12, 0) ∷ (0, 0) ∷ (7, 0) ∷ (74, 0) ∷ (11, 32) ∷ (30, 2) ∷ (11, 32) ∷ (32, 0) ∷ (0, 0) ∷ (90, 0) ∷ (21, 0) ∷ (0, 0)
@@ -72,7 +72,7 @@ chains =
           "e" ∷ "f" ∷ "p" ∷ [];
       says = Answer.refusal 5;
     } ∷
-    -- getelementptr: func:f void param:p ptr . block:e q=getelementptr i32 %p i32 0 . ret - .
+    -- getelementptr: func:f void param:p ptr . block:e q=getelementptr i32 %p i32 0 . ret - . .
     record {
       entries =
           (5, 1) ∷ (10, 0) ∷ (6, 3) ∷ (12, 0) ∷ (0, 0) ∷ (7, 0) ∷ (74, 4) ∷ (11, 32) ∷ (30, 2) ∷ (11, 32) ∷ (32, 0) ∷ (0, 0) ∷ (90, 0) ∷ (21, 0) ∷ (0, 0)
@@ -82,7 +82,7 @@ chains =
       says = Answer.text (unlines (
           "# void @f(1 params)" ∷ "f:" ∷ "push_0n 1;" ∷ "f__e:" ∷ "get_arg 0;" ∷ "set_local 0;" ∷ "push 0;" ∷ "ret;" ∷ "" ∷ [])) 0;
     } ∷
-    -- getelementptr without index: func:f void param:p ptr . block:e getelementptr label %u . ret - .
+    -- getelementptr without index: func:f void param:p ptr . block:e getelementptr label %u . ret - . .
     record {
       entries =
           (5, 1) ∷ (10, 0) ∷ (6, 3) ∷ (12, 0) ∷ (0, 0) ∷ (7, 0) ∷ (74, 0) ∷ (19, 0) ∷ (30, 3) ∷ (0, 0) ∷ (90, 0) ∷ (21, 0) ∷ (0, 0) ∷ (0, 0) ∷ [];
@@ -90,7 +90,7 @@ chains =
           "e" ∷ "f" ∷ "p" ∷ "u" ∷ [];
       says = Answer.refusal 10;
     } ∷
-    -- getelementptr without index: func:f void param:p ptr . block:e getelementptr label %p . ret - .
+    -- getelementptr without index: func:f void param:p ptr . block:e getelementptr label %p . ret - . .
     record {
       entries =
           (5, 1) ∷ (10, 0) ∷ (6, 3) ∷ (12, 0) ∷ (0, 0) ∷ (7, 0) ∷ (74, 0) ∷ (19, 0) ∷ (30, 2) ∷ (0, 0) ∷ (90, 0) ∷ (21, 0) ∷ (0, 0) ∷ (0, 0) ∷ [];
@@ -98,7 +98,7 @@ chains =
           "e" ∷ "f" ∷ "p" ∷ [];
       says = Answer.refusal 5;
     } ∷
-    -- getelementptr without index: func:f void param:p ptr . block:e q=getelementptr label %p . ret - .
+    -- getelementptr without index: func:f void param:p ptr . block:e q=getelementptr label %p . ret - . .
     record {
       entries =
           (5, 1) ∷ (10, 0) ∷ (6, 3) ∷ (12, 0) ∷ (0, 0) ∷ (7, 0) ∷ (74, 4) ∷ (19, 0) ∷ (30, 2) ∷ (0, 0) ∷ (90, 0) ∷ (21, 0) ∷ (0, 0) ∷ (0, 0) ∷ [];
@@ -107,7 +107,7 @@ chains =
       says = Answer.text (unlines (
           "# void @f(1 params)" ∷ "f:" ∷ "push_0n 1;" ∷ "f__e:" ∷ "get_arg 0;" ∷ "set_local 0;" ∷ "push 0;" ∷ "ret;" ∷ "" ∷ [])) 0;
     } ∷
-    -- getelementptr into an array: func:f void param:p ptr . block:e getelementptr [2 i8 %u i8 0 label %u i8 0 . ret - .
+    -- getelementptr into an array: func:f void param:p ptr . block:e getelementptr [2 i8 %u i8 0 label %u i8 0 . ret - . .
     record {
       entries =
           (5, 1) ∷ (10, 0) ∷ (6, 3) ∷ (12, 0) ∷ (0, 0) ∷ (7, 0) ∷ (74, 0) ∷ (13, 2) ∷ (11, 8) ∷ (30, 3) ∷ (11, 8) ∷ (32, 0) ∷ (19, 0) ∷ (30, 3) ∷ (11, 8)
@@ -116,7 +116,7 @@ chains =
           "e" ∷ "f" ∷ "p" ∷ "u" ∷ [];
       says = Answer.refusal 9;
     } ∷
-    -- getelementptr into an array: func:f void param:p ptr . block:e getelementptr [2 i8 %u i8 0 i8 %u label %u . ret - .
+    -- getelementptr into an array: func:f void param:p ptr . block:e getelementptr [2 i8 %u i8 0 i8 %u label %u . ret - . .
     record {
       entries =
           (5, 1) ∷ (10, 0) ∷ (6, 3) ∷ (12, 0) ∷ (0, 0) ∷ (7, 0) ∷ (74, 0) ∷ (13, 2) ∷ (11, 8) ∷ (30, 3) ∷ (11, 8) ∷ (32, 0) ∷ (11, 8) ∷ (30, 3) ∷ (19, 0)
@@ -125,7 +125,7 @@ chains =
           "e" ∷ "f" ∷ "p" ∷ "u" ∷ [];
       says = Answer.refusal 14;
     } ∷
-    -- getelementptr into an array: func:f void param:p ptr . block:e getelementptr [2 i8 %u i8 0 i8 %u . ret - .
+    -- getelementptr into an array: func:f void param:p ptr . block:e getelementptr [2 i8 %u i8 0 i8 %u . ret - . .
     record {
       entries =
           (5, 1) ∷ (10, 0) ∷ (6, 3) ∷ (12, 0) ∷ (0, 0) ∷ (7, 0) ∷ (74, 0) ∷ (13, 2) ∷ (11, 8) ∷ (30, 3) ∷ (11, 8) ∷ (32, 0) ∷ (11, 8) ∷ (30, 3) ∷ (0, 0)
@@ -134,7 +134,7 @@ chains =
           "e" ∷ "f" ∷ "p" ∷ "u" ∷ [];
       says = Answer.refusal 10;
     } ∷
-    -- getelementptr into an array: func:f void param:p ptr . block:e getelementptr [2 i8 %p i8 0 i8 %u . ret - .
+    -- getelementptr into an array: func:f void param:p ptr . block:e getelementptr [2 i8 %p i8 0 i8 %u . ret - . .
     record {
       entries =
           (5, 1) ∷ (10, 0) ∷ (6, 3) ∷ (12, 0) ∷ (0, 0) ∷ (7, 0) ∷ (74, 0) ∷ (13, 2) ∷ (11, 8) ∷ (30, 2) ∷ (11, 8) ∷ (32, 0) ∷ (11, 8) ∷ (30, 3) ∷ (0, 0)
@@ -143,7 +143,7 @@ chains =
           "e" ∷ "f" ∷ "p" ∷ "u" ∷ [];
       says = Answer.refusal 10;
     } ∷
-    -- getelementptr into an array: func:f void param:p ptr . block:e getelementptr [2 i8 %p i8 0 i8 1 . ret - .
+    -- getelementptr into an array: func:f void param:p ptr . block:e getelementptr [2 i8 %p i8 0 i8 1 . ret - . .
     record {
       entries =
           (5, 1) ∷ (10, 0) ∷ (6, 3) ∷ (12, 0) ∷ (0, 0) ∷ (7, 0) ∷ (74, 0) ∷ (13, 2) ∷ (11, 8) ∷ (30, 2) ∷ (11, 8) ∷ (32, 0) ∷ (11, 8) ∷ (32, 1) ∷ (0, 0)
@@ -152,7 +152,7 @@ chains =
           "e" ∷ "f" ∷ "p" ∷ [];
       says = Answer.refusal 5;
     } ∷
-    -- getelementptr into an array: func:f void param:p ptr . block:e q=getelementptr [2 i8 %p i8 0 i8 1 . ret - .
+    -- getelementptr into an array: func:f void param:p ptr . block:e q=getelementptr [2 i8 %p i8 0 i8 1 . ret - . .
     record {
       entries =
           (5, 1) ∷ (10, 0) ∷ (6, 3) ∷ (12, 0) ∷ (0, 0) ∷ (7, 0) ∷ (74, 4) ∷ (13, 2) ∷ (11, 8) ∷ (30, 2) ∷ (11, 8) ∷ (32, 0) ∷ (11, 8) ∷ (32, 1) ∷ (0, 0)
@@ -162,7 +162,7 @@ chains =
       says = Answer.text (unlines (
           "# void @f(1 params)" ∷ "f:" ∷ "push_0n 1;" ∷ "f__e:" ∷ "get_arg 0;" ∷ "push 1;" ∷ "add_u64;" ∷ "set_local 0;" ∷ "push 0;" ∷ "ret;" ∷ "" ∷ [])) 0;
     } ∷
-    -- getelementptr into a struct: struct:s { i8 i32 } func:f void param:p ptr . block:e getelementptr %%s %u i8 %u i8 %u . ret - .
+    -- getelementptr into a struct: struct:s { i8 i32 } func:f void param:p ptr . block:e getelementptr %%s %u i8 %u i8 %u . ret - . .
     record {
       entries =
           (3, 3) ∷ (16, 0) ∷ (11, 8) ∷ (11, 32) ∷ (0, 0) ∷ (5, 1) ∷ (10, 0) ∷ (6, 3) ∷ (12, 0) ∷ (0, 0) ∷ (7, 0) ∷ (74, 0) ∷ (15, 3) ∷ (30, 4) ∷ (11, 8)
@@ -171,7 +171,7 @@ chains =
           "e" ∷ "f" ∷ "p" ∷ "s" ∷ "u" ∷ [];
       says = Answer.refusal 14;
     } ∷
-    -- getelementptr into a struct: struct:s { i8 i32 } func:f void param:p ptr . block:e getelementptr %%s %u i8 %u i8 undef . ret - .
+    -- getelementptr into a struct: struct:s { i8 i32 } func:f void param:p ptr . block:e getelementptr %%s %u i8 %u i8 undef . ret - . .
     record {
       entries =
           (3, 3) ∷ (16, 0) ∷ (11, 8) ∷ (11, 32) ∷ (0, 0) ∷ (5, 1) ∷ (10, 0) ∷ (6, 3) ∷ (12, 0) ∷ (0, 0) ∷ (7, 0) ∷ (74, 0) ∷ (15, 3) ∷ (30, 4) ∷ (11, 8)
@@ -180,7 +180,7 @@ chains =
           "e" ∷ "f" ∷ "p" ∷ "s" ∷ "u" ∷ [];
       says = Answer.refusal 14;
     } ∷
-    -- getelementptr into a struct: struct:s { i8 i32 } func:f void param:p ptr . block:e getelementptr %%s %u i8 %u i8 2 . ret - .
+    -- getelementptr into a struct: struct:s { i8 i32 } func:f void param:p ptr . block:e getelementptr %%s %u i8 %u i8 2 . ret - . .
     record {
       entries =
           (3, 3) ∷ (16, 0) ∷ (11, 8) ∷ (11, 32) ∷ (0, 0) ∷ (5, 1) ∷ (10, 0) ∷ (6, 3) ∷ (12, 0) ∷ (0, 0) ∷ (7, 0) ∷ (74, 0) ∷ (15, 3) ∷ (30, 4) ∷ (11, 8)
@@ -189,7 +189,7 @@ chains =
           "e" ∷ "f" ∷ "p" ∷ "s" ∷ "u" ∷ [];
       says = Answer.refusal 14;
     } ∷
-    -- getelementptr into a struct: struct:s { i8 i32 } func:f void param:p ptr . block:e getelementptr %%s %u i8 %u i8 -1 . ret - .
+    -- getelementptr into a struct: struct:s { i8 i32 } func:f void param:p ptr . block:e getelementptr %%s %u i8 %u i8 -1 . ret - . .
     record {
       entries =
           (3, 3) ∷ (16, 0) ∷ (11, 8) ∷ (11, 32) ∷ (0, 0) ∷ (5, 1) ∷ (10, 0) ∷ (6, 3) ∷ (12, 0) ∷ (0, 0) ∷ (7, 0) ∷ (74, 0) ∷ (15, 3) ∷ (30, 4) ∷ (11, 8)
@@ -198,7 +198,7 @@ chains =
           "e" ∷ "f" ∷ "p" ∷ "s" ∷ "u" ∷ [];
       says = Answer.refusal 14;
     } ∷
-    -- getelementptr into a struct: struct:s { i8 i32 } func:f void param:p ptr . block:e getelementptr %%s %u i8 %u i8 1 . ret - .
+    -- getelementptr into a struct: struct:s { i8 i32 } func:f void param:p ptr . block:e getelementptr %%s %u i8 %u i8 1 . ret - . .
     record {
       entries =
           (3, 3) ∷ (16, 0) ∷ (11, 8) ∷ (11, 32) ∷ (0, 0) ∷ (5, 1) ∷ (10, 0) ∷ (6, 3) ∷ (12, 0) ∷ (0, 0) ∷ (7, 0) ∷ (74, 0) ∷ (15, 3) ∷ (30, 4) ∷ (11, 8)
@@ -207,7 +207,7 @@ chains =
           "e" ∷ "f" ∷ "p" ∷ "s" ∷ "u" ∷ [];
       says = Answer.refusal 10;
     } ∷
-    -- getelementptr into a struct: struct:s { i8 i32 } func:f void param:p ptr . block:e getelementptr %%s %p i8 %u i8 1 . ret - .
+    -- getelementptr into a struct: struct:s { i8 i32 } func:f void param:p ptr . block:e getelementptr %%s %p i8 %u i8 1 . ret - . .
     record {
       entries =
           (3, 3) ∷ (16, 0) ∷ (11, 8) ∷ (11, 32) ∷ (0, 0) ∷ (5, 1) ∷ (10, 0) ∷ (6, 3) ∷ (12, 0) ∷ (0, 0) ∷ (7, 0) ∷ (74, 0) ∷ (15, 3) ∷ (30, 2) ∷ (11, 8)
@@ -216,7 +216,7 @@ chains =
           "e" ∷ "f" ∷ "p" ∷ "s" ∷ "u" ∷ [];
       says = Answer.refusal 10;
     } ∷
-    -- getelementptr into a struct: struct:s { i8 i32 } func:f void param:p ptr . block:e getelementptr %%s %p i8 %p i8 1 . ret - .
+    -- getelementptr into a struct: struct:s { i8 i32 } func:f void param:p ptr . block:e getelementptr %%s %p i8 %p i8 1 . ret - . .
     record {
       entries =
           (3, 3) ∷ (16, 0) ∷ (11, 8) ∷ (11, 32) ∷ (0, 0) ∷ (5, 1) ∷ (10, 0) ∷ (6, 3) ∷ (12, 0) ∷ (0, 0) ∷ (7, 0) ∷ (74, 0) ∷ (15, 3) ∷ (30, 2) ∷ (11, 8)
@@ -225,7 +225,7 @@ chains =
           "e" ∷ "f" ∷ "p" ∷ "s" ∷ [];
       says = Answer.refusal 5;
     } ∷
-    -- getelementptr into a struct: struct:s { i8 i32 } func:f void param:p ptr . block:e q=getelementptr %%s %p i8 %p i8 1 . ret - .
+    -- getelementptr into a struct: struct:s { i8 i32 } func:f void param:p ptr . block:e q=getelementptr %%s %p i8 %p i8 1 . ret - . .
     record {
       entries =
           (3, 4) ∷ (16, 0) ∷ (11, 8) ∷ (11, 32) ∷ (0, 0) ∷ (5, 1) ∷ (10, 0) ∷ (6, 3) ∷ (12, 0) ∷ (0, 0) ∷ (7, 0) ∷ (74, 4) ∷ (15, 4) ∷ (30, 2) ∷ (11, 8)
@@ -236,7 +236,7 @@ chains =
           "# void @f(1 params)" ∷ "f:" ∷ "push_0n 1;" ∷ "f__e:" ∷ "get_arg 0;" ∷ "get_arg 0;" ∷ "sx_i8_i64;" ∷ "push 8;" ∷ "mul_u64;" ∷ "add_u64;"
           ∷ "push 4;" ∷ "add_u64;" ∷ "set_local 0;" ∷ "push 0;" ∷ "ret;" ∷ "" ∷ [])) 0;
     } ∷
-    -- call of a global: func:f void param:p ptr . block:e call i32 @g label %u i32 %u . ret - .
+    -- call of a global: func:f void param:p ptr . block:e call i32 @g label %u i32 %u . ret - . .
     record {
       entries =
           (5, 1) ∷ (10, 0) ∷ (6, 4) ∷ (12, 0) ∷ (0, 0) ∷ (7, 0) ∷ (76, 0) ∷ (11, 32) ∷ (31, 2) ∷ (19, 0) ∷ (30, 4) ∷ (11, 32) ∷ (30, 4) ∷ (0, 0) ∷ (90, 0)
@@ -245,7 +245,7 @@ chains =
           "e" ∷ "f" ∷ "g" ∷ "p" ∷ "u" ∷ [];
       says = Answer.refusal 9;
     } ∷
-    -- call of a global: func:f void param:p ptr . block:e call i32 @g i32 %u label 1 . ret - .
+    -- call of a global: func:f void param:p ptr . block:e call i32 @g i32 %u label 1 . ret - . .
     record {
       entries =
           (5, 1) ∷ (10, 0) ∷ (6, 4) ∷ (12, 0) ∷ (0, 0) ∷ (7, 0) ∷ (76, 0) ∷ (11, 32) ∷ (31, 2) ∷ (11, 32) ∷ (30, 4) ∷ (19, 0) ∷ (32, 1) ∷ (0, 0) ∷ (90, 0)
@@ -254,7 +254,7 @@ chains =
           "e" ∷ "f" ∷ "g" ∷ "p" ∷ "u" ∷ [];
       says = Answer.refusal 10;
     } ∷
-    -- call of a global: func:f void param:p ptr . block:e call i32 @g i32 1 label %u . ret - .
+    -- call of a global: func:f void param:p ptr . block:e call i32 @g i32 1 label %u . ret - . .
     record {
       entries =
           (5, 1) ∷ (10, 0) ∷ (6, 4) ∷ (12, 0) ∷ (0, 0) ∷ (7, 0) ∷ (76, 0) ∷ (11, 32) ∷ (31, 2) ∷ (11, 32) ∷ (32, 1) ∷ (19, 0) ∷ (30, 4) ∷ (0, 0) ∷ (90, 0)
@@ -263,7 +263,7 @@ chains =
           "e" ∷ "f" ∷ "g" ∷ "p" ∷ "u" ∷ [];
       says = Answer.refusal 9;
     } ∷
-    -- call of a global: func:f void param:p ptr . block:e call i32 @g i32 1 i8 %u . ret - .
+    -- call of a global: func:f void param:p ptr . block:e call i32 @g i32 1 i8 %u . ret - . .
     record {
       entries =
           (5, 1) ∷ (10, 0) ∷ (6, 4) ∷ (12, 0) ∷ (0, 0) ∷ (7, 0) ∷ (76, 0) ∷ (11, 32) ∷ (31, 2) ∷ (11, 32) ∷ (32, 1) ∷ (11, 8) ∷ (30, 4) ∷ (0, 0) ∷ (90, 0)
@@ -272,7 +272,7 @@ chains =
           "e" ∷ "f" ∷ "g" ∷ "p" ∷ "u" ∷ [];
       says = Answer.refusal 10;
     } ∷
-    -- call of a global: func:f void param:p ptr . block:e call i32 @g i32 1 i8 1 . ret - .
+    -- call of a global: func:f void param:p ptr . block:e call i32 @g i32 1 i8 1 . ret - . .
     record {
       entries =
           (5, 1) ∷ (10, 0) ∷ (6, 4) ∷ (12, 0) ∷ (0, 0) ∷ (7, 0) ∷ (76, 0) ∷ (11, 32) ∷ (31, 2) ∷ (11, 32) ∷ (32, 1) ∷ (11, 8) ∷ (32, 1) ∷ (0, 0) ∷ (90, 0)
@@ -281,7 +281,7 @@ chains =
           "e" ∷ "f" ∷ "g" ∷ "p" ∷ [];
       says = Answer.refusal 15;
     } ∷
-    -- call of a global: def:g func:f void param:p ptr . block:e call i32 @g i32 1 i8 1 . ret - .
+    -- call of a global: def:g func:f void param:p ptr . block:e call i32 @g i32 1 i8 1 . ret - . .
     record {
       entries =
           (1, 2) ∷ (5, 1) ∷ (10, 0) ∷ (6, 4) ∷ (12, 0) ∷ (0, 0) ∷ (7, 0) ∷ (76, 0) ∷ (11, 32) ∷ (31, 2) ∷ (11, 32) ∷ (32, 1) ∷ (11, 8) ∷ (32, 1) ∷ (0, 0)
@@ -291,7 +291,7 @@ chains =
       says = Answer.text (unlines (
           "# void @f(1 params)" ∷ "f:" ∷ "f__e:" ∷ "push 1;" ∷ "push 1;" ∷ "call g, 2;" ∷ "pop;" ∷ "push 0;" ∷ "ret;" ∷ "" ∷ [])) 0;
     } ∷
-    -- call of a local: func:f void param:p ptr . block:e call i32 %u label %u . ret - .
+    -- call of a local: func:f void param:p ptr . block:e call i32 %u label %u . ret - . .
     record {
       entries =
           (5, 1) ∷ (10, 0) ∷ (6, 3) ∷ (12, 0) ∷ (0, 0) ∷ (7, 0) ∷ (76, 0) ∷ (11, 32) ∷ (30, 3) ∷ (19, 0) ∷ (30, 3) ∷ (0, 0) ∷ (90, 0) ∷ (21, 0) ∷ (0, 0)
@@ -300,7 +300,7 @@ chains =
           "e" ∷ "f" ∷ "p" ∷ "u" ∷ [];
       says = Answer.refusal 9;
     } ∷
-    -- call of a local: func:f void param:p ptr . block:e call i32 %u i32 %u . ret - .
+    -- call of a local: func:f void param:p ptr . block:e call i32 %u i32 %u . ret - . .
     record {
       entries =
           (5, 1) ∷ (10, 0) ∷ (6, 3) ∷ (12, 0) ∷ (0, 0) ∷ (7, 0) ∷ (76, 0) ∷ (11, 32) ∷ (30, 3) ∷ (11, 32) ∷ (30, 3) ∷ (0, 0) ∷ (90, 0) ∷ (21, 0) ∷ (0, 0)
@@ -309,7 +309,7 @@ chains =
           "e" ∷ "f" ∷ "p" ∷ "u" ∷ [];
       says = Answer.refusal 10;
     } ∷
-    -- call of a local: func:f void param:p ptr . block:e call i32 %u i32 1 . ret - .
+    -- call of a local: func:f void param:p ptr . block:e call i32 %u i32 1 . ret - . .
     record {
       entries =
           (5, 1) ∷ (10, 0) ∷ (6, 3) ∷ (12, 0) ∷ (0, 0) ∷ (7, 0) ∷ (76, 0) ∷ (11, 32) ∷ (30, 3) ∷ (11, 32) ∷ (32, 1) ∷ (0, 0) ∷ (90, 0) ∷ (21, 0) ∷ (0, 0)
@@ -318,7 +318,7 @@ chains =
           "e" ∷ "f" ∷ "p" ∷ "u" ∷ [];
       says = Answer.refusal 10;
     } ∷
-    -- call of a local: func:f void param:p ptr . block:e call i32 %p i32 1 . ret - .
+    -- call of a local: func:f void param:p ptr . block:e call i32 %p i32 1 . ret - . .
     record {
       entries =
           (5, 1) ∷ (10, 0) ∷ (6, 3) ∷ (12, 0) ∷ (0, 0) ∷ (7, 0) ∷ (76, 0) ∷ (11, 32) ∷ (30, 2) ∷ (11, 32) ∷ (32, 1) ∷ (0, 0) ∷ (90, 0) ∷ (21, 0) ∷ (0, 0)
@@ -328,7 +328,7 @@ chains =
       says = Answer.text (unlines (
           "# void @f(1 params)" ∷ "f:" ∷ "f__e:" ∷ "push 1;" ∷ "get_arg 0;" ∷ "call_fp 1;" ∷ "pop;" ∷ "push 0;" ∷ "ret;" ∷ "" ∷ [])) 0;
     } ∷
-    -- call of null: func:f void param:p ptr . block:e call i32 null label %u . ret - .
+    -- call of null: func:f void param:p ptr . block:e call i32 null label %u . ret - . .
     record {
       entries =
           (5, 1) ∷ (10, 0) ∷ (6, 3) ∷ (12, 0) ∷ (0, 0) ∷ (7, 0) ∷ (76, 0) ∷ (11, 32) ∷ (33, 0) ∷ (19, 0) ∷ (30, 3) ∷ (0, 0) ∷ (90, 0) ∷ (21, 0) ∷ (0, 0)
@@ -337,7 +337,7 @@ chains =
           "e" ∷ "f" ∷ "p" ∷ "u" ∷ [];
       says = Answer.refusal 9;
     } ∷
-    -- call of null: func:f void param:p ptr . block:e call i32 null i32 %u . ret - .
+    -- call of null: func:f void param:p ptr . block:e call i32 null i32 %u . ret - . .
     record {
       entries =
           (5, 1) ∷ (10, 0) ∷ (6, 3) ∷ (12, 0) ∷ (0, 0) ∷ (7, 0) ∷ (76, 0) ∷ (11, 32) ∷ (33, 0) ∷ (11, 32) ∷ (30, 3) ∷ (0, 0) ∷ (90, 0) ∷ (21, 0) ∷ (0, 0)
@@ -346,7 +346,7 @@ chains =
           "e" ∷ "f" ∷ "p" ∷ "u" ∷ [];
       says = Answer.refusal 10;
     } ∷
-    -- call of null: func:f void param:p ptr . block:e call i32 null i32 1 . ret - .
+    -- call of null: func:f void param:p ptr . block:e call i32 null i32 1 . ret - . .
     record {
       entries =
           (5, 1) ∷ (10, 0) ∷ (6, 3) ∷ (12, 0) ∷ (0, 0) ∷ (7, 0) ∷ (76, 0) ∷ (11, 32) ∷ (33, 0) ∷ (11, 32) ∷ (32, 1) ∷ (0, 0) ∷ (90, 0) ∷ (21, 0) ∷ (0, 0)
@@ -355,7 +355,7 @@ chains =
           "e" ∷ "f" ∷ "p" ∷ [];
       says = Answer.refusal 15;
     } ∷
-    -- syscall: func:f void param:p ptr . block:e call label @__uvm_a label %u . ret - .
+    -- syscall: func:f void param:p ptr . block:e call label @__uvm_a label %u . ret - . .
     record {
       entries =
           (5, 2) ∷ (10, 0) ∷ (6, 4) ∷ (12, 0) ∷ (0, 0) ∷ (7, 1) ∷ (76, 0) ∷ (19, 0) ∷ (31, 0) ∷ (19, 0) ∷ (30, 4) ∷ (0, 0) ∷ (90, 0) ∷ (21, 0) ∷ (0, 0)
@@ -364,7 +364,7 @@ chains =
           "__uvm_a" ∷ "e" ∷ "f" ∷ "p" ∷ "u" ∷ [];
       says = Answer.refusal 9;
     } ∷
-    -- syscall: func:f void param:p ptr . block:e call label @__uvm_a i8 %u label 1 . ret - .
+    -- syscall: func:f void param:p ptr . block:e call label @__uvm_a i8 %u label 1 . ret - . .
     record {
       entries =
           (5, 2) ∷ (10, 0) ∷ (6, 4) ∷ (12, 0) ∷ (0, 0) ∷ (7, 1) ∷ (76, 0) ∷ (19, 0) ∷ (31, 0) ∷ (11, 8) ∷ (30, 4) ∷ (19, 0) ∷ (32, 1) ∷ (0, 0) ∷ (90, 0)
@@ -373,7 +373,7 @@ chains =
           "__uvm_a" ∷ "e" ∷ "f" ∷ "p" ∷ "u" ∷ [];
       says = Answer.refusal 10;
     } ∷
-    -- syscall: func:f void param:p ptr . block:e call label @__uvm_a i8 1 label 1 . ret - .
+    -- syscall: func:f void param:p ptr . block:e call label @__uvm_a i8 1 label 1 . ret - . .
     record {
       entries =
           (5, 2) ∷ (10, 0) ∷ (6, 4) ∷ (12, 0) ∷ (0, 0) ∷ (7, 1) ∷ (76, 0) ∷ (19, 0) ∷ (31, 0) ∷ (11, 8) ∷ (32, 1) ∷ (19, 0) ∷ (32, 1) ∷ (0, 0) ∷ (90, 0)
@@ -382,7 +382,7 @@ chains =
           "__uvm_a" ∷ "e" ∷ "f" ∷ "p" ∷ [];
       says = Answer.refusal 9;
     } ∷
-    -- syscall: func:f void param:p ptr . block:e call label @__uvm_a i8 1 . ret - .
+    -- syscall: func:f void param:p ptr . block:e call label @__uvm_a i8 1 . ret - . .
     record {
       entries =
           (5, 2) ∷ (10, 0) ∷ (6, 4) ∷ (12, 0) ∷ (0, 0) ∷ (7, 1) ∷ (76, 0) ∷ (19, 0) ∷ (31, 0) ∷ (11, 8) ∷ (32, 1) ∷ (0, 0) ∷ (90, 0) ∷ (21, 0) ∷ (0, 0)
@@ -392,7 +392,7 @@ chains =
       says = Answer.text (unlines (
           "# void @f(1 params)" ∷ "f:" ∷ "f__e:" ∷ "push 1;" ∷ "syscall a;" ∷ "pop;" ∷ "push 0;" ∷ "ret;" ∷ "" ∷ [])) 0;
     } ∷
-    -- memcmp: func:f void param:p ptr . block:e call label @memcmp label %u . ret - .
+    -- memcmp: func:f void param:p ptr . block:e call label @memcmp label %u . ret - . .
     record {
       entries =
           (5, 1) ∷ (10, 0) ∷ (6, 4) ∷ (12, 0) ∷ (0, 0) ∷ (7, 0) ∷ (76, 0) ∷ (19, 0) ∷ (31, 2) ∷ (19, 0) ∷ (30, 4) ∷ (0, 0) ∷ (90, 0) ∷ (21, 0) ∷ (0, 0)
@@ -401,7 +401,7 @@ chains =
           "e" ∷ "f" ∷ "memcmp" ∷ "p" ∷ "u" ∷ [];
       says = Answer.refusal 9;
     } ∷
-    -- memcmp: func:f void param:p ptr . block:e call label @memcmp i8 %u label 1 . ret - .
+    -- memcmp: func:f void param:p ptr . block:e call label @memcmp i8 %u label 1 . ret - . .
     record {
       entries =
           (5, 1) ∷ (10, 0) ∷ (6, 4) ∷ (12, 0) ∷ (0, 0) ∷ (7, 0) ∷ (76, 0) ∷ (19, 0) ∷ (31, 2) ∷ (11, 8) ∷ (30, 4) ∷ (19, 0) ∷ (32, 1) ∷ (0, 0) ∷ (90, 0)
@@ -410,7 +410,7 @@ chains =
           "e" ∷ "f" ∷ "memcmp" ∷ "p" ∷ "u" ∷ [];
       says = Answer.refusal 10;
     } ∷
-    -- memcmp: func:f void param:p ptr . block:e call label @memcmp i8 1 label 1 . ret - .
+    -- memcmp: func:f void param:p ptr . block:e call label @memcmp i8 1 label 1 . ret - . .
     record {
       entries =
           (5, 1) ∷ (10, 0) ∷ (6, 4) ∷ (12, 0) ∷ (0, 0) ∷ (7, 0) ∷ (76, 0) ∷ (19, 0) ∷ (31, 2) ∷ (11, 8) ∷ (32, 1) ∷ (19, 0) ∷ (32, 1) ∷ (0, 0) ∷ (90, 0)
@@ -419,7 +419,7 @@ chains =
           "e" ∷ "f" ∷ "memcmp" ∷ "p" ∷ [];
       says = Answer.refusal 9;
     } ∷
-    -- memcmp: func:f void param:p ptr . block:e call label @memcmp i8 1 . ret - .
+    -- memcmp: func:f void param:p ptr . block:e call label @memcmp i8 1 . ret - . .
     record {
       entries =
           (5, 1) ∷ (10, 0) ∷ (6, 4) ∷ (12, 0) ∷ (0, 0) ∷ (7, 0) ∷ (76, 0) ∷ (19, 0) ∷ (31, 2) ∷ (11, 8) ∷ (32, 1) ∷ (0, 0) ∷ (90, 0) ∷ (21, 0) ∷ (0, 0)

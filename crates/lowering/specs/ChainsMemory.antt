@@ -9,7 +9,7 @@ use Rattle.lowering.specs.Sheet.{Sheet, Answer, answers, saysOf, openShe
 
 unfoldable pub chains : List Sheet
 chains =
-    -- load: func:f void param:p ptr . block:e load { label [16777217 i8 } %u - ret - .
+    -- load: func:f void param:p ptr . block:e load { label [16777217 i8 } %u - ret - . .
     record {
       entries =
           (5, 1) ∷ (10, 0) ∷ (6, 3) ∷ (12, 0) ∷ (0, 0) ∷ (7, 0) ∷ (71, 0) ∷ (16, 0) ∷ (19, 0) ∷ (13, 16777217) ∷ (11, 8) ∷ (0, 0) ∷ (30, 3) ∷ (21, 0)
@@ -18,7 +18,7 @@ chains =
           "e" ∷ "f" ∷ "p" ∷ "u" ∷ [];
       says = Answer.refusal 6;
     } ∷
-    -- load: func:f void param:p ptr . block:e load { [16777217 i8 label } %u - ret - .
+    -- load: func:f void param:p ptr . block:e load { [16777217 i8 label } %u - ret - . .
     record {
       entries =
           (5, 1) ∷ (10, 0) ∷ (6, 3) ∷ (12, 0) ∷ (0, 0) ∷ (7, 0) ∷ (71, 0) ∷ (16, 0) ∷ (13, 16777217) ∷ (11, 8) ∷ (19, 0) ∷ (0, 0) ∷ (30, 3) ∷ (21, 0)
@@ -27,7 +27,7 @@ chains =
           "e" ∷ "f" ∷ "p" ∷ "u" ∷ [];
       says = Answer.refusal 7;
     } ∷
-    -- load: func:f void param:p ptr . block:e load [3 i8 %u - ret - .
+    -- load: func:f void param:p ptr . block:e load [3 i8 %u - ret - . .
     record {
       entries =
           (5, 1) ∷ (10, 0) ∷ (6, 3) ∷ (12, 0) ∷ (0, 0) ∷ (7, 0) ∷ (71, 0) ∷ (13, 3) ∷ (11, 8) ∷ (30, 3) ∷ (21, 0) ∷ (90, 0) ∷ (21, 0) ∷ (0, 0) ∷ (0, 0) ∷ [];
@@ -35,7 +35,7 @@ chains =
           "e" ∷ "f" ∷ "p" ∷ "u" ∷ [];
       says = Answer.refusal 11;
     } ∷
-    -- load: func:f void param:p ptr . block:e load i8 %u - ret - .
+    -- load: func:f void param:p ptr . block:e load i8 %u - ret - . .
     record {
       entries =
           (5, 1) ∷ (10, 0) ∷ (6, 3) ∷ (12, 0) ∷ (0, 0) ∷ (7, 0) ∷ (71, 0) ∷ (11, 8) ∷ (30, 3) ∷ (21, 0) ∷ (90, 0) ∷ (21, 0) ∷ (0, 0) ∷ (0, 0) ∷ [];
@@ -43,7 +43,7 @@ chains =
           "e" ∷ "f" ∷ "p" ∷ "u" ∷ [];
       says = Answer.refusal 10;
     } ∷
-    -- load: func:f void param:p ptr . block:e load i8 %p - ret - .
+    -- load: func:f void param:p ptr . block:e load i8 %p - ret - . .
     record {
       entries =
           (5, 1) ∷ (10, 0) ∷ (6, 3) ∷ (12, 0) ∷ (0, 0) ∷ (7, 0) ∷ (71, 0) ∷ (11, 8) ∷ (30, 2) ∷ (21, 0) ∷ (90, 0) ∷ (21, 0) ∷ (0, 0) ∷ (0, 0) ∷ [];
@@ -51,7 +51,7 @@ chains =
           "e" ∷ "f" ∷ "p" ∷ [];
       says = Answer.refusal 5;
     } ∷
-    -- load: func:f void param:p ptr . block:e q=load i8 %p - ret - .
+    -- load: func:f void param:p ptr . block:e q=load i8 %p - ret - . .
     record {
       entries =
           (5, 1) ∷ (10, 0) ∷ (6, 3) ∷ (12, 0) ∷ (0, 0) ∷ (7, 0) ∷ (71, 4) ∷ (11, 8) ∷ (30, 2) ∷ (21, 0) ∷ (90, 0) ∷ (21, 0) ∷ (0, 0) ∷ (0, 0) ∷ [];
@@ -60,7 +60,7 @@ chains =
       says = Answer.text (unlines (
           "# void @f(1 params)" ∷ "f:" ∷ "push_0n 1;" ∷ "f__e:" ∷ "get_arg 0;" ∷ "load_u8;" ∷ "set_local 0;" ∷ "push 0;" ∷ "ret;" ∷ "" ∷ [])) 0;
     } ∷
-    -- load of a struct in a struct: func:f void param:p ptr . block:e load { { [16777217 i8 label } } %u - ret - .
+    -- load of a struct in a struct: func:f void param:p ptr . block:e load { { [16777217 i8 label } } %u - ret - . .
     record {
       entries =
           (5, 1) ∷ (10, 0) ∷ (6, 3) ∷ (12, 0) ∷ (0, 0) ∷ (7, 0) ∷ (71, 0) ∷ (16, 0) ∷ (16, 0) ∷ (13, 16777217) ∷ (11, 8) ∷ (19, 0) ∷ (0, 0) ∷ (0, 0)
@@ -69,7 +69,7 @@ chains =
           "e" ∷ "f" ∷ "p" ∷ "u" ∷ [];
       says = Answer.refusal 6;
     } ∷
-    -- load of a struct in a struct: func:f void param:p ptr . block:e load <{ { [16777217 i8 label } } %u - ret - .
+    -- load of a struct in a struct: func:f void param:p ptr . block:e load <{ { [16777217 i8 label } } %u - ret - . .
     record {
       entries =
           (5, 1) ∷ (10, 0) ∷ (6, 3) ∷ (12, 0) ∷ (0, 0) ∷ (7, 0) ∷ (71, 0) ∷ (17, 0) ∷ (16, 0) ∷ (13, 16777217) ∷ (11, 8) ∷ (19, 0) ∷ (0, 0) ∷ (0, 0)
@@ -78,7 +78,7 @@ chains =
           "e" ∷ "f" ∷ "p" ∷ "u" ∷ [];
       says = Answer.refusal 6;
     } ∷
-    -- load of a struct in a struct: func:f void param:p ptr . block:e load { <{ [16777217 i8 label } } %u - ret - .
+    -- load of a struct in a struct: func:f void param:p ptr . block:e load { <{ [16777217 i8 label } } %u - ret - . .
     record {
       entries =
           (5, 1) ∷ (10, 0) ∷ (6, 3) ∷ (12, 0) ∷ (0, 0) ∷ (7, 0) ∷ (71, 0) ∷ (16, 0) ∷ (17, 0) ∷ (13, 16777217) ∷ (11, 8) ∷ (19, 0) ∷ (0, 0) ∷ (0, 0)
@@ -87,7 +87,7 @@ chains =
           "e" ∷ "f" ∷ "p" ∷ "u" ∷ [];
       says = Answer.refusal 7;
     } ∷
-    -- load of a struct in a struct: func:f void param:p ptr . block:e load { <{ [16777216 i8 label } } %u - ret - .
+    -- load of a struct in a struct: func:f void param:p ptr . block:e load { <{ [16777216 i8 label } } %u - ret - . .
     record {
       entries =
           (5, 1) ∷ (10, 0) ∷ (6, 3) ∷ (12, 0) ∷ (0, 0) ∷ (7, 0) ∷ (71, 0) ∷ (16, 0) ∷ (17, 0) ∷ (13, 16777216) ∷ (11, 8) ∷ (19, 0) ∷ (0, 0) ∷ (0, 0)
@@ -96,7 +96,7 @@ chains =
           "e" ∷ "f" ∷ "p" ∷ "u" ∷ [];
       says = Answer.refusal 6;
     } ∷
-    -- load of a struct in a struct: func:f void param:p ptr . block:e load { <{ [16777216 i8 i8 } } %u - ret - .
+    -- load of a struct in a struct: func:f void param:p ptr . block:e load { <{ [16777216 i8 i8 } } %u - ret - . .
     record {
       entries =
           (5, 1) ∷ (10, 0) ∷ (6, 3) ∷ (12, 0) ∷ (0, 0) ∷ (7, 0) ∷ (71, 0) ∷ (16, 0) ∷ (17, 0) ∷ (13, 16777216) ∷ (11, 8) ∷ (11, 8) ∷ (0, 0) ∷ (0, 0)
@@ -105,7 +105,7 @@ chains =
           "e" ∷ "f" ∷ "p" ∷ "u" ∷ [];
       says = Answer.refusal 7;
     } ∷
-    -- load of a struct in a struct: func:f void param:p ptr . block:e load { <{ [16777215 i8 i8 } } %u - ret - .
+    -- load of a struct in a struct: func:f void param:p ptr . block:e load { <{ [16777215 i8 i8 } } %u - ret - . .
     record {
       entries =
           (5, 1) ∷ (10, 0) ∷ (6, 3) ∷ (12, 0) ∷ (0, 0) ∷ (7, 0) ∷ (71, 0) ∷ (16, 0) ∷ (17, 0) ∷ (13, 16777215) ∷ (11, 8) ∷ (11, 8) ∷ (0, 0) ∷ (0, 0)
@@ -114,7 +114,7 @@ chains =
           "e" ∷ "f" ∷ "p" ∷ "u" ∷ [];
       says = Answer.refusal 11;
     } ∷
-    -- load of nothing: func:f void param:p ptr . block:e load void %u - ret - .
+    -- load of nothing: func:f void param:p ptr . block:e load void %u - ret - . .
     record {
       entries =
           (5, 1) ∷ (10, 0) ∷ (6, 3) ∷ (12, 0) ∷ (0, 0) ∷ (7, 0) ∷ (71, 0) ∷ (10, 0) ∷ (30, 3) ∷ (21, 0) ∷ (90, 0) ∷ (21, 0) ∷ (0, 0) ∷ (0, 0) ∷ [];
@@ -122,7 +122,7 @@ chains =
           "e" ∷ "f" ∷ "p" ∷ "u" ∷ [];
       says = Answer.refusal 11;
     } ∷
-    -- load of nothing: func:f void param:p ptr . block:e load { } %u - ret - .
+    -- load of nothing: func:f void param:p ptr . block:e load { } %u - ret - . .
     record {
       entries =
           (5, 1) ∷ (10, 0) ∷ (6, 3) ∷ (12, 0) ∷ (0, 0) ∷ (7, 0) ∷ (71, 0) ∷ (16, 0) ∷ (0, 0) ∷ (30, 3) ∷ (21, 0) ∷ (90, 0) ∷ (21, 0) ∷ (0, 0) ∷ (0, 0) ∷ [];
@@ -130,7 +130,7 @@ chains =
           "e" ∷ "f" ∷ "p" ∷ "u" ∷ [];
       says = Answer.refusal 11;
     } ∷
-    -- load of nothing: func:f void param:p ptr . block:e load [0 i64 %u - ret - .
+    -- load of nothing: func:f void param:p ptr . block:e load [0 i64 %u - ret - . .
     record {
       entries =
           (5, 1) ∷ (10, 0) ∷ (6, 3) ∷ (12, 0) ∷ (0, 0) ∷ (7, 0) ∷ (71, 0) ∷ (13, 0) ∷ (11, 64) ∷ (30, 3) ∷ (21, 0) ∷ (90, 0) ∷ (21, 0) ∷ (0, 0) ∷ (0, 0) ∷ [];
@@ -138,7 +138,7 @@ chains =
           "e" ∷ "f" ∷ "p" ∷ "u" ∷ [];
       says = Answer.refusal 11;
     } ∷
-    -- store: func:f void param:p ptr . block:e store { label [16777217 i8 } %u %u - ret - .
+    -- store: func:f void param:p ptr . block:e store { label [16777217 i8 } %u %u - ret - . .
     record {
       entries =
           (5, 1) ∷ (10, 0) ∷ (6, 3) ∷ (12, 0) ∷ (0, 0) ∷ (7, 0) ∷ (72, 0) ∷ (16, 0) ∷ (19, 0) ∷ (13, 16777217) ∷ (11, 8) ∷ (0, 0) ∷ (30, 3) ∷ (30, 3)
@@ -147,7 +147,7 @@ chains =
           "e" ∷ "f" ∷ "p" ∷ "u" ∷ [];
       says = Answer.refusal 6;
     } ∷
-    -- store: func:f void param:p ptr . block:e store [16777217 i8 %u %u - ret - .
+    -- store: func:f void param:p ptr . block:e store [16777217 i8 %u %u - ret - . .
     record {
       entries =
           (5, 1) ∷ (10, 0) ∷ (6, 3) ∷ (12, 0) ∷ (0, 0) ∷ (7, 0) ∷ (72, 0) ∷ (13, 16777217) ∷ (11, 8) ∷ (30, 3) ∷ (30, 3) ∷ (21, 0) ∷ (90, 0) ∷ (21, 0)
@@ -156,7 +156,7 @@ chains =
           "e" ∷ "f" ∷ "p" ∷ "u" ∷ [];
       says = Answer.refusal 7;
     } ∷
-    -- store: func:f void param:p ptr . block:e store [3 i8 %u %u - ret - .
+    -- store: func:f void param:p ptr . block:e store [3 i8 %u %u - ret - . .
     record {
       entries =
           (5, 1) ∷ (10, 0) ∷ (6, 3) ∷ (12, 0) ∷ (0, 0) ∷ (7, 0) ∷ (72, 0) ∷ (13, 3) ∷ (11, 8) ∷ (30, 3) ∷ (30, 3) ∷ (21, 0) ∷ (90, 0) ∷ (21, 0) ∷ (0, 0)
@@ -165,7 +165,7 @@ chains =
           "e" ∷ "f" ∷ "p" ∷ "u" ∷ [];
       says = Answer.refusal 11;
     } ∷
-    -- store: func:f void param:p ptr . block:e store [4 i8 %u %u - ret - .
+    -- store: func:f void param:p ptr . block:e store [4 i8 %u %u - ret - . .
     record {
       entries =
           (5, 1) ∷ (10, 0) ∷ (6, 3) ∷ (12, 0) ∷ (0, 0) ∷ (7, 0) ∷ (72, 0) ∷ (13, 4) ∷ (11, 8) ∷ (30, 3) ∷ (30, 3) ∷ (21, 0) ∷ (90, 0) ∷ (21, 0) ∷ (0, 0)
@@ -174,7 +174,7 @@ chains =
           "e" ∷ "f" ∷ "p" ∷ "u" ∷ [];
       says = Answer.refusal 10;
     } ∷
-    -- store: func:f void param:p ptr . block:e store [4 i8 %u %p - ret - .
+    -- store: func:f void param:p ptr . block:e store [4 i8 %u %p - ret - . .
     record {
       entries =
           (5, 1) ∷ (10, 0) ∷ (6, 3) ∷ (12, 0) ∷ (0, 0) ∷ (7, 0) ∷ (72, 0) ∷ (13, 4) ∷ (11, 8) ∷ (30, 3) ∷ (30, 2) ∷ (21, 0) ∷ (90, 0) ∷ (21, 0) ∷ (0, 0)
@@ -183,7 +183,7 @@ chains =
           "e" ∷ "f" ∷ "p" ∷ "u" ∷ [];
       says = Answer.refusal 9;
     } ∷
-    -- store: func:f void param:p ptr . block:e store i32 %u %p - ret - .
+    -- store: func:f void param:p ptr . block:e store i32 %u %p - ret - . .
     record {
       entries =
           (5, 1) ∷ (10, 0) ∷ (6, 3) ∷ (12, 0) ∷ (0, 0) ∷ (7, 0) ∷ (72, 0) ∷ (11, 32) ∷ (30, 3) ∷ (30, 2) ∷ (21, 0) ∷ (90, 0) ∷ (21, 0) ∷ (0, 0) ∷ (0, 0) ∷ [];
@@ -191,7 +191,7 @@ chains =
           "e" ∷ "f" ∷ "p" ∷ "u" ∷ [];
       says = Answer.refusal 10;
     } ∷
-    -- store: func:f void param:p ptr . block:e store i32 1 %p - ret - .
+    -- store: func:f void param:p ptr . block:e store i32 1 %p - ret - . .
     record {
       entries =
           (5, 1) ∷ (10, 0) ∷ (6, 3) ∷ (12, 0) ∷ (0, 0) ∷ (7, 0) ∷ (72, 0) ∷ (11, 32) ∷ (32, 1) ∷ (30, 2) ∷ (21, 0) ∷ (90, 0) ∷ (21, 0) ∷ (0, 0) ∷ (0, 0) ∷ [];
@@ -200,7 +200,7 @@ chains =
       says = Answer.text (unlines (
           "# void @f(1 params)" ∷ "f:" ∷ "f__e:" ∷ "get_arg 0;" ∷ "push 1;" ∷ "store_u32;" ∷ "push 0;" ∷ "ret;" ∷ "" ∷ [])) 0;
     } ∷
-    -- fixed place: func:f void param:p ptr . block:e x=add label %u %u alloca { label [16777217 i8 } label 1 - ret - .
+    -- fixed place: func:f void param:p ptr . block:e x=add label %u %u alloca { label [16777217 i8 } label 1 - ret - . .
     record {
       entries =
           (5, 1) ∷ (10, 0) ∷ (6, 3) ∷ (12, 0) ∷ (0, 0) ∷ (7, 0) ∷ (40, 5) ∷ (19, 0) ∷ (30, 3) ∷ (30, 3) ∷ (73, 0) ∷ (16, 0) ∷ (19, 0) ∷ (13, 16777217)
@@ -209,7 +209,7 @@ chains =
           "e" ∷ "f" ∷ "p" ∷ "u" ∷ "x" ∷ [];
       says = Answer.refusal 5;
     } ∷
-    -- fixed place: func:f void param:p ptr . block:e x=add label %u %u q=alloca { [16777217 i8 label } label 1 - ret - .
+    -- fixed place: func:f void param:p ptr . block:e x=add label %u %u q=alloca { [16777217 i8 label } label 1 - ret - . .
     record {
       entries =
           (5, 1) ∷ (10, 0) ∷ (6, 3) ∷ (12, 0) ∷ (0, 0) ∷ (7, 0) ∷ (40, 6) ∷ (19, 0) ∷ (30, 4) ∷ (30, 4) ∷ (73, 4) ∷ (16, 0) ∷ (13, 16777217) ∷ (11, 8)
@@ -218,7 +218,7 @@ chains =
           "e" ∷ "f" ∷ "p" ∷ "q" ∷ "u" ∷ "x" ∷ [];
       says = Answer.refusal 6;
     } ∷
-    -- fixed place: func:f void param:p ptr . block:e x=add label %u %u q=alloca [16777217 i8 label 1 - ret - .
+    -- fixed place: func:f void param:p ptr . block:e x=add label %u %u q=alloca [16777217 i8 label 1 - ret - . .
     record {
       entries =
           (5, 1) ∷ (10, 0) ∷ (6, 3) ∷ (12, 0) ∷ (0, 0) ∷ (7, 0) ∷ (40, 6) ∷ (19, 0) ∷ (30, 4) ∷ (30, 4) ∷ (73, 4) ∷ (13, 16777217) ∷ (11, 8) ∷ (19, 0)
@@ -227,7 +227,7 @@ chains =
           "e" ∷ "f" ∷ "p" ∷ "q" ∷ "u" ∷ "x" ∷ [];
       says = Answer.refusal 7;
     } ∷
-    -- fixed place: func:f void param:p ptr . block:e x=add label %u %u q=alloca [16777216 i8 label 129 - ret - .
+    -- fixed place: func:f void param:p ptr . block:e x=add label %u %u q=alloca [16777216 i8 label 129 - ret - . .
     record {
       entries =
           (5, 1) ∷ (10, 0) ∷ (6, 3) ∷ (12, 0) ∷ (0, 0) ∷ (7, 0) ∷ (40, 6) ∷ (19, 0) ∷ (30, 4) ∷ (30, 4) ∷ (73, 4) ∷ (13, 16777216) ∷ (11, 8) ∷ (19, 0)
@@ -236,7 +236,7 @@ chains =
           "e" ∷ "f" ∷ "p" ∷ "q" ∷ "u" ∷ "x" ∷ [];
       says = Answer.refusal 7;
     } ∷
-    -- fixed place: func:f void param:p ptr . block:e x=add label %u %u q=alloca [16777216 i8 label 128 - ret - .
+    -- fixed place: func:f void param:p ptr . block:e x=add label %u %u q=alloca [16777216 i8 label 128 - ret - . .
     record {
       entries =
           (5, 1) ∷ (10, 0) ∷ (6, 3) ∷ (12, 0) ∷ (0, 0) ∷ (7, 0) ∷ (40, 6) ∷ (19, 0) ∷ (30, 4) ∷ (30, 4) ∷ (73, 4) ∷ (13, 16777216) ∷ (11, 8) ∷ (19, 0)
@@ -245,7 +245,7 @@ chains =
           "e" ∷ "f" ∷ "p" ∷ "q" ∷ "u" ∷ "x" ∷ [];
       says = Answer.refusal 9;
     } ∷
-    -- fixed place: func:f void param:p ptr . block:e x=add i8 %u %u q=alloca [16777216 i8 label 128 - ret - .
+    -- fixed place: func:f void param:p ptr . block:e x=add i8 %u %u q=alloca [16777216 i8 label 128 - ret - . .
     record {
       entries =
           (5, 1) ∷ (10, 0) ∷ (6, 3) ∷ (12, 0) ∷ (0, 0) ∷ (7, 0) ∷ (40, 6) ∷ (11, 8) ∷ (30, 4) ∷ (30, 4) ∷ (73, 4) ∷ (13, 16777216) ∷ (11, 8) ∷ (19, 0)
@@ -254,7 +254,7 @@ chains =
           "e" ∷ "f" ∷ "p" ∷ "q" ∷ "u" ∷ "x" ∷ [];
       says = Answer.refusal 10;
     } ∷
-    -- fixed place: func:f void param:p ptr . block:e x=add i8 1 1 q=alloca [16777216 i8 label 128 - ret - .
+    -- fixed place: func:f void param:p ptr . block:e x=add i8 1 1 q=alloca [16777216 i8 label 128 - ret - . .
     record {
       entries =
           (5, 1) ∷ (10, 0) ∷ (6, 3) ∷ (12, 0) ∷ (0, 0) ∷ (7, 0) ∷ (40, 5) ∷ (11, 8) ∷ (32, 1) ∷ (32, 1) ∷ (73, 4) ∷ (13, 16777216) ∷ (11, 8) ∷ (19, 0)
@@ -266,7 +266,7 @@ chains =
           ∷ "f__e:" ∷ "push 1;" ∷ "push 1;" ∷ "add_u32;" ∷ "trunc_u8;" ∷ "set_local 0;" ∷ "get_local 2;" ∷ "set_local 1;" ∷ "push 0;" ∷ "get_local 2;"
           ∷ "thread_set 0;" ∷ "ret;" ∷ "" ∷ [])) 0;
     } ∷
-    -- two fixed places: func:f void param:p ptr . block:e q=alloca [16777216 i8 i8 129 - alloca label - - ret - .
+    -- two fixed places: func:f void param:p ptr . block:e q=alloca [16777216 i8 i8 129 - alloca label - - ret - . .
     record {
       entries =
           (5, 1) ∷ (10, 0) ∷ (6, 3) ∷ (12, 0) ∷ (0, 0) ∷ (7, 0) ∷ (73, 4) ∷ (13, 16777216) ∷ (11, 8) ∷ (11, 8) ∷ (32, 129) ∷ (21, 0) ∷ (73, 0) ∷ (19, 0)
@@ -275,7 +275,7 @@ chains =
           "e" ∷ "f" ∷ "p" ∷ "q" ∷ [];
       says = Answer.refusal 7;
     } ∷
-    -- two fixed places: func:f void param:p ptr . block:e q=alloca [16777216 i8 i8 128 - alloca label - - ret - .
+    -- two fixed places: func:f void param:p ptr . block:e q=alloca [16777216 i8 i8 128 - alloca label - - ret - . .
     record {
       entries =
           (5, 1) ∷ (10, 0) ∷ (6, 3) ∷ (12, 0) ∷ (0, 0) ∷ (7, 0) ∷ (73, 4) ∷ (13, 16777216) ∷ (11, 8) ∷ (11, 8) ∷ (32, 128) ∷ (21, 0) ∷ (73, 0) ∷ (19, 0)
@@ -284,7 +284,7 @@ chains =
           "e" ∷ "f" ∷ "p" ∷ "q" ∷ [];
       says = Answer.refusal 5;
     } ∷
-    -- two fixed places: func:f void param:p ptr . block:e q=alloca [16777216 i8 i8 128 - x=alloca label - - ret - .
+    -- two fixed places: func:f void param:p ptr . block:e q=alloca [16777216 i8 i8 128 - x=alloca label - - ret - . .
     record {
       entries =
           (5, 1) ∷ (10, 0) ∷ (6, 3) ∷ (12, 0) ∷ (0, 0) ∷ (7, 0) ∷ (73, 4) ∷ (13, 16777216) ∷ (11, 8) ∷ (11, 8) ∷ (32, 128) ∷ (21, 0) ∷ (73, 5) ∷ (19, 0)
@@ -293,7 +293,7 @@ chains =
           "e" ∷ "f" ∷ "p" ∷ "q" ∷ "x" ∷ [];
       says = Answer.refusal 6;
     } ∷
-    -- two fixed places: func:f void param:p ptr . block:e q=alloca [16777216 i8 i8 128 - x=alloca i8 - - ret - .
+    -- two fixed places: func:f void param:p ptr . block:e q=alloca [16777216 i8 i8 128 - x=alloca i8 - - ret - . .
     record {
       entries =
           (5, 1) ∷ (10, 0) ∷ (6, 3) ∷ (12, 0) ∷ (0, 0) ∷ (7, 0) ∷ (73, 4) ∷ (13, 16777216) ∷ (11, 8) ∷ (11, 8) ∷ (32, 128) ∷ (21, 0) ∷ (73, 5) ∷ (11, 8)
@@ -302,7 +302,7 @@ chains =
           "e" ∷ "f" ∷ "p" ∷ "q" ∷ "x" ∷ [];
       says = Answer.refusal 7;
     } ∷
-    -- two fixed places: func:f void param:p ptr . block:e q=alloca [16777216 i8 i8 128 - x=alloca { } - - ret - .
+    -- two fixed places: func:f void param:p ptr . block:e q=alloca [16777216 i8 i8 128 - x=alloca { } - - ret - . .
     record {
       entries =
           (5, 1) ∷ (10, 0) ∷ (6, 3) ∷ (12, 0) ∷ (0, 0) ∷ (7, 0) ∷ (73, 4) ∷ (13, 16777216) ∷ (11, 8) ∷ (11, 8) ∷ (32, 128) ∷ (21, 0) ∷ (73, 5) ∷ (16, 0)
@@ -314,7 +314,7 @@ chains =
           ∷ "f__e:" ∷ "get_local 2;" ∷ "set_local 0;" ∷ "get_local 2;" ∷ "push 2147483648;" ∷ "add_u64;" ∷ "set_local 1;" ∷ "push 0;" ∷ "get_local 2;"
           ∷ "thread_set 0;" ∷ "ret;" ∷ "" ∷ [])) 0;
     } ∷
-    -- varying place: func:f void param:p ptr . block:e x=add label %u %u alloca label i32 %u - ret - .
+    -- varying place: func:f void param:p ptr . block:e x=add label %u %u alloca label i32 %u - ret - . .
     record {
       entries =
           (5, 1) ∷ (10, 0) ∷ (6, 3) ∷ (12, 0) ∷ (0, 0) ∷ (7, 0) ∷ (40, 5) ∷ (19, 0) ∷ (30, 3) ∷ (30, 3) ∷ (73, 0) ∷ (19, 0) ∷ (11, 32) ∷ (30, 3) ∷ (21, 0)
@@ -323,7 +323,7 @@ chains =
           "e" ∷ "f" ∷ "p" ∷ "u" ∷ "x" ∷ [];
       says = Answer.refusal 5;
     } ∷
-    -- varying place: func:f void param:p ptr . block:e x=add label %u %u q=alloca label i32 %u - ret - .
+    -- varying place: func:f void param:p ptr . block:e x=add label %u %u q=alloca label i32 %u - ret - . .
     record {
       entries =
           (5, 1) ∷ (10, 0) ∷ (6, 3) ∷ (12, 0) ∷ (0, 0) ∷ (7, 0) ∷ (40, 6) ∷ (19, 0) ∷ (30, 4) ∷ (30, 4) ∷ (73, 4) ∷ (19, 0) ∷ (11, 32) ∷ (30, 4) ∷ (21, 0)
@@ -332,7 +332,7 @@ chains =
           "e" ∷ "f" ∷ "p" ∷ "q" ∷ "u" ∷ "x" ∷ [];
       says = Answer.refusal 9;
     } ∷
-    -- varying place: func:f void param:p ptr . block:e q=alloca { label [16777217 i8 } i32 %u - ret - .
+    -- varying place: func:f void param:p ptr . block:e q=alloca { label [16777217 i8 } i32 %u - ret - . .
     record {
       entries =
           (5, 1) ∷ (10, 0) ∷ (6, 3) ∷ (12, 0) ∷ (0, 0) ∷ (7, 0) ∷ (73, 4) ∷ (16, 0) ∷ (19, 0) ∷ (13, 16777217) ∷ (11, 8) ∷ (0, 0) ∷ (11, 32) ∷ (30, 4)
@@ -341,7 +341,7 @@ chains =
           "e" ∷ "f" ∷ "p" ∷ "q" ∷ "u" ∷ [];
       says = Answer.refusal 6;
     } ∷
-    -- varying place: func:f void param:p ptr . block:e q=alloca { [16777217 i8 label } i32 %u - ret - .
+    -- varying place: func:f void param:p ptr . block:e q=alloca { [16777217 i8 label } i32 %u - ret - . .
     record {
       entries =
           (5, 1) ∷ (10, 0) ∷ (6, 3) ∷ (12, 0) ∷ (0, 0) ∷ (7, 0) ∷ (73, 4) ∷ (16, 0) ∷ (13, 16777217) ∷ (11, 8) ∷ (19, 0) ∷ (0, 0) ∷ (11, 32) ∷ (30, 4)
@@ -350,7 +350,7 @@ chains =
           "e" ∷ "f" ∷ "p" ∷ "q" ∷ "u" ∷ [];
       says = Answer.refusal 7;
     } ∷
-    -- varying place: func:f void param:p ptr . block:e q=alloca i8 i32 %u - ret - .
+    -- varying place: func:f void param:p ptr . block:e q=alloca i8 i32 %u - ret - . .
     record {
       entries =
           (5, 1) ∷ (10, 0) ∷ (6, 3) ∷ (12, 0) ∷ (0, 0) ∷ (7, 0) ∷ (73, 4) ∷ (11, 8) ∷ (11, 32) ∷ (30, 4) ∷ (21, 0) ∷ (90, 0) ∷ (21, 0) ∷ (0, 0) ∷ (0, 0) ∷ [];
@@ -358,7 +358,7 @@ chains =
           "e" ∷ "f" ∷ "p" ∷ "q" ∷ "u" ∷ [];
       says = Answer.refusal 10;
     } ∷
-    -- varying place: func:f void param:p ptr . block:e q=alloca i8 i32 %p - ret - .
+    -- varying place: func:f void param:p ptr . block:e q=alloca i8 i32 %p - ret - . .
     record {
       entries =
           (5, 1) ∷ (10, 0) ∷ (6, 3) ∷ (12, 0) ∷ (0, 0) ∷ (7, 0) ∷ (73, 4) ∷ (11, 8) ∷ (11, 32) ∷ (30, 2) ∷ (21, 0) ∷ (90, 0) ∷ (21, 0) ∷ (0, 0) ∷ (0, 0) ∷ [];
@@ -369,7 +369,7 @@ chains =
           ∷ "thread_get 0;" ∷ "push 7;" ∷ "add_u64;" ∷ "push 18446744073709551608;" ∷ "and_u64;" ∷ "dup;" ∷ "get_arg 0;" ∷ "add_u64;" ∷ "thread_set 0;"
           ∷ "set_local 0;" ∷ "push 0;" ∷ "get_local 1;" ∷ "thread_set 0;" ∷ "ret;" ∷ "" ∷ [])) 0;
     } ∷
-    -- varying place, stated align: func:f void param:p ptr . block:e q=alloca label i32 %u #16 ret - .
+    -- varying place, stated align: func:f void param:p ptr . block:e q=alloca label i32 %u #16 ret - . .
     record {
       entries =
           (5, 1) ∷ (10, 0) ∷ (6, 3) ∷ (12, 0) ∷ (0, 0) ∷ (7, 0) ∷ (73, 4) ∷ (19, 0) ∷ (11, 32) ∷ (30, 4) ∷ (22, 16) ∷ (90, 0) ∷ (21, 0) ∷ (0, 0) ∷ (0, 0)
@@ -378,7 +378,7 @@ chains =
           "e" ∷ "f" ∷ "p" ∷ "q" ∷ "u" ∷ [];
       says = Answer.refusal 6;
     } ∷
-    -- varying place, stated align: func:f void param:p ptr . block:e q=alloca { [16777217 i8 label } i32 %u #16 ret - .
+    -- varying place, stated align: func:f void param:p ptr . block:e q=alloca { [16777217 i8 label } i32 %u #16 ret - . .
     record {
       entries =
           (5, 1) ∷ (10, 0) ∷ (6, 3) ∷ (12, 0) ∷ (0, 0) ∷ (7, 0) ∷ (73, 4) ∷ (16, 0) ∷ (13, 16777217) ∷ (11, 8) ∷ (19, 0) ∷ (0, 0) ∷ (11, 32) ∷ (30, 4)
@@ -387,7 +387,7 @@ chains =
           "e" ∷ "f" ∷ "p" ∷ "q" ∷ "u" ∷ [];
       says = Answer.refusal 7;
     } ∷
-    -- varying place, stated align: func:f void param:p ptr . block:e q=alloca i8 i32 %u #16 ret - .
+    -- varying place, stated align: func:f void param:p ptr . block:e q=alloca i8 i32 %u #16 ret - . .
     record {
       entries =
           (5, 1) ∷ (10, 0) ∷ (6, 3) ∷ (12, 0) ∷ (0, 0) ∷ (7, 0) ∷ (73, 4) ∷ (11, 8) ∷ (11, 32) ∷ (30, 4) ∷ (22, 16) ∷ (90, 0) ∷ (21, 0) ∷ (0, 0) ∷ (0, 0)
@@ -396,7 +396,7 @@ chains =
           "e" ∷ "f" ∷ "p" ∷ "q" ∷ "u" ∷ [];
       says = Answer.refusal 10;
     } ∷
-    -- varying place, stated align: func:f void param:p ptr . block:e q=alloca i8 i32 %p #16 ret - .
+    -- varying place, stated align: func:f void param:p ptr . block:e q=alloca i8 i32 %p #16 ret - . .
     record {
       entries =
           (5, 1) ∷ (10, 0) ∷ (6, 3) ∷ (12, 0) ∷ (0, 0) ∷ (7, 0) ∷ (73, 4) ∷ (11, 8) ∷ (11, 32) ∷ (30, 2) ∷ (22, 16) ∷ (90, 0) ∷ (21, 0) ∷ (0, 0) ∷ (0, 0)
@@ -408,7 +408,7 @@ chains =
           ∷ "thread_get 0;" ∷ "push 15;" ∷ "add_u64;" ∷ "push 18446744073709551600;" ∷ "and_u64;" ∷ "dup;" ∷ "get_arg 0;" ∷ "add_u64;" ∷ "thread_set 0;"
           ∷ "set_local 0;" ∷ "push 0;" ∷ "get_local 1;" ∷ "thread_set 0;" ∷ "ret;" ∷ "" ∷ [])) 0;
     } ∷
-    -- atomic load: func:f void param:p ptr . block:e atomicload { label [16777217 i8 } %u ret - .
+    -- atomic load: func:f void param:p ptr . block:e atomicload { label [16777217 i8 } %u ret - . .
     record {
       entries =
           (5, 1) ∷ (10, 0) ∷ (6, 3) ∷ (12, 0) ∷ (0, 0) ∷ (7, 0) ∷ (78, 0) ∷ (16, 0) ∷ (19, 0) ∷ (13, 16777217) ∷ (11, 8) ∷ (0, 0) ∷ (30, 3) ∷ (90, 0)
@@ -417,7 +417,7 @@ chains =
           "e" ∷ "f" ∷ "p" ∷ "u" ∷ [];
       says = Answer.refusal 6;
     } ∷
-    -- atomic load: func:f void param:p ptr . block:e atomicload { [16777217 i8 label } %u ret - .
+    -- atomic load: func:f void param:p ptr . block:e atomicload { [16777217 i8 label } %u ret - . .
     record {
       entries =
           (5, 1) ∷ (10, 0) ∷ (6, 3) ∷ (12, 0) ∷ (0, 0) ∷ (7, 0) ∷ (78, 0) ∷ (16, 0) ∷ (13, 16777217) ∷ (11, 8) ∷ (19, 0) ∷ (0, 0) ∷ (30, 3) ∷ (90, 0)
@@ -426,7 +426,7 @@ chains =
           "e" ∷ "f" ∷ "p" ∷ "u" ∷ [];
       says = Answer.refusal 7;
     } ∷
-    -- atomic load: func:f void param:p ptr . block:e atomicload i32 %u ret - .
+    -- atomic load: func:f void param:p ptr . block:e atomicload i32 %u ret - . .
     record {
       entries =
           (5, 1) ∷ (10, 0) ∷ (6, 3) ∷ (12, 0) ∷ (0, 0) ∷ (7, 0) ∷ (78, 0) ∷ (11, 32) ∷ (30, 3) ∷ (90, 0) ∷ (21, 0) ∷ (0, 0) ∷ (0, 0) ∷ [];
@@ -434,7 +434,7 @@ chains =
           "e" ∷ "f" ∷ "p" ∷ "u" ∷ [];
       says = Answer.refusal 12;
     } ∷
-    -- atomic load: func:f void param:p ptr . block:e atomicload { i64 } %u ret - .
+    -- atomic load: func:f void param:p ptr . block:e atomicload { i64 } %u ret - . .
     record {
       entries =
           (5, 1) ∷ (10, 0) ∷ (6, 3) ∷ (12, 0) ∷ (0, 0) ∷ (7, 0) ∷ (78, 0) ∷ (16, 0) ∷ (11, 64) ∷ (0, 0) ∷ (30, 3) ∷ (90, 0) ∷ (21, 0) ∷ (0, 0) ∷ (0, 0) ∷ [];
@@ -442,7 +442,7 @@ chains =
           "e" ∷ "f" ∷ "p" ∷ "u" ∷ [];
       says = Answer.refusal 10;
     } ∷
-    -- atomic load: func:f void param:p ptr . block:e atomicload { i64 } %p ret - .
+    -- atomic load: func:f void param:p ptr . block:e atomicload { i64 } %p ret - . .
     record {
       entries =
           (5, 1) ∷ (10, 0) ∷ (6, 3) ∷ (12, 0) ∷ (0, 0) ∷ (7, 0) ∷ (78, 0) ∷ (16, 0) ∷ (11, 64) ∷ (0, 0) ∷ (30, 2) ∷ (90, 0) ∷ (21, 0) ∷ (0, 0) ∷ (0, 0) ∷ [];
@@ -450,7 +450,7 @@ chains =
           "e" ∷ "f" ∷ "p" ∷ [];
       says = Answer.refusal 5;
     } ∷
-    -- atomic load: func:f void param:p ptr . block:e q=atomicload { i64 } %p ret - .
+    -- atomic load: func:f void param:p ptr . block:e q=atomicload { i64 } %p ret - . .
     record {
       entries =
           (5, 1) ∷ (10, 0) ∷ (6, 3) ∷ (12, 0) ∷ (0, 0) ∷ (7, 0) ∷ (78, 4) ∷ (16, 0) ∷ (11, 64) ∷ (0, 0) ∷ (30, 2) ∷ (90, 0) ∷ (21, 0) ∷ (0, 0) ∷ (0, 0) ∷ [];
@@ -459,7 +459,7 @@ chains =
       says = Answer.text (unlines (
           "# void @f(1 params)" ∷ "f:" ∷ "push_0n 1;" ∷ "f__e:" ∷ "get_arg 0;" ∷ "atomic_load_u64;" ∷ "set_local 0;" ∷ "push 0;" ∷ "ret;" ∷ "" ∷ [])) 0;
     } ∷
-    -- atomic store: func:f void param:p ptr . block:e atomicstore { label [16777217 i8 } %u %u ret - .
+    -- atomic store: func:f void param:p ptr . block:e atomicstore { label [16777217 i8 } %u %u ret - . .
     record {
       entries =
           (5, 1) ∷ (10, 0) ∷ (6, 3) ∷ (12, 0) ∷ (0, 0) ∷ (7, 0) ∷ (79, 0) ∷ (16, 0) ∷ (19, 0) ∷ (13, 16777217) ∷ (11, 8) ∷ (0, 0) ∷ (30, 3) ∷ (30, 3)
@@ -468,7 +468,7 @@ chains =
           "e" ∷ "f" ∷ "p" ∷ "u" ∷ [];
       says = Answer.refusal 6;
     } ∷
-    -- atomic store: func:f void param:p ptr . block:e atomicstore { [16777217 i8 label } %u %u ret - .
+    -- atomic store: func:f void param:p ptr . block:e atomicstore { [16777217 i8 label } %u %u ret - . .
     record {
       entries =
           (5, 1) ∷ (10, 0) ∷ (6, 3) ∷ (12, 0) ∷ (0, 0) ∷ (7, 0) ∷ (79, 0) ∷ (16, 0) ∷ (13, 16777217) ∷ (11, 8) ∷ (19, 0) ∷ (0, 0) ∷ (30, 3) ∷ (30, 3)
@@ -477,7 +477,7 @@ chains =
           "e" ∷ "f" ∷ "p" ∷ "u" ∷ [];
       says = Answer.refusal 7;
     } ∷
-    -- atomic store: func:f void param:p ptr . block:e atomicstore { } %u %u ret - .
+    -- atomic store: func:f void param:p ptr . block:e atomicstore { } %u %u ret - . .
     record {
       entries =
           (5, 1) ∷ (10, 0) ∷ (6, 3) ∷ (12, 0) ∷ (0, 0) ∷ (7, 0) ∷ (79, 0) ∷ (16, 0) ∷ (0, 0) ∷ (30, 3) ∷ (30, 3) ∷ (90, 0) ∷ (21, 0) ∷ (0, 0) ∷ (0, 0) ∷ [];
@@ -485,7 +485,7 @@ chains =
           "e" ∷ "f" ∷ "p" ∷ "u" ∷ [];
       says = Answer.refusal 12;
     } ∷
-    -- atomic store: func:f void param:p ptr . block:e atomicstore [8 i8 %u %u ret - .
+    -- atomic store: func:f void param:p ptr . block:e atomicstore [8 i8 %u %u ret - . .
     record {
       entries =
           (5, 1) ∷ (10, 0) ∷ (6, 3) ∷ (12, 0) ∷ (0, 0) ∷ (7, 0) ∷ (79, 0) ∷ (13, 8) ∷ (11, 8) ∷ (30, 3) ∷ (30, 3) ∷ (90, 0) ∷ (21, 0) ∷ (0, 0) ∷ (0, 0) ∷ [];
@@ -493,7 +493,7 @@ chains =
           "e" ∷ "f" ∷ "p" ∷ "u" ∷ [];
       says = Answer.refusal 10;
     } ∷
-    -- atomic store: func:f void param:p ptr . block:e atomicstore [8 i8 %u %p ret - .
+    -- atomic store: func:f void param:p ptr . block:e atomicstore [8 i8 %u %p ret - . .
     record {
       entries =
           (5, 1) ∷ (10, 0) ∷ (6, 3) ∷ (12, 0) ∷ (0, 0) ∷ (7, 0) ∷ (79, 0) ∷ (13, 8) ∷ (11, 8) ∷ (30, 3) ∷ (30, 2) ∷ (90, 0) ∷ (21, 0) ∷ (0, 0) ∷ (0, 0) ∷ [];
@@ -501,7 +501,7 @@ chains =
           "e" ∷ "f" ∷ "p" ∷ "u" ∷ [];
       says = Answer.refusal 10;
     } ∷
-    -- atomic store: func:f void param:p ptr . block:e atomicstore [8 i8 -1 %p ret - .
+    -- atomic store: func:f void param:p ptr . block:e atomicstore [8 i8 -1 %p ret - . .
     record {
       entries =
           (5, 1) ∷ (10, 0) ∷ (6, 3) ∷ (12, 0) ∷ (0, 0) ∷ (7, 0) ∷ (79, 0) ∷ (13, 8) ∷ (11, 8) ∷ (32, 18446744073709551615) ∷ (30, 2) ∷ (90, 0) ∷ (21, 0)
@@ -511,7 +511,7 @@ chains =
       says = Answer.text (unlines (
           "# void @f(1 params)" ∷ "f:" ∷ "f__e:" ∷ "get_arg 0;" ∷ "push 18446744073709551615;" ∷ "atomic_store_u64;" ∷ "push 0;" ∷ "ret;" ∷ "" ∷ [])) 0;
     } ∷
-    -- cmpxchg: func:f void param:p ptr . block:e cmpxchg { label [16777217 i8 } %u %u %u ret - .
+    -- cmpxchg: func:f void param:p ptr . block:e cmpxchg { label [16777217 i8 } %u %u %u ret - . .
     record {
       entries =
           (5, 1) ∷ (10, 0) ∷ (6, 3) ∷ (12, 0) ∷ (0, 0) ∷ (7, 0) ∷ (80, 0) ∷ (16, 0) ∷ (19, 0) ∷ (13, 16777217) ∷ (11, 8) ∷ (0, 0) ∷ (30, 3) ∷ (30, 3)
@@ -520,7 +520,7 @@ chains =
           "e" ∷ "f" ∷ "p" ∷ "u" ∷ [];
       says = Answer.refusal 6;
     } ∷
-    -- cmpxchg: func:f void param:p ptr . block:e cmpxchg { [16777217 i8 label } %u %u %u ret - .
+    -- cmpxchg: func:f void param:p ptr . block:e cmpxchg { [16777217 i8 label } %u %u %u ret - . .
     record {
       entries =
           (5, 1) ∷ (10, 0) ∷ (6, 3) ∷ (12, 0) ∷ (0, 0) ∷ (7, 0) ∷ (80, 0) ∷ (16, 0) ∷ (13, 16777217) ∷ (11, 8) ∷ (19, 0) ∷ (0, 0) ∷ (30, 3) ∷ (30, 3)
@@ -529,7 +529,7 @@ chains =
           "e" ∷ "f" ∷ "p" ∷ "u" ∷ [];
       says = Answer.refusal 7;
     } ∷
-    -- cmpxchg: func:f void param:p ptr . block:e cmpxchg i16 %u %u %u ret - .
+    -- cmpxchg: func:f void param:p ptr . block:e cmpxchg i16 %u %u %u ret - . .
     record {
       entries =
           (5, 1) ∷ (10, 0) ∷ (6, 3) ∷ (12, 0) ∷ (0, 0) ∷ (7, 0) ∷ (80, 0) ∷ (11, 16) ∷ (30, 3) ∷ (30, 3) ∷ (30, 3) ∷ (90, 0) ∷ (21, 0) ∷ (0, 0) ∷ (0, 0) ∷ [];
@@ -537,7 +537,7 @@ chains =
           "e" ∷ "f" ∷ "p" ∷ "u" ∷ [];
       says = Answer.refusal 12;
     } ∷
-    -- cmpxchg: func:f void param:p ptr . block:e cmpxchg i64 %u %u %u ret - .
+    -- cmpxchg: func:f void param:p ptr . block:e cmpxchg i64 %u %u %u ret - . .
     record {
       entries =
           (5, 1) ∷ (10, 0) ∷ (6, 3) ∷ (12, 0) ∷ (0, 0) ∷ (7, 0) ∷ (80, 0) ∷ (11, 64) ∷ (30, 3) ∷ (30, 3) ∷ (30, 3) ∷ (90, 0) ∷ (21, 0) ∷ (0, 0) ∷ (0, 0) ∷ [];
@@ -545,7 +545,7 @@ chains =
           "e" ∷ "f" ∷ "p" ∷ "u" ∷ [];
       says = Answer.refusal 5;
     } ∷
-    -- cmpxchg: func:f void param:p ptr . block:e q=cmpxchg i64 %u %u %u ret - .
+    -- cmpxchg: func:f void param:p ptr . block:e q=cmpxchg i64 %u %u %u ret - . .
     record {
       entries =
           (5, 1) ∷ (10, 0) ∷ (6, 3) ∷ (12, 0) ∷ (0, 0) ∷ (7, 0) ∷ (80, 4) ∷ (11, 64) ∷ (30, 4) ∷ (30, 4) ∷ (30, 4) ∷ (90, 0) ∷ (21, 0) ∷ (0, 0) ∷ (0, 0) ∷ [];
@@ -553,7 +553,7 @@ chains =
           "e" ∷ "f" ∷ "p" ∷ "q" ∷ "u" ∷ [];
       says = Answer.refusal 10;
     } ∷
-    -- cmpxchg: func:f void param:p ptr . block:e q=cmpxchg i64 %p %u %u ret - .
+    -- cmpxchg: func:f void param:p ptr . block:e q=cmpxchg i64 %p %u %u ret - . .
     record {
       entries =
           (5, 1) ∷ (10, 0) ∷ (6, 3) ∷ (12, 0) ∷ (0, 0) ∷ (7, 0) ∷ (80, 4) ∷ (11, 64) ∷ (30, 2) ∷ (30, 4) ∷ (30, 4) ∷ (90, 0) ∷ (21, 0) ∷ (0, 0) ∷ (0, 0) ∷ [];
@@ -561,7 +561,7 @@ chains =
           "e" ∷ "f" ∷ "p" ∷ "q" ∷ "u" ∷ [];
       says = Answer.refusal 10;
     } ∷
-    -- cmpxchg: func:f void param:p ptr . block:e q=cmpxchg i64 %p 1 %u ret - .
+    -- cmpxchg: func:f void param:p ptr . block:e q=cmpxchg i64 %p 1 %u ret - . .
     record {
       entries =
           (5, 1) ∷ (10, 0) ∷ (6, 3) ∷ (12, 0) ∷ (0, 0) ∷ (7, 0) ∷ (80, 4) ∷ (11, 64) ∷ (30, 2) ∷ (32, 1) ∷ (30, 4) ∷ (90, 0) ∷ (21, 0) ∷ (0, 0) ∷ (0, 0) ∷ [];
@@ -569,7 +569,7 @@ chains =
           "e" ∷ "f" ∷ "p" ∷ "q" ∷ "u" ∷ [];
       says = Answer.refusal 10;
     } ∷
-    -- cmpxchg: func:f void param:p ptr . block:e q=cmpxchg i64 %p 1 2 ret - .
+    -- cmpxchg: func:f void param:p ptr . block:e q=cmpxchg i64 %p 1 2 ret - . .
     record {
       entries =
           (5, 1) ∷ (10, 0) ∷ (6, 3) ∷ (12, 0) ∷ (0, 0) ∷ (7, 0) ∷ (80, 4) ∷ (11, 64) ∷ (30, 2) ∷ (32, 1) ∷ (32, 2) ∷ (90, 0) ∷ (21, 0) ∷ (0, 0) ∷ (0, 0) ∷ [];
@@ -579,7 +579,7 @@ chains =
           "# void @f(1 params)" ∷ "f:" ∷ "push_0n 2;" ∷ "f__e:" ∷ "get_arg 0;" ∷ "push 1;" ∷ "push 2;" ∷ "atomic_cas_u64;" ∷ "dup;" ∷ "set_local 0;"
           ∷ "push 1;" ∷ "eq_u64;" ∷ "set_local 1;" ∷ "push 0;" ∷ "ret;" ∷ "" ∷ [])) 0;
     } ∷
-    -- extractvalue: func:f void param:p ptr . block:e extractvalue @p #2 ret - .
+    -- extractvalue: func:f void param:p ptr . block:e extractvalue @p #2 ret - . .
     record {
       entries =
           (5, 1) ∷ (10, 0) ∷ (6, 3) ∷ (12, 0) ∷ (0, 0) ∷ (7, 0) ∷ (81, 0) ∷ (31, 2) ∷ (22, 2) ∷ (90, 0) ∷ (21, 0) ∷ (0, 0) ∷ (0, 0) ∷ [];
@@ -587,7 +587,7 @@ chains =
           "e" ∷ "f" ∷ "p" ∷ [];
       says = Answer.refusal 16;
     } ∷
-    -- extractvalue: func:f void param:p ptr . block:e extractvalue %u #2 ret - .
+    -- extractvalue: func:f void param:p ptr . block:e extractvalue %u #2 ret - . .
     record {
       entries =
           (5, 1) ∷ (10, 0) ∷ (6, 3) ∷ (12, 0) ∷ (0, 0) ∷ (7, 0) ∷ (81, 0) ∷ (30, 3) ∷ (22, 2) ∷ (90, 0) ∷ (21, 0) ∷ (0, 0) ∷ (0, 0) ∷ [];
@@ -595,7 +595,7 @@ chains =
           "e" ∷ "f" ∷ "p" ∷ "u" ∷ [];
       says = Answer.refusal 16;
     } ∷
-    -- extractvalue: func:f void param:p ptr . block:e extractvalue %p #2 ret - .
+    -- extractvalue: func:f void param:p ptr . block:e extractvalue %p #2 ret - . .
     record {
       entries =
           (5, 1) ∷ (10, 0) ∷ (6, 3) ∷ (12, 0) ∷ (0, 0) ∷ (7, 0) ∷ (81, 0) ∷ (30, 2) ∷ (22, 2) ∷ (90, 0) ∷ (21, 0) ∷ (0, 0) ∷ (0, 0) ∷ [];
@@ -603,7 +603,7 @@ chains =
           "e" ∷ "f" ∷ "p" ∷ [];
       says = Answer.refusal 16;
     } ∷
-    -- extractvalue: func:f void param:p ptr . block:e q=fence extractvalue %q #2 ret - .
+    -- extractvalue: func:f void param:p ptr . block:e q=fence extractvalue %q #2 ret - . .
     record {
       entries =
           (5, 1) ∷ (10, 0) ∷ (6, 3) ∷ (12, 0) ∷ (0, 0) ∷ (7, 0) ∷ (82, 4) ∷ (81, 0) ∷ (30, 3) ∷ (22, 2) ∷ (90, 0) ∷ (21, 0) ∷ (0, 0) ∷ (0, 0) ∷ [];
@@ -611,7 +611,7 @@ chains =
           "e" ∷ "f" ∷ "p" ∷ "q" ∷ [];
       says = Answer.refusal 16;
     } ∷
-    -- extractvalue: func:f void param:p ptr . block:e q=fence extractvalue %q #1 ret - .
+    -- extractvalue: func:f void param:p ptr . block:e q=fence extractvalue %q #1 ret - . .
     record {
       entries =
           (5, 1) ∷ (10, 0) ∷ (6, 3) ∷ (12, 0) ∷ (0, 0) ∷ (7, 0) ∷ (82, 4) ∷ (81, 0) ∷ (30, 3) ∷ (22, 1) ∷ (90, 0) ∷ (21, 0) ∷ (0, 0) ∷ (0, 0) ∷ [];
@@ -619,7 +619,7 @@ chains =
           "e" ∷ "f" ∷ "p" ∷ "q" ∷ [];
       says = Answer.refusal 5;
     } ∷
-    -- extractvalue: func:f void param:p ptr . block:e q=fence x=extractvalue %q #1 ret - .
+    -- extractvalue: func:f void param:p ptr . block:e q=fence x=extractvalue %q #1 ret - . .
     record {
       entries =
           (5, 1) ∷ (10, 0) ∷ (6, 3) ∷ (12, 0) ∷ (0, 0) ∷ (7, 0) ∷ (82, 4) ∷ (81, 5) ∷ (30, 3) ∷ (22, 1) ∷ (90, 0) ∷ (21, 0) ∷ (0, 0) ∷ (0, 0) ∷ [];

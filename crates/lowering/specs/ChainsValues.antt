@@ -9,7 +9,7 @@ use Rattle.lowering.specs.Sheet.{Sheet, Answer, answers, saysOf, openShe
 
 unfoldable pub chains : List Sheet
 chains =
-    -- bin: func:f void param:p ptr . block:e add %%o %u %u ret - .
+    -- bin: func:f void param:p ptr . block:e add %%o %u %u ret - . .
     record {
       entries =
           (5, 1) ∷ (10, 0) ∷ (6, 4) ∷ (12, 0) ∷ (0, 0) ∷ (7, 0) ∷ (40, 0) ∷ (15, 2) ∷ (30, 4) ∷ (30, 4) ∷ (90, 0) ∷ (21, 0) ∷ (0, 0) ∷ (0, 0) ∷ [];
@@ -17,7 +17,7 @@ chains =
           "e" ∷ "f" ∷ "o" ∷ "p" ∷ "u" ∷ [];
       says = Answer.refusal 9;
     } ∷
-    -- bin: func:f void param:p ptr . block:e add i32 %u %u ret - .
+    -- bin: func:f void param:p ptr . block:e add i32 %u %u ret - . .
     record {
       entries =
           (5, 1) ∷ (10, 0) ∷ (6, 3) ∷ (12, 0) ∷ (0, 0) ∷ (7, 0) ∷ (40, 0) ∷ (11, 32) ∷ (30, 3) ∷ (30, 3) ∷ (90, 0) ∷ (21, 0) ∷ (0, 0) ∷ (0, 0) ∷ [];
@@ -25,7 +25,7 @@ chains =
           "e" ∷ "f" ∷ "p" ∷ "u" ∷ [];
       says = Answer.refusal 10;
     } ∷
-    -- bin: func:f void param:p ptr . block:e add i32 1 %u ret - .
+    -- bin: func:f void param:p ptr . block:e add i32 1 %u ret - . .
     record {
       entries =
           (5, 1) ∷ (10, 0) ∷ (6, 3) ∷ (12, 0) ∷ (0, 0) ∷ (7, 0) ∷ (40, 0) ∷ (11, 32) ∷ (32, 1) ∷ (30, 3) ∷ (90, 0) ∷ (21, 0) ∷ (0, 0) ∷ (0, 0) ∷ [];
@@ -33,7 +33,7 @@ chains =
           "e" ∷ "f" ∷ "p" ∷ "u" ∷ [];
       says = Answer.refusal 10;
     } ∷
-    -- bin: func:f void param:p ptr . block:e add i32 1 1 ret - .
+    -- bin: func:f void param:p ptr . block:e add i32 1 1 ret - . .
     record {
       entries =
           (5, 1) ∷ (10, 0) ∷ (6, 3) ∷ (12, 0) ∷ (0, 0) ∷ (7, 0) ∷ (40, 0) ∷ (11, 32) ∷ (32, 1) ∷ (32, 1) ∷ (90, 0) ∷ (21, 0) ∷ (0, 0) ∷ (0, 0) ∷ [];
@@ -41,7 +41,7 @@ chains =
           "e" ∷ "f" ∷ "p" ∷ [];
       says = Answer.refusal 5;
     } ∷
-    -- bin: func:f void param:p ptr . block:e q=add i32 1 1 ret - .
+    -- bin: func:f void param:p ptr . block:e q=add i32 1 1 ret - . .
     record {
       entries =
           (5, 1) ∷ (10, 0) ∷ (6, 3) ∷ (12, 0) ∷ (0, 0) ∷ (7, 0) ∷ (40, 4) ∷ (11, 32) ∷ (32, 1) ∷ (32, 1) ∷ (90, 0) ∷ (21, 0) ∷ (0, 0) ∷ (0, 0) ∷ [];
@@ -50,7 +50,7 @@ chains =
       says = Answer.text (unlines (
           "# void @f(1 params)" ∷ "f:" ∷ "push_0n 1;" ∷ "f__e:" ∷ "push 1;" ∷ "push 1;" ∷ "add_u32;" ∷ "set_local 0;" ∷ "push 0;" ∷ "ret;" ∷ "" ∷ [])) 0;
     } ∷
-    -- sdiv: func:f void param:p ptr . block:e sdiv label %u %u ret - .
+    -- sdiv: func:f void param:p ptr . block:e sdiv label %u %u ret - . .
     record {
       entries =
           (5, 1) ∷ (10, 0) ∷ (6, 3) ∷ (12, 0) ∷ (0, 0) ∷ (7, 0) ∷ (44, 0) ∷ (19, 0) ∷ (30, 3) ∷ (30, 3) ∷ (90, 0) ∷ (21, 0) ∷ (0, 0) ∷ (0, 0) ∷ [];
@@ -58,7 +58,7 @@ chains =
           "e" ∷ "f" ∷ "p" ∷ "u" ∷ [];
       says = Answer.refusal 9;
     } ∷
-    -- sdiv: func:f void param:p ptr . block:e sdiv i8 %u %u ret - .
+    -- sdiv: func:f void param:p ptr . block:e sdiv i8 %u %u ret - . .
     record {
       entries =
           (5, 1) ∷ (10, 0) ∷ (6, 3) ∷ (12, 0) ∷ (0, 0) ∷ (7, 0) ∷ (44, 0) ∷ (11, 8) ∷ (30, 3) ∷ (30, 3) ∷ (90, 0) ∷ (21, 0) ∷ (0, 0) ∷ (0, 0) ∷ [];
@@ -66,7 +66,7 @@ chains =
           "e" ∷ "f" ∷ "p" ∷ "u" ∷ [];
       says = Answer.refusal 10;
     } ∷
-    -- sdiv: func:f void param:p ptr . block:e sdiv i8 1 %u ret - .
+    -- sdiv: func:f void param:p ptr . block:e sdiv i8 1 %u ret - . .
     record {
       entries =
           (5, 1) ∷ (10, 0) ∷ (6, 3) ∷ (12, 0) ∷ (0, 0) ∷ (7, 0) ∷ (44, 0) ∷ (11, 8) ∷ (32, 1) ∷ (30, 3) ∷ (90, 0) ∷ (21, 0) ∷ (0, 0) ∷ (0, 0) ∷ [];
@@ -74,7 +74,7 @@ chains =
           "e" ∷ "f" ∷ "p" ∷ "u" ∷ [];
       says = Answer.refusal 10;
     } ∷
-    -- sdiv: func:f void param:p ptr . block:e sdiv i8 1 1 ret - .
+    -- sdiv: func:f void param:p ptr . block:e sdiv i8 1 1 ret - . .
     record {
       entries =
           (5, 1) ∷ (10, 0) ∷ (6, 3) ∷ (12, 0) ∷ (0, 0) ∷ (7, 0) ∷ (44, 0) ∷ (11, 8) ∷ (32, 1) ∷ (32, 1) ∷ (90, 0) ∷ (21, 0) ∷ (0, 0) ∷ (0, 0) ∷ [];
@@ -82,7 +82,7 @@ chains =
           "e" ∷ "f" ∷ "p" ∷ [];
       says = Answer.refusal 5;
     } ∷
-    -- sdiv: func:f void param:p ptr . block:e q=sdiv i8 1 1 ret - .
+    -- sdiv: func:f void param:p ptr . block:e q=sdiv i8 1 1 ret - . .
     record {
       entries =
           (5, 1) ∷ (10, 0) ∷ (6, 3) ∷ (12, 0) ∷ (0, 0) ∷ (7, 0) ∷ (44, 4) ∷ (11, 8) ∷ (32, 1) ∷ (32, 1) ∷ (90, 0) ∷ (21, 0) ∷ (0, 0) ∷ (0, 0) ∷ [];
@@ -92,7 +92,7 @@ chains =
           "# void @f(1 params)" ∷ "f:" ∷ "push_0n 1;" ∷ "f__e:" ∷ "push 1;" ∷ "sx_i8_i32;" ∷ "push 1;" ∷ "sx_i8_i32;" ∷ "div_i32;" ∷ "trunc_u8;"
           ∷ "set_local 0;" ∷ "push 0;" ∷ "ret;" ∷ "" ∷ [])) 0;
     } ∷
-    -- icmp: func:f void param:p ptr . block:e slt { i32 } %u %u ret - .
+    -- icmp: func:f void param:p ptr . block:e slt { i32 } %u %u ret - . .
     record {
       entries =
           (5, 1) ∷ (10, 0) ∷ (6, 3) ∷ (12, 0) ∷ (0, 0) ∷ (7, 0) ∷ (68, 0) ∷ (16, 0) ∷ (11, 32) ∷ (0, 0) ∷ (30, 3) ∷ (30, 3) ∷ (90, 0) ∷ (21, 0) ∷ (0, 0)
@@ -101,7 +101,7 @@ chains =
           "e" ∷ "f" ∷ "p" ∷ "u" ∷ [];
       says = Answer.refusal 9;
     } ∷
-    -- icmp: func:f void param:p ptr . block:e slt i8 %u %u ret - .
+    -- icmp: func:f void param:p ptr . block:e slt i8 %u %u ret - . .
     record {
       entries =
           (5, 1) ∷ (10, 0) ∷ (6, 3) ∷ (12, 0) ∷ (0, 0) ∷ (7, 0) ∷ (68, 0) ∷ (11, 8) ∷ (30, 3) ∷ (30, 3) ∷ (90, 0) ∷ (21, 0) ∷ (0, 0) ∷ (0, 0) ∷ [];
@@ -109,7 +109,7 @@ chains =
           "e" ∷ "f" ∷ "p" ∷ "u" ∷ [];
       says = Answer.refusal 10;
     } ∷
-    -- icmp: func:f void param:p ptr . block:e slt i8 1 %u ret - .
+    -- icmp: func:f void param:p ptr . block:e slt i8 1 %u ret - . .
     record {
       entries =
           (5, 1) ∷ (10, 0) ∷ (6, 3) ∷ (12, 0) ∷ (0, 0) ∷ (7, 0) ∷ (68, 0) ∷ (11, 8) ∷ (32, 1) ∷ (30, 3) ∷ (90, 0) ∷ (21, 0) ∷ (0, 0) ∷ (0, 0) ∷ [];
@@ -117,7 +117,7 @@ chains =
           "e" ∷ "f" ∷ "p" ∷ "u" ∷ [];
       says = Answer.refusal 10;
     } ∷
-    -- icmp: func:f void param:p ptr . block:e slt i8 1 1 ret - .
+    -- icmp: func:f void param:p ptr . block:e slt i8 1 1 ret - . .
     record {
       entries =
           (5, 1) ∷ (10, 0) ∷ (6, 3) ∷ (12, 0) ∷ (0, 0) ∷ (7, 0) ∷ (68, 0) ∷ (11, 8) ∷ (32, 1) ∷ (32, 1) ∷ (90, 0) ∷ (21, 0) ∷ (0, 0) ∷ (0, 0) ∷ [];
@@ -125,7 +125,7 @@ chains =
           "e" ∷ "f" ∷ "p" ∷ [];
       says = Answer.refusal 5;
     } ∷
-    -- icmp: func:f void param:p ptr . block:e q=slt i8 1 1 ret - .
+    -- icmp: func:f void param:p ptr . block:e q=slt i8 1 1 ret - . .
     record {
       entries =
           (5, 1) ∷ (10, 0) ∷ (6, 3) ∷ (12, 0) ∷ (0, 0) ∷ (7, 0) ∷ (68, 4) ∷ (11, 8) ∷ (32, 1) ∷ (32, 1) ∷ (90, 0) ∷ (21, 0) ∷ (0, 0) ∷ (0, 0) ∷ [];
@@ -135,7 +135,7 @@ chains =
           "# void @f(1 params)" ∷ "f:" ∷ "push_0n 1;" ∷ "f__e:" ∷ "push 1;" ∷ "sx_i8_i32;" ∷ "push 1;" ∷ "sx_i8_i32;" ∷ "lt_i32;" ∷ "set_local 0;"
           ∷ "push 0;" ∷ "ret;" ∷ "" ∷ [])) 0;
     } ∷
-    -- trunc: func:f void param:p ptr . block:e trunc void %u [2 i8 ret - .
+    -- trunc: func:f void param:p ptr . block:e trunc void %u [2 i8 ret - . .
     record {
       entries =
           (5, 1) ∷ (10, 0) ∷ (6, 3) ∷ (12, 0) ∷ (0, 0) ∷ (7, 0) ∷ (53, 0) ∷ (10, 0) ∷ (30, 3) ∷ (13, 2) ∷ (11, 8) ∷ (90, 0) ∷ (21, 0) ∷ (0, 0) ∷ (0, 0) ∷ [];
@@ -143,7 +143,7 @@ chains =
           "e" ∷ "f" ∷ "p" ∷ "u" ∷ [];
       says = Answer.refusal 9;
     } ∷
-    -- trunc: func:f void param:p ptr . block:e trunc i64 %u [2 i8 ret - .
+    -- trunc: func:f void param:p ptr . block:e trunc i64 %u [2 i8 ret - . .
     record {
       entries =
           (5, 1) ∷ (10, 0) ∷ (6, 3) ∷ (12, 0) ∷ (0, 0) ∷ (7, 0) ∷ (53, 0) ∷ (11, 64) ∷ (30, 3) ∷ (13, 2) ∷ (11, 8) ∷ (90, 0) ∷ (21, 0) ∷ (0, 0) ∷ (0, 0) ∷ [];
@@ -151,7 +151,7 @@ chains =
           "e" ∷ "f" ∷ "p" ∷ "u" ∷ [];
       says = Answer.refusal 9;
     } ∷
-    -- trunc: func:f void param:p ptr . block:e trunc i64 %u i8 ret - .
+    -- trunc: func:f void param:p ptr . block:e trunc i64 %u i8 ret - . .
     record {
       entries =
           (5, 1) ∷ (10, 0) ∷ (6, 3) ∷ (12, 0) ∷ (0, 0) ∷ (7, 0) ∷ (53, 0) ∷ (11, 64) ∷ (30, 3) ∷ (11, 8) ∷ (90, 0) ∷ (21, 0) ∷ (0, 0) ∷ (0, 0) ∷ [];
@@ -159,7 +159,7 @@ chains =
           "e" ∷ "f" ∷ "p" ∷ "u" ∷ [];
       says = Answer.refusal 10;
     } ∷
-    -- trunc: func:f void param:p ptr . block:e trunc i64 1 i8 ret - .
+    -- trunc: func:f void param:p ptr . block:e trunc i64 1 i8 ret - . .
     record {
       entries =
           (5, 1) ∷ (10, 0) ∷ (6, 3) ∷ (12, 0) ∷ (0, 0) ∷ (7, 0) ∷ (53, 0) ∷ (11, 64) ∷ (32, 1) ∷ (11, 8) ∷ (90, 0) ∷ (21, 0) ∷ (0, 0) ∷ (0, 0) ∷ [];
@@ -167,7 +167,7 @@ chains =
           "e" ∷ "f" ∷ "p" ∷ [];
       says = Answer.refusal 5;
     } ∷
-    -- trunc: func:f void param:p ptr . block:e q=trunc i64 1 i8 ret - .
+    -- trunc: func:f void param:p ptr . block:e q=trunc i64 1 i8 ret - . .
     record {
       entries =
           (5, 1) ∷ (10, 0) ∷ (6, 3) ∷ (12, 0) ∷ (0, 0) ∷ (7, 0) ∷ (53, 4) ∷ (11, 64) ∷ (32, 1) ∷ (11, 8) ∷ (90, 0) ∷ (21, 0) ∷ (0, 0) ∷ (0, 0) ∷ [];
@@ -176,7 +176,7 @@ chains =
       says = Answer.text (unlines (
           "# void @f(1 params)" ∷ "f:" ∷ "push_0n 1;" ∷ "f__e:" ∷ "push 1;" ∷ "trunc_u8;" ∷ "set_local 0;" ∷ "push 0;" ∷ "ret;" ∷ "" ∷ [])) 0;
     } ∷
-    -- zext: func:f void param:p ptr . block:e zext i8 %u void ret - .
+    -- zext: func:f void param:p ptr . block:e zext i8 %u void ret - . .
     record {
       entries =
           (5, 1) ∷ (10, 0) ∷ (6, 3) ∷ (12, 0) ∷ (0, 0) ∷ (7, 0) ∷ (54, 0) ∷ (11, 8) ∷ (30, 3) ∷ (10, 0) ∷ (90, 0) ∷ (21, 0) ∷ (0, 0) ∷ (0, 0) ∷ [];
@@ -184,7 +184,7 @@ chains =
           "e" ∷ "f" ∷ "p" ∷ "u" ∷ [];
       says = Answer.refusal 9;
     } ∷
-    -- zext: func:f void param:p ptr . block:e zext i8 %u i16 ret - .
+    -- zext: func:f void param:p ptr . block:e zext i8 %u i16 ret - . .
     record {
       entries =
           (5, 1) ∷ (10, 0) ∷ (6, 3) ∷ (12, 0) ∷ (0, 0) ∷ (7, 0) ∷ (54, 0) ∷ (11, 8) ∷ (30, 3) ∷ (11, 16) ∷ (90, 0) ∷ (21, 0) ∷ (0, 0) ∷ (0, 0) ∷ [];
@@ -192,7 +192,7 @@ chains =
           "e" ∷ "f" ∷ "p" ∷ "u" ∷ [];
       says = Answer.refusal 10;
     } ∷
-    -- zext: func:f void param:p ptr . block:e zext i8 1 i16 ret - .
+    -- zext: func:f void param:p ptr . block:e zext i8 1 i16 ret - . .
     record {
       entries =
           (5, 1) ∷ (10, 0) ∷ (6, 3) ∷ (12, 0) ∷ (0, 0) ∷ (7, 0) ∷ (54, 0) ∷ (11, 8) ∷ (32, 1) ∷ (11, 16) ∷ (90, 0) ∷ (21, 0) ∷ (0, 0) ∷ (0, 0) ∷ [];
@@ -200,7 +200,7 @@ chains =
           "e" ∷ "f" ∷ "p" ∷ [];
       says = Answer.refusal 5;
     } ∷
-    -- zext: func:f void param:p ptr . block:e q=zext i8 1 i16 ret - .
+    -- zext: func:f void param:p ptr . block:e q=zext i8 1 i16 ret - . .
     record {
       entries =
           (5, 1) ∷ (10, 0) ∷ (6, 3) ∷ (12, 0) ∷ (0, 0) ∷ (7, 0) ∷ (54, 4) ∷ (11, 8) ∷ (32, 1) ∷ (11, 16) ∷ (90, 0) ∷ (21, 0) ∷ (0, 0) ∷ (0, 0) ∷ [];
@@ -209,7 +209,7 @@ chains =
       says = Answer.text (unlines (
           "# void @f(1 params)" ∷ "f:" ∷ "push_0n 1;" ∷ "f__e:" ∷ "push 1;" ∷ "set_local 0;" ∷ "push 0;" ∷ "ret;" ∷ "" ∷ [])) 0;
     } ∷
-    -- sext: func:f void param:p ptr . block:e sext metadata %u functype ret - .
+    -- sext: func:f void param:p ptr . block:e sext metadata %u functype ret - . .
     record {
       entries =
           (5, 1) ∷ (10, 0) ∷ (6, 3) ∷ (12, 0) ∷ (0, 0) ∷ (7, 0) ∷ (55, 0) ∷ (20, 0) ∷ (30, 3) ∷ (18, 0) ∷ (90, 0) ∷ (21, 0) ∷ (0, 0) ∷ (0, 0) ∷ [];
@@ -217,7 +217,7 @@ chains =
           "e" ∷ "f" ∷ "p" ∷ "u" ∷ [];
       says = Answer.refusal 9;
     } ∷
-    -- sext: func:f void param:p ptr . block:e sext i64 %u functype ret - .
+    -- sext: func:f void param:p ptr . block:e sext i64 %u functype ret - . .
     record {
       entries =
           (5, 1) ∷ (10, 0) ∷ (6, 3) ∷ (12, 0) ∷ (0, 0) ∷ (7, 0) ∷ (55, 0) ∷ (11, 64) ∷ (30, 3) ∷ (18, 0) ∷ (90, 0) ∷ (21, 0) ∷ (0, 0) ∷ (0, 0) ∷ [];
@@ -225,7 +225,7 @@ chains =
           "e" ∷ "f" ∷ "p" ∷ "u" ∷ [];
       says = Answer.refusal 9;
     } ∷
-    -- sext: func:f void param:p ptr . block:e sext i64 %u i64 ret - .
+    -- sext: func:f void param:p ptr . block:e sext i64 %u i64 ret - . .
     record {
       entries =
           (5, 1) ∷ (10, 0) ∷ (6, 3) ∷ (12, 0) ∷ (0, 0) ∷ (7, 0) ∷ (55, 0) ∷ (11, 64) ∷ (30, 3) ∷ (11, 64) ∷ (90, 0) ∷ (21, 0) ∷ (0, 0) ∷ (0, 0) ∷ [];
@@ -233,7 +233,7 @@ chains =
           "e" ∷ "f" ∷ "p" ∷ "u" ∷ [];
       says = Answer.refusal 10;
     } ∷
-    -- sext: func:f void param:p ptr . block:e sext i64 1 i64 ret - .
+    -- sext: func:f void param:p ptr . block:e sext i64 1 i64 ret - . .
     record {
       entries =
           (5, 1) ∷ (10, 0) ∷ (6, 3) ∷ (12, 0) ∷ (0, 0) ∷ (7, 0) ∷ (55, 0) ∷ (11, 64) ∷ (32, 1) ∷ (11, 64) ∷ (90, 0) ∷ (21, 0) ∷ (0, 0) ∷ (0, 0) ∷ [];
@@ -241,7 +241,7 @@ chains =
           "e" ∷ "f" ∷ "p" ∷ [];
       says = Answer.refusal 13;
     } ∷
-    -- sext: func:f void param:p ptr . block:e sext i32 1 i64 ret - .
+    -- sext: func:f void param:p ptr . block:e sext i32 1 i64 ret - . .
     record {
       entries =
           (5, 1) ∷ (10, 0) ∷ (6, 3) ∷ (12, 0) ∷ (0, 0) ∷ (7, 0) ∷ (55, 0) ∷ (11, 32) ∷ (32, 1) ∷ (11, 64) ∷ (90, 0) ∷ (21, 0) ∷ (0, 0) ∷ (0, 0) ∷ [];
@@ -249,7 +249,7 @@ chains =
           "e" ∷ "f" ∷ "p" ∷ [];
       says = Answer.refusal 5;
     } ∷
-    -- sext: func:f void param:p ptr . block:e q=sext i32 1 i64 ret - .
+    -- sext: func:f void param:p ptr . block:e q=sext i32 1 i64 ret - . .
     record {
       entries =
           (5, 1) ∷ (10, 0) ∷ (6, 3) ∷ (12, 0) ∷ (0, 0) ∷ (7, 0) ∷ (55, 4) ∷ (11, 32) ∷ (32, 1) ∷ (11, 64) ∷ (90, 0) ∷ (21, 0) ∷ (0, 0) ∷ (0, 0) ∷ [];
@@ -258,7 +258,7 @@ chains =
       says = Answer.text (unlines (
           "# void @f(1 params)" ∷ "f:" ∷ "push_0n 1;" ∷ "f__e:" ∷ "push 1;" ∷ "sx_i32_i64;" ∷ "set_local 0;" ∷ "push 0;" ∷ "ret;" ∷ "" ∷ [])) 0;
     } ∷
-    -- ptrtoint: func:f void param:p ptr . block:e ptrtoint <2 i8 %u <{ } ret - .
+    -- ptrtoint: func:f void param:p ptr . block:e ptrtoint <2 i8 %u <{ } ret - . .
     record {
       entries =
           (5, 1) ∷ (10, 0) ∷ (6, 3) ∷ (12, 0) ∷ (0, 0) ∷ (7, 0) ∷ (56, 0) ∷ (14, 2) ∷ (11, 8) ∷ (30, 3) ∷ (17, 0) ∷ (0, 0) ∷ (90, 0) ∷ (21, 0) ∷ (0, 0)
@@ -267,7 +267,7 @@ chains =
           "e" ∷ "f" ∷ "p" ∷ "u" ∷ [];
       says = Answer.refusal 9;
     } ∷
-    -- ptrtoint: func:f void param:p ptr . block:e ptrtoint ptr %u <{ } ret - .
+    -- ptrtoint: func:f void param:p ptr . block:e ptrtoint ptr %u <{ } ret - . .
     record {
       entries =
           (5, 1) ∷ (10, 0) ∷ (6, 3) ∷ (12, 0) ∷ (0, 0) ∷ (7, 0) ∷ (56, 0) ∷ (12, 0) ∷ (30, 3) ∷ (17, 0) ∷ (0, 0) ∷ (90, 0) ∷ (21, 0) ∷ (0, 0) ∷ (0, 0) ∷ [];
@@ -275,7 +275,7 @@ chains =
           "e" ∷ "f" ∷ "p" ∷ "u" ∷ [];
       says = Answer.refusal 9;
     } ∷
-    -- ptrtoint: func:f void param:p ptr . block:e ptrtoint ptr %u i32 ret - .
+    -- ptrtoint: func:f void param:p ptr . block:e ptrtoint ptr %u i32 ret - . .
     record {
       entries =
           (5, 1) ∷ (10, 0) ∷ (6, 3) ∷ (12, 0) ∷ (0, 0) ∷ (7, 0) ∷ (56, 0) ∷ (12, 0) ∷ (30, 3) ∷ (11, 32) ∷ (90, 0) ∷ (21, 0) ∷ (0, 0) ∷ (0, 0) ∷ [];
@@ -283,7 +283,7 @@ chains =
           "e" ∷ "f" ∷ "p" ∷ "u" ∷ [];
       says = Answer.refusal 10;
     } ∷
-    -- ptrtoint: func:f void param:p ptr . block:e ptrtoint ptr 1 i32 ret - .
+    -- ptrtoint: func:f void param:p ptr . block:e ptrtoint ptr 1 i32 ret - . .
     record {
       entries =
           (5, 1) ∷ (10, 0) ∷ (6, 3) ∷ (12, 0) ∷ (0, 0) ∷ (7, 0) ∷ (56, 0) ∷ (12, 0) ∷ (32, 1) ∷ (11, 32) ∷ (90, 0) ∷ (21, 0) ∷ (0, 0) ∷ (0, 0) ∷ [];
@@ -291,7 +291,7 @@ chains =
           "e" ∷ "f" ∷ "p" ∷ [];
       says = Answer.refusal 5;
     } ∷
-    -- ptrtoint: func:f void param:p ptr . block:e q=ptrtoint ptr 1 i32 ret - .
+    -- ptrtoint: func:f void param:p ptr . block:e q=ptrtoint ptr 1 i32 ret - . .
     record {
       entries =
           (5, 1) ∷ (10, 0) ∷ (6, 3) ∷ (12, 0) ∷ (0, 0) ∷ (7, 0) ∷ (56, 4) ∷ (12, 0) ∷ (32, 1) ∷ (11, 32) ∷ (90, 0) ∷ (21, 0) ∷ (0, 0) ∷ (0, 0) ∷ [];
@@ -300,7 +300,7 @@ chains =
       says = Answer.text (unlines (
           "# void @f(1 params)" ∷ "f:" ∷ "push_0n 1;" ∷ "f__e:" ∷ "push 1;" ∷ "trunc_u32;" ∷ "set_local 0;" ∷ "push 0;" ∷ "ret;" ∷ "" ∷ [])) 0;
     } ∷
-    -- inttoptr: func:f void param:p ptr . block:e inttoptr i32 %u label ret - .
+    -- inttoptr: func:f void param:p ptr . block:e inttoptr i32 %u label ret - . .
     record {
       entries =
           (5, 1) ∷ (10, 0) ∷ (6, 3) ∷ (12, 0) ∷ (0, 0) ∷ (7, 0) ∷ (57, 0) ∷ (11, 32) ∷ (30, 3) ∷ (19, 0) ∷ (90, 0) ∷ (21, 0) ∷ (0, 0) ∷ (0, 0) ∷ [];
@@ -308,7 +308,7 @@ chains =
           "e" ∷ "f" ∷ "p" ∷ "u" ∷ [];
       says = Answer.refusal 9;
     } ∷
-    -- inttoptr: func:f void param:p ptr . block:e inttoptr i32 %u ptr ret - .
+    -- inttoptr: func:f void param:p ptr . block:e inttoptr i32 %u ptr ret - . .
     record {
       entries =
           (5, 1) ∷ (10, 0) ∷ (6, 3) ∷ (12, 0) ∷ (0, 0) ∷ (7, 0) ∷ (57, 0) ∷ (11, 32) ∷ (30, 3) ∷ (12, 0) ∷ (90, 0) ∷ (21, 0) ∷ (0, 0) ∷ (0, 0) ∷ [];
@@ -316,7 +316,7 @@ chains =
           "e" ∷ "f" ∷ "p" ∷ "u" ∷ [];
       says = Answer.refusal 10;
     } ∷
-    -- inttoptr: func:f void param:p ptr . block:e inttoptr i32 1 ptr ret - .
+    -- inttoptr: func:f void param:p ptr . block:e inttoptr i32 1 ptr ret - . .
     record {
       entries =
           (5, 1) ∷ (10, 0) ∷ (6, 3) ∷ (12, 0) ∷ (0, 0) ∷ (7, 0) ∷ (57, 0) ∷ (11, 32) ∷ (32, 1) ∷ (12, 0) ∷ (90, 0) ∷ (21, 0) ∷ (0, 0) ∷ (0, 0) ∷ [];
@@ -324,7 +324,7 @@ chains =
           "e" ∷ "f" ∷ "p" ∷ [];
       says = Answer.refusal 5;
     } ∷
-    -- inttoptr: func:f void param:p ptr . block:e q=inttoptr i32 1 ptr ret - .
+    -- inttoptr: func:f void param:p ptr . block:e q=inttoptr i32 1 ptr ret - . .
     record {
       entries =
           (5, 1) ∷ (10, 0) ∷ (6, 3) ∷ (12, 0) ∷ (0, 0) ∷ (7, 0) ∷ (57, 4) ∷ (11, 32) ∷ (32, 1) ∷ (12, 0) ∷ (90, 0) ∷ (21, 0) ∷ (0, 0) ∷ (0, 0) ∷ [];
@@ -333,7 +333,7 @@ chains =
       says = Answer.text (unlines (
           "# void @f(1 params)" ∷ "f:" ∷ "push_0n 1;" ∷ "f__e:" ∷ "push 1;" ∷ "set_local 0;" ∷ "push 0;" ∷ "ret;" ∷ "" ∷ [])) 0;
     } ∷
-    -- bitcast: func:f void param:p ptr . block:e bitcast label %u label ret - .
+    -- bitcast: func:f void param:p ptr . block:e bitcast label %u label ret - . .
     record {
       entries =
           (5, 1) ∷ (10, 0) ∷ (6, 3) ∷ (12, 0) ∷ (0, 0) ∷ (7, 0) ∷ (58, 0) ∷ (19, 0) ∷ (30, 3) ∷ (19, 0) ∷ (90, 0) ∷ (21, 0) ∷ (0, 0) ∷ (0, 0) ∷ [];
@@ -341,7 +341,7 @@ chains =
           "e" ∷ "f" ∷ "p" ∷ "u" ∷ [];
       says = Answer.refusal 9;
     } ∷
-    -- bitcast: func:f void param:p ptr . block:e bitcast i8 %u label ret - .
+    -- bitcast: func:f void param:p ptr . block:e bitcast i8 %u label ret - . .
     record {
       entries =
           (5, 1) ∷ (10, 0) ∷ (6, 3) ∷ (12, 0) ∷ (0, 0) ∷ (7, 0) ∷ (58, 0) ∷ (11, 8) ∷ (30, 3) ∷ (19, 0) ∷ (90, 0) ∷ (21, 0) ∷ (0, 0) ∷ (0, 0) ∷ [];
@@ -349,7 +349,7 @@ chains =
           "e" ∷ "f" ∷ "p" ∷ "u" ∷ [];
       says = Answer.refusal 10;
     } ∷
-    -- bitcast: func:f void param:p ptr . block:e bitcast i8 1 label ret - .
+    -- bitcast: func:f void param:p ptr . block:e bitcast i8 1 label ret - . .
     record {
       entries =
           (5, 1) ∷ (10, 0) ∷ (6, 3) ∷ (12, 0) ∷ (0, 0) ∷ (7, 0) ∷ (58, 0) ∷ (11, 8) ∷ (32, 1) ∷ (19, 0) ∷ (90, 0) ∷ (21, 0) ∷ (0, 0) ∷ (0, 0) ∷ [];
@@ -357,7 +357,7 @@ chains =
           "e" ∷ "f" ∷ "p" ∷ [];
       says = Answer.refusal 5;
     } ∷
-    -- bitcast: func:f void param:p ptr . block:e q=bitcast i8 1 label ret - .
+    -- bitcast: func:f void param:p ptr . block:e q=bitcast i8 1 label ret - . .
     record {
       entries =
           (5, 1) ∷ (10, 0) ∷ (6, 3) ∷ (12, 0) ∷ (0, 0) ∷ (7, 0) ∷ (58, 4) ∷ (11, 8) ∷ (32, 1) ∷ (19, 0) ∷ (90, 0) ∷ (21, 0) ∷ (0, 0) ∷ (0, 0) ∷ [];
@@ -366,7 +366,7 @@ chains =
       says = Answer.text (unlines (
           "# void @f(1 params)" ∷ "f:" ∷ "push_0n 1;" ∷ "f__e:" ∷ "push 1;" ∷ "set_local 0;" ∷ "push 0;" ∷ "ret;" ∷ "" ∷ [])) 0;
     } ∷
-    -- select: func:f void param:p ptr . block:e select %u label %u %u ret - .
+    -- select: func:f void param:p ptr . block:e select %u label %u %u ret - . .
     record {
       entries =
           (5, 1) ∷ (10, 0) ∷ (6, 3) ∷ (12, 0) ∷ (0, 0) ∷ (7, 0) ∷ (70, 0) ∷ (30, 3) ∷ (19, 0) ∷ (30, 3) ∷ (30, 3) ∷ (90, 0) ∷ (21, 0) ∷ (0, 0) ∷ (0, 0) ∷ [];
@@ -374,7 +374,7 @@ chains =
           "e" ∷ "f" ∷ "p" ∷ "u" ∷ [];
       says = Answer.refusal 9;
     } ∷
-    -- select: func:f void param:p ptr . block:e select %u i32 %u %u ret - .
+    -- select: func:f void param:p ptr . block:e select %u i32 %u %u ret - . .
     record {
       entries =
           (5, 1) ∷ (10, 0) ∷ (6, 3) ∷ (12, 0) ∷ (0, 0) ∷ (7, 0) ∷ (70, 0) ∷ (30, 3) ∷ (11, 32) ∷ (30, 3) ∷ (30, 3) ∷ (90, 0) ∷ (21, 0) ∷ (0, 0) ∷ (0, 0) ∷ [];
@@ -382,7 +382,7 @@ chains =
           "e" ∷ "f" ∷ "p" ∷ "u" ∷ [];
       says = Answer.refusal 10;
     } ∷
-    -- select: func:f void param:p ptr . block:e select 1 i32 %u %u ret - .
+    -- select: func:f void param:p ptr . block:e select 1 i32 %u %u ret - . .
     record {
       entries =
           (5, 1) ∷ (10, 0) ∷ (6, 3) ∷ (12, 0) ∷ (0, 0) ∷ (7, 0) ∷ (70, 0) ∷ (32, 1) ∷ (11, 32) ∷ (30, 3) ∷ (30, 3) ∷ (90, 0) ∷ (21, 0) ∷ (0, 0) ∷ (0, 0) ∷ [];
@@ -390,7 +390,7 @@ chains =
           "e" ∷ "f" ∷ "p" ∷ "u" ∷ [];
       says = Answer.refusal 10;
     } ∷
-    -- select: func:f void param:p ptr . block:e select 1 i32 1 %u ret - .
+    -- select: func:f void param:p ptr . block:e select 1 i32 1 %u ret - . .
     record {
       entries =
           (5, 1) ∷ (10, 0) ∷ (6, 3) ∷ (12, 0) ∷ (0, 0) ∷ (7, 0) ∷ (70, 0) ∷ (32, 1) ∷ (11, 32) ∷ (32, 1) ∷ (30, 3) ∷ (90, 0) ∷ (21, 0) ∷ (0, 0) ∷ (0, 0) ∷ [];
@@ -398,7 +398,7 @@ chains =
           "e" ∷ "f" ∷ "p" ∷ "u" ∷ [];
       says = Answer.refusal 10;
     } ∷
-    -- select: func:f void param:p ptr . block:e select 1 i32 1 1 ret - .
+    -- select: func:f void param:p ptr . block:e select 1 i32 1 1 ret - . .
     record {
       entries =
           (5, 1) ∷ (10, 0) ∷ (6, 3) ∷ (12, 0) ∷ (0, 0) ∷ (7, 0) ∷ (70, 0) ∷ (32, 1) ∷ (11, 32) ∷ (32, 1) ∷ (32, 1) ∷ (90, 0) ∷ (21, 0) ∷ (0, 0) ∷ (0, 0) ∷ [];
@@ -406,7 +406,7 @@ chains =
           "e" ∷ "f" ∷ "p" ∷ [];
       says = Answer.refusal 5;
     } ∷
-    -- select: func:f void param:p ptr . block:e q=select 1 i32 1 1 ret - .
+    -- select: func:f void param:p ptr . block:e q=select 1 i32 1 1 ret - . .
     record {
       entries =
           (5, 1) ∷ (10, 0) ∷ (6, 3) ∷ (12, 0) ∷ (0, 0) ∷ (7, 0) ∷ (70, 4) ∷ (32, 1) ∷ (11, 32) ∷ (32, 1) ∷ (32, 1) ∷ (90, 0) ∷ (21, 0) ∷ (0, 0) ∷ (0, 0) ∷ [];
@@ -416,7 +416,7 @@ chains =
           "# void @f(1 params)" ∷ "f:" ∷ "push_0n 1;" ∷ "f__e:" ∷ "push 1;" ∷ "jz __sel_false_0;" ∷ "push 1;" ∷ "jmp __sel_done_1;" ∷ "__sel_false_0:"
           ∷ "push 1;" ∷ "__sel_done_1:" ∷ "set_local 0;" ∷ "push 0;" ∷ "ret;" ∷ "" ∷ [])) 2;
     } ∷
-    -- freeze: func:f void param:p ptr . block:e freeze { label [16777217 i8 } %u ret - .
+    -- freeze: func:f void param:p ptr . block:e freeze { label [16777217 i8 } %u ret - . .
     record {
       entries =
           (5, 1) ∷ (10, 0) ∷ (6, 3) ∷ (12, 0) ∷ (0, 0) ∷ (7, 0) ∷ (77, 0) ∷ (16, 0) ∷ (19, 0) ∷ (13, 16777217) ∷ (11, 8) ∷ (0, 0) ∷ (30, 3) ∷ (90, 0)
@@ -425,7 +425,7 @@ chains =
           "e" ∷ "f" ∷ "p" ∷ "u" ∷ [];
       says = Answer.refusal 6;
     } ∷
-    -- freeze: func:f void param:p ptr . block:e freeze { [16777217 i8 label } %u ret - .
+    -- freeze: func:f void param:p ptr . block:e freeze { [16777217 i8 label } %u ret - . .
     record {
       entries =
           (5, 1) ∷ (10, 0) ∷ (6, 3) ∷ (12, 0) ∷ (0, 0) ∷ (7, 0) ∷ (77, 0) ∷ (16, 0) ∷ (13, 16777217) ∷ (11, 8) ∷ (19, 0) ∷ (0, 0) ∷ (30, 3) ∷ (90, 0)
@@ -434,7 +434,7 @@ chains =
           "e" ∷ "f" ∷ "p" ∷ "u" ∷ [];
       says = Answer.refusal 7;
     } ∷
-    -- freeze: func:f void param:p ptr . block:e freeze [3 i8 %u ret - .
+    -- freeze: func:f void param:p ptr . block:e freeze [3 i8 %u ret - . .
     record {
       entries =
           (5, 1) ∷ (10, 0) ∷ (6, 3) ∷ (12, 0) ∷ (0, 0) ∷ (7, 0) ∷ (77, 0) ∷ (13, 3) ∷ (11, 8) ∷ (30, 3) ∷ (90, 0) ∷ (21, 0) ∷ (0, 0) ∷ (0, 0) ∷ [];
@@ -442,7 +442,7 @@ chains =
           "e" ∷ "f" ∷ "p" ∷ "u" ∷ [];
       says = Answer.refusal 10;
     } ∷
-    -- freeze: func:f void param:p ptr . block:e freeze [3 i8 1 ret - .
+    -- freeze: func:f void param:p ptr . block:e freeze [3 i8 1 ret - . .
     record {
       entries =
           (5, 1) ∷ (10, 0) ∷ (6, 3) ∷ (12, 0) ∷ (0, 0) ∷ (7, 0) ∷ (77, 0) ∷ (13, 3) ∷ (11, 8) ∷ (32, 1) ∷ (90, 0) ∷ (21, 0) ∷ (0, 0) ∷ (0, 0) ∷ [];
@@ -450,7 +450,7 @@ chains =
           "e" ∷ "f" ∷ "p" ∷ [];
       says = Answer.refusal 5;
     } ∷
-    -- freeze: func:f void param:p ptr . block:e q=freeze [3 i8 -1 ret - .
+    -- freeze: func:f void param:p ptr . block:e q=freeze [3 i8 -1 ret - . .
     record {
       entries =
           (5, 1) ∷ (10, 0) ∷ (6, 3) ∷ (12, 0) ∷ (0, 0) ∷ (7, 0) ∷ (77, 4) ∷ (13, 3) ∷ (11, 8) ∷ (32, 18446744073709551615) ∷ (90, 0) ∷ (21, 0) ∷ (0, 0)
@@ -460,7 +460,7 @@ chains =
       says = Answer.text (unlines (
           "# void @f(1 params)" ∷ "f:" ∷ "push_0n 1;" ∷ "f__e:" ∷ "push 16777215;" ∷ "set_local 0;" ∷ "push 0;" ∷ "ret;" ∷ "" ∷ [])) 0;
     } ∷
-    -- nothing asked: func:f void param:p ptr . block:e fence phi label . q=phi label %u :e . ret - .
+    -- nothing asked: func:f void param:p ptr . block:e fence phi label . q=phi label %u :e . ret - . .
     record {
       entries =
           (5, 1) ∷ (10, 0) ∷ (6, 3) ∷ (12, 0) ∷ (0, 0) ∷ (7, 0) ∷ (82, 0) ∷ (75, 0) ∷ (19, 0) ∷ (0, 0) ∷ (75, 4) ∷ (19, 0) ∷ (30, 4) ∷ (23, 0) ∷ (0, 0)
