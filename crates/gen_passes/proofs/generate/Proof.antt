@@ -3,7 +3,7 @@ use native.Mathlib.Omega.{arith}
 use Rattle.book.specs.Entry.{entries}
 use Rattle.lowering.specs.Context.{codegenOf}
 use Rattle.gen_blocks.specs.Function.{functionsIn}
-use Rattle.gen_passes.specs.Generate.{here, passes-answer, passes-ask}
+use Rattle.gen_passes.specs.Generate.{here, some-entry, passes-answer, passes-ask}
 use borrow.Author.Needs.{needs}
 use Rattle.gen_passes.proofs.generate.Statement.{statement}
 use Rattle.gen_passes.proofs.generate.Tie as tie
@@ -12,6 +12,13 @@ use Rattle.gen_prepare.proofs.prepare_book.Reads as prepare-book-reads
 
 prepare-book-requires : tie.Need-prepare-book-requires
 prepare-book-requires c κs = search needs
+
+sub-passes : tie.Need-sub-passes
+sub-passes c =
+    let after-prepare = c .before .before in
+    let entry = after-prepare .before .before .before .before .before .before .before .before in
+    let some = some-entry (entry .args .book-kinds .now) (entry .args .book-words .now) (entry .pre) (after-prepare .prepare-book .ensures) in
+    search needs
 
 passes-requires : tie.Need-passes-requires
 passes-requires c κs =
@@ -42,4 +49,4 @@ returns c =
 
 pub generate-spec : {M : Type 1} → statement M
 generate-spec =
-    tie.close (tie.spec prepare-book-requires passes-requires same-length same-length-2 same-length-3 returns)
+    tie.close (tie.spec prepare-book-requires sub-passes passes-requires same-length same-length-2 same-length-3 returns)
