@@ -12,7 +12,7 @@ use Rattle.book.specs.Entry.{Entry, entry}
 use Rattle.book.specs.Ast.{Ty, Tys, Sizeless, Value, Zero, TypedVal, Inst, Terminator, BasicBlock, Param, Function, StructBody, StructType, Mark, Book}
 use Rattle.book.specs.Kinds.{InstTag, TermTag, instKind, termKind, instTags, termTags, instTag, termTag}
 use Rattle.book.specs.Fields.{Item, Field, ItemMeaning, Meaning, Meanings, instFields, termFields, instTagOf, termTagOf, instArgs, termArgs}
-use Rattle.book.specs.Encode.{ending, closed, orAbsent, encTy, encTys, valueEntry, encTyped, encItem, encField, encFields, encInst, encTerm, encParam, encBasicBlock, encFunction, encMark, markEntry, encStruct, encBody, encode}
+use Rattle.book.specs.Encode.{ending, closed, orAbsent, encTy, encTys, valueEntry, encTyped, encItem, encField, encFields, encInst, encTerm, encParam, encBasicBlock, encFunction, encFunctions, encMark, markEntry, encStruct, encBody, encode}
 use Rattle.book.specs.Limits.{Each}
 use Rattle.book.specs.AgreeTy.{find-every}
 use Rattle.book.specs.AgreeInst.{inst-found, term-found}
@@ -159,14 +159,14 @@ term-kind : (t : TermTag) → 10 ≤ termKind t
 unfolding termTag termTags
 term-kind t = leb-true 10 (termKind t) (find-every (λ t. leb 10 (termKind t)) termKind (termKind t) termTags t refl (term-found t))
 
-inside-inst : (i : Inst) → Each Inside (encInst i)
+pub inside-inst : (i : Inst) → Each Inside (encInst i)
 unfolding encInst
 inside-inst i =
     let t = instTagOf (i .kind) in
     let l = inst-kind t in
     ((λ a b. omega arith), inside-fields (instFields t) (inst-fields t) (instArgs (i .kind)))
 
-inside-term : (t : Terminator) → Each Inside (encTerm t)
+pub inside-term : (t : Terminator) → Each Inside (encTerm t)
 unfolding encTerm
 inside-term t =
     let l = term-kind (termTagOf t) in
@@ -239,22 +239,21 @@ other-struct s = ((λ e. omega arith), other-body (s .body))
 -- ---- the entries of a book: its functions, with no entry of kind 5 before or behind them
 pub record Heads (b : Book) : Type 0 where
   pub pre : List Entry
-  pub end : List Entry
-  pub here : encode b ≡ pre ++ ending encFunction end (b .functions)
+  pub here : encode b ≡ pre ++ encFunctions (b .functions)
   pub before : Each Other pre
-  pub behind : Each Other end
 
 pub book-heads : (b : Book) → Heads b
 unfolding encode
 book-heads b =
-    let end = [] in
-    let fs = ending encFunction end (b .functions) in
+    let fs = encFunctions (b .functions) in
     let q = front encStruct other-struct fs (b .structs) in
     let p = front encMark other-mark (ending encStruct fs (b .structs)) (b .marks) in
     record {
       pre = p .0 ++ q .0;
-      end = end;
       here = p .1 .0 ∙ ap (λ x. p .0 ++ x) (q .1 .0) ∙ sym (append-assoc (p .0) (q .0) fs);
       before = other-append (p .0) (q .0) (p .1 .1) (q .1 .1);
-      behind = tt;
     }
+
+-- the entry that closes the functions is no function's either
+pub other-closing : Each Other (entry 0 0 ∷ [])
+other-closing = ((λ e. omega arith), tt)

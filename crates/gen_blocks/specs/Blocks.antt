@@ -22,7 +22,7 @@ use Rattle.lowering.specs.Context.{paramMap, blockMap}
 use Rattle.layout_memo.specs.Work.{Ready, tableAt, table-other}
 use Rattle.gen_values.specs.Maps.{numbered, BlockAt, BlockWord}
 use Rattle.gen_values.specs.Fields.{entry-at}
-use Rattle.gen_blocks.specs.Inside.{Inside, inside-body}
+use Rattle.book.specs.Heads.{Inside, inside-body}
 use Rattle.gen_blocks.specs.Words.{WordsKept, words-set, ready-kept}
 use Rattle.book.specs.AgreeBook.{Five}
 use Rattle.gen_blocks.specs.Function.{functionIn, behindIn, Behind, FunctionAt}

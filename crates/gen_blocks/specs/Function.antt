@@ -8,15 +8,15 @@ use native.Mathlib.Omega.{arith}
 use lib.ListN.{length, getD, drop, length-append, length-drop}
 use lib.Seq.{drop-drop, drop-append-seam}
 use Rattle.book.specs.Entry.{Entry, entry, entries}
-use Rattle.book.specs.Ast.{Ty, Function, StructType, StructBody, Mark, Book}
+use Rattle.book.specs.Ast.{Ty, Function, Book}
 use Rattle.book.specs.Read.{Read, got, bad}
 use Rattle.book.specs.Decode.{function, decode}
-use Rattle.book.specs.Encode.{ending, encTy, encMark, markEntry, encStruct, encBody, encFunction, encFunctions, encode}
+use Rattle.book.specs.Encode.{ending, encFunction, encFunctions}
 use Rattle.book.specs.Limits.{Each, FunctionLimits, FunctionsLimits}
 use Rattle.book.specs.AgreeBook.{Five, functions-begin, agrees-function, decode-sound}
 use Rattle.layout_memo.specs.Structs.{IsBook}
 use Rattle.gen_values.specs.Fields.{entry-at}
-use Rattle.gen_blocks.specs.Inside.{Inside, inside-ty}
+use Rattle.book.specs.Heads.{Other, book-heads}
 
 -- the function that stands at the place a, and what stands behind it
 abbrev functionOr : Read Function → Function
@@ -124,40 +124,7 @@ functions-are m es b e = ap functionsOr e
 abbrev pub lastOf : List Entry → ℕ
 lastOf es = length es - 1
 
--- ---- before the first: no entry of kind 5
-abbrev Other : Entry → Type 0
-Other e = e .kind ≡ 5 → ⊥
-
-other-append : (xs ys : List Entry) → Each Other xs → Each Other ys → Each Other (xs ++ ys)
-other-append [] ys p q = q
-other-append (x ∷ xs) ys p q = (p .0, other-append xs ys (p .1) q)
-
-inside-other : (xs : List Entry) → Each Inside xs → Each Other xs
-inside-other [] p = tt
-inside-other (x ∷ xs) p = ((λ e. p .0 (omega arith) (omega arith)), inside-other xs (p .1))
-
-other-mark : (k : Mark) → Each Other (encMark k)
-unfolding markEntry
-other-mark (Mark.defined x) = ((λ e. omega arith), tt)
-other-mark (Mark.reserved x) = ((λ e. omega arith), tt)
-
-other-body : (b : Option StructBody) → Each Other (encBody b)
-other-body none = ((λ e. omega arith), tt)
-other-body (some b) = inside-other (encTy (Ty.struct (b .packed) (b .fields))) (inside-ty (Ty.struct (b .packed) (b .fields)))
-
-other-struct : (s : StructType) → Each Other (encStruct s)
-unfolding encStruct
-other-struct s = ((λ e. omega arith), other-body (s .body))
-
--- the entries in front of an end
-front-of : {A : Type 0} (write : A → List Entry) → ((a : A) → Each Other (write a)) → (end : List Entry) (as′ : List A)
-    → (pre : List Entry) × ((ending write end as′ ≡ pre ++ end) × Each Other pre)
-unfolding ending
-front-of write all end [] = ([], (refl, tt))
-front-of write all end (a ∷ as′) =
-    let r = front-of write all end as′ in
-    (write a ++ r .0, (ap (λ x. write a ++ x) (r .1 .0) ∙ sym (append-assoc (write a) (r .0) end), other-append (write a) (r .0) (all a) (r .1 .1)))
-
+-- ---- before the first there is no entry of kind 5
 -- a scan for it: at the place a
 pub record Scanning (m : ℕ) (es : List Entry) (a : ℕ) : Type 0 where
   pub pre : List Entry
@@ -167,17 +134,14 @@ pub record Scanning (m : ℕ) (es : List Entry) (a : ℕ) : Type 0 where
   pub few : length es ≤ 2 ^ 20
 
 pub scan-start : (m : ℕ) (es : List Entry) → IsBook m es → Scanning m es 0
-unfolding encode
 scan-start m es b =
     let s = decode-sound m es (b .book) (b .says) in
     let e = functions-are m es (b .book) (b .says) in
-    let fs = b .book .functions in
-    let q = front-of encStruct other-struct (encFunctions fs) (b .book .structs) in
-    let p = front-of encMark other-mark (ending encStruct (encFunctions fs) (b .book .structs)) (b .book .marks) in
+    let h = book-heads (b .book) in
     record {
-      pre = p .0 ++ q .0;
-      here = s .0 ∙ p .1 .0 ∙ ap (λ x. p .0 ++ x) (q .1 .0) ∙ sym (append-assoc (p .0) (q .0) (encFunctions fs)) ∙ ap (λ (x : List Function). (p .0 ++ q .0) ++ encFunctions x) (sym e);
-      other = other-append (p .0) (q .0) (p .1 .1) (q .1 .1);
+      pre = h .pre;
+      here = s .0 ∙ h .here ∙ ap (λ (x : List Function). h .pre ++ encFunctions x) (sym e);
+      other = h .before;
       limits = subst (FunctionsLimits m) (sym e) (s .1 .functions);
       few = b .few;
     }

@@ -12,7 +12,7 @@ use Rattle.book.specs.Fields.{instFields, termFields, instTagOf, termTagOf, ins
 use Rattle.book.specs.Encode.{ending, closed, destWord, encTy, encInst, encTerm, encParam, encBasicBlock, encFunction, encFields}
 use Rattle.book.specs.Limits.{Each, Maybe, NameLimits, InstLimits, BlockLimits, ParamLimits, FunctionLimits}
 use Rattle.gen_walk.specs.Walk.{Low, low-ty, low-fields}
-use Rattle.gen_blocks.specs.Inside.{Inside, inside-ty, inside-inst, inside-term}
+use Rattle.book.specs.Heads.{Inside, inside-ty, inside-inst, inside-term}
 use Rattle.gen_frame.specs.Scan.{inst-kinds}
 
 -- the entry e sets the word j of the name x

@@ -22,7 +22,7 @@ use Rattle.layout_memo.specs.Work.{Ready}
 use Rattle.gen_values.specs.Maps.{markWord}
 use Rattle.gen_values.specs.Fields.{entry-at}
 use Rattle.gen_blocks.specs.Words.{WordsKept, words-none, words-set, words-then, ready-words}
-use Rattle.gen_blocks.specs.Inside.{Inside, inside-ty, inside-body}
+use Rattle.book.specs.Heads.{Inside, inside-ty, inside-body}
 use Rattle.gen_marks.specs.Mark.{plainMark, definedMark, raised, Raised, raise-one, mark-is}
 use Rattle.gen_marks.specs.Spelling.{SpellDone}
 

@@ -1,15 +1,18 @@
 -- From the entries of a sound book to its functions' lines.
-use Prim.Native.Nat.{ℕ}
+use Prim.Native.Nat.{ℕ, _-_, _<_}
 use mathlib.Core.Path.{_≡_, sym, ap, subst, _∙_}
 use mathlib.Core.Option.{some}
 use mathlib.Core.List.{List}
 use native.Mathlib.Omega.{arith}
-use lib.ListN.{length}
+use lib.ListN.{length, length-append}
 use Rattle.names.specs.Name.{namesOf}
 use Rattle.names.specs.Lines.{accepted-iff}
 use Rattle.book.specs.Ast.{Book, Function}
 use Rattle.book.specs.Entry.{entries}
 use Rattle.book.specs.Decode.{decode}
+use Rattle.book.specs.Encode.{encFunctions}
+use Rattle.book.specs.AgreeBook.{functions-begin, decode-sound}
+use Rattle.book.specs.Heads.{book-heads}
 use Rattle.book_types.specs.Laws.{length-entries}
 use Rattle.lowering.specs.Context.{codegenOf}
 use Rattle.lowering.specs.Function.{genFunctions}
@@ -25,13 +28,22 @@ pub record GenerateAsk (bs : List ℕ) (m : ℕ) (bk bw work : List ℕ) : Type 
 -- ---- what `prepare_book` leaves is what the passes ask
 module _ {bs : List ℕ} {m : ℕ} (bk bw : List ℕ) {work : List ℕ} (a : GenerateAsk bs m bk bw work) {work′ : List ℕ} {first : ℕ} (d : BookDone bs m (entries bk bw) work′ first) where
   -- where the functions end
-  last-is : lastOf (entries bk bw) ≡ length bk
+  last-is : lastOf (entries bk bw) ≡ length bk - 1
   last-is = omega (arith, length-entries bk bw, a .even)
 
-  pub here : FunctionsAt m (entries bk bw) (length bk) first (functionsIn m (entries bk bw))
+  pub here : FunctionsAt m (entries bk bw) (length bk - 1) first (functionsIn m (entries bk bw))
   here = subst (λ (l : ℕ). FunctionsAt m (entries bk bw) l first (functionsIn m (entries bk bw))) last-is (d .functions)
 
-  pub passes-ask : PassAsk m bk bw first (length bk) work′
+  -- there is an entry
+  pub some-entry : 0 < length bk
+  some-entry =
+      let k = a .ask .book in
+      let s = decode-sound m (entries bk bw) (k .book) (k .says) in
+      let h = book-heads (k .book) in
+      let five = functions-begin m (k .book .functions) (s .1 .functions) in
+      omega (arith, length-entries bk bw, a .even, ap length (s .0 ∙ h .here), length-append (h .pre) (encFunctions (k .book .functions)), ap length (five .1 .1))
+
+  pub passes-ask : PassAsk m bk bw first (length bk - 1) work′
   passes-ask =
       let n = accepted-iff bs m .0 (a .ask .names) in
       let k = a .ask .book in

@@ -339,7 +339,7 @@ pub fn generate(
         book_kinds,
         book_words,
         first,
-        book_kinds.len(),
+        book_kinds.len() - 1,
         work,
         count,
         counter,

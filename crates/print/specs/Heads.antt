@@ -16,10 +16,10 @@ use Rattle.book.specs.Ast.{Function, Book}
 use Rattle.book.specs.Entry.{Entry, entry, entries}
 use Rattle.book.specs.Read.{got}
 use Rattle.book.specs.Decode.{typeTo, function, member, functionNames, decode}
-use Rattle.book.specs.Encode.{ending, encFunction, encode}
+use Rattle.book.specs.Encode.{ending, encFunction, encFunctions, encode}
 use Rattle.book.specs.Limits.{Each, FunctionLimits, Limits}
 use Rattle.book.specs.AgreeBook.{agrees-function, decode-sound}
-use Rattle.book.specs.Heads.{Other, functionRest, function-rest, other-function, book-heads}
+use Rattle.book.specs.Heads.{Other, functionRest, function-rest, other-function, book-heads, other-closing}
 use Rattle.book_types.specs.Laws.{lentFrom, entries-part, length-entries}
 use Rattle.assembly.specs.Printer.{functionNamed, first}
 use Rattle.print_types.specs.Types.{isGot}
@@ -225,7 +225,7 @@ module _ (m : ℕ) (ks ws : List ℕ) (d : Decoded m ks ws) where
   sound : (entries ks ws ≡ encode b) × Limits m b
   sound = decode-sound m (entries ks ws) b book-read
 
-  entries-are : entries ks ws ≡ book-heads b .pre ++ ending encFunction (book-heads b .end) (b .functions)
+  entries-are : entries ks ws ≡ book-heads b .pre ++ encFunctions (b .functions)
   entries-are = sound .0 ∙ book-heads b .here
 
   long : length (entries ks ws) ≡ length ks
@@ -233,19 +233,19 @@ module _ (m : ℕ) (ks ws : List ℕ) (d : Decoded m ks ws) where
 
   module _ (x : ℕ) where
     abbrev fns : List Entry
-    fns = ending encFunction (book-heads b .end) (b .functions)
+    fns = encFunctions (b .functions)
 
     head-is : headOf x ks ws ≡ length (book-heads b .pre) + headIn x fns
     head-is = ap (headIn x) entries-are ∙ head-past x (book-heads b .pre) fns (book-heads b .before)
 
     head-none : isFn m ks ws x ≡ false → headOf x ks ws ≡ length ks
     head-none h =
-        let n = among-none x (book-heads b .end) (book-heads b .behind) (b .functions) h in
+        let n = among-none x (entry 0 0 ∷ []) other-closing (b .functions) h in
         omega (arith, head-is, n, ap length entries-are, length-append (book-heads b .pre) fns, long)
 
     head-some : isFn m ks ws x ≡ true → (rest : List Entry) × (drop (headOf x ks ws) (entries ks ws) ≡ encFunction (fnNamed m ks ws x) ++ rest)
     head-some h =
-        let s = among-some x (book-heads b .end) (book-heads b .behind) (b .functions) h in
+        let s = among-some x (entry 0 0 ∷ []) other-closing (b .functions) h in
         (s .0, rw (head-is, entries-are) (drop-past (book-heads b .pre) fns (headIn x fns) ∙ s .1))
 
     some-inside : isFn m ks ws x ≡ true → headOf x ks ws < length ks
