@@ -45,3 +45,4 @@ pub mod CornersCalls
 pub mod CornersBlocks
 pub mod AtLimits
 pub mod Pieces
+pub mod Alike
