@@ -41,7 +41,7 @@ within d c =
       bpSlot = c .bpSlot;
     }
 
-neither : (a b : Bool) → (a || b) ≡ false → (a ≡ false) × (b ≡ false)
+pub neither : (a b : Bool) → (a || b) ≡ false → (a ≡ false) × (b ≡ false)
 neither false b h = (refl, h)
 neither true b h = absurd (let z : _≡_ {A = ℕ} 0 1 = cc in omega arith)
 

@@ -46,3 +46,4 @@ pub mod CornersBlocks
 pub mod AtLimits
 pub mod Pieces
 pub mod Alike
+pub mod OneByOne
