@@ -1,11 +1,10 @@
 -- What a function's lines depend on: of the names that count as defined, on the callees' alone. What the law of `OneByOne` is made of.
 use Prim.Native.Nat.{ℕ, suc}
 use mathlib.Core.Path.{_≡_, refl, ap, sym}
-use mathlib.Core.Bool.{Bool, true, false, _||_}
+use mathlib.Core.Bool.{Bool, true, false, _||_, false≢true}
 use mathlib.Core.Option.{Option, none, some}
 use mathlib.Core.List.{List, [], _∷_}
 use lib.ListN.{length}
-use native.Mathlib.Omega.{arith}
 use Rattle.book.specs.Ast.{Ty, Value, TypedVal, BinOp, ConvOp, ICmpPred, Incoming, Case, InstKind, Inst, Terminator, BasicBlock, Function}
 use Rattle.book.specs.Decode.{member}
 use Rattle.book.specs.Shape.{Shape, shape, allInsts}
@@ -43,7 +42,7 @@ within d c =
 
 pub neither : (a b : Bool) → (a || b) ≡ false → (a ≡ false) × (b ≡ false)
 neither false b h = (refl, h)
-neither true b h = absurd (let z : _≡_ {A = ℕ} 0 1 = cc in omega arith)
+neither true b h = absurd (false≢true (sym h))
 
 module _ (c : FnCtx) (d : List ℕ) where
   -- ---- operands

@@ -47,3 +47,4 @@ pub mod AtLimits
 pub mod Pieces
 pub mod Alike
 pub mod OneByOne
+pub mod AloneCalls

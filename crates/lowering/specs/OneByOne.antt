@@ -39,12 +39,12 @@ abbrev pub translated : List (List ℕ) → Book → Gen
 translated names b = genFunctions (codegenOf names b) (b .functions)
 
 -- ---- names in a list
-member-append : (x : ℕ) (xs ys : List ℕ) → member x (xs ++ ys) ≡ (member x xs || member x ys)
+pub member-append : (x : ℕ) (xs ys : List ℕ) → member x (xs ++ ys) ≡ (member x xs || member x ys)
 unfolding member
 member-append x [] ys = refl
 member-append x (y ∷ xs) ys = rw (member-append x xs ys) (sym (or-assoc (eqb x y) (member x xs) (member x ys)))
 
-member-taken : (x : ℕ) (test : ℕ → Bool) (xs : List ℕ) → member x (taken test xs) ≡ (test x && member x xs)
+pub member-taken : (x : ℕ) (test : ℕ → Bool) (xs : List ℕ) → member x (taken test xs) ≡ (test x && member x xs)
 unfolding member taken
 member-taken x test [] = sym (and-false (test x))
 member-taken x test (y ∷ xs) = go (test y) refl (eqb x y) refl (member-taken x test xs)
@@ -131,7 +131,7 @@ unfolding each
 each-same g h [] e = refl
 each-same g h (x ∷ xs) e = rw (e x (List·Memᴰ·head refl), each-same g h xs (λ y m. e y (List·Memᴰ·tail m)))
 
-none-of : {A : Type 0} (test : A → Bool) (xs : List A) → any test xs ≡ false → (x : A) → List·Memᴰ x xs → test x ≡ false
+pub none-of : {A : Type 0} (test : A → Bool) (xs : List A) → any test xs ≡ false → (x : A) → List·Memᴰ x xs → test x ≡ false
 unfolding any
 none-of test (y ∷ xs) h x (List·Memᴰ·head e) = ap test e ∙ neither (test y) _ h .0
 none-of test (y ∷ xs) h x (List·Memᴰ·tail m) = none-of test xs (neither (test y) _ h .1) x m
@@ -148,26 +148,3 @@ module _ (names : List (List ℕ)) (b : Book) (allowed : forbidden names b ≡ f
   pub one-by-one : (n : ℕ) → translated names b n ≡ each (λ f. translated names (alone b f)) (b .functions) n
   unfolding genFunctions
   one-by-one n = ap (λ (g : Gen). g n) (each-same (genFunction (codegenOf names b)) (λ f. translated names (alone b f)) (b .functions) function-alone)
-
--- ---- the limits
-distinct-taken : (test : ℕ → Bool) (xs : List ℕ) → distinct xs ≡ true → distinct (taken test xs) ≡ true
-unfolding distinct taken
-distinct-taken test [] h = refl
-distinct-taken test (x ∷ xs) h = go (test x) (both (not (member x xs)) (distinct xs) h) (distinct-taken test xs)
-  where
-    go : (t : Bool) → (not (member x xs) ≡ true) × (distinct xs ≡ true) → (distinct xs ≡ true → distinct (taken test xs) ≡ true)
-        → distinct (cond t (x ∷ taken test xs) (taken test xs)) ≡ true
-    go false k rest = rest (k .1)
-    go true k rest = rw (member-taken x test xs, not-true (member x xs) (k .0), and-false (test x)) (rest (k .1))
-
-distinct-append : (xs ys : List ℕ) → distinct xs ≡ true → distinct ys ≡ true → ((x : ℕ) → member x ys ≡ true → member x xs ≡ false) → distinct (xs ++ ys) ≡ true
-unfolding distinct member
-distinct-append [] ys h k apart = k
-distinct-append (x ∷ xs) ys h k apart =
-    let p = both (not (member x xs)) (distinct xs) h in
-    rw (member-append x xs ys, not-true (member x xs) (p .0), away (member x ys) refl)
-    (distinct-append xs ys (p .1) k (λ y m. neither (eqb y x) (member y xs) (apart y m) .1))
-  where
-    away : (t : Bool) → member x ys ≡ t → member x ys ≡ false
-    away false e = e
-    away true e = absurd (let z : true ≡ false = sym (eq-eqb x x refl) ∙ neither (eqb x x) (member x xs) (apart x e) .0 in let w : _≡_ {A = ℕ} 0 1 = cc in omega arith)
