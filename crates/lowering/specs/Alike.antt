@@ -1,17 +1,17 @@
 -- What a function's lines depend on: of the names that count as defined, on the callees' alone. What the law of `OneByOne` is made of.
 use Prim.Native.Nat.{ℕ, suc}
-use mathlib.Core.Path.{_≡_, refl, ap, sym}
+use mathlib.Core.Path.{_≡_, refl, sym}
 use mathlib.Core.Bool.{Bool, true, false, _||_, false≢true}
 use mathlib.Core.Option.{Option, none, some}
 use mathlib.Core.List.{List, [], _∷_}
 use lib.ListN.{length}
-use Rattle.book.specs.Ast.{Ty, Value, TypedVal, BinOp, ConvOp, ICmpPred, Incoming, Case, InstKind, Inst, Terminator, BasicBlock, Function}
+use Rattle.book.specs.Ast.{Ty, Value, TypedVal, BinOp, ConvOp, ICmpPred, Case, InstKind, Inst, Terminator, BasicBlock, Function}
 use Rattle.book.specs.Decode.{member}
 use Rattle.book.specs.Shape.{Shape, shape, allInsts}
-use Rattle.book.specs.Result.{Result, ok}
+use Rattle.book.specs.Result.{Result}
 use Rattle.book.specs.Forbidden.{any, barredCallee, barredShape, forbiddenInst, forbiddenBlock, forbiddenFunction, otherInst, otherTerm}
 use Rattle.layout.specs.Frame.{framePass, noFrame}
-use Rattle.lowering.specs.Gen.{Gen, _>>=_, each}
+use Rattle.lowering.specs.Gen.{_>>=_, each}
 use Rattle.lowering.specs.Context.{Codegen, FnCtx, slotOf}
 use Rattle.lowering.specs.Operand.{pushValue, pushTyped, storeDest, storeOrPop}
 use Rattle.lowering.specs.Arith.{genBin, genIcmp, genWidths, genConv, genSelect, genFreeze}

@@ -1,7 +1,7 @@
 -- Of document 02, card 1: by themselves the functions of a sound book make sound books, and the whole call gives what they give one by one.
-use Prim.Native.Nat.{ℕ, suc, _+_, _≤_, _<_, _^_}
+use Prim.Native.Nat.{ℕ, _+_, _≤_, _<_, _^_}
 use mathlib.Core.Path.{_≡_, refl, ap, sym, _∙_, subst}
-use mathlib.Core.Bool.{Bool, true, false, not, cond, _&&_, _||_, and-false, false≢true}
+use mathlib.Core.Bool.{Bool, true, false, not, cond, _||_, and-false, false≢true}
 use mathlib.Core.Option.{some}
 use mathlib.Core.List.{List, [], _∷_, _++_, map, List·Memᴰ, List·Memᴰ·head, List·Memᴰ·tail}
 use lib.ListN.{length, length-append}
@@ -15,11 +15,11 @@ use Rattle.book.specs.Decode.{member, distinct, markName, functionNames, onceEa
 use Rattle.book.specs.Encode.{ending, encMark, encStruct, encFunction, encFunctions, encode}
 use Rattle.book.specs.Limits.{Each, FunctionLimits, Limits}
 use Rattle.book.specs.Forbidden.{forbidden}
-use Rattle.book.specs.Result.{Result, ok, bind, okOr, given, require, bind-ok, given-ok}
-use Rattle.book.specs.Input.{Counted, bookIn, namesIn}
-use Rattle.book.specs.AgreeInput.{slice, SliceLimits, slice-sound, slice-complete}
+use Rattle.book.specs.Result.{ok, bind, okOr, given, require, bind-ok, given-ok}
+use Rattle.book.specs.Input.{bookIn, namesIn}
+use Rattle.book.specs.AgreeInput.{slice, slice-sound, slice-complete}
 use Rattle.book.specs.Check.{Sound, workFor, checked}
-use Rattle.lowering.specs.Gen.{Out, each}
+use Rattle.lowering.specs.Gen.{each}
 use Rattle.lowering.specs.Translate.{generated}
 use Rattle.lowering.specs.Allowed.{ok-some}
 use Rattle.lowering.specs.Printable.{names-counted}
@@ -28,7 +28,10 @@ use Rattle.lowering.specs.Alike.{neither}
 use Rattle.lowering.specs.AllowedBlocks.{and-true}
 use Rattle.lowering.specs.OneByOne.{taken, others, alone, translated, member-append, member-taken, none-of, forbidden-one-by-one, one-by-one}
 
--- ---- the limits
+abbrev nameOf : Function → ℕ
+nameOf f = f .name
+
+-- ---- the limits: a name that is marked twice would be refused
 distinct-taken : (test : ℕ → Bool) (xs : List ℕ) → distinct xs ≡ true → distinct (taken test xs) ≡ true
 unfolding distinct taken
 distinct-taken test [] h = refl
@@ -51,6 +54,7 @@ distinct-append (x ∷ xs) ys h k apart =
     away false e = e
     away true e = absurd (false≢true (sym (neither (eqb x x) (member x xs) (apart x e) .0) ∙ eq-eqb x x refl))
 
+-- what holds of each holds of one among them
 each-at : {A : Type 0} (P : A → Type 0) (xs : List A) → Each P xs → (x : A) → List·Memᴰ x xs → P x
 each-at P (y ∷ xs) p x (List·Memᴰ·head e) = subst P (sym e) (p .0)
 each-at P (y ∷ xs) p x (List·Memᴰ·tail m) = each-at P xs (p .1) x m
@@ -65,13 +69,13 @@ mark-names [] [] = refl
 mark-names [] (x ∷ xs) = ap (λ (r : List ℕ). x ∷ r) (mark-names [] xs)
 mark-names (k ∷ ms) xs = ap (λ (r : List ℕ). markName k ∷ r) (mark-names ms xs)
 
-taken-below : (m : ℕ) (test : ℕ → Bool) (fs : List Function) → Each (FunctionLimits m) fs → Each (λ x. x < m) (taken test (map (λ (f : Function). f .name) fs))
+taken-below : (m : ℕ) (test : ℕ → Bool) (fs : List Function) → Each (FunctionLimits m) fs → Each (λ x. x < m) (taken test (map nameOf fs))
 unfolding taken
 taken-below m test [] l = tt
 taken-below m test (f ∷ fs) l = go (test (f .name)) (taken-below m test fs (l .1))
   where
-    go : (t : Bool) → Each (λ x. x < m) (taken test (map (λ (f : Function). f .name) fs))
-        → Each (λ x. x < m) (cond t (f .name ∷ taken test (map (λ (f : Function). f .name) fs)) (taken test (map (λ (f : Function). f .name) fs)))
+    go : (t : Bool) → Each (λ x. x < m) (taken test (map nameOf fs))
+        → Each (λ x. x < m) (cond t (f .name ∷ taken test (map nameOf fs)) (taken test (map nameOf fs)))
     go true rest = (l .0 .0, rest)
     go false rest = rest
 
@@ -102,7 +106,7 @@ module _ (b : Book) (f : Function) where
         once = once-alone (l .once);
       }
 
--- ---- the entries: another function has more than the mark that stands for it
+-- ---- the entries: another function has at least as many as the mark that stands for it
 length-ending : {A : Type 0} (write : A → List Entry) (end : List Entry) (xs : List A) → length (ending write end xs) ≡ sumOf (λ a. length (write a)) xs + length end
 unfolding ending sumOf
 length-ending write end [] = omega arith
@@ -118,17 +122,17 @@ abbrev size : Function → ℕ
 size f = length (encFunction f)
 
 module _ (test : ℕ → Bool) where
-  few : (fs : List Function) → length (taken test (map (λ (f : Function). f .name) fs)) ≤ sumOf size fs
+  few : (fs : List Function) → length (taken test (map nameOf fs)) ≤ sumOf size fs
   unfolding taken sumOf encFunction
   few [] = omega arith
   few (g ∷ fs) = go (test (g .name)) (few fs)
     where
-      go : (t : Bool) → length (taken test (map (λ (f : Function). f .name) fs)) ≤ sumOf size fs
-          → length (cond t (g .name ∷ taken test (map (λ (f : Function). f .name) fs)) (taken test (map (λ (f : Function). f .name) fs))) ≤ size g + sumOf size fs
+      go : (t : Bool) → length (taken test (map nameOf fs)) ≤ sumOf size fs
+          → length (cond t (g .name ∷ taken test (map nameOf fs)) (taken test (map nameOf fs))) ≤ size g + sumOf size fs
       go true h = omega arith
       go false h = omega arith
 
-  fewer : (f : Function) → test (f .name) ≡ false → (fs : List Function) → List·Memᴰ f fs → length (taken test (map (λ (f : Function). f .name) fs)) + size f ≤ sumOf size fs
+  fewer : (f : Function) → test (f .name) ≡ false → (fs : List Function) → List·Memᴰ f fs → length (taken test (map nameOf fs)) + size f ≤ sumOf size fs
   unfolding taken sumOf encFunction
   fewer f h (g ∷ fs) (List·Memᴰ·head e) =
       let k : test (g .name) ≡ false = rw e at h in
@@ -136,8 +140,8 @@ module _ (test : ℕ → Bool) where
       rw k (omega (arith, few fs))
   fewer f h (g ∷ fs) (List·Memᴰ·tail m) = go (test (g .name)) (fewer f h fs m)
     where
-      go : (t : Bool) → length (taken test (map (λ (f : Function). f .name) fs)) + size f ≤ sumOf size fs
-          → length (cond t (g .name ∷ taken test (map (λ (f : Function). f .name) fs)) (taken test (map (λ (f : Function). f .name) fs))) + size f ≤ size g + sumOf size fs
+      go : (t : Bool) → length (taken test (map nameOf fs)) + size f ≤ sumOf size fs
+          → length (cond t (g .name ∷ taken test (map nameOf fs)) (taken test (map nameOf fs))) + size f ≤ size g + sumOf size fs
       go true h = omega arith
       go false h = omega arith
 
@@ -192,7 +196,7 @@ abbrev pub aloneSlice : Sound → Function → List ℕ
 aloneSlice s f = slice (record { count = length (s .names); book = alone (s .book) f })
 
 module _ (book names : List ℕ) (counter work : ℕ) (s : Sound) (sound : checked book names counter work ≡ ok s) where
-  -- the whole call, 20 after all others
+  -- "Lines and counter equal those of translating them one by one", of the whole call: the first refusal of a function, 20 after all others
   pub generated-one-by-one : (room : ℕ) → generated book names counter work room
       ≡ bind (each (λ f. translated (s .names) (alone (s .book) f)) (s .book .functions) counter) (λ out. given (leb (length (out .lines)) room) 20 out)
   unfolding generated bind

@@ -1,19 +1,15 @@
 -- Law of document 02, card 1: "Lines and counter equal those of translating them one by one."
-use Prim.Native.Nat.{ℕ, _+_, _≤_, _<_, _^_}
-use mathlib.Core.Path.{_≡_, refl, ap, sym, _∙_, subst}
+use Prim.Native.Nat.{ℕ}
+use mathlib.Core.Path.{_≡_, refl, ap, sym, _∙_}
 use mathlib.Core.Bool.{Bool, true, false, not, cond, _&&_, _||_, and-false, or-assoc, or-false, or-true}
 use mathlib.Core.List.{List, [], _∷_, _++_, map, append-nil, List·Memᴰ, List·Memᴰ·head, List·Memᴰ·tail}
-use lib.ListN.{length}
-use lib.Dec.{eqb, leb}
-use native.Mathlib.Omega.{arith}
-use borrow.Author.Tests.{eqb-true, eq-eqb, not-true}
+use lib.Dec.{eqb}
+use borrow.Author.Tests.{eqb-true, eq-eqb}
 use Rattle.names.specs.Name.{nameAt}
-use Rattle.names.specs.Tests.{both}
 use Rattle.names.specs.Spelling.{isIntrinsic}
 use Rattle.book.specs.Ast.{Function, Mark, Book}
-use Rattle.book.specs.Decode.{member, distinct, markName, functionNames, onceEach}
+use Rattle.book.specs.Decode.{member, markName, functionNames}
 use Rattle.book.specs.Forbidden.{any, reservedBy, uncallable, forbiddenFunction, forbidden}
-use Rattle.book.specs.Limits.{Each, FunctionLimits, Limits}
 use Rattle.book.specs.Result.{Result, ok, err, bind}
 use Rattle.lowering.specs.Gen.{Out, Gen, skip, lines, after, _>>_, each}
 use Rattle.lowering.specs.Context.{definedBy, codegenOf}
@@ -30,7 +26,8 @@ taken test (x ∷ xs) = let rest = taken test xs in cond (test x) (x ∷ rest) r
 unfoldable pub others : Book → Function → List ℕ
 others b f = taken (λ x. not (eqb x (f .name) || member x (map markName (b .marks)))) (functionNames b)
 
--- the book of one function: the marks there are, then the other functions marked defined ("All functions of the book count as defined"); the structs
+-- a function of the book by itself: the marks there are, behind them the other functions marked defined ("All functions of the book count as defined"), the
+-- structs, and that function. One that is marked reserved stays so: nobody calls it, or refusal 3 comes first.
 unfoldable pub alone : Book → Function → Book
 alone b f = record { marks = b .marks ++ map Mark.defined (others b f); structs = b .structs; functions = f ∷ [] }
 
@@ -68,6 +65,7 @@ member-marks x (Mark.reserved y ∷ ms) = rw (member-marks x ms) (go (eqb x y) (
     go true false = refl
     go false b = refl
 
+-- a function's name is among the names
 own-name : (f : Function) (fs : List Function) → List·Memᴰ f fs → member (f .name) (map (λ (g : Function). g .name) fs) ≡ true
 unfolding member
 own-name f (g ∷ fs) (List·Memᴰ·head e) = rw (eq-eqb (f .name) (g .name) (ap (λ (h : Function). h .name) e))
@@ -144,7 +142,8 @@ module _ (names : List (List ℕ)) (b : Book) (allowed : forbidden names b ≡ f
       f (none-of (forbiddenFunction (uncallable names (b .marks))) (b .functions) allowed f m)
       ∙ sym (then-skip (genFunction (codegenOf names (alone b f)) f))
 
-  -- "Lines and counter equal those of translating them one by one", "each beginning with the counter that the last one left"; so do refusals
+  -- "Lines and counter equal those of translating them one by one", "each beginning with the counter that the last one left". An equation of results: both
+  -- are accepted, with the same lines and next counter, or both refused, with the same number.
   pub one-by-one : (n : ℕ) → translated names b n ≡ each (λ f. translated names (alone b f)) (b .functions) n
   unfolding genFunctions
   one-by-one n = ap (λ (g : Gen). g n) (each-same (genFunction (codegenOf names b)) (λ f. translated names (alone b f)) (b .functions) function-alone)
