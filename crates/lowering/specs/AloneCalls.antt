@@ -16,7 +16,7 @@ use Rattle.book.specs.Encode.{ending, encMark, encStruct, encFunction, encFunct
 use Rattle.book.specs.Limits.{Each, FunctionLimits, Limits}
 use Rattle.book.specs.Forbidden.{forbidden}
 use Rattle.book.specs.Result.{ok, bind, okOr, given, require, bind-ok, given-ok}
-use Rattle.book.specs.Input.{bookIn, namesIn}
+use Rattle.book.specs.Input.{Counted, bookIn, namesIn}
 use Rattle.book.specs.AgreeInput.{slice, slice-sound, slice-complete}
 use Rattle.book.specs.Check.{Sound, workFor, checked}
 use Rattle.lowering.specs.Gen.{each}
@@ -210,8 +210,8 @@ module _ (book names : List ℕ) (counter work : ℕ) (s : Sound) (sound : check
       let p = passed book names counter work s sound in
       let l = slice-sound book _ (p .read) .1 in
       let n = alone-entries (s .book) f i in
-      let q = slice-complete (record { count = length (s .names); book = alone (s .book) f })
-              (record { entries = omega (arith, n, l .entries); names = l .names; book = alone-limits (s .book) f _ (l .book) i }) in
+      let c : Counted = record { count = length (s .names); book = alone (s .book) f } in
+      let q = slice-complete c (record { entries = omega (arith, n, l .entries); names = l .names; book = alone-limits (s .book) f _ (l .book) i }) in
       let k = none-of (λ g. forbidden (s .names) (alone (s .book) g)) (s .book .functions) (sym (forbidden-one-by-one (s .names) (s .book)) ∙ p .allowed) f i in
       rw (q, le-leb from (2 ^ 32) h, p .spelled, k, p .works)
 
