@@ -45,3 +45,6 @@ pub mod CornersCalls
 pub mod CornersBlocks
 pub mod AtLimits
 pub mod Pieces
+pub mod Alike
+pub mod OneByOne
+pub mod AloneCalls
