@@ -6,7 +6,28 @@ use print_pen::Pen;
 use print_pen::put_number;
 
 // 9 entries and 4 names; the kinds, then the words.
-const BOOK: [u64; 20] = [9, 4, 5, 11, 6, 11, 0, 7, 93, 0, 0, 2, 32, 0, 32, 0, 1, 0, 0, 0];
+const BOOK: [u64; 20] = [
+    9,
+    4,
+    5,
+    11,
+    6,
+    11,
+    0,
+    7,
+    93,
+    0,
+    0,
+    2,
+    32,
+    0,
+    32,
+    0,
+    1,
+    0,
+    0,
+    0,
+];
 
 const NAMES: [u8; 17] = *b"__uvm_time\nb\nf\ng\n";
 
