@@ -48,11 +48,10 @@ bounded-append m (x ∷ xs) ys p q = (p .0, bounded-append m xs ys (p .1) q)
 -- entries that say none
 fields-bounded : (m : ℕ) (xs : List Entry) → Low xs → Each Inside xs → Each (Bounded m) xs
 fields-bounded m [] l i = tt
-fields-bounded m (x ∷ xs) l i =
-    (
-      record { param = λ e. absurd (i .0 (omega arith) (omega arith)); block = λ e. absurd (l .0 .1 e); inst = λ e. absurd (omega (arith, l .0 .0)) },
-      fields-bounded m xs (l .1) (i .1),
-    )
+fields-bounded m (x ∷ xs) l i = (
+  record { param = λ e. absurd (i .0 (omega arith) (omega arith)); block = λ e. absurd (l .0 .1 e); inst = λ e. absurd (omega (arith, l .0 .0)) },
+  fields-bounded m xs (l .1) (i .1),
+)
 
 type-bounded : (m : ℕ) (t : Ty) → Each (Bounded m) (encTy t)
 type-bounded m t = fields-bounded m (encTy t) (low-ty t) (inside-ty t)
@@ -74,8 +73,7 @@ inst-bounded : (m : ℕ) (i : Inst) → InstLimits m i → Each (Bounded m) (enc
 unfolding encInst
 inst-bounded m i l =
     let n = inst-kinds (instTagOf (i .kind)) in
-    let fields = encFields (instFields (instTagOf (i .kind))) (instArgs (i .kind)) in
-    (
+    let fields = encFields (instFields (instTagOf (i .kind))) (instArgs (i .kind)) in (
       record { param = λ e. absurd (omega (arith, n .0)); block = λ e. absurd (omega (arith, n .0)); inst = λ e. dest-bounded m (i .dest) (l .0) },
       fields-bounded m fields (low-fields (instFields (instTagOf (i .kind))) (instArgs (i .kind))) (inside-inst i .1),
     )
@@ -95,11 +93,10 @@ term-bounded m t =
 
 block-bounded : (m : ℕ) (b : BasicBlock) → BlockLimits m b → Each (Bounded m) (encBasicBlock b)
 unfolding encBasicBlock
-block-bounded m b l =
-    (
-      record { param = λ e. absurd (omega arith); block = λ e. l .0; inst = λ e. absurd (omega arith) },
-      ending-bounded m (InstLimits m) encInst (inst-bounded m) (encTerm (b .term)) (term-bounded m (b .term)) (b .insts) (l .1 .0),
-    )
+block-bounded m b l = (
+  record { param = λ e. absurd (omega arith); block = λ e. l .0; inst = λ e. absurd (omega arith) },
+  ending-bounded m (InstLimits m) encInst (inst-bounded m) (encTerm (b .term)) (term-bounded m (b .term)) (b .insts) (l .1 .0),
+)
 
 param-bounded : (m : ℕ) (p : Param) → ParamLimits m p → Each (Bounded m) (encParam p)
 unfolding encParam
@@ -110,10 +107,9 @@ pub function-bounded : (m : ℕ) (f : Function) → FunctionLimits m f → Each 
 unfolding encFunction
 function-bounded m f l =
     let ps = closed encParam (f .params) in
-    let bs = closed encBasicBlock (f .blocks) in
-    (
+    let bs = closed encBasicBlock (f .blocks) in (
       record { param = λ e. absurd (omega arith); block = λ e. absurd (omega arith); inst = λ e. absurd (omega arith) },
       bounded-append m (encTy (f .retTy)) (ps ++ bs) (type-bounded m (f .retTy))
-      (bounded-append m ps bs (ending-bounded m (ParamLimits m) encParam (param-bounded m) (entry 0 0 ∷ []) (close-bounded m) (f .params) (l .1 .1 .0))
-      (ending-bounded m (BlockLimits m) encBasicBlock (block-bounded m) (entry 0 0 ∷ []) (close-bounded m) (f .blocks) (l .1 .1 .1))),
+          (bounded-append m ps bs (ending-bounded m (ParamLimits m) encParam (param-bounded m) (entry 0 0 ∷ []) (close-bounded m) (f .params) (l .1 .1 .0))
+          (ending-bounded m (BlockLimits m) encBasicBlock (block-bounded m) (entry 0 0 ∷ []) (close-bounded m) (f .blocks) (l .1 .1 .1))),
     )

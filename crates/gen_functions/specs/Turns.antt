@@ -172,8 +172,7 @@ module _ {m : ℕ} (bk bw : List ℕ) {at last : ℕ} (g : Codegen) (f : Functio
           pub for-next : Shared m es g work″ × ClearAsk m es at (r .end) work″
           unfolding contextOf
           for-next =
-              let k = did .maps in
-              (
+              let k = did .maps in (
                 record { room = k .room; marks = k .marks; structs = k .structs; measured = k .measured },
                 function-ask m es work″ at (r .end) g f (context .places) (behindIn m es at) front end-is (here .limits .0) (here .few) (context .is) k,
               )

@@ -318,11 +318,11 @@ module _ (m : ℕ) (ks ws : List ℕ) (d : Decoded m ks ws) where
   unfolding ending first
   first-place at e = rw e (go (b .functions) some-function entries-are)
     where
-      go : (fs : List Function) → 1 ≤ length fs → entries ks ws ≡ book-heads b .pre ++ ending encFunction (book-heads b .end) fs
+      go : (fs : List Function) → 1 ≤ length fs → entries ks ws ≡ book-heads b .pre ++ encFunctions fs
           → (getD ws (firstFive ks) 0 ≡ first fs .name) × ((firstFive ks < length ks) × (firstFive ks < length ws))
       go [] l h = absurd (omega arith)
       go (f ∷ fs) l h =
-          let g = h ∙ ap (λ (r : List Entry). book-heads b .pre ++ (r ++ ending encFunction (book-heads b .end) fs)) (function-rest f) in
+          let g = h ∙ ap (λ (r : List Entry). book-heads b .pre ++ (r ++ encFunctions fs)) (function-rest f) in
           first-past (book-heads b .pre) (entry 5 (f .name)) _ ks ws g (book-heads b .before) refl .1
 
   pub first-is : isFn m ks ws (firstOf m ks ws) ≡ true
