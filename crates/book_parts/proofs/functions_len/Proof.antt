@@ -175,7 +175,9 @@ mark-new-requires : tie.Need-mark-new-requires Inv-loop μ-loop
 mark-new-requires c κs = search needs
 
 same-length-5 : tie.Need-same-length-5 Inv-loop μ-loop
-same-length-5 c = c .before .before .before .mark-new .kept .0 ∙ c .before .before .before .before .before .before .before .before .before .before .before .before .before .before .before .before .loop .inv .1
+same-length-5 c =
+    let after-mark = c .before .before .before in
+    after-mark .mark-new .kept .0 ∙ after-mark .before .before .before .before .before .before .before .before .before .before .before .before .before .loop .inv .1
 
 returns-5 : tie.Need-returns-5 Inv-loop μ-loop
 returns-5 c =

@@ -200,7 +200,9 @@ mark-new-requires : tie.Need-mark-new-requires Inv-loop μ-loop
 mark-new-requires c κs = search needs
 
 same-length-7 : tie.Need-same-length-7 Inv-loop μ-loop
-same-length-7 c = c .before .before .before .mark-new .kept .0 ∙ c .before .before .before .before .before .before .before .before .before .before .before .before .before .before .before .before .loop .inv .1
+same-length-7 c =
+    let after-mark = c .before .before .before in
+    after-mark .mark-new .kept .0 ∙ after-mark .before .before .before .before .before .before .before .before .before .before .before .before .before .loop .inv .1
 
 same-length-8 : tie.Need-same-length-8 Inv-loop μ-loop
 same-length-8 c = ap length (c .before .before .before .before .before .before .before .before .before .before .before .before .before .before .before .before .loop .inv .2)

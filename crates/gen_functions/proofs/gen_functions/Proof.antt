@@ -70,7 +70,9 @@ loop-again c =
     let entry = at-loop .before .before .before .before .before .before in
     let going = ap not (eq-eqb _ 0 (c .if1 .left)) in
     let kept = after-gen-turn .gen-turn .kept in
-    laws.walk-more (entry .args .book-kinds .now) (entry .args .book-words .now) (at-loop .loop .inv) (in-loop .loop-test .taken) (after-gen-turn .gen-turn .ensures) going (kept .1 .1 .0) (kept .1 .1 .1 .1 .1 .1 .0) (kept .1 .1 .1 .1 .1 .1 .1 .0)
+    let lines-kept = kept .1 .1 .1 .1 .1 .1 in
+    laws.walk-more (entry .args .book-kinds .now) (entry .args .book-words .now) (at-loop .loop .inv) (in-loop .loop-test .taken) (after-gen-turn .gen-turn .ensures) going
+    (kept .1 .1 .0) (lines-kept .0) (lines-kept .1 .0)
 
 same-length-4 : tie.Need-same-length-4 Inv-loop μ-loop
 same-length-4 c = c .before .loop .inv .long-work

@@ -46,8 +46,14 @@ loop-again c =
     let at-loop = in-loop .before in
     let entry = at-loop .before .before .before .before in
     let test = in-loop .loop-test .taken in
-    let inv = at-loop .loop .inv in
-    (after-note-head .note-head .kept .0 ∙ inv .0, (omega (arith, test), after-note-head .note-head .ensures _ _ (record { kinds = test; words = omega (arith, test, entry .pre .0); kind = refl; word = refl }) (inv .1 .1)))
+    let inv = at-loop .loop .inv in (
+      after-note-head .note-head .kept .0 ∙ inv .0,
+      (
+        omega (arith, test),
+        after-note-head .note-head .ensures _ _
+            (record { kinds = test; words = omega (arith, test, entry .pre .0); kind = refl; word = refl }) (inv .1 .1),
+      ),
+    )
 
 same-length : tie.Need-same-length Inv-loop μ-loop
 same-length c = c .before .loop .inv .0

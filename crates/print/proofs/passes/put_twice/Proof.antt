@@ -47,7 +47,9 @@ write-segments-requires c κs =
     let after-places = after-weigh .before .before .before in
     let p = after-weigh .before .before .before .before .before .before .before .before .before .before .before .before .before .before .before .pre in
     let n = passes-count (after-weigh .weigh-segments .ensures) _ (c .before .before .before .before .weighed .given .1) in
-    let tables : Tables (after-places .before .word-letters .result) (after-places .word-places .result) = record { letters-are = after-places .before .word-letters .ensures; places-are = after-places .word-places .ensures } in
+    let after-letters = after-places .before in
+    let tables : Tables (after-letters .word-letters .result) (after-places .word-places .result) =
+    record { letters-are = after-letters .word-letters .ensures; places-are = after-places .word-places .ensures } in
     (tables, (p .0, (p .1 .0, (p .1 .1 .0, (p .1 .1 .1, (n .0, (n .1 .0, n .1 .1)))))))
 
 enum-told : tie.Need-enum-told

@@ -14,7 +14,7 @@ use Rattle.print_types.proofs.starts.name_of.Reads as name-of-reads
 -- the function that was found
 here : (c : lts.After-at (find-head-reads.Asked, find-head-reads.Learnt, name-of-reads.Asked, name-of-reads.Learnt, weigh-lines-reads.Asked, weigh-lines-reads.Learnt) reads.Pre reads.Post)
     → let entry = c .before .before .before .before .before .before .before .before .before .before .before .before in
-      Standing (entry .args .count) (entry .args .kinds .now) (entry .args .words .now) (entry .args .own) (c .at .given .0 .0) (c .at .given .0 .1 .0)
+    Standing (entry .args .count) (entry .args .kinds .now) (entry .args .words .now) (entry .args .own) (c .at .given .0 .0) (c .at .given .0 .1 .0)
 here c = stands-at _ _ (c .before .before .find-head .ensures) (c .at .given .1)
 
 find-head-requires : tie.Need-find-head-requires

@@ -24,8 +24,8 @@ abbrev μ-loop : tie.MeasureT-loop
 -- the segment that is come to
 here : (c : lts.After-segment-end (pick-reads.Asked, pick-reads.Learnt, segment-end-reads.Asked, segment-end-reads.Learnt, write-under-reads.Asked, write-under-reads.Learnt) reads.Pre reads.Post Inv-loop μ-loop)
     → let at-loop = c .before .before .before .before .before in
-      let entry = at-loop .before .before .before .before .before .before .before .before .before .before .before in
-      Segment (at-loop .loop .own) (entry .args .line-kinds .now) (entry .args .operands .now) (at-loop .loop .i) (c .before .pick .result) (c .segment-end .result)
+    let entry = at-loop .before .before .before .before .before .before .before .before .before .before .before in
+    Segment (at-loop .loop .own) (entry .args .line-kinds .now) (entry .args .operands .now) (at-loop .loop .i) (c .before .pick .result) (c .segment-end .result)
 here c =
     let test = c .before .before .before .before .loop-test .taken in
     let entry = c .before .before .before .before .before .before .before .before .before .before .before .before .before .before .before .before in

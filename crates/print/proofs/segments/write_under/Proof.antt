@@ -17,7 +17,7 @@ use Rattle.print_types.proofs.starts.name_of.Reads as name-of-reads
 -- the function that was found
 here : (c : lts.After-at (find-head-reads.Asked, find-head-reads.Learnt, name-of-reads.Asked, name-of-reads.Learnt, write-lines-reads.Asked, write-lines-reads.Learnt) reads.Pre reads.Post)
     → let entry = c .before .before .before .before .before .before .before .before .before .before .before .before .before in
-      Standing (entry .args .count) (entry .args .kinds .now) (entry .args .words .now) (entry .args .own) (c .at .given .0 .0) (c .at .given .0 .1 .0)
+    Standing (entry .args .count) (entry .args .kinds .now) (entry .args .words .now) (entry .args .own) (c .at .given .0 .0) (c .at .given .0 .1 .0)
 here c = stands-at _ _ (c .before .before .find-head .ensures) (c .at .given .1)
 
 find-head-requires : tie.Need-find-head-requires
@@ -33,7 +33,8 @@ returns : tie.Need-returns
 returns c =
     let find = c .before .before in
     let entry = find .before .before .before .before .before .before .before .before .before .before .before in
-    absurd (false≢true (sym (stands-nowhere (entry .args .count) (entry .args .kinds .now) (entry .args .words .now) (entry .args .own) (find .find-head .ensures) (c .enum-told .given .1)) ∙ entry .pre .1 .1 .1 .1 .0))
+    let nowhere = stands-nowhere (entry .args .count) (entry .args .kinds .now) (entry .args .words .now) (entry .args .own) (find .find-head .ensures) (c .enum-told .given .1) in
+    absurd (false≢true (sym nowhere ∙ entry .pre .1 .1 .1 .1 .0))
 
 add-behind : tie.Need-add-behind
 add-behind c =
