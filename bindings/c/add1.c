@@ -1,7 +1,7 @@
 /* Checks, translates and prints `i32 @add1(i32 %a)`, document 01's first sheet, through libexports.a. */
 #include <inttypes.h>
 #include <stdio.h>
-#include "../crates/exports/mivolanjy.h"
+#include "mivolanjy.h"
 
 enum { NAMES = 4, WORK = 8 * NAMES + 64, LINES = 16, TEXT = 256 };
 

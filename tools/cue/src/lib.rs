@@ -1,0 +1,9 @@
+//! From clang's text to the lines of a stack machine: [`read()`] makes typed functions of the text, [`run()`] does all of
+//! the work on bytes in memory.
+pub mod files;
+pub mod pieces;
+pub mod read;
+mod run;
+
+pub use read::{read, Fault, Unit};
+pub use run::{run, Options, Outcome, Stats};
