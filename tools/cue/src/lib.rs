@@ -1,6 +1,7 @@
 //! From clang's text to the lines of a stack machine: [`read()`] makes typed functions of the text, [`run()`] does all of
 //! the work on bytes in memory.
 pub mod files;
+mod labels;
 pub mod pieces;
 pub mod read;
 mod run;

@@ -1,7 +1,9 @@
 //! The functions of a text as books: all in one, or in as few as hold them, and their lines.
-use crate::read::{Body, Definition, LeftOut};
+use crate::labels::labels_alike;
+use crate::read::{Body, Definition, LeftOut, Spot};
 use mivolanjy::ir::Module;
-use mivolanjy::{Book, BookWriter, Lines, Unwritable};
+use mivolanjy::{blame, Book, BookWriter, Lines, Place, Unwritable};
+use std::collections::HashMap;
 
 /// A function with its place among the definitions of its text.
 #[derive(Clone, Copy)]
@@ -14,10 +16,11 @@ pub struct Candidate<'u> {
     pub body: &'u Body<'u>,
 }
 
-/// A book and the lines of its functions.
+/// A book, the lines of its functions and their text.
 pub struct Piece {
     pub book: Book,
     pub lines: Lines,
+    pub text: String,
 }
 
 /// What became of a text's functions.
@@ -31,12 +34,7 @@ pub struct Pieces<'u> {
     pub left_out: Vec<(usize, LeftOut)>,
 }
 
-impl<'u> Pieces<'u> {
-    fn new(books: Vec<Book>, lines: Vec<Lines>, printed: Vec<Candidate<'u>>, left_out: Vec<(usize, LeftOut)>) -> Self {
-        let pieces = books.into_iter().zip(lines).map(|(book, lines)| Piece { book, lines }).collect();
-        Pieces { pieces, printed, left_out }
-    }
-
+impl Pieces<'_> {
     /// The label counter behind all lines.
     pub fn next(&self) -> u64 {
         self.pieces.last().map_or(0, |piece| piece.lines.next)
@@ -47,19 +45,54 @@ impl<'u> Pieces<'u> {
 /// one, so where the translator refuses a piece it is asked for each function by itself, and then for the others together.
 pub fn translate<'u>(module: &'u Module<'u>, functions: &[Candidate<'u>]) -> Result<Pieces<'u>, String> {
     let mut left_out = Vec::new();
-    let (books, mut written) = write(module, functions, &mut left_out);
-    let refusal = match lines_of(&books) {
-        Ok(lines) => return Ok(Pieces::new(books, lines, written, left_out)),
-        Err(refusal) => refusal,
-    };
-    let before = written.len();
-    written.retain(|function| stands_alone(module, *function, &mut left_out));
-    if written.len() == before {
-        return Err(format!("the functions are refused together, and none by itself: {refusal}"));
+    let (books, mut printed) = write(module, functions, &mut left_out);
+    let mut translated = pieces_of(books);
+    if let Err(refusal) = translated {
+        let before = printed.len();
+        printed.retain(|function| stands_alone(module, *function, &mut left_out));
+        if printed.len() == before {
+            return Err(format!("the functions are refused together, and none by itself: {refusal}"));
+        }
+        translated = pieces_of(write(module, &printed, &mut left_out).0);
     }
-    let (books, written) = write(module, &written, &mut left_out);
+    loop {
+        let pieces = translated?;
+        let alike: HashMap<usize, &str> = labels_alike(pieces.iter().flat_map(|piece| piece.text.lines())).collect();
+        if alike.is_empty() {
+            return Ok(Pieces { pieces, printed, left_out });
+        }
+        printed = without(&alike, printed, &mut left_out);
+        translated = pieces_of(write(module, &printed, &mut left_out).0);
+    }
+}
+
+/// The functions that have no label which stands in the lines before it; the others are left out.
+fn without<'u>(
+    alike: &HashMap<usize, &str>,
+    printed: Vec<Candidate<'u>>,
+    left_out: &mut Vec<(usize, LeftOut)>,
+) -> Vec<Candidate<'u>> {
+    let mut kept = Vec::new();
+    for (place, function) in printed.into_iter().enumerate() {
+        match alike.get(&place) {
+            None => kept.push(function),
+            Some(label) => {
+                let reason = format!("a second label prints as `{label}`, and a jump goes to the first");
+                left_out.push((function.index, LeftOut { spot: function.definition.spot, reason }));
+            }
+        }
+    }
+    kept
+}
+
+/// Books with their lines, each beginning with the label counter that the last one left, and their text.
+fn pieces_of(books: Vec<Book>) -> Result<Vec<Piece>, String> {
     let lines = lines_of(&books)?;
-    Ok(Pieces::new(books, lines, written, left_out))
+    let piece = |(book, lines): (Book, Lines)| {
+        let text = book.print(&lines).map_err(|refusal| refusal.to_string())?;
+        Ok(Piece { book, lines, text })
+    };
+    books.into_iter().zip(lines).map(piece).collect()
 }
 
 /// The books of functions, and the functions in them.
@@ -108,12 +141,13 @@ pub fn own_book<'u>(module: &'u Module<'u>, function: Candidate<'u>) -> Result<B
 
 /// Whether the translator takes a function by itself.
 fn stands_alone<'u>(module: &'u Module<'u>, function: Candidate<'u>, left_out: &mut Vec<(usize, LeftOut)>) -> bool {
-    let why = match own_book(module, function) {
+    let why = match blame(module, &function.body.function) {
+        Ok(None) => return true,
+        Ok(Some(blame)) => {
+            let reason = blame.to_string();
+            LeftOut { spot: spot(&function, blame.place), reason }
+        }
         Err(unwritable) => turned_down(&function, unwritable),
-        Ok(book) => match book.translate(0) {
-            Ok(_) => return true,
-            Err(refusal) => LeftOut { spot: function.definition.spot, reason: refusal.to_string() },
-        },
     };
     left_out.push((function.index, why));
     false
@@ -121,6 +155,11 @@ fn stands_alone<'u>(module: &'u Module<'u>, function: Candidate<'u>, left_out: &
 
 /// What the writer says of a function, at the place of the instruction that it says it of.
 fn turned_down(function: &Candidate, unwritable: Unwritable) -> LeftOut {
-    let place = unwritable.place.and_then(|place| function.body.spots.get(place.block)?.get(place.inst));
-    LeftOut { spot: place.copied().unwrap_or(function.definition.spot), reason: unwritable.reason }
+    LeftOut { spot: spot(function, unwritable.place), reason: unwritable.reason }
+}
+
+/// Where an instruction stands, or the function's name where it is none's.
+fn spot(function: &Candidate, place: Option<Place>) -> Spot {
+    let found = place.and_then(|place| function.body.spots.get(place.block)?.get(place.inst));
+    found.copied().unwrap_or(function.definition.spot)
 }

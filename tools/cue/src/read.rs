@@ -3,6 +3,7 @@
 //! A text that is no IR is a [`Fault`]. A function that uses what no book holds is left out, with the place and the reason,
 //! and the rest of the text is read all the same.
 use mivolanjy::ir::{Function, Module, Name};
+use std::collections::HashSet;
 use std::fmt;
 
 mod access;
@@ -13,6 +14,7 @@ mod calls;
 mod cursor;
 mod entities;
 mod headers;
+mod layout;
 mod lexer;
 mod locals;
 mod number;
@@ -67,6 +69,8 @@ pub struct Unit<'a> {
     pub module: Module<'a>,
     /// The functions that have a body, in the text's order.
     pub definitions: Vec<Definition<'a>>,
+    /// The globals of which each thread has one of its own.
+    threads: HashSet<Name<'a>>,
 }
 
 /// A function that has a body.
@@ -89,6 +93,8 @@ pub struct Body<'a> {
     pub function: Function<'a>,
     /// For each block where its instructions stand, and last where its terminator does.
     pub spots: Vec<Vec<Spot>>,
+    /// The globals that it uses, and where.
+    globals: Vec<(Name<'a>, Spot)>,
 }
 
 /// Reads a whole text.
@@ -96,7 +102,20 @@ pub fn read(text: &[u8]) -> Result<Unit<'_>, Fault> {
     let mut reader = cursor::Reader::new(text)?;
     let mut unit = Unit::default();
     reader.entities(&mut unit)?;
+    leave_out_threads(&mut unit);
     Ok(unit)
+}
+
+/// A global of each thread's own has many addresses, and a book gives it one. They may stand behind the functions.
+fn leave_out_threads(unit: &mut Unit) {
+    for definition in &mut unit.definitions {
+        let Ok(body) = &definition.body else { continue };
+        let used = body.globals.iter().find(|(name, _)| unit.threads.contains(name));
+        let why = used.map(|(name, spot)| LeftOut { spot: *spot, reason: format!("each thread has a @{name} of its own") });
+        if let Some(why) = why {
+            definition.body = Err(why);
+        }
+    }
 }
 
 /// What keeps a function from being read.

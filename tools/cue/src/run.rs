@@ -71,7 +71,7 @@ fn attempt(name: &str, text: &[u8], options: &Options) -> Result<Outcome, String
     let mut pieces = translate(&unit.module, &candidates).map_err(|reason| format!("{name}: error: {reason}"))?;
     left_out.append(&mut pieces.left_out);
     left_out.sort_by_key(|(index, _)| *index);
-    let text = print(&pieces).map_err(|reason| format!("{name}: error: {reason}"))?;
+    let text: String = pieces.pieces.iter().map(|piece| piece.text.as_str()).collect();
     let complaint = |(index, why): &(usize, LeftOut)| complaint(name, &unit.definitions[*index], why);
     let stats = stats(&unit, &pieces, &text, left_out.len());
     Ok(Outcome {
@@ -103,14 +103,6 @@ fn complaint(name: &str, definition: &Definition, why: &LeftOut) -> String {
 /// Names may hold any character, and a complaint is one line.
 fn one_line(text: &str) -> String {
     text.chars().map(|letter| if letter.is_control() { ' ' } else { letter }).collect()
-}
-
-fn print(pieces: &Pieces) -> Result<String, String> {
-    let mut text = String::new();
-    for piece in &pieces.pieces {
-        text += &piece.book.print(&piece.lines).map_err(|refusal| refusal.to_string())?;
-    }
-    Ok(text)
 }
 
 fn stats(unit: &Unit, pieces: &Pieces, text: &str, left_out: usize) -> Stats {

@@ -82,14 +82,32 @@ fn functions_left_out() {
     let (code, out, err) = parts(&output);
     assert_eq!(code, 1);
     assert!(out.starts_with(ADD1) && !out.contains("half") && !out.contains("lost"), "{out}");
-    let expected = "<stdin>:1:14: @half is left out: its return type: a book has no type float
-<stdin>:13:12: @lost is left out: an operand is an unknown local (refusal 10)
+    let expected = "<stdin>:1:8: @half is left out: its return type: a book has no type float
+<stdin>:14:3: @lost is left out: an operand is an unknown local (refusal 10)
 functions: 4 read, 2 printed, 2 left out
 book: 29 entries, 6 names
 text: 22 lines, 230 bytes
 next label counter: 0
 ";
     assert_eq!(err, expected);
+}
+
+#[test]
+fn labels_that_print_alike() {
+    let function =
+        |name: &str, block: &str| format!("define void @{name}() {{\nx:\n  br label %{block}\n{block}:\n  ret void\n}}\n");
+    let text =
+        [("a.b", "c"), ("a_b", "d"), ("e", "x_"), ("e__x", "y"), ("f", "x")].map(|(name, block)| function(name, block));
+    let text =
+        text.concat().replace("@f() {\nx:\n  br label %x\nx:", "@f() {\n  br label %a.1\na.1:\n  br label %a_1\na_1:");
+    let output = cue(&[], &text);
+    let (code, out, err) = parts(&output);
+    let expected = "<stdin>:7:13: @a_b is left out: a second label prints as `a_b:`, and a jump goes to the first
+<stdin>:19:13: @e__x is left out: a second label prints as `e__x:`, and a jump goes to the first
+<stdin>:25:13: @f is left out: a second label prints as `f__a_1:`, and a jump goes to the first
+";
+    assert_eq!((code, err), (1, expected));
+    assert_eq!(out.lines().filter(|line| line.starts_with('#')).count(), 2);
 }
 
 #[test]
@@ -109,17 +127,20 @@ fn files_that_cannot_be_read() {
 #[test]
 fn books() {
     let folder = folder("books");
-    let text = format!("{TWO}{FLOAT}define void @odd_name() {{\n  ret void\n}}\n");
+    let long = "n".repeat(300);
+    let text = format!("{TWO}{FLOAT}define void @{long}a() {{\n  ret void\n}}\ndefine void @{long}b() {{\n  ret void\n}}\n");
     let output = cue(&["--book", folder.to_str().expect("UTF-8")], &text);
     assert_eq!(parts(&output).0, 1);
+    let cut = format!("functions/{}", "n".repeat(200));
+    let (first, second) = (format!("{cut}.book"), format!("{cut}-2.book"));
     for (file, functions) in
-        [("piece.book", 3), ("functions/add1.book", 1), ("functions/odd_name.book", 1), ("functions/odd_name-2.book", 1)]
+        [("piece.book", 4), ("functions/add1.book", 1), ("functions/odd_name.book", 1), (&*first, 1), (&*second, 1)]
     {
         let bytes = std::fs::read(folder.join(file)).expect(file);
         let book = mivolanjy::Book::from_file(&bytes).expect(file);
         assert_eq!(book.functions(), functions, "{file}");
     }
-    assert_eq!(std::fs::read_dir(folder.join("functions")).expect("a folder").count(), 3);
+    assert_eq!(std::fs::read_dir(folder.join("functions")).expect("a folder").count(), 4);
 }
 
 #[test]

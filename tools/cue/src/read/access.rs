@@ -12,7 +12,7 @@ impl<'a> Reader<'a> {
             return out(spot, "a book has no place for an argument that is copied (`inalloca`)");
         }
         self.eat_word("swifterror")?;
-        let ty = self.ty()?;
+        let ty = self.held_type()?;
         let count = if self.comma()? { Some(self.typed()?) } else { None };
         Ok(Op::Alloca { ty, count, align: self.align()? })
     }
@@ -20,7 +20,7 @@ impl<'a> Reader<'a> {
     pub fn load(&mut self) -> Result<Op<'a>, Trouble> {
         let atomic = self.eat_word("atomic")?;
         self.eat_word("volatile")?;
-        let ty = self.ty()?;
+        let ty = self.held_type()?;
         self.expect(b',')?;
         let ptr = self.pointer()?;
         if !atomic {

@@ -10,7 +10,7 @@ impl<'a> Reader<'a> {
             self.advance()?;
             self.skip_round()?;
         }
-        let base_ty = self.ty()?;
+        let base_ty = self.held_type()?;
         self.expect(b',')?;
         let ptr = self.pointer()?;
         let mut indices = Vec::new();

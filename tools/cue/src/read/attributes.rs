@@ -11,6 +11,7 @@ impl<'a> Reader<'a> {
     /// One attribute, if the token in hand begins one: a word with or without brackets, a text, a group, an attachment.
     pub fn attribute(&mut self) -> Result<bool, Fault> {
         match self.token {
+            Token::Word(word) if is_instruction(word) => return Ok(false),
             Token::Word(word) => {
                 self.advance()?;
                 if matches!(word, "align" | "cc") && matches!(self.token, Token::Int(_)) {

@@ -24,7 +24,8 @@ impl<'a> Reader<'a> {
             None => self.body()?.map(|(blocks, spots)| {
                 // Without a name it would be left out.
                 let name = name.clone().unwrap_or_default();
-                Body { function: Function { name, ret_ty, params, blocks }, spots }
+                let globals = std::mem::take(&mut self.locals.globals);
+                Body { function: Function { name, ret_ty, params, blocks }, spots, globals }
             }),
         };
         Ok(Definition { shown, name, spot, body })
@@ -92,7 +93,7 @@ impl<'a> Reader<'a> {
     }
 
     /// `uselistorder i32 %x, { 1, 0 }`
-    fn use_list_order(&mut self) -> Result<(), Fault> {
+    pub fn use_list_order(&mut self) -> Result<(), Fault> {
         self.advance()?;
         if self.at_type() {
             self.ty()?;

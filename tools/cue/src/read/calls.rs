@@ -47,7 +47,7 @@ impl<'a> Reader<'a> {
         if self.token == Token::Dots {
             return out(self.spot, "a book has no call that hands on arguments by `...`");
         }
-        let ty = self.ty()?;
+        let ty = self.held_type()?;
         if ty == Type::Metadata {
             return self.metadata_argument();
         }

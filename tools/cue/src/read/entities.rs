@@ -1,5 +1,6 @@
 //! What stands at the outermost level of a text. Named types and definitions are read, all else is read over.
 use super::cursor::Reader;
+use super::layout::other_layout;
 use super::lexer::Token;
 use super::spelling::Spelling;
 use super::words::begins_entity;
@@ -17,9 +18,12 @@ impl<'a> Reader<'a> {
                     self.header()?;
                 }
                 Token::Local(name) => self.named_type(name, unit)?,
-                Token::Global(_) => self.global()?,
+                Token::Global(name) => self.global(name, unit)?,
+                Token::Comdat => self.comdat()?,
+                Token::Metadata | Token::Mark(b'!') => self.metadata()?,
+                Token::Summary => self.summary()?,
                 Token::Word(word) => self.directive(word)?,
-                _ => self.skip_entity()?,
+                _ => return self.expected("a definition or another thing of the outermost level"),
             }
         }
         Ok(())
@@ -68,30 +72,54 @@ impl<'a> Reader<'a> {
     }
 
     /// `@name = .. global i32 0, align 4`, an alias or an ifunc.
-    fn global(&mut self) -> Result<(), Fault> {
+    fn global(&mut self, name: Spelling<'a>, unit: &mut Unit<'a>) -> Result<(), Fault> {
         self.advance()?;
         self.expect(b'=')?;
         while !matches!(self.token, Token::Word("global" | "constant" | "alias" | "ifunc")) {
+            if self.at_word("thread_local") {
+                unit.threads.extend(name.name());
+            }
             if self.at_entity()? || !self.attribute()? {
                 return self.expected("`global`, `constant`, `alias` or `ifunc`");
             }
         }
-        self.advance()?;
+        let sort = self.advance()?;
         self.ty()?;
-        self.skip_to_entity()
+        match sort {
+            Token::Word("alias" | "ifunc") => {
+                self.expect(b',')?;
+                if self.at_type() {
+                    self.ty()?;
+                }
+                self.skip_constant()?;
+            }
+            _ if self.at(b',') || self.at_entity()? => {}
+            Token::Word(_) if matches!(self.token, Token::Group) => {}
+            _ => self.skip_constant()?,
+        }
+        self.behind_global()
+    }
+
+    /// `, section "x", comdat($c), align 4, !dbg !7 #0`
+    fn behind_global(&mut self) -> Result<(), Fault> {
+        while self.eat(b',')? {
+            if !self.attribute()? {
+                return self.expected("an attribute");
+            }
+            if self.token == Token::Text {
+                self.advance()?;
+            }
+        }
+        while self.token == Token::Group {
+            self.advance()?;
+        }
+        Ok(())
     }
 
     /// A thing that begins with a word, and is neither a definition nor a declaration.
     fn directive(&mut self, word: &str) -> Result<(), Fault> {
         match word {
-            "target" => {
-                self.advance()?;
-                if !self.eat_word("triple")? {
-                    self.expect_word("datalayout")?;
-                }
-                self.expect(b'=')?;
-                self.expect_text()
-            }
+            "target" => self.target_line(),
             "source_filename" => {
                 self.advance()?;
                 self.expect(b'=')?;
@@ -102,7 +130,82 @@ impl<'a> Reader<'a> {
                 self.expect_word("asm")?;
                 self.expect_text()
             }
-            _ => self.skip_entity(),
+            "attributes" => {
+                self.advance()?;
+                if self.token != Token::Group {
+                    return self.expected("a group of attributes");
+                }
+                self.given(|token| token == Token::Mark(b'{'))
+            }
+            "uselistorder" | "uselistorder_bb" => self.use_list_order(),
+            _ => self.expected("a definition or another thing of the outermost level"),
+        }
+    }
+
+    /// `target triple = ".."` or `target datalayout = ".."`
+    fn target_line(&mut self) -> Result<(), Fault> {
+        self.advance()?;
+        let layout = !self.eat_word("triple")?;
+        if layout {
+            self.expect_word("datalayout")?;
+        }
+        self.expect(b'=')?;
+        let (begin, spot) = (self.begin, self.spot);
+        self.expect_text()?;
+        match other_layout(&self.text_from(begin)).filter(|_| layout) {
+            Some(reason) => Err(Fault::new(spot, format!("there are no lines for this target: {reason}"))),
+            None => Ok(()),
+        }
+    }
+
+    /// A sign or name in hand, `=`, and behind it what brackets hold, if they may begin so.
+    fn given(&mut self, opens: impl Fn(Token) -> bool) -> Result<(), Fault> {
+        self.advance()?;
+        self.expect(b'=')?;
+        if opens(self.token) {
+            self.skip_brackets()
+        } else {
+            self.expected("a bracket")
+        }
+    }
+
+    /// `!7 = distinct !{..}`, `!name = !{!0}`, `!7 = !DIFile(..)`
+    fn metadata(&mut self) -> Result<(), Fault> {
+        if self.eat(b'!')? {
+            self.number::<u32>()?;
+        } else {
+            self.advance()?;
+        }
+        self.expect(b'=')?;
+        self.eat_word("distinct")?;
+        match self.advance()? {
+            Token::Mark(b'!') if self.at(b'{') => self.skip_brackets(),
+            Token::Metadata if self.at(b'(') => self.skip_brackets(),
+            _ => self.expected("metadata"),
+        }
+    }
+
+    /// `$name = comdat any`
+    fn comdat(&mut self) -> Result<(), Fault> {
+        self.advance()?;
+        self.expect(b'=')?;
+        self.expect_word("comdat")?;
+        match self.token {
+            Token::Word("any" | "exactmatch" | "largest" | "nodeduplicate" | "noduplicates" | "samesize") => {
+                self.advance().map(|_| ())
+            }
+            _ => self.expected("a kind of comdat"),
+        }
+    }
+
+    /// `^7 = gv: (..)` or `^7 = flags: 8`
+    fn summary(&mut self) -> Result<(), Fault> {
+        self.advance()?;
+        self.expect(b'=')?;
+        match self.advance()? {
+            Token::Label(_) if self.at(b'(') => self.skip_brackets(),
+            Token::Label(_) => self.number::<u64>().map(|_| ()),
+            _ => self.expected("a summary"),
         }
     }
 
@@ -123,30 +226,5 @@ impl<'a> Reader<'a> {
             }
             _ => false,
         })
-    }
-
-    fn skip_entity(&mut self) -> Result<(), Fault> {
-        if !self.at_entity()? {
-            return self.expected("a definition or another thing of the outermost level");
-        }
-        if self.eat(b'!')? {
-            self.advance()?;
-        }
-        self.advance()?;
-        self.skip_to_entity()
-    }
-
-    /// Over everything, brackets as a whole, up to the next thing of the outermost level.
-    fn skip_to_entity(&mut self) -> Result<(), Fault> {
-        while !self.at_entity()? {
-            match self.token {
-                Token::Mark(b')' | b']' | b'}' | b'>') => return self.expected("no closing bracket"),
-                _ if self.at_opening() => self.skip_brackets()?,
-                _ => {
-                    self.advance()?;
-                }
-            }
-        }
-        Ok(())
     }
 }

@@ -22,6 +22,7 @@ impl<'a> Reader<'a> {
     pub fn header(&mut self) -> Result<Header<'a>, Fault> {
         self.locals = Default::default();
         let emitted = !self.before_type("available_externally")?;
+        let before = self.spot;
         let ret_ty = self.ty()?;
         let spot = self.spot;
         let Token::Global(spelling) = self.token else { return self.expected("a function's name") };
@@ -31,6 +32,13 @@ impl<'a> Reader<'a> {
         match spelling.name() {
             Ok(name) => header.name = Some(name),
             Err(reason) => header.left_out = Some(LeftOut { spot, reason: reason.to_string() }),
+        }
+        if spelling.number().is_some() {
+            header.left_out = Some(LeftOut { spot, reason: "a function without a name".to_string() });
+        }
+        if let Type::Other(words) = &header.ret_ty {
+            let reason = format!("its return type: a book has no type {words}");
+            header.left_out = Some(LeftOut { spot: before, reason });
         }
         self.parameters(&mut header)?;
         self.behind_parameters()?;
@@ -53,7 +61,12 @@ impl<'a> Reader<'a> {
     }
 
     fn parameter(&mut self, header: &mut Header<'a>) -> Result<(), Fault> {
+        let before = self.spot;
         let ty = self.ty()?;
+        if let Type::Other(words) = &ty {
+            let reason = format!("parameter {}: a book has no type {words}", header.params.len() + 1);
+            header.left_out.get_or_insert(LeftOut { spot: before, reason });
+        }
         if let Some((attribute, spot)) = self.parameter_attributes()? {
             let reason = format!("a book has no parameter that is copied for the call (`{attribute}`)");
             header.left_out.get_or_insert(LeftOut { spot, reason });

@@ -8,6 +8,8 @@ use std::collections::HashSet;
 pub struct Locals<'a> {
     next: u64,
     taken: HashSet<Name<'a>>,
+    /// The globals that the function uses, and where.
+    pub globals: Vec<(Name<'a>, Spot)>,
 }
 
 impl<'a> Locals<'a> {

@@ -15,7 +15,7 @@ impl<'a> Reader<'a> {
 
     pub fn binary(&mut self, op: BinOp) -> Result<Op<'a>, Trouble> {
         self.flags()?;
-        let ty = self.ty()?;
+        let ty = self.held_type()?;
         let lhs = self.value(&ty)?;
         self.expect(b',')?;
         let rhs = self.value(&ty)?;
@@ -26,7 +26,7 @@ impl<'a> Reader<'a> {
         self.flags()?;
         let from = self.typed()?;
         self.expect_word("to")?;
-        let to_ty = self.ty()?;
+        let to_ty = self.held_type()?;
         Ok(Op::Conv { op, from_ty: from.ty, val: from.val, to_ty })
     }
 
@@ -38,7 +38,7 @@ impl<'a> Reader<'a> {
         };
         let Some(pred) = pred else { return Ok(self.expected("a predicate of `icmp`")?) };
         self.advance()?;
-        let ty = self.ty()?;
+        let ty = self.held_type()?;
         let lhs = self.value(&ty)?;
         self.expect(b',')?;
         let rhs = self.value(&ty)?;
@@ -66,7 +66,7 @@ impl<'a> Reader<'a> {
 
     pub fn phi(&mut self) -> Result<Op<'a>, Trouble> {
         self.flags()?;
-        let ty = self.ty()?;
+        let ty = self.held_type()?;
         let mut incoming = Vec::new();
         if self.at(b'[') {
             loop {

@@ -5,7 +5,7 @@ use mivolanjy::ir::{Name, Terminator, Type, TypedVal, Value};
 
 impl<'a> Reader<'a> {
     pub fn ret(&mut self) -> Result<Terminator<'a>, Trouble> {
-        let ty = self.ty()?;
+        let ty = self.held_type()?;
         if ty == Type::Void {
             return Ok(Terminator::Ret { val: None });
         }
@@ -38,7 +38,7 @@ impl<'a> Reader<'a> {
     }
 
     fn case(&mut self) -> Result<(i128, Name<'a>), Trouble> {
-        let ty = self.ty()?;
+        let ty = self.held_type()?;
         let spot = self.spot;
         let Value::Int(number) = self.value(&ty)? else {
             return out(spot, "a book has no switch case that is no integer");

@@ -8,30 +8,37 @@ use super::{out, Fault, Spot, Trouble};
 use mivolanjy::ir::{Name, Type, TypedVal, Value};
 
 impl<'a> Reader<'a> {
+    /// A type that a book may have.
+    pub fn held_type(&mut self) -> Result<Type<'a>, Trouble> {
+        let spot = self.spot;
+        match self.ty()? {
+            Type::Other(words) => out(spot, format!("a book has no type {words}")),
+            ty => Ok(ty),
+        }
+    }
+
     /// A type and a value.
     pub fn typed(&mut self) -> Result<TypedVal<'a>, Trouble> {
-        let ty = self.ty()?;
+        let ty = self.held_type()?;
         let val = self.value(&ty)?;
         Ok(TypedVal { ty, val })
     }
 
     /// A pointer into the address space 0, behind its type.
     pub fn pointer(&mut self) -> Result<Value<'a>, Trouble> {
-        let spot = self.spot;
-        match self.ty()? {
-            Type::Ptr => self.value(&Type::Ptr),
-            Type::Other(words) => out(spot, format!("a book has no type {words}")),
-            _ => Err(Fault::new(spot, "expected a pointer type").into()),
-        }
+        self.of_type(Type::Ptr, "a pointer type")
     }
 
     /// A condition, behind its type.
     pub fn condition(&mut self) -> Result<Value<'a>, Trouble> {
+        self.of_type(Type::Int(1), "the type i1")
+    }
+
+    fn of_type(&mut self, wanted: Type<'a>, what: &str) -> Result<Value<'a>, Trouble> {
         let spot = self.spot;
-        match self.ty()? {
-            ty @ Type::Int(1) => self.value(&ty),
-            Type::Other(words) => out(spot, format!("a book has no type {words}")),
-            _ => Err(Fault::new(spot, "expected the type i1").into()),
+        match self.held_type()? {
+            ty if ty == wanted => self.value(&ty),
+            _ => Err(Fault::new(spot, format!("expected {what}")).into()),
         }
     }
 
@@ -45,7 +52,7 @@ impl<'a> Reader<'a> {
             }
             Token::Global(name) => {
                 self.advance()?;
-                self.used(name, spot).map(Value::Global)
+                self.global_used(name, spot).map(Value::Global)
             }
             Token::Int(number) => match ty {
                 Type::Int(width) => self.constant(Value::Int(wrapped(number, *width))),
@@ -64,6 +71,16 @@ impl<'a> Reader<'a> {
     /// A name that is used at a place.
     pub fn used(&self, name: Spelling<'a>, spot: Spot) -> Result<Name<'a>, Trouble> {
         name.name().or_else(|reason| out(spot, reason))
+    }
+
+    /// A global, which must have a name: the text of a line can't tell the address of `@7` from the number 7.
+    fn global_used(&mut self, name: Spelling<'a>, spot: Spot) -> Result<Name<'a>, Trouble> {
+        if let Some(number) = name.number() {
+            return out(spot, format!("the global @{number} has no name, and would print as the number {number}"));
+        }
+        let name = self.used(name, spot)?;
+        self.locals.globals.push((name.clone(), spot));
+        Ok(name)
     }
 
     fn constant_word(&mut self, word: &'a str, ty: &Type<'a>) -> Result<Value<'a>, Trouble> {
