@@ -4,7 +4,7 @@ use super::headers::Header;
 use super::lexer::Token;
 use super::statements::Statement;
 use super::{Body, Definition, Fault, LeftOut, Spot, Trouble};
-use mivolanjy::ir::{Block, Function};
+use mivolanjy::ir::{Block, Function, Type};
 
 /// Blocks, and where their statements stand.
 type Blocks<'a> = (Vec<Block<'a>>, Vec<Vec<Spot>>);
@@ -61,6 +61,7 @@ impl<'a> Reader<'a> {
                 self.use_list_order()?;
             }
             if self.eat(b'}')? {
+                self.locals.agree()?;
                 return Ok((blocks, spots));
             }
         }
@@ -71,9 +72,9 @@ impl<'a> Reader<'a> {
             Token::Label(name) => {
                 let spot = self.spot;
                 self.advance()?;
-                self.locals.named(name, spot)?
+                self.locals.named(name, spot, Some(Type::Label))?
             }
-            _ => self.locals.unnamed(),
+            _ => self.locals.unnamed(Some(Type::Label)),
         };
         let (mut insts, mut spots) = (Vec::new(), Vec::new());
         loop {

@@ -2,6 +2,7 @@
 use super::lexer::{Lexer, Token};
 use super::locals::Locals;
 use super::{Fault, Spot};
+use mivolanjy::ir::Type;
 
 /// Types and constants may be nested so deep.
 const DEEPEST: u32 = 256;
@@ -19,6 +20,8 @@ pub struct Reader<'a> {
     depth: u32,
     /// The names of the function that is being read.
     pub locals: Locals<'a>,
+    /// What it returns.
+    pub returns: Type<'a>,
 }
 
 /// A place to come back to.
@@ -35,7 +38,7 @@ impl<'a> Reader<'a> {
     pub fn new(text: &'a [u8]) -> Result<Self, Fault> {
         let mut lexer = Lexer::new(text);
         let (token, spot, begin) = lexer.next()?;
-        Ok(Reader { lexer, token, spot, begin, end: 0, depth: 0, locals: Locals::default() })
+        Ok(Reader { lexer, token, spot, begin, end: 0, depth: 0, locals: Locals::default(), returns: Type::Void })
     }
 
     pub fn place(&self) -> Place<'a> {

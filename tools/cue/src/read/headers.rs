@@ -24,6 +24,7 @@ impl<'a> Reader<'a> {
         let emitted = !self.before_type("available_externally")?;
         let before = self.spot;
         let ret_ty = self.ty()?;
+        self.returns = ret_ty.clone();
         let spot = self.spot;
         let Token::Global(spelling) = self.token else { return self.expected("a function's name") };
         self.advance()?;
@@ -75,7 +76,7 @@ impl<'a> Reader<'a> {
         let name = match self.token {
             Token::Local(name) => {
                 self.advance()?;
-                match self.locals.named(name, spot) {
+                match self.locals.named(name, spot, Some(ty.clone())) {
                     Ok(name) => Some(name),
                     Err(Trouble::Fault(fault)) => return Err(fault),
                     Err(Trouble::Out(why)) => {
@@ -84,7 +85,7 @@ impl<'a> Reader<'a> {
                     }
                 }
             }
-            _ => Some(self.locals.unnamed()),
+            _ => Some(self.locals.unnamed(Some(ty.clone()))),
         };
         header.params.push(Param { name, ty });
         Ok(())

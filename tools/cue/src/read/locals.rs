@@ -1,28 +1,31 @@
-//! The names of one function's parameters, blocks and results: values without a name get numbers, in one sequence.
+//! The names of one function's parameters, blocks and results. Values without a name get numbers, in one sequence, and each is
+//! used at the type that it has.
 use super::spelling::Spelling;
 use super::{out, Fault, Spot, Trouble};
-use mivolanjy::ir::Name;
-use std::collections::HashSet;
+use mivolanjy::ir::{Name, Op, StructBody, Type};
+use std::collections::HashMap;
 
 #[derive(Default)]
 pub struct Locals<'a> {
     next: u64,
-    taken: HashSet<Name<'a>>,
+    /// What each name is, a block being a label. None: of a type that depends on what stands elsewhere.
+    given: HashMap<Name<'a>, Option<Type<'a>>>,
+    uses: Vec<(Name<'a>, Type<'a>, Spot)>,
     /// The globals that the function uses, and where.
     pub globals: Vec<(Name<'a>, Spot)>,
 }
 
 impl<'a> Locals<'a> {
     /// The next number, as a name.
-    pub fn unnamed(&mut self) -> Name<'a> {
+    pub fn unnamed(&mut self, ty: Option<Type<'a>>) -> Name<'a> {
         let name = Name::from(self.next.to_string());
         self.next += 1;
-        self.taken.insert(name.clone());
+        self.given.insert(name.clone(), ty);
         name
     }
 
     /// A name that is given here. A number may be left out of the sequence, and none comes twice.
-    pub fn named(&mut self, spelling: Spelling<'a>, spot: Spot) -> Result<Name<'a>, Trouble> {
+    pub fn named(&mut self, spelling: Spelling<'a>, spot: Spot, ty: Option<Type<'a>>) -> Result<Name<'a>, Trouble> {
         if let Some(number) = spelling.number() {
             if u64::from(number) < self.next {
                 return Err(Fault::new(spot, format!("a number below {}, which is next", self.next)).into());
@@ -30,9 +33,44 @@ impl<'a> Locals<'a> {
             self.next = u64::from(number) + 1;
         }
         let name = spelling.name().or_else(|reason| out(spot, reason))?;
-        if !self.taken.insert(name.clone()) {
+        if self.given.insert(name.clone(), ty).is_some() {
             return Err(Fault::new(spot, format!("`{}` is given twice in one function", spelling.shown())).into());
         }
         Ok(name)
     }
+
+    /// A name that is used at a type.
+    pub fn used(&mut self, name: &Name<'a>, ty: &Type<'a>, spot: Spot) {
+        self.uses.push((name.clone(), ty.clone(), spot));
+    }
+
+    /// Whether each name that is given was used at its type. Of others the translator says that they are unknown.
+    pub fn agree(&self) -> Result<(), Fault> {
+        for (name, ty, spot) in &self.uses {
+            match self.given.get(name) {
+                Some(Some(given)) if given != ty => {
+                    return Err(Fault::new(*spot, format!("`%{name}` is used at another type than its own")));
+                }
+                _ => {}
+            }
+        }
+        Ok(())
+    }
+}
+
+/// Whether an instruction has a result, and so a name or a number: its type, if that can be told here.
+pub fn result_type<'a>(op: &Op<'a>) -> Option<Option<Type<'a>>> {
+    let ty = match op {
+        Op::Store { .. } | Op::AtomicStore { .. } | Op::Fence => return None,
+        Op::Call { ret_ty: Type::Void, .. } => return None,
+        Op::ExtractValue { .. } | Op::Other(_) => return Some(None),
+        Op::Call { ret_ty, .. } => ret_ty.clone(),
+        Op::ICmp { .. } => Type::Int(1),
+        Op::Alloca { .. } | Op::GetElementPtr { .. } => Type::Ptr,
+        Op::Conv { to_ty, .. } => to_ty.clone(),
+        Op::Cmpxchg { ty, .. } => Type::Struct(StructBody { packed: false, fields: vec![ty.clone(), Type::Int(1)] }),
+        Op::Bin { ty, .. } | Op::Select { ty, .. } | Op::Load { ty, .. } => ty.clone(),
+        Op::Phi { ty, .. } | Op::Freeze { ty, .. } | Op::AtomicLoad { ty, .. } => ty.clone(),
+    };
+    Some(Some(ty))
 }

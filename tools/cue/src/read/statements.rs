@@ -1,11 +1,12 @@
 //! One instruction or terminator, with the name of its result.
 use super::cursor::Reader;
 use super::lexer::Token;
+use super::locals::result_type;
 use super::operations::{bin_op, conv_op};
 use super::spelling::Spelling;
 use super::words::{is_instruction, is_unheld};
 use super::{out, Fault, Spot, Trouble};
-use mivolanjy::ir::{Inst, Op, Terminator, Type};
+use mivolanjy::ir::{Inst, Op, Terminator};
 
 /// What stands in a block.
 pub enum Statement<'a> {
@@ -27,10 +28,11 @@ impl<'a> Reader<'a> {
             }
             return Ok(statement);
         };
-        let dest = match dest {
-            Some((_, spot)) if !has_result(&op) => return Err(Fault::new(spot, "a name for what has no result").into()),
-            Some((name, spot)) => Some(self.locals.named(name, spot)?),
-            None => has_result(&op).then(|| self.locals.unnamed()),
+        let dest = match (dest, result_type(&op)) {
+            (Some((_, spot)), None) => return Err(Fault::new(spot, "a name for what has no result").into()),
+            (Some((name, spot)), Some(ty)) => Some(self.locals.named(name, spot, ty)?),
+            (None, Some(ty)) => Some(self.locals.unnamed(ty)),
+            (None, None) => None,
         };
         Ok(Statement::Inst(Inst { dest, op }))
     }
@@ -94,13 +96,4 @@ impl<'a> Reader<'a> {
 /// A call, or one that has no lines.
 fn called(op: Option<Op>) -> Statement {
     op.map_or(Statement::Hint, |op| Statement::Inst(Inst { dest: None, op }))
-}
-
-/// Whether an instruction has a result, and so a name or a number.
-fn has_result(op: &Op) -> bool {
-    match op {
-        Op::Call { ret_ty, .. } => *ret_ty != Type::Void,
-        Op::Store { .. } | Op::AtomicStore { .. } | Op::Fence => false,
-        _ => true,
-    }
 }

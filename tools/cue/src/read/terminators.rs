@@ -1,11 +1,15 @@
 //! How a block ends.
 use super::cursor::Reader;
-use super::{out, Trouble};
+use super::{out, Fault, Trouble};
 use mivolanjy::ir::{Name, Terminator, Type, TypedVal, Value};
 
 impl<'a> Reader<'a> {
     pub fn ret(&mut self) -> Result<Terminator<'a>, Trouble> {
+        let spot = self.spot;
         let ty = self.held_type()?;
+        if ty != self.returns {
+            return Err(Fault::new(spot, "another type than the function returns").into());
+        }
         if ty == Type::Void {
             return Ok(Terminator::Ret { val: None });
         }
@@ -32,13 +36,17 @@ impl<'a> Reader<'a> {
         self.expect(b'[')?;
         let mut cases = Vec::new();
         while !self.eat(b']')? {
-            cases.push(self.case()?);
+            cases.push(self.case(&on.ty)?);
         }
         Ok(Terminator::Switch { ty: on.ty, val: on.val, default, cases })
     }
 
-    fn case(&mut self) -> Result<(i128, Name<'a>), Trouble> {
+    fn case(&mut self, on: &Type<'a>) -> Result<(i128, Name<'a>), Trouble> {
+        let spot = self.spot;
         let ty = self.held_type()?;
+        if ty != *on {
+            return Err(Fault::new(spot, "a case of another type than the switch").into());
+        }
         let spot = self.spot;
         let Value::Int(number) = self.value(&ty)? else {
             return out(spot, "a book has no switch case that is no integer");

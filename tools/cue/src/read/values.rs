@@ -48,7 +48,7 @@ impl<'a> Reader<'a> {
         match self.token {
             Token::Local(name) => {
                 self.advance()?;
-                self.used(name, spot).map(Value::Local)
+                self.local_used(name, ty, spot).map(Value::Local)
             }
             Token::Global(name) => {
                 self.advance()?;
@@ -71,6 +71,12 @@ impl<'a> Reader<'a> {
     /// A name that is used at a place.
     pub fn used(&self, name: Spelling<'a>, spot: Spot) -> Result<Name<'a>, Trouble> {
         name.name().or_else(|reason| out(spot, reason))
+    }
+
+    fn local_used(&mut self, name: Spelling<'a>, ty: &Type<'a>, spot: Spot) -> Result<Name<'a>, Trouble> {
+        let name = self.used(name, spot)?;
+        self.locals.used(&name, ty, spot);
+        Ok(name)
     }
 
     /// A global, which must have a name: the text of a line can't tell the address of `@7` from the number 7.
@@ -166,7 +172,7 @@ impl<'a> Reader<'a> {
         match self.token {
             Token::Local(name) => {
                 self.advance()?;
-                self.used(name, spot)
+                self.local_used(name, &Type::Label, spot)
             }
             _ => Ok(self.expected("a block's name")?),
         }
