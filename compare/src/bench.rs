@@ -12,6 +12,7 @@ use std::time::Duration;
 use uvclang::ast::Module;
 use uvclang::codegen::access;
 
+mod bindings;
 mod copies;
 mod counted;
 mod hostile;
@@ -20,6 +21,7 @@ mod names;
 
 use jobs::{Bench, Job};
 
+pub use bindings::table as bindings;
 pub use counted::pass;
 pub use hostile::{asks, few_asks, shapes};
 pub use names::table as names;

@@ -13,7 +13,7 @@ pub enum Expected {
 }
 
 /// The published Rust measures types by plain recursion, which can double with each level. Beyond so many steps it is not asked.
-const MOST_STEPS: u64 = 10_000_000;
+pub const MOST_STEPS: u64 = 10_000_000;
 
 /// An error means that the Rust gave something unknown, or another refusal than our own reading: never expected.
 pub fn expected(lent: &Lent) -> Result<Expected, String> {
@@ -28,7 +28,8 @@ pub fn expected_of(lent: &Lent) -> Result<(Expected, Option<Book>), String> {
     }
 }
 
-fn of_book(book: &Book, counter: u64) -> Result<Expected, String> {
+/// What it should reply to a sound book.
+pub fn of_book(book: &Book, counter: u64) -> Result<Expected, String> {
     let first = refusal::first(book);
     let asked = !oracle::calls_others(book) && first.steps <= MOST_STEPS;
     if first.refusal == Some(7) {

@@ -1,6 +1,8 @@
 //! Builds the published code generator as an oracle, and random and damaged books to compare with it. See README.md.
-#[cfg(translating)]
+#[cfg(proved)]
 mod bench;
+#[cfg(proved)]
+mod bindings;
 mod book;
 mod cases;
 mod check;
@@ -35,11 +37,11 @@ mod runs;
 mod scratch;
 mod segments;
 mod show;
-#[cfg(translating)]
+#[cfg(proved)]
 mod stack;
 mod stats;
 mod table;
-#[cfg(translating)]
+#[cfg(proved)]
 mod translator;
 mod two_runs;
 mod utf8;
@@ -95,8 +97,11 @@ const USAGE: &str = "usage:
   compare translator SEED COUNT      whether the proved translator gives the Rust's lines, next counter and refusals, on random
                                      books, damaged copies, faulty statements and books at the limits; built in as above
   compare translator shapes          the same of the shapes that `compare bench` times
+  compare bindings SEED COUNT        whether the books that bindings/rust writes of random modules give the Rust's lines, and
+                                     whether its writer turns down what no book has; built in as above
   compare bench [SEED]               times of the proved translator and printer beside the Rust's; built in as above
   compare bench names                the table of the names' check alone
+  compare bench bindings [SEED]      times of the way through bindings/rust, whole and in its parts, beside the Rust's
   compare time < BOOK                the nanoseconds that the Rust's `gen_function` takes for a book; built in as above
   compare stack                      the stack that the proved check, translator and printer need; built in as above
   compare test                       tests of this program";
@@ -169,32 +174,38 @@ fn run(args: &[&str]) -> Result<(), String> {
         ["checking", seed, count] => checking::compare(number(seed)?, number(count)?),
         #[cfg(proved)]
         ["printing", seed, count, names] => printing::compare(number(seed)?, number(count)?, number(names)?),
-        #[cfg(translating)]
+        #[cfg(proved)]
         ["translator", "shapes"] => translator::shapes(),
-        #[cfg(translating)]
+        #[cfg(proved)]
         ["translator", seed, count] => translator::compare(number(seed)?, number(count)?),
-        #[cfg(translating)]
+        #[cfg(proved)]
+        ["bindings", seed, count] => bindings::compare(number(seed)?, number(count)?),
+        #[cfg(proved)]
         ["bench"] => bench::bench(1),
-        #[cfg(translating)]
+        #[cfg(proved)]
         ["bench", "names"] => bench::names(),
-        #[cfg(translating)]
+        #[cfg(proved)]
+        ["bench", "bindings"] => bench::bindings(1),
+        #[cfg(proved)]
+        ["bench", "bindings", seed] => bench::bindings(number(seed)?),
+        #[cfg(proved)]
         ["bench", "pass", seed, class] => bench::pass(number(seed)?, class),
-        #[cfg(translating)]
+        #[cfg(proved)]
         ["bench", seed] => bench::bench(number(seed)?),
-        #[cfg(translating)]
+        #[cfg(proved)]
         ["time"] => {
             let slices = Slices::from_file(&read_input()?).ok_or("no book and names")?;
             println!("{}", bench::rust_time(&Lent { slices, counter: 0, work: usize::MAX })?);
             Ok(())
         }
-        #[cfg(translating)]
+        #[cfg(proved)]
         ["stack"] => stack::least(),
-        #[cfg(translating)]
+        #[cfg(proved)]
         ["stack", size] => stack::within(number(size)?),
-        #[cfg(not(translating))]
-        ["translator" | "bench" | "time" | "stack", ..] => Err("built without the proved translator: see README.md".to_string()),
         #[cfg(not(proved))]
-        ["checking" | "printing", ..] => Err("built without the static library of the crate `exports`: see README.md".to_string()),
+        ["checking" | "printing" | "translator" | "bindings" | "bench" | "time" | "stack", ..] => {
+            Err("built without the static library of the crate `exports`: see README.md".to_string())
+        }
         ["test"] => cases::test(),
         _ => Err(USAGE.to_string()),
     }

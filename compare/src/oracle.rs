@@ -50,17 +50,27 @@ pub fn answer(book: &Book, counter: u64) -> Answer {
 /// The same for the functions before this one alone; all of the book's count as defined.
 pub fn answer_before(book: &Book, place: usize, counter: u64) -> Answer {
     let module = module(book);
-    let result = quietly(|| access::gen_functions(&module, &book.functions[..place], counter as usize));
-    match result {
-        Ok(Ok((lines, next))) => Answer::Accepted(Accepted { lines, next: next as u64 }),
-        Ok(Err(message)) => match refusal_of_error(&message) {
-            Some(number) => Answer::Refused(number),
-            None => Answer::Strange(format!("error: {message}")),
-        },
-        Err(message) => match refusal_of_panic(&message) {
-            Some(number) => Answer::Refused(number),
-            None => Answer::Strange(format!("panic: {message}")),
-        },
+    match run(|| access::gen_functions(&module, &book.functions[..place], counter as usize)) {
+        Ok((lines, next)) => Answer::Accepted(Accepted { lines, next: next as u64 }),
+        Err(Fault { refusal: Some(number), .. }) => Answer::Refused(number),
+        Err(fault) => Answer::Strange(fault.message),
+    }
+}
+
+/// What the Rust gives instead of lines.
+pub struct Fault {
+    /// An error's words, or a panic's.
+    pub message: String,
+    /// 5, 6 or 8 to 19; none where document 01 has no number for it.
+    pub refusal: Option<u8>,
+}
+
+/// Asks the Rust for something.
+pub fn run<T>(ask: impl FnOnce() -> Result<T, String>) -> Result<T, Fault> {
+    match quietly(ask) {
+        Ok(Ok(given)) => Ok(given),
+        Ok(Err(message)) => Err(Fault { refusal: refusal_of_error(&message), message: format!("error: {message}") }),
+        Err(message) => Err(Fault { refusal: refusal_of_panic(&message), message: format!("panic: {message}") }),
     }
 }
 

@@ -47,7 +47,7 @@ pub fn compare(seed: u64, count: u64) -> Result<(), String> {
     }
     counts.print();
     println!("the published Rust: no difference");
-    #[cfg(translating)]
+    #[cfg(proved)]
     {
         for index in 0..count {
             let lent = lent(seed, index);
@@ -156,7 +156,7 @@ fn read_one_by_one(lent: &Lent, book: &Book, accepted: &Accepted, books: &[Book]
 }
 
 /// The proved translator and printer.
-#[cfg(translating)]
+#[cfg(proved)]
 mod proved {
     use super::ones;
     use crate::book::{Lent, Slices};

@@ -3,6 +3,7 @@
 use crate::book::*;
 use crate::hash::{Map, Set};
 use crate::measure::{align_up, Measure};
+use std::ops::Range;
 
 const MOST_FRAME: u128 = 1 << 31;
 const MOST_SLOTS: usize = 65_535;
@@ -18,10 +19,20 @@ pub struct First {
 
 /// Functions are walked over in order.
 pub fn first(book: &Book) -> First {
+    among(book, 0..book.functions.len())
+}
+
+/// The same of one function by itself; the others count as defined.
+#[cfg(proved)]
+pub fn of_function(book: &Book, place: usize) -> First {
+    among(book, place..place + 1)
+}
+
+fn among(book: &Book, places: Range<usize>) -> First {
     let mut measure = Measure::new(book);
     let defined = defined(book);
-    let mut place = 0;
-    let refusal = book.functions.iter().find_map(|function| {
+    let mut place = places.start;
+    let refusal = book.functions[places].iter().find_map(|function| {
         let refusal = Walk::new(&mut measure, &defined, function).function(function).err();
         place += refusal.is_none() as usize;
         refusal

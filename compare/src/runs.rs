@@ -24,7 +24,7 @@ pub fn piece(seed: u64, index: u64, most: usize) -> Lent {
 }
 
 /// A piece with names in ASCII.
-#[cfg(translating)]
+#[cfg(proved)]
 pub fn plain_piece(seed: u64, index: u64) -> Lent {
     lent(&random::plain_piece(seed, index, random::MOST_FUNCTIONS), index)
 }

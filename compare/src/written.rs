@@ -2,7 +2,7 @@
 //! faults before any statement, and books of several functions. The Rust's answer must be the one that stands beside a book; `compare written` writes
 //! them as checked tables of crates/lowering.
 use crate::book::Lent;
-#[cfg(translating)]
+#[cfg(proved)]
 use crate::book::Slices;
 use crate::expect::{expected, Expected};
 use crate::table::{self, Row};
@@ -68,7 +68,7 @@ pub fn tests() -> Vec<(String, Result<(), String>)> {
 }
 
 /// Every book, with what it is.
-#[cfg(translating)]
+#[cfg(proved)]
 pub fn books() -> Vec<(String, Slices)> {
     let read = |book: Written| (book.title, notation::read(&book.text).expect("words of the notation"));
     tables().into_iter().flat_map(|table| table.3).map(read).collect()

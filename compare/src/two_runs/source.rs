@@ -1,10 +1,12 @@
 //! The source run of document 01, "The two runs": what a function does by the LLVM manual, block after block.
 use super::world::{Call, Input, Memory};
 use crate::book::*;
+use kinds::{inst_kind, term_kind};
 use std::collections::{BTreeMap, BTreeSet};
 use uvclang::layout::Layout;
 
 mod insts;
+mod kinds;
 pub mod values;
 
 /// The reasons of document 01, "Stops".
