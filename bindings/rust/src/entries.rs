@@ -195,6 +195,8 @@ impl<'b> Entries<'b> {
     fn put_function(&mut self, function: &'b Function<'_>, until: usize) -> Result<Option<Place>, Unwritable> {
         let number = self.names.number(&function.name).map_err(Unwritable::of_book)?;
         self.give(number, |given| &mut given.function, || "a function of this name is in the book already".to_string())?;
+        // An instruction has five entries or so.
+        self.functions.reserve(function.blocks.iter().map(|block| 5 * block.insts.len() + 5).sum::<usize>() + 16);
         let mut pen = Pen { names: &mut self.names, entries: &mut self.functions, strict: self.strict };
         pen.head(function).map_err(Unwritable::of_book)?;
         if pen.entries.len() > until {

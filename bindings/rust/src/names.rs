@@ -63,6 +63,7 @@ impl<'b> Names<'b> {
     fn spread(&mut self, slots: usize) {
         self.slots.clear();
         self.slots.resize(slots, 0);
+        self.met.reserve(slots / 2 - self.met.len());
         for number in 0..self.met.len() {
             let slot = self.slot(self.met[number].0, None);
             self.slots[slot] = number as u32 + 1;
