@@ -70,11 +70,17 @@ impl<'b> Names<'b> {
         }
     }
 
-    /// Forgets all but the first so many.
+    /// Forgets all but the first so many, the last one first: each frees the slot that it filled, which no name before it
+    /// was put behind.
     pub fn truncate(&mut self, length: usize) {
-        if length < self.met.len() {
-            self.met.truncate(length);
-            self.spread(self.slots.len());
+        let mask = self.slots.len().saturating_sub(1);
+        while self.met.len() > length {
+            let mut slot = self.met[self.met.len() - 1].0 as usize & mask;
+            while self.slots[slot] != self.met.len() as u32 {
+                slot = (slot + 1) & mask;
+            }
+            self.slots[slot] = 0;
+            self.met.pop();
         }
     }
 

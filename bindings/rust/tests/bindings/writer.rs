@@ -101,6 +101,30 @@ fn what_is_turned_down_leaves_nothing_behind() {
     assert_eq!(writer.finish().unwrap(), book(&module, &good).unwrap());
 }
 
+/// Names come and go in any order, and a book has those of the functions that it took.
+#[test]
+fn names_of_what_is_turned_down_go() {
+    let module = Module::default();
+    let names: Vec<String> = (0..3000).map(|number| format!("v{}", number * 7919 % 3000)).collect();
+    let insts = |from: usize, to: usize| names[from..to].iter().map(|name| named(name, Op::Fence)).collect::<Vec<_>>();
+    let labels: Vec<String> = (0..60).map(|number| format!("f{number}")).collect();
+    let all: Vec<Function> = (0..60)
+        .map(|number| {
+            let mut insts = insts(number * 31, number * 31 + 20 + number * 17);
+            // Every third can't stand, at its end.
+            insts.extend((number % 3 == 2).then(|| named("x", Op::Other("fadd".into()))));
+            plain(&labels[number], insts)
+        })
+        .collect();
+    let mut writer = BookWriter::new(&module);
+    all.iter().enumerate().for_each(|(number, function)| assert_eq!(writer.function(function).is_ok(), number % 3 != 2));
+    let kept: Vec<Function> =
+        all.iter().enumerate().filter(|(number, _)| number % 3 != 2).map(|(_, kept)| kept.clone()).collect();
+    let written = writer.finish().unwrap();
+    assert_eq!(written, book(&module, &kept).unwrap());
+    assert_eq!(written.check(0), Ok(()));
+}
+
 /// The sentence about a function with these instructions.
 fn sentence(insts: Vec<Inst>) -> String {
     let module = Module::default();
