@@ -48,16 +48,10 @@ impl<'a> Reader<'a> {
         self.eat_word("volatile")?;
         let ptr = self.pointer()?;
         self.expect(b',')?;
-        let old = self.typed()?;
-        self.expect(b',')?;
-        let spot = self.spot;
-        let new = self.typed()?;
-        if old.ty != new.ty {
-            return out(spot, "the two values of a cmpxchg have different types");
-        }
+        let (ty, cmp, new) = self.two_typed()?;
         self.ordering()?;
         self.ordering()?;
-        Ok(Op::Cmpxchg { ty: old.ty, ptr, cmp: old.val, new: new.val })
+        Ok(Op::Cmpxchg { ty, ptr, cmp, new })
     }
 
     pub fn fence(&mut self) -> Result<Op<'a>, Trouble> {

@@ -1,8 +1,8 @@
 //! Instructions that work on values alone: arithmetic, conversions, comparisons, `select`, `freeze`, `phi`.
 use super::cursor::Reader;
 use super::lexer::Token;
-use super::{out, Fault, Trouble};
-use mivolanjy::ir::{BinOp, ConvOp, ICmpPred, Op};
+use super::{Fault, Trouble};
+use mivolanjy::ir::{BinOp, ConvOp, ICmpPred, Op, Type, Value};
 
 impl<'a> Reader<'a> {
     /// `nuw`, `exact`, `fast` and others, up to a type.
@@ -13,12 +13,30 @@ impl<'a> Reader<'a> {
         Ok(())
     }
 
-    pub fn binary(&mut self, op: BinOp) -> Result<Op<'a>, Trouble> {
-        self.flags()?;
+    /// `i32 %a, %b`
+    fn two_values(&mut self) -> Result<(Type<'a>, Value<'a>, Value<'a>), Trouble> {
         let ty = self.held_type()?;
         let lhs = self.value(&ty)?;
         self.expect(b',')?;
         let rhs = self.value(&ty)?;
+        Ok((ty, lhs, rhs))
+    }
+
+    /// `i32 %a, i32 %b`
+    pub fn two_typed(&mut self) -> Result<(Type<'a>, Value<'a>, Value<'a>), Trouble> {
+        let one = self.typed()?;
+        self.expect(b',')?;
+        let spot = self.spot;
+        let other = self.typed()?;
+        if one.ty != other.ty {
+            return Err(Fault::new(spot, "another type than that of the value before").into());
+        }
+        Ok((one.ty, one.val, other.val))
+    }
+
+    pub fn binary(&mut self, op: BinOp) -> Result<Op<'a>, Trouble> {
+        self.flags()?;
+        let (ty, lhs, rhs) = self.two_values()?;
         Ok(Op::Bin { op, ty, lhs, rhs })
     }
 
@@ -38,10 +56,7 @@ impl<'a> Reader<'a> {
         };
         let Some(pred) = pred else { return Ok(self.expected("a predicate of `icmp`")?) };
         self.advance()?;
-        let ty = self.held_type()?;
-        let lhs = self.value(&ty)?;
-        self.expect(b',')?;
-        let rhs = self.value(&ty)?;
+        let (ty, lhs, rhs) = self.two_values()?;
         Ok(Op::ICmp { pred, ty, lhs, rhs })
     }
 
@@ -49,14 +64,8 @@ impl<'a> Reader<'a> {
         self.flags()?;
         let cond = self.condition()?;
         self.expect(b',')?;
-        let one = self.typed()?;
-        self.expect(b',')?;
-        let spot = self.spot;
-        let other = self.typed()?;
-        if one.ty != other.ty {
-            return out(spot, "the two values of a select have different types");
-        }
-        Ok(Op::Select { cond, ty: one.ty, tval: one.val, fval: other.val })
+        let (ty, tval, fval) = self.two_typed()?;
+        Ok(Op::Select { cond, ty, tval, fval })
     }
 
     pub fn freeze(&mut self) -> Result<Op<'a>, Trouble> {
