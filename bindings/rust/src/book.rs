@@ -62,6 +62,11 @@ impl Book {
     }
 }
 
+/// A name as labels, jumps and pushes print it: `_` for each character but ASCII's letters, digits and `_`.
+pub fn sanitize(name: &str) -> String {
+    name.chars().map(|letter| if letter.is_ascii_alphanumeric() { letter } else { '_' }).collect()
+}
+
 /// The lines of a book's functions, each a kind and an operand (docs/LINES.md), and the label counter behind them.
 #[derive(Clone, Debug, PartialEq, Eq)]
 pub struct Lines {

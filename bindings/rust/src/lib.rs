@@ -57,7 +57,7 @@ mod writer;
 
 #[cfg(feature = "library")]
 pub use blame::{blame, Blame};
-pub use book::{Book, Lines};
+pub use book::{sanitize, Book, Lines};
 pub use entries::{Entries, Mark, MOST_ENTRIES};
 pub use names::MOST_NAMES;
 pub use pen::{is_hint, is_reserved, HIGHEST_ALIGN, MOST_INDICES, MOST_LEVELS};

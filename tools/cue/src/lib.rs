@@ -1,7 +1,8 @@
 //! From clang's text to the lines of a stack machine: [`read()`] makes typed functions of the text, [`run()`] does all of
 //! the work on bytes in memory.
+mod alike;
 pub mod files;
-mod labels;
+mod lines;
 pub mod pieces;
 pub mod read;
 mod run;

@@ -1,9 +1,9 @@
 //! The functions of a text as books: all in one, or in as few as hold them, and their lines.
-use crate::labels::labels_alike;
+use crate::lines::{label_twice, without_slots};
 use crate::read::{Body, Definition, LeftOut, Spot};
 use mivolanjy::ir::Module;
 use mivolanjy::{blame, Book, BookWriter, Lines, Place, Unwritable};
-use std::collections::HashMap;
+use std::collections::HashSet;
 
 /// A function with its place among the definitions of its text.
 #[derive(Clone, Copy)]
@@ -55,34 +55,34 @@ pub fn translate<'u>(module: &'u Module<'u>, functions: &[Candidate<'u>]) -> Res
         }
         translated = pieces_of(write(module, &printed, &mut left_out).0);
     }
-    loop {
-        let pieces = translated?;
-        let alike: HashMap<usize, &str> = labels_alike(pieces.iter().flat_map(|piece| piece.text.lines())).collect();
-        if alike.is_empty() {
-            return Ok(Pieces { pieces, printed, left_out });
-        }
-        printed = without(&alike, printed, &mut left_out);
-        translated = pieces_of(write(module, &printed, &mut left_out).0);
+    let mut pieces = translated?;
+    let slotless = without_slots(lines(&pieces));
+    if !slotless.is_empty() {
+        printed = without(&slotless, printed, &mut left_out);
+        pieces = pieces_of(write(module, &printed, &mut left_out).0)?;
+    }
+    match label_twice(lines(&pieces)) {
+        Some(label) => Err(format!("the label {label} occurs twice")),
+        None => Ok(Pieces { pieces, printed, left_out }),
     }
 }
 
-/// The functions that have no label which stands in the lines before it; the others are left out.
+fn lines(pieces: &[Piece]) -> impl Iterator<Item = &str> {
+    pieces.iter().flat_map(|piece| piece.text.lines())
+}
+
+/// The functions but for those at some places, which are left out.
 fn without<'u>(
-    alike: &HashMap<usize, &str>,
+    places: &HashSet<usize>,
     printed: Vec<Candidate<'u>>,
     left_out: &mut Vec<(usize, LeftOut)>,
 ) -> Vec<Candidate<'u>> {
-    let mut kept = Vec::new();
-    for (place, function) in printed.into_iter().enumerate() {
-        match alike.get(&place) {
-            None => kept.push(function),
-            Some(label) => {
-                let reason = format!("a second label prints as `{label}`, and a jump goes to the first");
-                left_out.push((function.index, LeftOut { spot: function.definition.spot, reason }));
-            }
-        }
-    }
-    kept
+    let (out, kept): (Vec<_>, Vec<_>) = printed.into_iter().enumerate().partition(|(place, _)| places.contains(place));
+    left_out.extend(out.into_iter().map(|(_, function)| {
+        let reason = "its places have no bytes, and its lines would read a slot that is not there".to_string();
+        (function.index, LeftOut { spot: function.definition.spot, reason })
+    }));
+    kept.into_iter().map(|(_, function)| function).collect()
 }
 
 /// Books with their lines, each beginning with the label counter that the last one left, and their text.

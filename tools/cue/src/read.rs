@@ -69,6 +69,8 @@ pub struct Unit<'a> {
     pub module: Module<'a>,
     /// The functions that have a body, in the text's order.
     pub definitions: Vec<Definition<'a>>,
+    /// The names of all globals: functions, variables and aliases, here or elsewhere.
+    pub globals: HashSet<Name<'a>>,
     /// The globals of which each thread has one of its own.
     threads: HashSet<Name<'a>>,
 }
@@ -94,7 +96,7 @@ pub struct Body<'a> {
     /// For each block where its instructions stand, and last where its terminator does.
     pub spots: Vec<Vec<Spot>>,
     /// The globals that it uses, and where.
-    globals: Vec<(Name<'a>, Spot)>,
+    pub globals: Vec<(Name<'a>, Spot)>,
 }
 
 /// Reads a whole text.

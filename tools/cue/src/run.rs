@@ -1,8 +1,10 @@
 //! All of the work on bytes in memory: a text in, lines, books and complaints out.
+use crate::alike::alike;
 use crate::files::function_files;
 use crate::pieces::{own_book, translate, Candidate, Pieces};
 use crate::read::{read, Definition, LeftOut, Unit};
 use mivolanjy::Book;
+use std::collections::HashMap;
 
 /// What is asked for.
 #[derive(Clone, Debug, Default)]
@@ -62,8 +64,10 @@ fn attempt(name: &str, text: &[u8], options: &Options) -> Result<Outcome, String
     let chosen = chosen(&unit, options.function.as_deref()).map_err(|reason| format!("{name}: error: {reason}"))?;
     let mut left_out: Vec<(usize, LeftOut)> = Vec::new();
     let mut candidates = Vec::new();
+    let alike: HashMap<usize, LeftOut> = alike(&unit).into_iter().collect();
     for (index, definition) in chosen {
         match &definition.body {
+            Ok(_) if alike.contains_key(&index) => left_out.push((index, alike[&index].clone())),
             Ok(body) => candidates.push(Candidate { index, definition, body }),
             Err(why) => left_out.push((index, why.clone())),
         }

@@ -92,22 +92,54 @@ next label counter: 0
     assert_eq!(err, expected);
 }
 
+/// What is said of a text, and the functions that are printed.
+fn said(text: &str) -> (String, Vec<String>) {
+    let output = cue(&[], text);
+    let (_, out, err) = parts(&output);
+    let comments = out.lines().filter_map(|line| line.strip_prefix("# ")?.split_once('@')?.1.split_once('('));
+    (err.replace("<stdin>:", ""), comments.map(|(name, _)| name.to_string()).collect())
+}
+
 #[test]
-fn labels_that_print_alike() {
-    let function =
-        |name: &str, block: &str| format!("define void @{name}() {{\nx:\n  br label %{block}\n{block}:\n  ret void\n}}\n");
-    let text =
-        [("a.b", "c"), ("a_b", "d"), ("e", "x_"), ("e__x", "y"), ("f", "x")].map(|(name, block)| function(name, block));
-    let text =
-        text.concat().replace("@f() {\nx:\n  br label %x\nx:", "@f() {\n  br label %a.1\na.1:\n  br label %a_1\na_1:");
-    let output = cue(&[], &text);
-    let (code, out, err) = parts(&output);
-    let expected = "<stdin>:7:13: @a_b is left out: a second label prints as `a_b:`, and a jump goes to the first
-<stdin>:19:13: @e__x is left out: a second label prints as `e__x:`, and a jump goes to the first
-<stdin>:25:13: @f is left out: a second label prints as `f__a_1:`, and a jump goes to the first
+fn names_that_print_alike() {
+    let globals = "@f.x = global i32 1\n@f_x = global i32 1\n@g = global i32 1\n@\"0x1\" = global i32 1\n";
+    let address = |name: &str, of: &str| format!("define ptr @{name}() {{ ret ptr @{of} }}\n");
+    let text = [globals, &address("a", "f.x"), &address("b", "f_x"), &address("c", "g"), &address("d", "\"0x1\"")].concat();
+    let expected = "5:27: @a is left out: @f.x prints as f_x, and so does @f_x
+6:27: @b is left out: @f_x prints as f_x, and so does @f.x
+8:27: @d is left out: @0x1 prints as 0x1, like a number
 ";
-    assert_eq!((code, err), (1, expected));
-    assert_eq!(out.lines().filter(|line| line.starts_with('#')).count(), 2);
+    assert_eq!(said(&text), (expected.to_string(), vec!["c".to_string()]));
+    let called =
+        "define void @a.b() { ret void }\ndefine void @g() {\n  call void @a.b()\n  ret void\n}\ndeclare void @a_b()\n";
+    let expected = "1:13: @a.b is left out: @a.b prints as a_b, and so does @a_b
+3:13: @g is left out: @a.b prints as a_b, and so does @a_b
+";
+    assert_eq!(said(called), (expected.to_string(), vec![]));
+}
+
+#[test]
+fn blocks_that_print_alike() {
+    let function = |name: &str, one: &str, two: &str| {
+        format!("define void @{name}() {{\n  br label %{one}\n{one}:\n  br label %{two}\n{two}:\n  ret void\n}}\n")
+    };
+    let text =
+        [function("a", "b.1", "b_1"), function("c", "d", "e"), function("c__d", "x", "y"), function("g", "h__i", "j")];
+    let text = text.concat() + &function("g__h", "i", "k") + "define void @__br_false_0() { ret void }\n";
+    let expected = "6:3: @a is left out: its block %b_1 prints as a__b_1, and so does another
+11:3: @c is left out: its block %d prints as c__d, and so does @c__d
+32:3: @g__h is left out: its block %i prints as g__h__i, and so does another
+36:13: @__br_false_0 is left out: @__br_false_0 prints as __br_false_0, like a label that lines have by themselves
+";
+    assert_eq!(said(&text), (expected.to_string(), vec!["c__d".to_string(), "g".to_string()]));
+}
+
+#[test]
+fn places_without_bytes() {
+    let text =
+        "define ptr @f() {\n  %a = alloca {}\n  ret ptr %a\n}\ndefine ptr @g() {\n  %a = alloca i8\n  ret ptr %a\n}\n";
+    let expected = "1:12: @f is left out: its places have no bytes, and its lines would read a slot that is not there\n";
+    assert_eq!(said(text), (expected.to_string(), vec!["g".to_string()]));
 }
 
 #[test]

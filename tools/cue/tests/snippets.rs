@@ -14,10 +14,11 @@ const BEFORE: &str = "
 @v = global i32 0
 declare i32 @h(i32)
 define i32 @g(i32 %a) { ret i32 %a }
-define void @f(i1 %t, i8 %a, i32 %b, i64 %c, ptr %p, { i64, i1 } %q) {
-entry:
+define void @f(i1 %t, i8 %a, i32 %b, i64 %c, ptr %p) {
+entry: %q = cmpxchg ptr %p, i64 0, i64 0 seq_cst seq_cst
 ";
-const HEAD: &str = "5 f, 10, 6 t, 11 1, 6 a, 11 8, 6 b, 11 32, 6 c, 11 64, 6 p, 12, 6 q, 16, 11 64, 11 1, 0, 0, 7 entry, ";
+const HEAD: &str =
+    "5 f, 10, 6 t, 11 1, 6 a, 11 8, 6 b, 11 32, 6 c, 11 64, 6 p, 12, 0, 7 entry, 80 q, 11 64, 30 p, 32 0, 32 0, ";
 
 /// What stands behind it: behind a terminator the blocks that it may name, behind anything else the block's end.
 const BLOCKS: (&str, &str) = ("y:\n ret void\nz:\n ret void\n}", ", 7 y, 90, 21, 7 z, 90, 21, 0, 0");

@@ -1,6 +1,7 @@
 //! Instructions on memory: places, loads, stores and the atomic ones.
 use super::cursor::Reader;
 use super::lexer::Token;
+use super::number::unsigned;
 use super::words::is_ordering;
 use super::{out, Fault, Trouble};
 use mivolanjy::ir::{Op, Type};
@@ -13,7 +14,7 @@ impl<'a> Reader<'a> {
         }
         self.eat_word("swifterror")?;
         let ty = self.held_type()?;
-        let count = if self.comma()? { Some(self.typed()?) } else { None };
+        let count = if self.comma()? { Some(self.number_read_as(unsigned)?) } else { None };
         Ok(Op::Alloca { ty, count, align: self.align()? })
     }
 

@@ -1,6 +1,7 @@
 //! Instructions on parts of structs and arrays.
 use super::cursor::Reader;
 use super::lexer::Token;
+use super::number::signed;
 use super::{out, Trouble};
 use mivolanjy::ir::Op;
 
@@ -15,7 +16,7 @@ impl<'a> Reader<'a> {
         let ptr = self.pointer()?;
         let mut indices = Vec::new();
         while self.comma()? {
-            indices.push(self.typed()?);
+            indices.push(self.number_read_as(signed)?);
         }
         Ok(Op::GetElementPtr { base_ty, ptr, indices })
     }

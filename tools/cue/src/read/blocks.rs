@@ -2,9 +2,10 @@
 use super::cursor::{Place, Reader};
 use super::headers::Header;
 use super::lexer::Token;
+use super::locals::Sort;
 use super::statements::Statement;
-use super::{Body, Definition, Fault, LeftOut, Spot, Trouble};
-use mivolanjy::ir::{Block, Function, Type};
+use super::{out, Body, Definition, Fault, LeftOut, Spot, Trouble};
+use mivolanjy::ir::{Block, Function, Inst, Op, Value};
 
 /// Blocks, and where their statements stand.
 type Blocks<'a> = (Vec<Block<'a>>, Vec<Vec<Spot>>);
@@ -53,6 +54,12 @@ impl<'a> Reader<'a> {
         let (mut blocks, mut spots) = (Vec::new(), Vec::new());
         loop {
             let (block, places) = self.block(safe)?;
+            if let Some(place) = block.insts.iter().position(makes_place).filter(|_| !blocks.is_empty()) {
+                return out(
+                    places[place],
+                    "a place is made outside the first block, and lines give it one address each time",
+                );
+            }
             blocks.push(block);
             spots.push(places);
             *safe = self.place();
@@ -72,9 +79,9 @@ impl<'a> Reader<'a> {
             Token::Label(name) => {
                 let spot = self.spot;
                 self.advance()?;
-                self.locals.named(name, spot, Some(Type::Label))?
+                self.locals.named(name, spot, Some(Sort::Label))?
             }
-            _ => self.locals.unnamed(Some(Type::Label)),
+            _ => self.locals.unnamed(Some(Sort::Label)),
         };
         let (mut insts, mut spots) = (Vec::new(), Vec::new());
         loop {
@@ -118,5 +125,13 @@ impl<'a> Reader<'a> {
                 }
             }
         }
+    }
+}
+
+/// Whether an instruction makes a place of a size that is known beforehand.
+fn makes_place(inst: &Inst) -> bool {
+    match &inst.op {
+        Op::Alloca { count, .. } => count.as_ref().is_none_or(|count| matches!(count.val, Value::Int(_))),
+        _ => false,
     }
 }

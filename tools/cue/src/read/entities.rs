@@ -15,7 +15,7 @@ impl<'a> Reader<'a> {
                 Token::Word("define") => self.function(unit)?,
                 Token::Word("declare") => {
                     self.advance()?;
-                    self.header()?;
+                    unit.globals.extend(self.header()?.name);
                 }
                 Token::Local(name) => self.named_type(name, unit)?,
                 Token::Global(name) => self.global(name, unit)?,
@@ -32,6 +32,7 @@ impl<'a> Reader<'a> {
     fn function(&mut self, unit: &mut Unit<'a>) -> Result<(), Fault> {
         self.advance()?;
         let header = self.header()?;
+        unit.globals.extend(header.name.clone());
         if !header.emitted {
             return if self.at(b'{') { self.skip_brackets() } else { self.expected("`{`") };
         }
@@ -75,6 +76,7 @@ impl<'a> Reader<'a> {
     fn global(&mut self, name: Spelling<'a>, unit: &mut Unit<'a>) -> Result<(), Fault> {
         self.advance()?;
         self.expect(b'=')?;
+        unit.globals.extend(name.name());
         while !matches!(self.token, Token::Word("global" | "constant" | "alias" | "ifunc")) {
             if self.at_word("thread_local") {
                 unit.threads.extend(name.name());
@@ -110,8 +112,8 @@ impl<'a> Reader<'a> {
                 self.advance()?;
             }
         }
-        while self.token == Token::Group {
-            self.advance()?;
+        while matches!(self.token, Token::Group | Token::Text) {
+            self.attribute()?;
         }
         Ok(())
     }

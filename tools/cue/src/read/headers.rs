@@ -1,6 +1,7 @@
 //! What stands before a function's body, in a definition or a declaration.
 use super::cursor::Reader;
 use super::lexer::Token;
+use super::locals::{has_parts, Sort};
 use super::{Fault, LeftOut, Spot, Trouble};
 use mivolanjy::ir::{Name, Param, Type};
 
@@ -64,8 +65,13 @@ impl<'a> Reader<'a> {
     fn parameter(&mut self, header: &mut Header<'a>) -> Result<(), Fault> {
         let before = self.spot;
         let ty = self.ty()?;
-        if let Type::Other(words) = &ty {
-            let reason = format!("parameter {}: a book has no type {words}", header.params.len() + 1);
+        let reason = match &ty {
+            Type::Other(words) => Some(format!("a book has no type {words}")),
+            ty if has_parts(ty) => Some("a book has no value of a struct or array type".to_string()),
+            _ => None,
+        };
+        if let Some(reason) = reason {
+            let reason = format!("parameter {}: {reason}", header.params.len() + 1);
             header.left_out.get_or_insert(LeftOut { spot: before, reason });
         }
         if let Some((attribute, spot)) = self.parameter_attributes()? {
@@ -76,7 +82,7 @@ impl<'a> Reader<'a> {
         let name = match self.token {
             Token::Local(name) => {
                 self.advance()?;
-                match self.locals.named(name, spot, Some(ty.clone())) {
+                match self.locals.named(name, spot, Some(Sort::of(&ty))) {
                     Ok(name) => Some(name),
                     Err(Trouble::Fault(fault)) => return Err(fault),
                     Err(Trouble::Out(why)) => {
@@ -85,7 +91,7 @@ impl<'a> Reader<'a> {
                     }
                 }
             }
-            _ => Some(self.locals.unnamed(Some(ty.clone()))),
+            _ => Some(self.locals.unnamed(Some(Sort::of(&ty)))),
         };
         header.params.push(Param { name, ty });
         Ok(())

@@ -1,33 +1,39 @@
 //! How a target lays data out, as far as lines depend on it.
 
 /// Why a `target datalayout` is not the one that lines are made for, if it is not: bytes little-endian, pointers of 64 bits,
-/// integers aligned to their size. What it does not say is LLVM's default.
+/// integers aligned to their size, structs to no more than their fields. What it does not say is LLVM's default, and of what
+/// it says twice the last counts.
 pub fn other_layout(text: &str) -> Option<String> {
-    let text = text.trim_matches('"');
-    let mut aligned_64 = false;
-    for spec in text.split('-') {
-        let mut parts = spec.split(':');
-        let (key, first) = (parts.next().unwrap_or_default(), parts.next());
-        let reason = match (key, first) {
-            ("E", _) => Some("the highest byte comes first".to_string()),
-            ("p" | "p0", Some(size)) if size != "64" || parts.next().is_some_and(|align| align != "64") => {
+    // LLVM aligns an i64 to 32 bits where nothing is said of it.
+    let mut wide = Some("i64 is not aligned to 64 bits".to_string());
+    for spec in text.trim_matches('"').split('-') {
+        let parts: Vec<&str> = spec.split(':').collect();
+        let reason = match parts[..] {
+            ["E", ..] => Some("the highest byte comes first".to_string()),
+            ["p" | "p0", ..] if !plain_pointer(&parts[1..]) => {
                 Some(format!("its pointers are `{spec}`, and not of 64 bits"))
             }
-            ("i64", Some("64")) => {
-                aligned_64 = true;
+            ["i64", align, ..] => {
+                wide = (align != "64").then(|| other_align(spec));
                 None
             }
-            ("i1" | "i8", Some(align)) if align != "8" => Some(other_align(spec)),
-            ("i16", Some(align)) if align != "16" => Some(other_align(spec)),
-            ("i32", Some(align)) if align != "32" => Some(other_align(spec)),
+            ["i1" | "i8", align, ..] if align != "8" => Some(other_align(spec)),
+            ["i16", align, ..] if align != "16" => Some(other_align(spec)),
+            ["i32", align, ..] if align != "32" => Some(other_align(spec)),
+            ["a", align, ..] if align != "0" && align != "8" => Some(format!("structs are aligned by `{spec}`")),
             _ => None,
         };
         if reason.is_some() {
             return reason;
         }
     }
-    // LLVM aligns an i64 to 32 bits where nothing is said of it.
-    (!aligned_64).then(|| "i64 is not aligned to 64 bits".to_string())
+    wide
+}
+
+/// Size, alignment, preferred alignment and the size of an index, as far as they are said.
+fn plain_pointer(parts: &[&str]) -> bool {
+    let index = parts.get(3).is_none_or(|index| *index == "64");
+    parts.iter().take(2).all(|part| *part == "64") && index
 }
 
 fn other_align(spec: &str) -> String {

@@ -110,7 +110,7 @@ impl<'a> Lexer<'a> {
                 }
                 b' ' | b'\t' | b'\r' | 0 => self.pos += 1,
                 b';' => {
-                    self.span(|byte| byte != b'\n');
+                    self.span(|byte| byte != b'\n' && byte != b'\r');
                 }
                 _ => return,
             }

@@ -37,6 +37,24 @@ pub fn hexadecimal<'a>(word: &[u8]) -> Option<Token<'a>> {
     })
 }
 
+/// An integer of a width with its sign.
+pub fn signed(value: i128, width: u32) -> i128 {
+    if width >= 127 || value < 1 << (width - 1) {
+        value
+    } else {
+        value - (1 << width)
+    }
+}
+
+/// An integer of a width without a sign.
+pub fn unsigned(value: i128, width: u32) -> i128 {
+    if width >= 127 || value >= 0 {
+        value
+    } else {
+        value + (1 << width)
+    }
+}
+
 /// An integer constant as its type has it: LLVM takes it modulo two to the width.
 pub fn wrapped(value: i128, width: u32) -> i128 {
     if width >= 127 || (-(1 << (width - 1))..1 << width).contains(&value) {

@@ -42,14 +42,15 @@ impl<'a> Spelling<'a> {
         if self.raw.is_empty() {
             return Err("an empty name");
         }
-        if self.quoted && self.raw.iter().all(u8::is_ascii_digit) {
-            return Err("a quoted name of digits alone, which a book can't tell from a number");
-        }
         let name = match unescaped(self.raw) {
             Cow::Borrowed(bytes) => std::str::from_utf8(bytes).ok().map(Cow::Borrowed),
             Cow::Owned(bytes) => String::from_utf8(bytes).ok().map(Cow::Owned),
         };
-        name.ok_or("a name that is not UTF-8")
+        let name = name.ok_or("a name that is not UTF-8")?;
+        if self.quoted && name.bytes().all(|byte| byte.is_ascii_digit()) {
+            return Err("a quoted name of digits alone, which a book can't tell from a number");
+        }
+        Ok(name)
     }
 
     /// The name for people, as LLVM would print it.

@@ -1,7 +1,7 @@
 //! One instruction or terminator, with the name of its result.
 use super::cursor::Reader;
 use super::lexer::Token;
-use super::locals::result_type;
+use super::locals::{has_parts, result};
 use super::operations::{bin_op, conv_op};
 use super::spelling::Spelling;
 use super::words::{is_instruction, is_unheld};
@@ -28,7 +28,10 @@ impl<'a> Reader<'a> {
             }
             return Ok(statement);
         };
-        let dest = match (dest, result_type(&op)) {
+        if makes_parts(&op) {
+            return out(begin, "a book has no value of a struct or array type, but a cmpxchg's");
+        }
+        let dest = match (dest, result(&op)) {
             (Some((_, spot)), None) => return Err(Fault::new(spot, "a name for what has no result").into()),
             (Some((name, spot)), Some(ty)) => Some(self.locals.named(name, spot, ty)?),
             (None, Some(ty)) => Some(self.locals.unnamed(ty)),
@@ -96,4 +99,15 @@ impl<'a> Reader<'a> {
 /// A call, or one that has no lines.
 fn called(op: Option<Op>) -> Statement {
     op.map_or(Statement::Hint, |op| Statement::Inst(Inst { dest: None, op }))
+}
+
+/// Whether an instruction's result has parts. Of a cmpxchg's own, which is none here, lines have both in slots.
+fn makes_parts(op: &Op) -> bool {
+    match op {
+        Op::Call { ret_ty, .. } => has_parts(ret_ty),
+        Op::Load { ty, .. } | Op::AtomicLoad { ty, .. } | Op::Phi { ty, .. } => has_parts(ty),
+        Op::Select { ty, .. } | Op::Freeze { ty, .. } | Op::Bin { ty, .. } => has_parts(ty),
+        Op::Conv { to_ty, .. } => has_parts(to_ty),
+        _ => false,
+    }
 }

@@ -24,6 +24,15 @@ impl<'a> Reader<'a> {
         Ok(TypedVal { ty, val })
     }
 
+    /// A type and a value, where an integer constant is meant with a sign or without.
+    pub fn number_read_as(&mut self, read: fn(i128, u32) -> i128) -> Result<TypedVal<'a>, Trouble> {
+        let mut typed = self.typed()?;
+        if let (Type::Int(width), Value::Int(number)) = (&typed.ty, &mut typed.val) {
+            *number = read(*number, *width);
+        }
+        Ok(typed)
+    }
+
     /// A pointer into the address space 0, behind its type.
     pub fn pointer(&mut self) -> Result<Value<'a>, Trouble> {
         self.of_type(Type::Ptr, "a pointer type")

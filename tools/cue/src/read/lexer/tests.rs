@@ -151,3 +151,10 @@ fn faults() {
     assert_eq!(fault(b".").2, "a dot that begins nothing");
     assert_eq!(fault(b"\xff").2, "a character that LLVM's text doesn't have");
 }
+
+#[test]
+fn comments_end_with_their_line() {
+    for text in ["; a\nadd", "; a\radd", "; a\r\nadd", "add ; a"] {
+        assert_eq!(tokens(text), [Token::Word("add")], "{text:?}");
+    }
+}
