@@ -83,7 +83,8 @@ impl Book {
     }
 
     /// The lines of all functions, in order, the first beginning with the given label counter and each further one with
-    /// that which the last left. Never [`Refusal::Work`], and never [`Refusal::NoRoom`]: there is as much room as they want.
+    /// that which the last left. Never [`Refusal::Work`], and never [`Refusal::NoRoom`]: there is as much room as they want,
+    /// which for a switch of many cases to a block of many phis is the product of both.
     pub fn translate(&self, counter: u64) -> Result<Lines, Refusal> {
         let names = self.words.get(1).map_or(0, |names| usize::try_from(*names).unwrap_or(0).min(crate::MOST_NAMES));
         let mut work = vec![0; raw::work_length(names)];

@@ -1,5 +1,5 @@
-//! The names of one function's parameters, blocks and results. Values without a name get numbers, in one sequence, and each is
-//! used at the type that it has.
+//! The names of one function's parameters, blocks and results. Values without a name get numbers, in one sequence, and each
+//! is used at the type that it has.
 use super::spelling::Spelling;
 use super::{out, Fault, Spot, Trouble};
 use mivolanjy::ir::{Name, Op, StructBody, Type};
