@@ -19,7 +19,8 @@ impl<'a> Codegen<'a> {
         let text = book.print(&lines).map_err(refused)?;
         // Each line ends with byte 10, the final empty one too, and no name has one inside it.
         self.buf.reserve(lines.kinds.len());
-        self.buf.extend(text.lines().map(str::to_string));
+        self.buf.reserve(lines.kinds.len());
+        self.buf.extend(text.split_terminator('\n').map(str::to_string));
         self.label_counter = lines.next as usize;
         Ok(())
     }

@@ -65,7 +65,7 @@ impl<'a> Way<'a> {
             Part::Write => self.functions.iter().for_each(|function| drop(black_box(written(&self.units, function)))),
             Part::Translate => translated().for_each(|(book, (counter, _))| drop(black_box(book.translate(*counter)))),
             Part::Print => translated().for_each(|(book, (_, lines))| drop(black_box(book.print(lines)))),
-            Part::Split => self.texts.iter().for_each(|text| drop(black_box(split(text)))),
+            Part::Split => translated().zip(&self.texts).for_each(|((_, (_, lines)), text)| drop(black_box(split(text, lines)))),
             Part::Whole => drop(black_box(self.asked(true))),
             Part::Generate => drop(black_box(self.asked(false))),
         }
@@ -86,8 +86,10 @@ fn written(units: &ir::Module, function: &ir::Function) -> Result<Book, String> 
     writer.function(function).and_then(|()| writer.finish()).map_err(|unwritable| unwritable.to_string())
 }
 
-fn split(text: &str) -> Vec<String> {
-    text.lines().map(str::to_string).collect()
+fn split(text: &str, lines: &Lines) -> Vec<String> {
+    let mut buffer = Vec::with_capacity(lines.kinds.len());
+    buffer.extend(text.split_terminator('\n').map(str::to_string));
+    buffer
 }
 
 pub fn table(seed: u64) -> Result<(), String> {
