@@ -95,8 +95,8 @@ impl<'a> Reader<'a> {
                 }
                 self.skip_constant()?;
             }
-            _ if self.at(b',') || self.at_entity()? => {}
-            Token::Word(_) if matches!(self.token, Token::Group) => {}
+            // One that stands elsewhere has no value.
+            _ if self.at(b',') || self.token == Token::Group || self.at_entity()? => {}
             _ => self.skip_constant()?,
         }
         self.behind_global()
@@ -137,7 +137,13 @@ impl<'a> Reader<'a> {
                 if self.token != Token::Group {
                     return self.expected("a group of attributes");
                 }
-                self.given(|token| token == Token::Mark(b'{'))
+                self.advance()?;
+                self.expect(b'=')?;
+                if self.at(b'{') {
+                    self.skip_brackets()
+                } else {
+                    self.expected("`{`")
+                }
             }
             "uselistorder" | "uselistorder_bb" => self.use_list_order(),
             _ => self.expected("a definition or another thing of the outermost level"),
@@ -157,17 +163,6 @@ impl<'a> Reader<'a> {
         match other_layout(&self.text_from(begin)).filter(|_| layout) {
             Some(reason) => Err(Fault::new(spot, format!("there are no lines for this target: {reason}"))),
             None => Ok(()),
-        }
-    }
-
-    /// A sign or name in hand, `=`, and behind it what brackets hold, if they may begin so.
-    fn given(&mut self, opens: impl Fn(Token) -> bool) -> Result<(), Fault> {
-        self.advance()?;
-        self.expect(b'=')?;
-        if opens(self.token) {
-            self.skip_brackets()
-        } else {
-            self.expected("a bracket")
         }
     }
 
