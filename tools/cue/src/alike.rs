@@ -1,7 +1,7 @@
 //! Names that print alike. Whoever reads the text goes by what is printed: a jump by its label, a call and an address by the
 //! global's name. So lines do as their functions say only where no two of these print the same, which is a premise of the
 //! two runs too (document 01, 'Naming conditions').
-use crate::read::{Body, Definition, LeftOut, Spot, Unit};
+use crate::read::{is_memcmp, Body, Definition, LeftOut, Spot, Unit};
 use mivolanjy::sanitize;
 use std::collections::{HashMap, HashSet};
 
@@ -12,7 +12,8 @@ const NUMBERED: [&str; 4] = ["__sel_false_", "__sel_done_", "__br_false_", "__sw
 pub fn alike(unit: &Unit) -> Vec<(usize, LeftOut)> {
     let mut names: Vec<&str> = unit.globals.iter().map(|name| &**name).collect();
     names.sort_unstable();
-    let mut printed = Printed::default();
+    let defined = unit.module.defined.iter().map(|name| &**name).collect();
+    let mut printed = Printed { defined, ..Printed::default() };
     for name in names {
         printed.globals.entry(sanitize(name)).or_default().push(name);
     }
@@ -29,6 +30,8 @@ pub fn alike(unit: &Unit) -> Vec<(usize, LeftOut)> {
 struct Printed<'u> {
     /// The globals that print so.
     globals: HashMap<String, Vec<&'u str>>,
+    /// The functions that have a body.
+    defined: HashSet<&'u str>,
     /// The labels of blocks so far.
     blocks: HashSet<String>,
 }
@@ -38,7 +41,19 @@ impl Printed<'_> {
         let own = [(&body.function.name, definition.spot)].into_iter();
         let used = own.chain(body.globals.iter().map(|(name, spot)| (name, *spot)));
         let mut global = used.filter_map(|(name, spot)| Some(LeftOut { spot, reason: self.of_global(name)? }));
-        global.next().or_else(|| self.of_blocks(body))
+        let machine =
+            || body.globals.iter().find_map(|(name, spot)| Some(LeftOut { spot: *spot, reason: self.of_machine(name)? }));
+        global.next().or_else(machine).or_else(|| self.of_blocks(body))
+    }
+
+    /// Names that lines call the machine by, whatever body they have, and print as they are.
+    fn of_machine(&self, name: &str) -> Option<String> {
+        let syscall = name.strip_prefix("__uvm_");
+        if self.defined.contains(name) && (syscall.is_some() || is_memcmp(name)) {
+            return Some(format!("lines call the machine's own for @{name}, and not the one here"));
+        }
+        syscall?.find([' ', ';'])?;
+        Some(format!("@{name} prints as itself, and its line would end within it"))
     }
 
     fn of_global(&self, name: &str) -> Option<String> {

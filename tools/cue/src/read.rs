@@ -26,6 +26,8 @@ mod types;
 mod values;
 mod words;
 
+pub use words::is_memcmp;
+
 /// A line and a column, both from 1. Columns count bytes.
 #[derive(Clone, Copy, Debug, Default, PartialEq, Eq)]
 pub struct Spot {

@@ -135,6 +135,20 @@ fn blocks_that_print_alike() {
 }
 
 #[test]
+fn names_of_the_machine() {
+    let body = |name: &str| format!("define void @{name}(i32 %a) {{ ret void }}\n");
+    let call =
+        |name: &str, of: &str| format!("define void @{name}() {{\n  call void @{of}(i32 5, i32 5, i32 5)\n  ret void\n}}\n");
+    let text = [body("memcmp"), call("a", "memcmp"), body("__uvm_b"), call("b", "__uvm_b"), call("c", "__uvm_c")].concat()
+        + &call("d", "\"__uvm_d e\"");
+    let expected = "3:13: @a is left out: lines call the machine's own for @memcmp, and not the one here
+8:13: @b is left out: lines call the machine's own for @__uvm_b, and not the one here
+16:13: @d is left out: @__uvm_d e prints as itself, and its line would end within it
+";
+    assert_eq!(said(&text), (expected.to_string(), ["memcmp", "__uvm_b", "c"].map(str::to_string).to_vec()));
+}
+
+#[test]
 fn places_without_bytes() {
     let text =
         "define ptr @f() {\n  %a = alloca {}\n  ret ptr %a\n}\ndefine ptr @g() {\n  %a = alloca i8\n  ret ptr %a\n}\n";

@@ -1,6 +1,7 @@
 //! Calls.
 use super::cursor::Reader;
 use super::lexer::Token;
+use super::words::is_memcmp;
 use super::{out, Trouble};
 use mivolanjy::ir::{Op, Type, TypedVal, Value};
 
@@ -10,6 +11,7 @@ impl<'a> Reader<'a> {
         self.before_type("")?;
         let (ty, result) = self.ty_and_result()?;
         let ret_ty = result.unwrap_or(ty);
+        let spot = self.spot;
         let callee = self.value(&Type::Ptr)?;
         let hint = ret_ty == Type::Void && matches!(&callee, Value::Global(name) if mivolanjy::is_hint(name));
         if hint && self.at(b'(') {
@@ -24,6 +26,9 @@ impl<'a> Reader<'a> {
         self.call_attributes()?;
         if self.at(b'[') {
             return out(self.spot, "a book has no call with operand bundles");
+        }
+        if args.len() != 3 && matches!(&callee, Value::Global(name) if is_memcmp(name)) {
+            return out(spot, "lines call the machine's own memcmp, which has three arguments");
         }
         Ok(Some(Op::Call { ret_ty, callee, args }))
     }

@@ -2,7 +2,8 @@
 use super::lexer::{Lexer, Token};
 use super::locals::Locals;
 use super::{Fault, Spot};
-use mivolanjy::ir::Type;
+use mivolanjy::ir::{Name, Type};
+use std::collections::HashMap;
 
 /// Types and constants may be nested so deep.
 const DEEPEST: u32 = 256;
@@ -22,6 +23,8 @@ pub struct Reader<'a> {
     pub locals: Locals<'a>,
     /// What it returns.
     pub returns: Type<'a>,
+    /// Second names of integers and pointers.
+    pub second_names: HashMap<Name<'a>, Type<'a>>,
 }
 
 /// A place to come back to.
@@ -38,7 +41,17 @@ impl<'a> Reader<'a> {
     pub fn new(text: &'a [u8]) -> Result<Self, Fault> {
         let mut lexer = Lexer::new(text);
         let (token, spot, begin) = lexer.next()?;
-        Ok(Reader { lexer, token, spot, begin, end: 0, depth: 0, locals: Locals::default(), returns: Type::Void })
+        Ok(Reader {
+            lexer,
+            token,
+            spot,
+            begin,
+            end: 0,
+            depth: 0,
+            locals: Locals::default(),
+            returns: Type::Void,
+            second_names: HashMap::new(),
+        })
     }
 
     pub fn place(&self) -> Place<'a> {

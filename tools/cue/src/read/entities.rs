@@ -49,7 +49,12 @@ impl<'a> Reader<'a> {
         self.advance()?;
         self.expect(b'=')?;
         self.expect_word("type")?;
-        let body = self.named_body()?;
+        let body = match self.token {
+            Token::Word("opaque") => self.advance().map(|_| None)?,
+            Token::Mark(b'{') => Some(self.struct_body(false)?),
+            Token::Mark(b'<') if self.ahead()? == Token::Mark(b'{') => Some(self.packed_body()?),
+            _ => Some(self.second_name(name)?),
+        };
         // A type whose name no book can have is one that no book has, wherever it is used.
         let Ok(name) = name.name() else { return Ok(()) };
         match unit.module.structs.insert(name, body) {
@@ -58,18 +63,15 @@ impl<'a> Reader<'a> {
         }
     }
 
-    fn named_body(&mut self) -> Result<Option<StructBody<'a>>, Fault> {
-        match self.token {
-            Token::Word("opaque") => self.advance().map(|_| None),
-            Token::Mark(b'{') => self.struct_body(false).map(Some),
-            Token::Mark(b'<') if self.ahead()? == Token::Mark(b'{') => self.packed_body().map(Some),
-            _ => {
-                self.ty()?;
-                // A second name for a type, which clang never writes: turned down where it is used.
-                let field = Type::Other("that is a second name for another".into());
-                Ok(Some(StructBody { packed: false, fields: vec![field] }))
-            }
+    /// A second name for a type, which clang never writes. One of an integer or pointer is that from here on; any other is a
+    /// struct that no book can hold, and so turned down where it is used.
+    fn second_name(&mut self, name: Spelling<'a>) -> Result<StructBody<'a>, Fault> {
+        let ty = self.ty()?;
+        if matches!(ty, Type::Int(_) | Type::Ptr) {
+            self.second_names.extend(name.name().map(|name| (name, ty)));
         }
+        let field = Type::Other("that is a second name for another".into());
+        Ok(StructBody { packed: false, fields: vec![field] })
     }
 
     /// `@name = .. global i32 0, align 4`, an alias or an ifunc.

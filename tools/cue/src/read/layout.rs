@@ -1,8 +1,8 @@
 //! How a target lays data out, as far as lines depend on it.
 
 /// Why a `target datalayout` is not the one that lines are made for, if it is not: bytes little-endian, pointers of 64 bits,
-/// integers aligned to their size, structs to no more than their fields. What it does not say is LLVM's default, and of what
-/// it says twice the last counts.
+/// integers aligned to their size, structs to no more than their fields. What it does not say is LLVM's default. What it says
+/// more than once must be so each time, but for an i64, of which the last counts.
 pub fn other_layout(text: &str) -> Option<String> {
     // LLVM aligns an i64 to 32 bits where nothing is said of it.
     let mut wide = Some("i64 is not aligned to 64 bits".to_string());

@@ -56,7 +56,8 @@ impl<'a> Reader<'a> {
             Token::Word(word) => self.type_word(word),
             Token::Local(name) => {
                 self.advance()?;
-                Ok(name.name().map_or_else(|_| Type::Other(format!("%{}", name.shown()).into()), Type::Named))
+                let Ok(spelt) = name.name() else { return Ok(Type::Other(format!("%{}", name.shown()).into())) };
+                Ok(self.second_names.get(&spelt).cloned().unwrap_or(Type::Named(spelt)))
             }
             Token::Mark(b'{') => self.struct_body(false).map(Type::Struct),
             Token::Mark(b'<') if self.ahead()? == Token::Mark(b'{') => self.packed_body().map(Type::Struct),

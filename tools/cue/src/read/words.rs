@@ -40,6 +40,11 @@ const CONSTANTS: &[&str] = &[
 const UNHELD_TYPES: &[&str] =
     &["half", "bfloat", "float", "double", "x86_fp80", "fp128", "ppc_fp128", "x86_mmx", "x86_amx", "token"];
 
+/// Whether lines call the machine's own for a name: `bcmp` and `memcmp`.
+pub fn is_memcmp(name: &str) -> bool {
+    matches!(name, "bcmp" | "memcmp")
+}
+
 /// How an atomic instruction orders others.
 const ORDERINGS: &[&str] = &["unordered", "monotonic", "acquire", "release", "acq_rel", "seq_cst"];
 
