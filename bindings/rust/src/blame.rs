@@ -29,8 +29,10 @@ impl fmt::Display for Blame {
 /// What the translator refuses of a function in a book of its own; none where it has lines.
 ///
 /// The instructions behind a place are taken out, each leaving its result's name and each block its label; the first place
-/// up to which the refusal is still the whole function's is the instruction. Taking less out keeps the refusal, so it is
-/// found by halving: a function of n instructions is translated about log2 n times.
+/// up to which the refusal is still the whole function's is the instruction. Where parameters and results all have distinct
+/// names, as in LLVM, taking less out keeps the refusal, so it is found by halving: a function of n instructions is
+/// translated about log2 n times. Where a name is given twice a later instruction may take an earlier one's fault away, as a
+/// fixed place does for a varying one of its name; then it is a place at which the refusal begins, and may be another's.
 pub fn blame(module: &Module<'_>, function: &Function<'_>) -> Result<Option<Blame>, Unwritable> {
     let Some(refusal) = refusal(module, function)? else { return Ok(None) };
     let places = places(function);
