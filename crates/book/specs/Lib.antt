@@ -12,6 +12,7 @@ pub mod AgreeTy
 pub mod AgreeInst
 pub mod AgreeBook
 pub mod Result
+pub mod Work
 pub mod Shape
 pub mod Input
 pub mod AgreeInput
