@@ -1,7 +1,9 @@
 -- "The book", the other way round: the entries of a book.
-use Prim.Native.Nat.{ℕ, suc, max, _+_}
+use Prim.Native.Nat.{ℕ, suc, max, _+_, _≤_}
 use mathlib.Core.Option.{Option, none, some}
 use mathlib.Core.List.{List, [], _∷_, _++_}
+use native.Mathlib.Omega.{arith}
+use lib.ListN.{length}
 use Rattle.book.specs.Entry.{Entry, entry}
 use Rattle.book.specs.Ast.{Ty, Tys, Value, TypedVal, Incoming, Case, Inst, Terminator, BasicBlock, Param, Function, StructBody, StructType, Mark, Book}
 use Rattle.book.specs.Kinds.{TyTag, ValTag, tyKind, valKind, instKind, termKind}
@@ -119,6 +121,11 @@ encBasicBlock b = entry 7 (b .label) ∷ ending encInst (encTerm (b .term)) (b .
 
 unfoldable pub encFunction : Function → List Entry
 encFunction f = entry 5 (f .name) ∷ (encTy (f .retTy) ++ (closed encParam (f .params) ++ closed encBasicBlock (f .blocks)))
+
+-- which has one entry at least
+pub function-long : (f : Function) → 1 ≤ length (encFunction f)
+unfolding encFunction
+function-long f = omega arith
 
 unfoldable pub markEntry : Mark → Entry
 markEntry (Mark.defined x) = entry 1 x

@@ -52,6 +52,12 @@ module _ {A B : Type 0} where
   unfolding bind
   bind-step r f p q = rw p q
 
+  -- a chain is the same where what follows its first part is
+  pub bind-same : (r : Result A) (f g : A → Result B) → ((a : A) → r ≡ ok a → f a ≡ g a) → bind r f ≡ bind r g
+  unfolding bind
+  bind-same (ok a) f g h = h a refl
+  bind-same (err e) f g h = refl
+
 module _ {A : Type 0} where
   pub given-ok : (b : Bool) (e : ℕ) (a c : A) → given b e a ≡ ok c → (b ≡ true) × (a ≡ c)
   unfolding given

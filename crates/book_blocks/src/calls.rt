@@ -15,7 +15,7 @@ fn callee_barred(entry: Front, barred: &[u64]) -> bool
     let Front::Entry(kind, word) = entry else {
         return false;
     };
-    if kind == 31 {
+    if kind == book::entry::GLOBAL {
         numbers::bits::bit(barred, word as usize)
     } else {
         false

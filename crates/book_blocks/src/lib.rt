@@ -3,6 +3,7 @@
 mod calls;
 
 use crate::calls::call_barred;
+use book::entry;
 use book_insts::Shape;
 use book_insts::field_len;
 use book_insts::fields_behind;
@@ -45,7 +46,7 @@ fn scan_blocks(kinds: &[u64], words: &[u64], names: u64, barred: &[u64], rule: &
             let digit = need % 16;
             need = need / 16;
             if one_entry(kind, word, digit, rule) {
-                seen = seen | (kind == 37);
+                seen = seen | (kind == entry::OTHER);
                 at = at + 1;
                 continue;
             }
@@ -62,17 +63,17 @@ fn scan_blocks(kinds: &[u64], words: &[u64], names: u64, barred: &[u64], rule: &
                 return Found::Bad;
             };
             need = fields;
-            inside = kind < 90;
+            inside = kind < entry::RET;
             at = at + 1;
-            if kind == 76 {
+            if kind == entry::CALL {
                 seen = seen | call_barred(&kinds[at..], &words[at..], names, barred);
             }
             continue;
         }
-        if (kind == 0) & (word == 0) {
+        if (kind == entry::END) & (word == 0) {
             return Found::Entries(at + 1, seen);
         }
-        if (kind != 7) | (names <= word) {
+        if (kind != entry::BLOCK) | (names <= word) {
             return Found::Bad;
         }
         inside = true;
@@ -117,7 +118,8 @@ fn signature_and_blocks_len(kinds: &[u64], words: &[u64], names: u64, barred: &[
 pub fn function_len(kinds: &[u64], words: &[u64], names: u64, barred: &[u64]) -> Found
     ensures { λ r. ⌜ r ≡ foundOf (forbiddenFunction (bitAt (now (barred .entry)))) (function names (entries (now (kinds .entry)) (now (words .entry)))) ⌝ }
 {
-    let Found::Entries(n, seen) = plain(word_len(first_entry(kinds, words), 5, names)) else {
+    let Found::Entries(n, seen) = plain(word_len(first_entry(kinds, words), entry::FUNCTION, names))
+    else {
         return Found::Bad;
     };
     join_found(

@@ -1,14 +1,15 @@
 -- Fields that are an entry by themselves: which kinds they have, and how large a word.
 use Prim.Native.Nat.{ℕ, _+_, _-_, _/_, _%_, _^_, _≤_, _<_}
-use mathlib.Core.Path.{_≡_, refl, sym, _∙_}
+use mathlib.Core.Path.{_≡_, refl}
 use mathlib.Core.Bool.{Bool, true, false, _&&_, _||_, not}
 use mathlib.Core.Option.{some}
 use mathlib.Core.List.{List, [], _∷_}
 use native.Mathlib.Omega.{arith}
-use borrow.Author.Tests.{lt-ltb, leb-true, eq-eqb}
+use borrow.Author.Tests.{lt-ltb, leb-true, le-leb, lt-leb, eq-eqb}
 use lib.ListN.{length, getD}
 use lib.Dec.{eqb, leb, ltb}
 use Rattle.numbers.specs.Width.{widthOk}
+use Rattle.names.specs.Tests.{both}
 use Rattle.book.specs.Entry.{Entry, entry}
 use Rattle.book.specs.Fields as book
 use Rattle.book.specs.Read.{Read, got, bad, optional, andThen}
@@ -37,6 +38,24 @@ pub rules-length : (m : ℕ) → length (rulesOf m) ≡ 80
 unfolding rulesOf
 rules-length m = refl
 
+-- whether by such rules an entry is the field of a digit by itself: its kind is below 40, its word is not too large, the digit's bit is set, and
+-- an integer has one of the widths
+abbrev bit : ℕ → ℕ → Bool
+bit n d = eqb (n / 2 ^ d % 2) 1
+
+unfoldable pub aloneBy : (rule : List ℕ) (k w d : ℕ) → Bool
+aloneBy rule k w d = leb k 39 && ((leb w (getD rule k 0) && bit (getD rule (k + 40) 0) d) && (not (eqb k 11) || widthOk w))
+
+module _ (rule : List ℕ) (k w d : ℕ) where
+  pub alone-beyond : 39 < k → false ≡ aloneBy rule k w d
+  unfolding aloneBy
+  alone-beyond h = rw (lt-leb k 39 h) refl
+
+  pub alone-below : k ≤ 39 → (t : Bool) → t ≡ widthOk w
+      → ((leb w (getD rule k 0) && bit (getD rule (k + 40) 0) d) && (not (eqb k 11) || t)) ≡ aloneBy rule k w d
+  unfolding aloneBy
+  alone-below h t e = rw (le-leb k 39 h, e) refl
+
 -- ---- what the rules say is so
 -- rows are put together one by one
 infixr 5 _&_
@@ -51,13 +70,6 @@ If false A = Unit {0}
 if-true : {A : Type 0} (b : Bool) → b ≡ true → If b A → A
 if-true true e a = a
 if-true false e a = absurd (let z : _≡_ {A = ℕ} 0 1 = cc in omega arith)
-
-and-both : (a b : Bool) → (a && b) ≡ true → (a ≡ true) × (b ≡ true)
-and-both true b e = (refl, e)
-and-both false b e = absurd (let z : _≡_ {A = ℕ} 0 1 = cc in omega arith)
-
-abbrev bit : ℕ → ℕ → Bool
-bit n d = eqb (n / 2 ^ d % 2) 1
 
 module _ (m w : ℕ) where
   -- for each bit of a number, which is a digit from 0 to 15
@@ -156,9 +168,10 @@ module _ (m w : ℕ) where
         (in-range (λ d. If (bit (getD (rulesOf m) (k + 40) 0) d) (Alone m k w d)) 0 16 (in-range Kind 0 40 kinds k (omega arith) (omega arith) h i) d (omega arith) (omega arith))
 
     -- the same as one test
-    pub rules-tell : (rule : List ℕ) → rule ≡ rulesOf m → (k d : ℕ) → k < 40 → d < 16 → (t : Bool) → t ≡ widthOk w
-        → ((leb w (getD rule k 0) && bit (getD rule (k + 40) 0) d) && (not (eqb k 11) || t)) ≡ true → Alone m k w d
-    rules-tell rule er k d hk hd t et h =
-        let q = and-both (leb w (getD rule k 0) && bit (getD rule (k + 40) 0) d) (not (eqb k 11) || t) h in
-        let p = and-both (leb w (getD rule k 0)) (bit (getD rule (k + 40) 0) d) (q .0) in
-        rules-hold k d hk hd (leb-true _ _ (rw er at (p .0))) (rw er at (p .1)) (λ e. sym et ∙ (rw (eq-eqb k 11 e) at (q .1)))
+    pub rules-tell : (rule : List ℕ) → rule ≡ rulesOf m → (k d : ℕ) → d < 16 → aloneBy rule k w d ≡ true → Alone m k w d
+    unfolding aloneBy
+    rules-tell rule er k d hd h =
+        let s = both (leb k 39) _ h in
+        let q = both (leb w (getD rule k 0) && bit (getD rule (k + 40) 0) d) (not (eqb k 11) || widthOk w) (s .1) in
+        let p = both (leb w (getD rule k 0)) (bit (getD rule (k + 40) 0) d) (q .0) in
+        rules-hold k d (omega (arith, leb-true k 39 (s .0))) hd (leb-true _ _ (rw er at (p .0))) (rw er at (p .1)) (λ e. rw (eq-eqb k 11 e) at (q .1))

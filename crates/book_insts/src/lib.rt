@@ -1,4 +1,5 @@
 // Instructions, kinds 40 to 82, and terminators, kinds 90 to 93: an entry and the fields of its kind.
+use book::entry;
 use book_types::Found;
 use book_types::first_entry;
 use book_types::plain;
@@ -11,8 +12,7 @@ use book_values::item_len;
 use book_values::list_len;
 use book_values::optional_len;
 ghost use mathlib.Core.Path.{_≡_};
-ghost use mathlib.Core.Bool.{true};
-ghost use Prim.Native.Nat.{ℕ, _-_, _≤_, _<_};
+ghost use Prim.Native.Nat.{_-_, _≤_, _<_};
 ghost use lib.ListN.{length};
 ghost use Rattle.book.specs.Entry.{entries};
 ghost use Rattle.book.specs.Kinds.{instTag, termTag};
@@ -20,7 +20,7 @@ ghost use Rattle.book.specs.Decode.{field as fieldReader};
 ghost use Rattle.book.specs.Forbidden.{otherField};
 ghost use Rattle.book_types.specs.Found.{foundOf};
 ghost use Rattle.book_insts.specs.Insts.{instGroupOf, termGroupOf, instShape, termShape, shapeFields, fieldOf, fieldsBehind};
-ghost use Rattle.book_insts.specs.Rules.{rulesOf, Alone};
+ghost use Rattle.book_insts.specs.Rules.{rulesOf, aloneBy};
 
 // The group of an instruction's kind; the operations and predicates are numbered from 0 in the order of ast.rs.
 pub enum InstGroup {
@@ -47,10 +47,10 @@ pub fn inst_group(kind: u64) -> InstGroup
     ensures { λ r. ⌜ r ≡ instGroupOf (instTag kind) ⌝ }
 {
     match kind {
-        40..=52 => InstGroup::Bin(kind - 40),
-        53..=58 => InstGroup::Conv(kind - 53),
-        60..=69 => InstGroup::ICmp(kind - 60),
-        70..=82 => single_group(kind),
+        entry::ADD..=entry::ASHR => InstGroup::Bin(kind - entry::ADD),
+        entry::TRUNC..=entry::BIT_CAST => InstGroup::Conv(kind - entry::TRUNC),
+        entry::EQ..=entry::SLE => InstGroup::ICmp(kind - entry::EQ),
+        entry::SELECT..=entry::FENCE => single_group(kind),
         _ => InstGroup::Other,
     }
 }
@@ -62,18 +62,18 @@ fn single_group(kind: u64) -> InstGroup
     ensures { λ r. ⌜ r ≡ instGroupOf (instTag kind) ⌝ }
 {
     match kind {
-        70 => InstGroup::Select,
-        71 => InstGroup::Load,
-        72 => InstGroup::Store,
-        73 => InstGroup::Alloca,
-        74 => InstGroup::GetElementPtr,
-        75 => InstGroup::Phi,
-        76 => InstGroup::Call,
-        77 => InstGroup::Freeze,
-        78 => InstGroup::AtomicLoad,
-        79 => InstGroup::AtomicStore,
-        80 => InstGroup::Cmpxchg,
-        81 => InstGroup::ExtractValue,
+        entry::SELECT => InstGroup::Select,
+        entry::LOAD => InstGroup::Load,
+        entry::STORE => InstGroup::Store,
+        entry::ALLOCA => InstGroup::Alloca,
+        entry::GET_ELEMENT_PTR => InstGroup::GetElementPtr,
+        entry::PHI => InstGroup::Phi,
+        entry::CALL => InstGroup::Call,
+        entry::FREEZE => InstGroup::Freeze,
+        entry::ATOMIC_LOAD => InstGroup::AtomicLoad,
+        entry::ATOMIC_STORE => InstGroup::AtomicStore,
+        entry::CMPXCHG => InstGroup::Cmpxchg,
+        entry::EXTRACT_VALUE => InstGroup::ExtractValue,
         _ => InstGroup::Fence,
     }
 }
@@ -90,16 +90,16 @@ pub enum TermGroup {
 pub fn term_group(kind: u64) -> TermGroup
     ensures { λ r. ⌜ r ≡ termGroupOf (termTag kind) ⌝ }
 {
-    if kind < 90 {
+    if kind < entry::RET {
         return TermGroup::Other;
     }
-    if 93 < kind {
+    if entry::UNREACHABLE < kind {
         return TermGroup::Other;
     }
     match kind {
-        90 => TermGroup::Ret,
-        91 => TermGroup::Br,
-        92 => TermGroup::Switch,
+        entry::RET => TermGroup::Ret,
+        entry::BR => TermGroup::Br,
+        entry::SWITCH => TermGroup::Switch,
         _ => TermGroup::Unreachable,
     }
 }
@@ -173,7 +173,7 @@ pub fn field_len(kinds: &[u64], words: &[u64], names: u64, digit: u64) -> Found
 pub fn fields_behind(kind: u64, word: u64, names: u64) -> Shape
     ensures { λ r. ⌜ shapeFields r ≡ fieldsBehind names kind word ⌝ }
 {
-    if 90 <= kind {
+    if entry::RET <= kind {
         if word != 0 {
             return Shape::Unknown;
         }
@@ -234,7 +234,7 @@ pub fn rules(names: u64) -> [u64; 80]
 pub fn one_entry(kind: u64, word: u64, digit: u64, rule: &[u64]) -> bool
     requires { ⌜ length (now rule) ≡ 80 ⌝ }
     requires { ⌜ digit < 16 ⌝ }
-    ensures { λ r. ⌜ ((names : ℕ) → 1 ≤ names → now (rule .entry) ≡ rulesOf names → r ≡ true → Alone names kind word digit) ⌝ }
+    ensures { λ r. ⌜ r ≡ aloneBy (now (rule .entry)) kind word digit ⌝ }
 {
     if 39 < kind {
         return false;
@@ -242,5 +242,5 @@ pub fn one_entry(kind: u64, word: u64, digit: u64, rule: &[u64]) -> bool
     let k = kind as usize;
     (word <= rule[k])
         & ((rule[k + 40] >> digit) % 2 == 1)
-        & ((kind != 11) | numbers::width::width_ok(word))
+        & ((kind != entry::INT) | numbers::width::width_ok(word))
 }

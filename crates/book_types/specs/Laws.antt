@@ -82,11 +82,6 @@ pub front-of : (ks ws : List ℕ) → (length ks ≡ 0 → ⊥) → (length ws �
 unfolding frontOf
 front-of ks ws p q = rw (entries-front ks ws p q)
 
-pub front-there : (es : List Entry) (k w : ℕ) → frontOf es ≡ front.Entry k w → 1 ≤ length es
-unfolding frontOf
-front-there [] k w h = absurd (let z : _≡_ {A = ℕ} 0 1 = cc in omega arith)
-front-there (e ∷ es) k w h = omega arith
-
 pub front-none : (es : List Entry) → es ≡ [] → front.Nothing ≡ frontOf es
 unfolding frontOf
 front-none es h = rw h

@@ -270,31 +270,6 @@ module _ {A B : Type 0} (ta : A → Bool) (tb : B → Bool) (stop : ℕ → Bool
             go zero z = absurd (z refl)
             go (suc left) z = rw (sub-one (suc left), drop-drop k a (entries ks ws)) (joined-joined a k o b (all left (drop (a + k) (entries ks ws))))
 
--- ---- what comes next, as the code finds it
-module _ {A B : Type 0} (ta : A → Bool) (tb : B → Bool) (stop : ℕ → Bool) (item : Reader A) (end : Reader B) (es : List Entry) where
-  pub pass-end : stops stop es ≡ true → (r : Found) (s : Pass) → r ≡ foundOf tb (end es) → s ≡ lastOf r → s ≡ passOf ta tb stop item end es
-  pass-end t r s er eq = eq ∙ ap lastOf er ∙ sym (ap (λ b. pickPass b (lastOf (foundOf tb (end es))) (nextOf (foundOf ta (item es)))) t)
-
-  pub pass-item : stops stop es ≡ false → (r : Found) (s : Pass) → r ≡ foundOf ta (item es) → s ≡ nextOf r → s ≡ passOf ta tb stop item end es
-  pass-item t r s er eq = eq ∙ ap nextOf er ∙ sym (ap (λ b. pickPass b (lastOf (foundOf tb (end es))) (nextOf (foundOf ta (item es)))) t)
-
-  -- by the entry in front
-  pub pass-none : end [] ≡ bad → frontOf es ≡ front.Nothing → pass.Bad ≡ passOf ta tb stop item end es
-  unfolding frontOf stops
-  pass-none b h = go es h
-    where
-      go : (es : List Entry) → frontOf es ≡ front.Nothing → pass.Bad ≡ passOf ta tb stop item end es
-      go [] e = rw b
-      go (e ∷ es) i = absurd (let z : _≡_ {A = ℕ} 0 1 = cc in omega arith)
-
-  pub front-stops : (k w : ℕ) → frontOf es ≡ front.Entry k w → (b : Bool) → stop k ≡ b → stops stop es ≡ b
-  unfolding frontOf stops
-  front-stops k w h b t = go es h ∙ t
-    where
-      go : (es : List Entry) → frontOf es ≡ front.Entry k w → stops stop es ≡ stop k
-      go [] e = absurd (let z : _≡_ {A = ℕ} 0 1 = cc in omega arith)
-      go (e ∷ es) i = ap stop (cc)
-
 -- ---- lists that close with kind 0
 abbrev listPass : ListHead → Pass → Pass
 listPass head.Closing s = pass.Done 1 false

@@ -10,7 +10,7 @@ ghost use lib.ListN.{length};
 ghost use Rattle.book.specs.Entry.{entries};
 ghost use Rattle.book_types.specs.Fit.{Room};
 ghost use Rattle.book_types.specs.Length.{lenIf, further, stepOfLength, frontOf, headOf};
-ghost use Rattle.book_types.specs.Found.{plainOf, joined, FoundRoom, nextOf, lastOf};
+ghost use Rattle.book_types.specs.Found.{plainOf, joined, FoundRoom, nextOf};
 
 // How many entries something takes.
 pub enum Length {
@@ -97,16 +97,6 @@ pub fn next_pass(item: Found) -> Pass
     }
 }
 
-// An end as the last step.
-pub fn last_pass(end: Found) -> Pass
-    ensures { λ r. ⌜ r ≡ lastOf end ⌝ }
-{
-    match end {
-        Found::Entries(n, barred) => Pass::Done(n, barred),
-        Found::Bad => Pass::Bad,
-    }
-}
-
 // The entry in front.
 pub enum Front {
     Entry(u64, u64),
@@ -138,7 +128,7 @@ pub fn list_head(entry: Front) -> ListHead
     let Front::Entry(kind, word) = entry else {
         return ListHead::Bad;
     };
-    if kind == 0 {
+    if kind == book::entry::END {
         if word == 0 {
             ListHead::Closing
         } else {

@@ -8,6 +8,7 @@ use crate::list_head;
 use crate::next_step;
 use crate::shorter;
 use crate::then_len;
+use book::entry;
 ghost use mathlib.Core.Path.{_≡_};
 ghost use Rattle.book.specs.Entry.{entries};
 ghost use Rattle.book.specs.Kinds.{tyTag};
@@ -32,21 +33,21 @@ pub enum TypeGroup {
 pub fn type_group(kind: u64) -> TypeGroup
     ensures { λ r. ⌜ r ≡ typeGroupOf (tyTag kind) ⌝ }
 {
-    if kind < 10 {
+    if kind < entry::VOID {
         return TypeGroup::Other;
     }
-    if 20 < kind {
+    if entry::METADATA < kind {
         return TypeGroup::Other;
     }
     match kind {
-        10 => TypeGroup::Void,
-        11 => TypeGroup::Int,
-        12 => TypeGroup::Ptr,
-        13 => TypeGroup::Array(false),
-        14 => TypeGroup::Array(true),
-        15 => TypeGroup::Named,
-        16 => TypeGroup::Struct(false),
-        17 => TypeGroup::Struct(true),
+        entry::VOID => TypeGroup::Void,
+        entry::INT => TypeGroup::Int,
+        entry::PTR => TypeGroup::Ptr,
+        entry::ARRAY => TypeGroup::Array(false),
+        entry::PACKED_ARRAY => TypeGroup::Array(true),
+        entry::NAMED => TypeGroup::Named,
+        entry::STRUCT => TypeGroup::Struct(false),
+        entry::PACKED_STRUCT => TypeGroup::Struct(true),
         _ => TypeGroup::Sizeless,
     }
 }
@@ -99,13 +100,16 @@ pub fn type_head(entry: Front, names: u64) -> TypeHead
 pub fn leaf(kind: u64, word: u64, names: u64) -> bool
     ensures { λ r. ⌜ r ≡ leafOk names kind word ⌝ }
 {
-    if kind == 11 {
+    if kind == entry::INT {
         return numbers::width::width_ok(word);
     }
-    if kind == 15 {
+    if kind == entry::NAMED {
         return word < names;
     }
-    ((kind == 10) | (kind == 12) | ((18 <= kind) & (kind <= 20))) & (word == 0)
+    ((kind == entry::VOID)
+        | (kind == entry::PTR)
+        | ((entry::FUNC <= kind) & (kind <= entry::METADATA)))
+        & (word == 0)
 }
 
 // The type at the front, of at most `level` levels. Most types are an entry, which is told here; this part is small, so that it is

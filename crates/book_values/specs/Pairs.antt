@@ -5,7 +5,7 @@ use mathlib.Core.Bool.{Bool, true, false, _&&_, _||_}
 use mathlib.Core.List.{List}
 use native.Mathlib.Nat.{add-zero}
 use native.Mathlib.Omega.{arith}
-use borrow.Author.Tests.{ne-eqb, leb-true, leb-false, ltb-true, ltb-false}
+use borrow.Author.Tests.{ne-eqb, leb-true, leb-false}
 use lib.ListN.{length, getD, drop, length-drop}
 use lib.Seq.{getD-drop}
 use lib.Dec.{eqb, leb, ltb}
@@ -41,16 +41,16 @@ value-low m k w h = go (leb 30 k) refl
     go true e = in-range (λ k. ltb w m ≡ valueOk m w (valueGroupOf (valTag k))) 30 2 (refl, (refl, tt)) k (leb-true 30 k e) h
     go false e = sym (ap (λ t. valueOk m w (valueGroupOf t)) (find-above valKind k 29 valTags refl (omega (arith, leb-false 30 k e))))
 
-pub value-high : (m k w : ℕ) → 32 ≤ k → (eqb k 32 || (ltb k 38 && eqb w 0)) ≡ valueOk m w (valueGroupOf (valTag k))
+pub value-high : (m k w : ℕ) → 32 ≤ k → (eqb k 32 || (leb k 37 && eqb w 0)) ≡ valueOk m w (valueGroupOf (valTag k))
 unfolding valTag find valTags
-value-high m k w h = go (ltb k 38) refl
+value-high m k w h = go (leb k 37) refl
   where
-    go : (t : Bool) → ltb k 38 ≡ t → (eqb k 32 || (t && eqb w 0)) ≡ valueOk m w (valueGroupOf (valTag k))
+    go : (t : Bool) → leb k 37 ≡ t → (eqb k 32 || (t && eqb w 0)) ≡ valueOk m w (valueGroupOf (valTag k))
     go true e =
         in-range (λ k. (eqb k 32 || eqb w 0) ≡ valueOk m w (valueGroupOf (valTag k))) 32 6 (refl, (refl, (refl, (refl, (refl, (refl, tt)))))) k h
-        (omega (arith, ltb-true k 38 e))
+        (omega (arith, leb-true k 37 e))
     go false e =
-        let l : 38 ≤ k = omega (arith, ltb-false k 38 e) in
+        let l : 38 ≤ k = omega (arith, leb-false k 37 e) in
         rw (ne-eqb k 32 (λ z. omega arith)) (sym (ap (λ t. valueOk m w (valueGroupOf t)) (find-below valKind k 38 valTags refl l)))
 
 -- ---- items

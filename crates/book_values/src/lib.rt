@@ -1,4 +1,5 @@
 // Values, and what the fields of instructions and terminators hold.
+use book::entry;
 use book_types::Found;
 use book_types::Front;
 use book_types::Length;
@@ -36,17 +37,17 @@ pub enum ValueGroup {
 pub fn value_group(kind: u64) -> ValueGroup
     ensures { λ r. ⌜ r ≡ valueGroupOf (valTag kind) ⌝ }
 {
-    if kind < 30 {
+    if kind < entry::LOCAL {
         return ValueGroup::Bad;
     }
-    if 37 < kind {
+    if entry::OTHER < kind {
         return ValueGroup::Bad;
     }
     match kind {
-        30 => ValueGroup::Local,
-        31 => ValueGroup::Global,
-        32 => ValueGroup::Int,
-        37 => ValueGroup::Other,
+        entry::LOCAL => ValueGroup::Local,
+        entry::GLOBAL => ValueGroup::Global,
+        entry::INTEGER => ValueGroup::Int,
+        entry::OTHER => ValueGroup::Other,
         _ => ValueGroup::Zero,
     }
 }
@@ -55,10 +56,10 @@ pub fn value_group(kind: u64) -> ValueGroup
 fn value_fits(kind: u64, word: u64, names: u64) -> bool
     ensures { λ r. ⌜ r ≡ valueOk names word (valueGroupOf (valTag kind)) ⌝ }
 {
-    if kind < 32 {
-        return (30 <= kind) & (word < names);
+    if kind < entry::INTEGER {
+        return (entry::LOCAL <= kind) & (word < names);
     }
-    (kind == 32) | ((kind < 38) & (word == 0))
+    (kind == entry::INTEGER) | ((kind <= entry::OTHER) & (word == 0))
 }
 
 // An entry of one kind, its word below a limit: the name of a block, a function or a struct.
@@ -91,7 +92,7 @@ pub enum Atom {
 fn index_fits(kind: u64, word: u64) -> bool
     ensures { λ r. ⌜ r ≡ indexFits kind word ⌝ }
 {
-    (kind != 32) | (word < 0x8000_0000) | (0xFFFF_FFFF_8000_0000 <= word)
+    (kind != entry::INTEGER) | (word < 0x8000_0000) | (0xFFFF_FFFF_8000_0000 <= word)
 }
 
 fn atom_ok(kind: u64, word: u64, names: u64, atom: Atom) -> bool
@@ -100,11 +101,11 @@ fn atom_ok(kind: u64, word: u64, names: u64, atom: Atom) -> bool
     match atom {
         Atom::Value => value_fits(kind, word, names),
         Atom::GepValue => value_fits(kind, word, names) & index_fits(kind, word),
-        Atom::Block => (kind == 23) & (word < names),
-        Atom::Index => (kind == 22) & (word < 0x1_0000_0000),
-        Atom::Align => (kind == 22) & numbers::align::is_align(word),
-        Atom::Case => kind == 32,
-        Atom::Param => (kind == 6) & (word <= names),
+        Atom::Block => (kind == entry::BLOCK_NAME) & (word < names),
+        Atom::Index => (kind == entry::NUMBER) & (word < 0x1_0000_0000),
+        Atom::Align => (kind == entry::NUMBER) & numbers::align::is_align(word),
+        Atom::Case => kind == entry::INTEGER,
+        Atom::Param => (kind == entry::PARAM) & (word <= names),
     }
 }
 
@@ -116,7 +117,7 @@ pub fn atom_len(entry: Front, names: u64, atom: Atom) -> Found
         return Found::Bad;
     };
     if atom_ok(kind, word, names, atom) {
-        Found::Entries(1, kind == 37)
+        Found::Entries(1, kind == book::entry::OTHER)
     } else {
         Found::Bad
     }
@@ -202,7 +203,7 @@ pub fn optional_len(kinds: &[u64], words: &[u64], names: u64, item: Item) -> Fou
     let Front::Entry(k, w) = first_entry(kinds, words) else {
         return Found::Bad;
     };
-    if k == 21 {
+    if k == entry::ABSENT {
         plain(entry_if(w == 0))
     } else {
         item_len(kinds, words, names, item)
@@ -238,7 +239,7 @@ fn listed_len(kinds: &[u64], words: &[u64], names: u64, item: Item) -> Found
     if 1 < kinds.len() {
         if 1 < words.len() {
             if two_entries(kinds[0], words[0], kinds[1], words[1], names, item) {
-                return Found::Entries(2, (kinds[0] == 37) | (kinds[1] == 37));
+                return Found::Entries(2, (kinds[0] == entry::OTHER) | (kinds[1] == entry::OTHER));
             }
         }
     }

@@ -9,3 +9,4 @@ pub mod Parts
 pub mod Limit
 pub mod AnyAllowance
 pub mod AtLimits
+pub mod Refusals

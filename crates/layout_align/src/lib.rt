@@ -77,12 +77,12 @@ fn named_align(
     ensures { λ r. ⌜ Outcome names (entries (now («book_kinds» .entry)) (now («book_words» .entry))) (now (work .entry)) (now (work .exit))
         (alignsOf (structsIn names (entries (now («book_kinds» .entry)) (now («book_words» .entry)))) (Ty.namedStruct name)) level r ⌝ }
 {
-    let at = 8 * (name as usize);
-    let part = work[at + 7] % 4294967296;
+    let at = book::work::WORDS * (name as usize);
+    let part = work[at + book::work::MEASURED] % 4294967296;
     if part != 0 {
         return recalled(part, level);
     }
-    let body = work[at + 4];
+    let body = work[at + book::work::BODY];
     if body == 0 {
         return Measured::Refused(6);
     }
@@ -96,7 +96,7 @@ fn named_align(
         names,
         level - 1,
     ));
-    work[at + 7] = with_align(work[at + 7], r);
+    work[at + book::work::MEASURED] = with_align(work[at + book::work::MEASURED], r);
     r
 }
 
@@ -123,7 +123,7 @@ fn struct_align(
     let mut at = first.at;
     let mut align = first.align;
     let mut levels = first.levels;
-    while kinds[at] != 0 {
+    while kinds[at] != book::entry::END {
         let ks = &kinds[at..];
         let ws = &words[at..];
         match align_of(ks, ws, book_kinds, book_words, work, names, level) {

@@ -7,8 +7,6 @@ use layout_memo::scalars::pass_scalars;
 use layout_size::placed;
 use layout_size::size_of;
 ghost use mathlib.Core.Path.{_≡_};
-ghost use mathlib.Core.Bool.{Bool};
-ghost use Prim.Native.Nat.{_≤_, _^_};
 ghost use Rattle.book.specs.Entry.{entries};
 ghost use Rattle.layout_memo.specs.Front.{StartsFields, tyOf, tysOf};
 ghost use Rattle.layout_memo.specs.Work.{Ask, structsIn};
@@ -46,7 +44,7 @@ pub fn field_at(kinds: &[u64], words: &[u64], names: u64, index: u64) -> Place
 {
     let mut at: usize = 0;
     let mut left = index;
-    while kinds[at] != 0 {
+    while kinds[at] != book::entry::END {
         if left == 0 {
             return Place::At(at);
         }
@@ -102,7 +100,7 @@ pub fn field_offset(
     let mut at: usize = 0;
     let mut taken = offset;
     let mut left = index;
-    while kinds[at] != 0 {
+    while kinds[at] != book::entry::END {
         let ks = &kinds[at..];
         let ws = &words[at..];
         match field_start(ks, ws, book_kinds, book_words, work, names, packed, taken) {

@@ -12,6 +12,7 @@ use Rattle.book.specs.Ast.{Ty, Tys, StructType}
 use Rattle.book.specs.Kinds.{tyTag}
 use Rattle.book.specs.Encode.{encTy}
 use Rattle.book.specs.Result.{Result}
+use Rattle.book.specs.Work.{bodyAt, measuredAt}
 use Rattle.book_types.specs.Groups.{typeGroupOf}
 use Rattle.book_types.specs.Laws.{entries-part, within-kinds, within-words}
 use Rattle.book_types.specs.declared.types.TypeGroup.{TypeGroup}
@@ -167,54 +168,54 @@ module _ (m x : ℕ) (bk bw : List ℕ) (work : List ℕ) (level : ℕ) (k : Ask
   abbrev named : List StructType
   named = structsIn m (entries bk bw)
 
-  pub align-recalled : (alignPart (getD work (8 * x + 7) 0) ≡ 0 → ⊥) → (r : Measured) → r ≡ recalled (alignPart (getD work (8 * x + 7) 0)) level
+  pub align-recalled : (alignPart (getD work (measuredAt x) 0) ≡ 0 → ⊥) → (r : Measured) → r ≡ recalled (alignPart (getD work (measuredAt x) 0)) level
       → Outcome m (entries bk bw) work work (aligns named (Ty.namedStruct x)) level r
   align-recalled z r e = rw e (outcome (recalls (aligns named (Ty.namedStruct x)) _ level z (k .ready .known x (k .name) .align)) (after-none (k .ready)))
 
-  pub size-recalled : (sizePart (getD work (8 * x + 7) 0) ≡ 0 → ⊥) → (r : Measured) → r ≡ recalled (sizePart (getD work (8 * x + 7) 0)) level
+  pub size-recalled : (sizePart (getD work (measuredAt x) 0) ≡ 0 → ⊥) → (r : Measured) → r ≡ recalled (sizePart (getD work (measuredAt x) 0)) level
       → Outcome m (entries bk bw) work work (sizes named (Ty.namedStruct x)) level r
   size-recalled z r e = rw e (outcome (recalls (sizes named (Ty.namedStruct x)) _ level z (k .ready .known x (k .name) .size)) (after-none (k .ready)))
 
-  pub align-absent : getD work (8 * x + 4) 0 ≡ 0 → Outcome m (entries bk bw) work work (aligns named (Ty.namedStruct x)) level (Refused 6)
+  pub align-absent : getD work (bodyAt x) 0 ≡ 0 → Outcome m (entries bk bw) work work (aligns named (Ty.namedStruct x)) level (Refused 6)
   align-absent z = outcome (arms.align-absent named m x level (entries bk bw) (k .some-level) _ (k .ready .bodies x (k .name)) z) (after-none (k .ready))
 
-  pub size-absent : getD work (8 * x + 4) 0 ≡ 0 → Outcome m (entries bk bw) work work (sizes named (Ty.namedStruct x)) level (Refused 6)
+  pub size-absent : getD work (bodyAt x) 0 ≡ 0 → Outcome m (entries bk bw) work work (sizes named (Ty.namedStruct x)) level (Refused 6)
   size-absent z = outcome (arms.size-absent named m x level (entries bk bw) (k .some-level) _ (k .ready .bodies x (k .name)) z) (after-none (k .ready))
 
-  module _ (z : getD work (8 * x + 4) 0 ≡ 0 → ⊥) where
-    body : BodyAt named m (entries bk bw) x (getD work (8 * x + 4) 0 - 1)
+  module _ (z : getD work (bodyAt x) 0 ≡ 0 → ⊥) where
+    body : BodyAt named m (entries bk bw) x (getD work (bodyAt x) 0 - 1)
     body = k .ready .bodies x (k .name) .present z
 
-    pub body-kinds : getD work (8 * x + 4) 0 - 1 ≤ length bk
+    pub body-kinds : getD work (bodyAt x) 0 - 1 ≤ length bk
     body-kinds = within-kinds _ bk bw (body .there)
 
-    pub body-words : getD work (8 * x + 4) 0 - 1 ≤ length bw
+    pub body-words : getD work (bodyAt x) 0 - 1 ≤ length bw
     body-words = within-words _ bk bw (body .there)
 
-    pub body-ask : Ask m (lent bk bw (getD work (8 * x + 4) 0 - 1)) (entries bk bw) work (level - 1)
+    pub body-ask : Ask m (lent bk bw (getD work (bodyAt x) 0 - 1)) (entries bk bw) work (level - 1)
     body-ask = ask-part bk bw _ (body .front) (k .ready) (omega (arith, k .levels))
 
     module _ {work′ : List ℕ} {r : Measured} (s : Measured) (es : s ≡ oneMore r) where
-      align-says : Outcome m (entries bk bw) work work′ (aligns named (tyOf m (lent bk bw (getD work (8 * x + 4) 0 - 1)))) (level - 1) r → Measures (aligns named (Ty.namedStruct x)) level s
+      align-says : Outcome m (entries bk bw) work work′ (aligns named (tyOf m (lent bk bw (getD work (bodyAt x) 0 - 1)))) (level - 1) r → Measures (aligns named (Ty.namedStruct x)) level s
       align-says o = arms.align-body named m x level (entries bk bw) (k .some-level) _ body r s es (part-type (aligns named) m bk bw _ (level - 1) r (o .says))
 
-      size-says : Outcome m (entries bk bw) work work′ (sizes named (tyOf m (lent bk bw (getD work (8 * x + 4) 0 - 1)))) (level - 1) r → Measures (sizes named (Ty.namedStruct x)) level s
+      size-says : Outcome m (entries bk bw) work work′ (sizes named (tyOf m (lent bk bw (getD work (bodyAt x) 0 - 1)))) (level - 1) r → Measures (sizes named (Ty.namedStruct x)) level s
       size-says o = arms.size-body named m x level (entries bk bw) (k .some-level) _ body r s es (part-type (sizes named) m bk bw _ (level - 1) r (o .says))
 
-      pub align-body-small : Outcome m (entries bk bw) work work′ (aligns named (tyOf m (lent bk bw (getD work (8 * x + 4) 0 - 1)))) (level - 1) r → SmallBytes s × Few s
+      pub align-body-small : Outcome m (entries bk bw) work work′ (aligns named (tyOf m (lent bk bw (getD work (bodyAt x) 0 - 1)))) (level - 1) r → SmallBytes s × Few s
       align-body-small o = (align-bytes named (Ty.namedStruct x) level s (k .levels) (align-says o), measures-few _ level s (k .levels) (align-says o))
 
-      pub size-body-small : Outcome m (entries bk bw) work work′ (sizes named (tyOf m (lent bk bw (getD work (8 * x + 4) 0 - 1)))) (level - 1) r → SmallBytes s × Few s
+      pub size-body-small : Outcome m (entries bk bw) work work′ (sizes named (tyOf m (lent bk bw (getD work (bodyAt x) 0 - 1)))) (level - 1) r → SmallBytes s × Few s
       size-body-small o = (size-bytes named (Ty.namedStruct x) level s (k .levels) (size-says o), measures-few _ level s (k .levels) (size-says o))
 
-      pub align-stored : Outcome m (entries bk bw) work work′ (aligns named (tyOf m (lent bk bw (getD work (8 * x + 4) 0 - 1)))) (level - 1) r → (v : ℕ) → v ≡ withAlign (getD work′ (8 * x + 7) 0) s
-          → Outcome m (entries bk bw) work (set work′ (8 * x + 7) v) (aligns named (Ty.namedStruct x)) level s
+      pub align-stored : Outcome m (entries bk bw) work work′ (aligns named (tyOf m (lent bk bw (getD work (bodyAt x) 0 - 1)))) (level - 1) r → (v : ℕ) → v ≡ withAlign (getD work′ (measuredAt x) 0) s
+          → Outcome m (entries bk bw) work (set work′ (measuredAt x) v) (aligns named (Ty.namedStruct x)) level s
       align-stored o v ev =
           outcome (align-says o)
           (after-then (o .after) (after-set x v (o .after .ready) (k .name) (rw ev (align-remembered named x _ level s (k .levels) (align-says o) (o .after .ready .known x (k .name))))))
 
-      pub size-stored : Outcome m (entries bk bw) work work′ (sizes named (tyOf m (lent bk bw (getD work (8 * x + 4) 0 - 1)))) (level - 1) r → (v : ℕ) → v ≡ withSize (getD work′ (8 * x + 7) 0) s
-          → Outcome m (entries bk bw) work (set work′ (8 * x + 7) v) (sizes named (Ty.namedStruct x)) level s
+      pub size-stored : Outcome m (entries bk bw) work work′ (sizes named (tyOf m (lent bk bw (getD work (bodyAt x) 0 - 1)))) (level - 1) r → (v : ℕ) → v ≡ withSize (getD work′ (measuredAt x) 0) s
+          → Outcome m (entries bk bw) work (set work′ (measuredAt x) v) (sizes named (Ty.namedStruct x)) level s
       size-stored o v ev =
           outcome (size-says o)
           (after-then (o .after) (after-set x v (o .after .ready) (k .name) (rw ev (size-remembered named x _ level s (k .levels) (size-says o) (o .after .ready .known x (k .name))))))

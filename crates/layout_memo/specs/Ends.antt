@@ -1,6 +1,6 @@
 -- Where a type of a sound book ends: behind its last open list.
-use Prim.Native.Nat.{ℕ, zero, suc, _+_, _-_, _<_, _≤_, _^_}
-use mathlib.Core.Path.{_≡_, refl, sym, ap, _∙_, subst}
+use Prim.Native.Nat.{ℕ, zero, suc, _+_, _-_, _≤_}
+use mathlib.Core.Path.{_≡_, refl, sym, ap, _∙_}
 use mathlib.Core.Bool.{Bool, true, false, _||_}
 use mathlib.Core.List.{List, [], _∷_, _++_, append-assoc}
 use native.Mathlib.Omega.{arith}
@@ -12,7 +12,7 @@ use Rattle.book.specs.Entry.{Entry, entry, entries}
 use Rattle.book.specs.Ast.{Ty, Tys, Sizeless}
 use Rattle.book.specs.Encode.{encTy, encTys}
 use Rattle.book_types.specs.Laws.{within-kinds}
-use Rattle.layout_memo.specs.Front.{Starts, tyLen, len-is, kindOf, kind-at}
+use Rattle.layout_memo.specs.Front.{Starts, tyLen, len-is, kindOf, kind-at, enc-pos, encs-pos}
 
 abbrev pickℕ : Bool → ℕ → ℕ → ℕ
 pickℕ true a b = a
@@ -116,16 +116,6 @@ module _ (es rest : List Entry) (at : ℕ) where
   type-alone (Ty.struct true us) h l = rw (kind-here es at h) ((λ e. absurd (let z : _≡_ {A = ℕ} 0 1 = cc in omega arith)), λ e. record { stack = us ∷ []; here = behind es at h; count = refl; there = further es at h l })
   type-alone (Ty.struct false us) h l = rw (kind-here es at h) ((λ e. absurd (let z : _≡_ {A = ℕ} 0 1 = cc in omega arith)), λ e. record { stack = us ∷ []; here = behind es at h; count = refl; there = further es at h l })
 
-ty-pos : (t : Ty) → 1 ≤ length (encTy t)
-unfolding encTy
-ty-pos Ty.void = omega arith
-ty-pos Ty.ptr = omega arith
-ty-pos (Ty.sizeless s) = omega arith
-ty-pos (Ty.int w) = omega arith
-ty-pos (Ty.array p n t) = omega arith
-ty-pos (Ty.namedStruct x) = omega arith
-ty-pos (Ty.struct p ts) = omega arith
-
 type-kind : {es : List Entry} (rest : List Entry) (t : Ty) → es ≡ encTy t ++ rest → kindOf es ≡ 0 → ⊥
 unfolding encTy kindOf
 type-kind rest Ty.void h e = omega (arith, ap kindOf h)
@@ -140,15 +130,10 @@ type-kind rest (Ty.array false n t) h e = omega (arith, ap kindOf h)
 type-kind rest (Ty.struct true us) h e = omega (arith, ap kindOf h)
 type-kind rest (Ty.struct false us) h e = omega (arith, ap kindOf h)
 
-list-pos : (ts : Tys) → 1 ≤ length (encTys ts)
-unfolding encTys
-list-pos Tys.nil = omega arith
-list-pos (Tys.cons t ts) = omega (arith, length-append (encTy t) (encTys ts), ty-pos t)
-
 stack-few : (rest : List Entry) (stack : List Tys) → length stack ≤ length (pending stack rest)
 unfolding pending
 stack-few rest [] = omega arith
-stack-few rest (ts ∷ stack) = omega (arith, length-append (encTys ts) (pending stack rest), list-pos ts, stack-few rest stack)
+stack-few rest (ts ∷ stack) = omega (arith, length-append (encTys ts) (pending stack rest), encs-pos ts, stack-few rest stack)
 
 -- ---- over the lent slices
 module _ (m : ℕ) (ks ws : List ℕ) (s : Starts m (entries ks ws)) where
@@ -163,7 +148,7 @@ module _ (m : ℕ) (ks ws : List ℕ) (s : Starts m (entries ks ws)) where
 
   module _ {at : ℕ} (f : Fronted at) where
     type-there : at + 1 ≤ length (entries ks ws)
-    type-there = omega (arith, ty-pos (f .ty), ap length (f .here), length-append (encTy (f .ty)) (s .rest), length-drop at (entries ks ws))
+    type-there = omega (arith, enc-pos (f .ty), ap length (f .here), length-append (encTy (f .ty)) (s .rest), length-drop at (entries ks ws))
 
     pub fronted-kinds : at + 1 ≤ length ks
     fronted-kinds = within-kinds (at + 1) ks ws type-there

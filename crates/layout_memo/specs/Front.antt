@@ -169,7 +169,7 @@ enc-pos (Ty.array p n t) = omega arith
 enc-pos (Ty.namedStruct x) = omega arith
 enc-pos (Ty.struct p ts) = omega arith
 
-encs-pos : (ts : Tys) → 1 ≤ length (encTys ts)
+pub encs-pos : (ts : Tys) → 1 ≤ length (encTys ts)
 unfolding encTys
 encs-pos Tys.nil = omega arith
 encs-pos (Tys.cons t ts) = omega (arith, length-append (encTy t) (encTys ts), enc-pos t)

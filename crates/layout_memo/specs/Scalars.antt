@@ -1,13 +1,15 @@
 -- Fields that are integers or pointers: one entry each, as many bytes as they are aligned to.
-use Prim.Native.Nat.{ℕ, zero, suc, _+_, _-_, _*_, _/_, _%_, _<_, _≤_, _^_, max}
+use Prim.Native.Nat.{ℕ, _+_, _-_, _*_, _/_, _%_, _<_, _≤_, _^_, max}
 use mathlib.Core.Path.{_≡_, refl, sym, ap, _∙_, subst}
-use mathlib.Core.Bool.{Bool, true, false}
+use mathlib.Core.Bool.{Bool, true, false, cond}
 use mathlib.Core.List.{List}
 use native.Mathlib.Nat.{mod-eq-of-lt, lt-of-le-of-lt, div-mul-le-self}
 use native.Mathlib.Omega.{arith}
+use borrow.Author.Tests.{eq-eqb, ne-eqb}
+use lib.Dec.{eqb}
 use lib.ListN.{length, getD, drop}
-use Rattle.numbers.specs.Align.{alignUp, isAlign, exponentOf, align-step, align-most, align-exponent, align-bounds, bytes-align}
-use Rattle.numbers.specs.Width.{widthOk, intBytes, width-bounds}
+use Rattle.numbers.specs.Align.{isAlign, exponentOf, align-step, align-most, align-exponent, align-bounds, bytes-align}
+use Rattle.numbers.specs.Width.{widthOk, width-bounds}
 use Rattle.book.specs.Entry.{Entry, entries}
 use Rattle.book.specs.Ast.{Ty, StructType}
 use Rattle.book.specs.Kinds.{TyTag, tyTag}
@@ -186,6 +188,22 @@ passes-on r s (more {s = u} b p c nz l n) = omega (arith, passes-on r u p)
 
 pub passes-from : {ks ws : List ℕ} {packed : Bool} {stop at offset align levels : ℕ} (r s : Run) → r ≡ allFrom at offset align levels → Passes ks ws packed stop r s → at ≤ s .at
 passes-from {at = at} {offset = offset} {align = align} {levels = levels} r s e p = passes-on (allFrom at offset align levels) s (rw e at p)
+
+-- ---- how far scalars are passed: to the end of so many entries, and nowhere without a level
+unfoldable pub reachOf : (length level : ℕ) → ℕ
+reachOf length level = cond (eqb level 0) 0 length
+
+module _ (length level : ℕ) where
+  pub reach-zero : level ≡ 0 → 0 ≡ reachOf length level
+  unfolding reachOf
+  reach-zero z = rw (eq-eqb level 0 z) refl
+
+  pub reach-all : (level ≡ 0 → ⊥) → length ≡ reachOf length level
+  unfolding reachOf
+  reach-all z = rw (ne-eqb level 0 z) refl
+
+  pub reach-none : (stop : ℕ) → stop ≡ reachOf length level → level ≡ 0 → stop ≡ 0
+  reach-none stop e z = e ∙ sym (reach-zero z)
 
 -- a place that was passed is below `stop`
 pub passed-stop : (level : ℕ) {stop at : ℕ} → (level ≡ 0 → stop ≡ 0) → at < stop → level ≡ 0 → ⊥

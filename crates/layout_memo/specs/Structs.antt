@@ -18,6 +18,7 @@ use Rattle.book.specs.Decode.{decode, member, distinct, onceEach, markName, fun
 use Rattle.book.specs.Encode.{ending, encTy, encMark, markEntry, encStruct, encBody, encFunctions, encode}
 use Rattle.book.specs.Limits.{Each, StructLimits, BodyLimits}
 use Rattle.book.specs.AgreeBook.{Five, functions-begin, decode-sound}
+use Rattle.book.specs.Work.{bodyAt, measuredAt, nameWords}
 use Rattle.book_types.specs.Laws.{entries-part, within-kinds, within-words}
 use Rattle.layout.specs.Layout.{bodyOf, resolve, asType}
 use Rattle.layout_memo.specs.Front.{Starts, tyLen, ty-is, len-is, kindOf, kind-at}
@@ -138,16 +139,16 @@ pub record Placing (m : ℕ) (es : List Entry) (work : List ℕ) (a : ℕ) : Typ
   pub here : drop a es ≡ ending encStruct tail left
   pub limits : Each (StructLimits m) left
   pub once : distinct (map nameOf left) ≡ true
-  pub track : (x : ℕ) → x < m → Track (structsIn m es) left m es x (getD work (8 * x + 4) 0) (member x (map nameOf left))
-  pub blank : (x : ℕ) → x < m → getD work (8 * x + 7) 0 ≡ 0
+  pub track : (x : ℕ) → x < m → Track (structsIn m es) left m es x (getD work (bodyAt x) 0) (member x (map nameOf left))
+  pub blank : (x : ℕ) → x < m → getD work (measuredAt x) 0 ≡ 0
   pub table : (k : ℕ) → getD work (tableAt m k) 0 ≡ 0
-  pub room : 8 * m ≤ length work
+  pub room : nameWords m ≤ length work
   pub few : length es ≤ 2 ^ 20
 
 -- no word has changed but those of the bodies
 pub record BodiesKept (m : ℕ) (work work′ : List ℕ) : Type 0 where
   pub long : length work′ ≡ length work
-  pub same : (i : ℕ) → ((x : ℕ) → x < m → i ≡ 8 * x + 4 → ⊥) → getD work′ i 0 ≡ getD work i 0
+  pub same : (i : ℕ) → ((x : ℕ) → x < m → i ≡ bodyAt x → ⊥) → getD work′ i 0 ≡ getD work i 0
 
 pub kept-none : {m : ℕ} {work : List ℕ} → BodiesKept m work work
 kept-none = record { long = refl; same = λ i n. refl }
@@ -163,9 +164,9 @@ pub record NextStruct (m : ℕ) (es : List Entry) (work work′ : List ℕ) (a r
 -- a book, and words of bodies, of measuring and of the table that are 0
 pub record Blank (m : ℕ) (es : List Entry) (work : List ℕ) : Type 0 where
   pub book : IsBook m es
-  pub room : 8 * m ≤ length work
-  pub bodies : (x : ℕ) → x < m → getD work (8 * x + 4) 0 ≡ 0
-  pub known : (x : ℕ) → x < m → getD work (8 * x + 7) 0 ≡ 0
+  pub room : nameWords m ≤ length work
+  pub bodies : (x : ℕ) → x < m → getD work (bodyAt x) 0 ≡ 0
+  pub known : (x : ℕ) → x < m → getD work (measuredAt x) 0 ≡ 0
   pub table : (k : ℕ) → getD work (tableAt m k) 0 ≡ 0
 
 pub record StructsPlaced (m : ℕ) (es : List Entry) (work work′ : List ℕ) : Type 0 where
@@ -189,7 +190,7 @@ placing-start m es work a b f =
       few = f .few;
     }
   where
-    go : (x : ℕ) → getD work (8 * x + 4) 0 ≡ 0 → (c : Bool) → member x (map nameOf (structsIn m es)) ≡ c → Track (structsIn m es) (structsIn m es) m es x (getD work (8 * x + 4) 0) c
+    go : (x : ℕ) → getD work (bodyAt x) 0 ≡ 0 → (c : Bool) → member x (map nameOf (structsIn m es)) ≡ c → Track (structsIn m es) (structsIn m es) m es x (getD work (bodyAt x) 0) c
     go x z true e = (z, refl)
     go x z false e = record { absent = λ q. rw (none-found (structsIn m es) x e) refl; present = λ q. absurd (q z) }
 
@@ -269,7 +270,7 @@ module _ (m : ℕ) (ks ws : List ℕ) (work : List ℕ) (a : ℕ) (p : Placing m
       go [] e =
           record {
             room = p .room;
-            bodies = λ x l. subst (λ (left : List StructType). Track structs left m es x (getD work (8 * x + 4) 0) (member x (map nameOf left))) e (p .track x l);
+            bodies = λ x l. subst (λ (left : List StructType). Track structs left m es x (getD work (bodyAt x) 0) (member x (map nameOf left))) e (p .track x l);
             known = λ x l. rw (p .blank x l) (record { align = record { right = λ z. absurd (z refl) }; size = record { right = λ z. absurd (z refl) } });
             facts = λ k. facts-none _ _ (p .table (2 * k));
             few = p .few;
@@ -318,8 +319,8 @@ module _ (m : ℕ) (ks ws : List ℕ) (work : List ℕ) (a : ℕ) (p : Placing m
     limits-here : Each (StructLimits m) (here .s ∷ here .ss)
     limits-here = subst (Each (StructLimits m)) (here .is) (p .limits)
 
-    track-here : (x : ℕ) → x < m → Track structs (here .s ∷ here .ss) m es x (getD work (8 * x + 4) 0) (member x (map nameOf (here .s ∷ here .ss)))
-    track-here x l = subst (λ (left : List StructType). Track structs left m es x (getD work (8 * x + 4) 0) (member x (map nameOf left))) (here .is) (p .track x l)
+    track-here : (x : ℕ) → x < m → Track structs (here .s ∷ here .ss) m es x (getD work (bodyAt x) 0) (member x (map nameOf (here .s ∷ here .ss)))
+    track-here x l = subst (λ (left : List StructType). Track structs left m es x (getD work (bodyAt x) 0) (member x (map nameOf left))) (here .is) (p .track x l)
 
     -- an opaque struct
     pub next-opaque : getD ks (a + 1) 0 ≡ 4 → NextStruct m es work work a (a + 2)
@@ -339,7 +340,7 @@ module _ (m : ℕ) (ks ws : List ℕ) (work : List ℕ) (a : ℕ) (p : Placing m
                 here = d;
                 limits = limits-here .1;
                 once = later once-here;
-                track = λ x l. track-next structs (here .s) (here .ss) m es x (getD work (8 * x + 4) 0) (getD work (8 * x + 4) 0) once-here (λ n. refl)
+                track = λ x l. track-next structs (here .s) (here .ss) m es x (getD work (bodyAt x) 0) (getD work (bodyAt x) 0) once-here (λ n. refl)
                     (λ q z r. record { absent = λ y. r ∙ ap (okOr 6) e; present = λ y. absurd (y z) }) (track-here x l);
                 blank = p .blank;
                 table = p .table;
@@ -392,14 +393,14 @@ module _ (m : ℕ) (ks ws : List ℕ) (work : List ℕ) (a : ℕ) (p : Placing m
         body-fits = omega (arith, length-is, ap length behind, length-append (encTy (asType b)) (ending encStruct (p .tail) (here .ss)), length-drop (a + 1) es, p .few, body-there)
 
         abbrev at : ℕ
-        at = 8 * getD ws a 0 + 4
+        at = bodyAt (getD ws a 0)
 
-        word-next : (x : ℕ) → x < m → Track structs (here .ss) m es x (getD (set work at (a + 1 + 1)) (8 * x + 4) 0) (member x (map nameOf (here .ss)))
+        word-next : (x : ℕ) → x < m → Track structs (here .ss) m es x (getD (set work at (a + 1 + 1)) (bodyAt x) 0) (member x (map nameOf (here .ss)))
         word-next x l =
-            track-next structs (here .s) (here .ss) m es x (getD work (8 * x + 4) 0) (getD (set work at (a + 1 + 1)) (8 * x + 4) 0) once-here
-            (λ f. getD-set-other work at (8 * x + 4) (a + 1 + 1) 0 (λ y. f (let q : x ≡ getD ws a 0 = omega arith in q ∙ here .name)))
+            track-next structs (here .s) (here .ss) m es x (getD work (bodyAt x) 0) (getD (set work at (a + 1 + 1)) (bodyAt x) 0) once-here
+            (λ f. getD-set-other work at (bodyAt x) (a + 1 + 1) 0 (λ y. f (let q : x ≡ getD ws a 0 = omega arith in q ∙ here .name)))
             (λ f z r.
-            let i : 8 * x + 4 ≡ at = ap (λ (j : ℕ). 8 * j + 4) (f ∙ sym (here .name)) in
+            let i : bodyAt x ≡ at = ap bodyAt (f ∙ sym (here .name)) in
             let s : at < length work = omega (arith, name-below, p .room) in
             rw (i, getD-set-same work at (a + 1 + 1) 0 s) (own-body x r))
             (track-here x l)
@@ -415,7 +416,7 @@ module _ (m : ℕ) (ks ws : List ℕ) (work : List ℕ) (a : ℕ) (p : Placing m
                 limits = limits-here .1;
                 once = later once-here;
                 track = word-next;
-                blank = λ x l. getD-set-other work at (8 * x + 7) (a + 1 + 1) 0 (λ y. omega arith) ∙ p .blank x l;
+                blank = λ x l. getD-set-other work at (measuredAt x) (a + 1 + 1) 0 (λ y. omega arith) ∙ p .blank x l;
                 table = λ k. getD-set-other work at (tableAt m k) (a + 1 + 1) 0 (table-other m k (getD ws a 0) 4 (omega arith) (λ e. omega arith) name-below) ∙ p .table k;
                 room = omega (arith, p .room, length-set work at (a + 1 + 1));
                 few = p .few;

@@ -19,6 +19,8 @@ use Rattle.book.specs.Entry.{Entry}
 use Rattle.book.specs.Ast.{Ty, StructBody, StructType, Book}
 use Rattle.book.specs.Decode.{decode}
 use Rattle.book.specs.Result.{Result, ok, err}
+use Rattle.book.specs.Work.{bodyAt, factAt, measuredAt, nameWords, paramAt, wordAt}
+use Rattle.book.specs.Check.{workFor}
 use Rattle.layout.specs.Layout.{asType, resolve, alignAt, sizeAt, alignOf, sizeOf, offsetFrom}
 use Rattle.layout.specs.Step.{fieldAt}
 use Rattle.layout.specs.Natural.{Natural, one, two, four, eight, align-of-natural}
@@ -78,18 +80,18 @@ module _ (structs : List StructType) where
 -- ---- the table of fields
 -- where the table's word i stands: word 6 of the name i, or behind the terms
 unfoldable pub tableAt : ℕ → ℕ → ℕ
-tableAt m i = cond (ltb i m) (8 * i + 6) (7 * m + 64 + i)
+tableAt m i = cond (ltb i m) (factAt i) (7 * m + 64 + i)
 
 -- a table word is word 6 of a name or stands behind the terms
-pub table-word : (m i : ℕ) → ((i < m) × (tableAt m i ≡ 8 * i + 6)) ⊎ ((m ≤ i) × (tableAt m i ≡ 7 * m + 64 + i))
+pub table-word : (m i : ℕ) → ((i < m) × (tableAt m i ≡ factAt i)) ⊎ ((m ≤ i) × (tableAt m i ≡ 7 * m + 64 + i))
 unfolding tableAt
 table-word m i = ⊎-elim (λ l. inl (l, rw (lt-ltb i m l) refl)) (λ l. inr (l, rw (le-ltb i m l) refl)) (lt-or-le i m)
 
 -- the word 8 * x + j of a name, j not 6, and the words of terms are none of the table's
-pub table-other : (m i x j : ℕ) → j < 8 → (j ≡ 6 → ⊥) → x < m → tableAt m i ≡ 8 * x + j → ⊥
+pub table-other : (m i x j : ℕ) → j < 8 → (j ≡ 6 → ⊥) → x < m → tableAt m i ≡ wordAt x j → ⊥
 table-other m i x j l n lx e = ⊎-elim (λ t. n (omega (arith, t .0, t .1))) (λ t. omega (arith, t .0, t .1)) (table-word m i)
 
-pub table-term : (m i k : ℕ) → 8 * m ≤ k → k < 8 * m + 64 → tableAt m i ≡ k → ⊥
+pub table-term : (m i k : ℕ) → nameWords m ≤ k → k < workFor m → tableAt m i ≡ k → ⊥
 table-term m i k l h e = ⊎-elim (λ t. omega (arith, t .0, t .1)) (λ t. omega (arith, t .0, t .1)) (table-word m i)
 
 -- what a fact says. Behind j fields of the struct whose first field stands at p, the fields from q on are left, and `off` bytes are taken
@@ -118,25 +120,25 @@ module _ (m : ℕ) (es : List Entry) where
 -- ---- the words of all names
 module _ (m : ℕ) (es : List Entry) where
   pub record Ready (work : List ℕ) : Type 0 where
-    pub room : 8 * m ≤ length work
-    pub bodies : (x : ℕ) → x < m → Placed (structsIn m es) m es x (getD work (8 * x + 4) 0)
-    pub known : (x : ℕ) → x < m → Remembered (structsIn m es) x (getD work (8 * x + 7) 0)
+    pub room : nameWords m ≤ length work
+    pub bodies : (x : ℕ) → x < m → Placed (structsIn m es) m es x (getD work (bodyAt x) 0)
+    pub known : (x : ℕ) → x < m → Remembered (structsIn m es) x (getD work (measuredAt x) 0)
     pub facts : (k : ℕ) → FactWords m es (getD work (tableAt m (2 * k)) 0) (getD work (tableAt m (2 * k + 1)) 0)
     pub few : length es ≤ 2 ^ 20
 
 -- a word that measuring leaves: none of the table's, and none of the words 7
 pub record Settled (m i : ℕ) : Type 0 where
   pub table : (k : ℕ) → tableAt m k ≡ i → ⊥
-  pub known : (x : ℕ) → x < m → i ≡ 8 * x + 7 → ⊥
+  pub known : (x : ℕ) → x < m → i ≡ measuredAt x → ⊥
 
 -- so are the words 0 to 5 of a name, and those of terms
-pub settled-word : {m : ℕ} (x j : ℕ) → x < m → j < 6 → Settled m (8 * x + j)
+pub settled-word : {m : ℕ} (x j : ℕ) → x < m → j < 6 → Settled m (wordAt x j)
 settled-word {m} x j l h = record { table = λ k e. table-other m k x j (omega arith) (λ z. omega arith) l e; known = λ y ly e. omega arith }
 
-pub settled-first : {m : ℕ} (x : ℕ) → x < m → Settled m (8 * x)
-settled-first {m} x l = subst (Settled m) (let e : 8 * x + 0 ≡ 8 * x = omega arith in e) (settled-word x 0 l (omega arith))
+pub settled-first : {m : ℕ} (x : ℕ) → x < m → Settled m (paramAt x)
+settled-first {m} x l = subst (Settled m) (let e : wordAt x 0 ≡ paramAt x = omega arith in e) (settled-word x 0 l (omega arith))
 
-pub settled-term : {m : ℕ} (i : ℕ) → 8 * m ≤ i → i < 8 * m + 64 → Settled m i
+pub settled-term : {m : ℕ} (i : ℕ) → nameWords m ≤ i → i < workFor m → Settled m i
 settled-term {m} i l h = record { table = λ k e. table-term m k i l h e; known = λ y ly e. omega arith }
 
 -- no word has changed but those of measuring
@@ -166,37 +168,37 @@ module _ {m : ℕ} {es : List Entry} where
   after-then p q = record { ready = q .ready; kept = record { long = q .kept .long ∙ p .kept .long; same = λ i n. q .kept .same i n ∙ p .kept .same i n } }
 
   -- a word of measuring is stored
-  pub after-set : {work : List ℕ} (x v : ℕ) → Ready m es work → x < m → Remembered (structsIn m es) x v → After m es work (set work (8 * x + 7) v)
+  pub after-set : {work : List ℕ} (x v : ℕ) → Ready m es work → x < m → Remembered (structsIn m es) x v → After m es work (set work (measuredAt x) v)
   after-set {work} x v r l k =
       record {
         ready = record {
-          room = omega (arith, r .room, length-set work (8 * x + 7) v);
-          bodies = λ y ly. rw (getD-set-other work (8 * x + 7) (8 * y + 4) v 0 (λ e. omega arith)) (r .bodies y ly);
+          room = omega (arith, r .room, length-set work (measuredAt x) v);
+          bodies = λ y ly. rw (getD-set-other work (measuredAt x) (bodyAt y) v 0 (λ e. omega arith)) (r .bodies y ly);
           known = λ y ly. stored y ly (eqb y x) refl;
-          facts = facts-kept (set work (8 * x + 7) v) r (λ k. getD-set-other work (8 * x + 7) (tableAt m k) v 0 (table-other m k x 7 (omega arith) (λ e. omega arith) l));
+          facts = facts-kept (set work (measuredAt x) v) r (λ k. getD-set-other work (measuredAt x) (tableAt m k) v 0 (table-other m k x 7 (omega arith) (λ e. omega arith) l));
           few = r .few;
         };
-        kept = record { long = length-set work (8 * x + 7) v; same = λ i n. getD-set-other work (8 * x + 7) i v 0 (n .known x l) };
+        kept = record { long = length-set work (measuredAt x) v; same = λ i n. getD-set-other work (measuredAt x) i v 0 (n .known x l) };
       }
     where
-      stored : (y : ℕ) → y < m → (b : Bool) → eqb y x ≡ b → Remembered (structsIn m es) y (getD (set work (8 * x + 7) v) (8 * y + 7) 0)
+      stored : (y : ℕ) → y < m → (b : Bool) → eqb y x ≡ b → Remembered (structsIn m es) y (getD (set work (measuredAt x) v) (measuredAt y) 0)
       stored y ly true e =
           let q = eqb-true y x e in
-          let f : 8 * x + 7 < length work = omega (arith, r .room) in
-          rw (q, getD-set-same work (8 * x + 7) v 0 f) k
+          let f : measuredAt x < length work = omega (arith, r .room) in
+          rw (q, getD-set-same work (measuredAt x) v 0 f) k
       stored y ly false e =
           let q = eqb-false y x e in
-          rw (getD-set-other work (8 * x + 7) (8 * y + 7) v 0 (λ z. q (omega arith))) (r .known y ly)
+          rw (getD-set-other work (measuredAt x) (measuredAt y) v 0 (λ z. q (omega arith))) (r .known y ly)
 
 -- a measurement leaves the words 0 to 5 of a name and those of terms
 module _ {m : ℕ} {es : List Entry} {work work′ : List ℕ} (a : After m es work work′) where
-  pub kept-word : (x j : ℕ) → x < m → j < 6 → getD work′ (8 * x + j) 0 ≡ getD work (8 * x + j) 0
-  kept-word x j l h = a .kept .same (8 * x + j) (settled-word x j l h)
+  pub kept-word : (x j : ℕ) → x < m → j < 6 → getD work′ (wordAt x j) 0 ≡ getD work (wordAt x j) 0
+  kept-word x j l h = a .kept .same (wordAt x j) (settled-word x j l h)
 
-  pub kept-first : (x : ℕ) → x < m → getD work′ (8 * x) 0 ≡ getD work (8 * x) 0
-  kept-first x l = a .kept .same (8 * x) (settled-first x l)
+  pub kept-first : (x : ℕ) → x < m → getD work′ (paramAt x) 0 ≡ getD work (paramAt x) 0
+  kept-first x l = a .kept .same (paramAt x) (settled-first x l)
 
-  pub kept-term : (i : ℕ) → 8 * m ≤ i → i < 8 * m + 64 → getD work′ i 0 ≡ getD work i 0
+  pub kept-term : (i : ℕ) → nameWords m ≤ i → i < workFor m → getD work′ i 0 ≡ getD work i 0
   kept-term i l h = a .kept .same i (settled-term i l h)
 
 -- ---- a part of the word of measuring

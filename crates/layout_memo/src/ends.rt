@@ -1,4 +1,5 @@
 // Where a type of a sound book ends: nothing of it is tested, so that passing it costs little.
+use book::entry;
 ghost use mathlib.Core.Path.{_≡_};
 ghost use Prim.Native.Nat.{_≤_};
 ghost use Rattle.book.specs.Entry.{entries};
@@ -10,13 +11,13 @@ fn opened(kind: u64, lists: usize) -> usize
     requires { ⌜ (kind ≡ 0 → 1 ≤ lists) × (lists ≤ 1048576) ⌝ }
     ensures { λ r. ⌜ r ≡ opensBy kind lists ⌝ }
 {
-    if kind == 0 {
+    if kind == entry::END {
         return lists - 1;
     }
-    if kind == 16 {
+    if kind == entry::STRUCT {
         return lists + 1;
     }
-    if kind == 17 {
+    if kind == entry::PACKED_STRUCT {
         return lists + 1;
     }
     lists
@@ -26,10 +27,10 @@ fn opened(kind: u64, lists: usize) -> usize
 fn is_array(kind: u64) -> bool
     ensures { λ r. ⌜ r ≡ arrayKind kind ⌝ }
 {
-    if kind == 13 {
+    if kind == entry::ARRAY {
         return true;
     }
-    if kind == 14 {
+    if kind == entry::PACKED_ARRAY {
         return true;
     }
     false

@@ -1,13 +1,14 @@
 // Fields that are integers or pointers, which are passed without a call for each.
 use crate::deeper;
 use crate::larger;
+use book::entry;
 use numbers::align::exponent;
 ghost use mathlib.Core.Path.{_≡_};
 ghost use mathlib.Core.Bool.{true};
 ghost use Prim.Native.Nat.{_+_, _<_, _≤_, _^_};
 ghost use Rattle.numbers.specs.Align.{isAlign};
 ghost use Rattle.layout.specs.Layout.{placed};
-ghost use Rattle.layout_memo.specs.Scalars.{Scalar, RunFrom, Passes, allFrom};
+ghost use Rattle.layout_memo.specs.Scalars.{Scalar, RunFrom, Passes, allFrom, reachOf};
 
 // The fields of a struct so far: the place behind them, how many more are to be passed, where they end, their largest
 // alignment, the levels that they take.
@@ -37,10 +38,10 @@ fn scalar_bytes(kind: u64, word: u64) -> u64
     requires { ⌜ (kind ≡ 11 → word ≤ 64) ⌝ }
     ensures { λ r. ⌜ Scalar kind word r ⌝ }
 {
-    if kind == 11 {
+    if kind == entry::INT {
         return (word + 7) / 8;
     }
-    if kind == 12 {
+    if kind == entry::PTR {
         return 8;
     }
     0
@@ -93,7 +94,7 @@ pub fn pass_scalars(
 
 // How far a measurement passes scalars: nowhere without a level.
 pub fn reach(length: usize, level: u32) -> usize
-    ensures { λ r. ⌜ (level ≡ 0 → r ≡ 0) ⌝ }
+    ensures { λ r. ⌜ r ≡ reachOf length level ⌝ }
 {
     if level == 0 { 0 } else { length }
 }

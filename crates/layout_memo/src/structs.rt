@@ -1,8 +1,8 @@
 // Word 4 of each name: where its struct's body stands among the book's entries.
 use crate::skip;
-ghost use mathlib.Core.Path.{_≡_};
+use book::entry;
 ghost use Rattle.book.specs.Entry.{entries};
-ghost use Rattle.layout_memo.specs.Structs.{IsBook, FirstStruct, Placing, NextStruct, Blank, StructsPlaced, AtStruct};
+ghost use Rattle.layout_memo.specs.Structs.{IsBook, FirstStruct, NextStruct, Blank, StructsPlaced, AtStruct};
 
 // The place behind the marks.
 fn first_struct(kinds: &[u64], words: &[u64], names: u64) -> usize
@@ -10,7 +10,7 @@ fn first_struct(kinds: &[u64], words: &[u64], names: u64) -> usize
     ensures { λ r. ⌜ FirstStruct names (entries (now (kinds .entry)) (now (words .entry))) r ⌝ }
 {
     let mut at: usize = 0;
-    while kinds[at] < 3 {
+    while kinds[at] < entry::NAMED_STRUCT {
         at = at + 1;
     }
     at
@@ -23,10 +23,10 @@ fn place_struct(kinds: &[u64], words: &[u64], work: &mut [u64], names: u64, at: 
 {
     let name = words[at];
     let body = at + 1;
-    if kinds[body] == 4 {
+    if kinds[body] == entry::OPAQUE {
         return at + 2;
     }
-    work[8 * (name as usize) + 4] = (body + 1) as u64;
+    work[book::work::WORDS * (name as usize) + book::work::BODY] = (body + 1) as u64;
     body + skip(&kinds[body..], &words[body..], names)
 }
 
@@ -36,7 +36,7 @@ pub fn place_structs(kinds: &[u64], words: &[u64], work: &mut [u64], names: u64)
     ensures { λ _. ⌜ StructsPlaced names (entries (now (kinds .entry)) (now (words .entry))) (now (work .entry)) (now (work .exit)) ⌝ }
 {
     let mut at = first_struct(kinds, words, names);
-    while kinds[at] == 3 {
+    while kinds[at] == entry::NAMED_STRUCT {
         at = place_struct(kinds, words, work, names, at);
     }
 }

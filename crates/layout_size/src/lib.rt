@@ -15,7 +15,6 @@ use layout_memo::scalars::reach;
 use layout_memo::scalars::run_from;
 use numbers::align::align_up;
 ghost use mathlib.Core.Path.{_≡_};
-ghost use Prim.Native.Nat.{_≤_};
 ghost use Rattle.book.specs.Entry.{entries};
 ghost use Rattle.book.specs.Ast.{Ty};
 ghost use Rattle.layout.specs.Layout.{placed as placedAt};
@@ -87,12 +86,12 @@ fn named_size(
     ensures { λ r. ⌜ Outcome names (entries (now («book_kinds» .entry)) (now («book_words» .entry))) (now (work .entry)) (now (work .exit))
         (sizesOf (structsIn names (entries (now («book_kinds» .entry)) (now («book_words» .entry)))) (Ty.namedStruct name)) level r ⌝ }
 {
-    let at = 8 * (name as usize);
-    let part = work[at + 7] / 4294967296;
+    let at = book::work::WORDS * (name as usize);
+    let part = work[at + book::work::MEASURED] / 4294967296;
     if part != 0 {
         return recalled(part, level);
     }
-    let body = work[at + 4];
+    let body = work[at + book::work::BODY];
     if body == 0 {
         return Measured::Refused(6);
     }
@@ -106,7 +105,7 @@ fn named_size(
         names,
         level - 1,
     ));
-    work[at + 7] = with_size(work[at + 7], r);
+    work[at + book::work::MEASURED] = with_size(work[at + book::work::MEASURED], r);
     r
 }
 
@@ -187,7 +186,7 @@ fn struct_size(
         align: first.align,
         levels: first.levels,
     };
-    while kinds[at] != 0 {
+    while kinds[at] != book::entry::END {
         let ks = &kinds[at..];
         let ws = &words[at..];
         match align_of(ks, ws, book_kinds, book_words, work, names, level) {

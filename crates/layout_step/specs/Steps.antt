@@ -1,5 +1,5 @@
 -- The step of a getelementptr's index: what the functions ask and answer.
-use Prim.Native.Nat.{ℕ, _+_, _-_, _*_, _<_, _≤_}
+use Prim.Native.Nat.{ℕ, _+_, _-_, _<_, _≤_}
 use mathlib.Core.Path.{_≡_, refl, sym, ap, _∙_, subst}
 use mathlib.Core.Bool.{Bool}
 use mathlib.Core.Option.{Option, none, some}
@@ -12,6 +12,7 @@ use Rattle.book.specs.Entry.{Entry, entries}
 use Rattle.book.specs.Ast.{Ty, Tys, Value, StructType}
 use Rattle.book.specs.Kinds.{tyTag}
 use Rattle.book.specs.Result.{Result, ok, err, bind, okOr}
+use Rattle.book.specs.Work.{bodyAt}
 use Rattle.book_types.specs.Groups.{typeGroupOf}
 use Rattle.book_types.specs.Laws.{entries-part, within-kinds, within-words}
 use Rattle.book_types.specs.declared.types.TypeGroup.{TypeGroup}
@@ -322,13 +323,13 @@ module _ (m : ℕ) (bk bw : List ℕ) (work : List ℕ) (x : ℕ) (i : Index) (k
   abbrev namedAnswer : Result GepStep
   namedAnswer = stepBy (structsIn m (entries bk bw)) (Ty.namedStruct x) (indexOf i)
 
-  pub named-absent : getD work (8 * x + 4) 0 ≡ 0 → StepOutcome m (entries bk bw) work work namedAnswer (step.Refused 6)
+  pub named-absent : getD work (bodyAt x) 0 ≡ 0 → StepOutcome m (entries bk bw) work work namedAnswer (step.Refused 6)
   unfolding stepBy bind
   named-absent z = record { says = rw (k .ready .bodies x (k .name) .absent z) refl; after = after-none (k .ready) }
 
-  module _ (z : getD work (8 * x + 4) 0 ≡ 0 → ⊥) where
+  module _ (z : getD work (bodyAt x) 0 ≡ 0 → ⊥) where
     abbrev spot : ℕ
-    spot = getD work (8 * x + 4) 0 - 1
+    spot = getD work (bodyAt x) 0 - 1
 
     body : BodyAt (structsIn m (entries bk bw)) m (entries bk bw) x spot
     body = k .ready .bodies x (k .name) .present z

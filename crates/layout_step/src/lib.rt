@@ -48,7 +48,7 @@ fn field_step(
         (fieldBy (structsIn names (entries (now («book_kinds» .entry)) (now («book_words» .entry)))) packed
         (tysOf names (drop at (entries (now («book_kinds» .entry)) (now («book_words» .entry))))) 0 offset) r ⌝ }
 {
-    if book_kinds[at] == 0 {
+    if book_kinds[at] == book::entry::END {
         return Step::Refused(14);
     }
     match start_at(book_kinds, book_words, work, names, at, packed, offset) {
@@ -130,8 +130,8 @@ fn struct_step(
     )
 }
 
-// The step into an array whose element is at the place.
-fn array_step(
+// The step over the type at the place: into an array of such elements, or by the first index.
+pub fn array_step(
     book_kinds: &[u64],
     book_words: &[u64],
     work: &mut [u64],
@@ -173,7 +173,7 @@ fn named_step(
     ensures { λ r. ⌜ StepOutcome names (entries (now («book_kinds» .entry)) (now («book_words» .entry))) (now (work .entry)) (now (work .exit))
         (stepBy (structsIn names (entries (now («book_kinds» .entry)) (now («book_words» .entry)))) (Ty.namedStruct name) (indexOf index)) r ⌝ }
 {
-    let body = work[8 * (name as usize) + 4];
+    let body = work[book::work::WORDS * (name as usize) + book::work::BODY];
     if body == 0 {
         return Step::Refused(6);
     }

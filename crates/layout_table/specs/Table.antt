@@ -1,19 +1,21 @@
 -- Facts about the fields of structs and the alignments of types in the work words: how they are read and stored.
-use Prim.Native.Nat.{ℕ, _+_, _-_, _*_, _/_, _%_, _<_, _≤_, _^_}
-use mathlib.Core.Path.{_≡_, refl, sym, ap, _∙_, subst}
+use Prim.Native.Nat.{ℕ, _+_, _-_, _*_, _/_, _%_, _<_, _≤_, _^_, min}
+use mathlib.Core.Path.{_≡_, refl, sym, ap, _∙_}
 use mathlib.Core.Logic.{_⊎_, inl, inr, ⊎-elim}
-use mathlib.Core.Bool.{Bool, true, false}
+use mathlib.Core.Bool.{Bool, true, false, cond, _&&_}
 use mathlib.Core.List.{List}
 use native.Mathlib.Nat.{add-mul-mod-self-right, mul-add-mod-self-right, mod-eq-of-lt, mul-le-mul, zero-add}
 use native.Mathlib.Omega.{arith}
 use lib.Bits.{bitAnd, and-le-r}
-use lib.Dec.{eqb}
+use lib.Dec.{eqb, leb}
 use lib.ListN.{length, getD, drop, set, length-set, length-drop}
 use lib.Seq.{getD-set-same, getD-set-other}
-use borrow.Author.Tests.{eqb-true, eqb-false}
+use borrow.Author.Tests.{eqb-true, eqb-false, leb-true, le-leb, lt-leb}
 use Rattle.book.specs.Entry.{Entry}
+use Rattle.book.specs.Check.{workFor}
+use Rattle.book.specs.Work.{factAt, wordAt}
 use Rattle.layout_memo.specs.Front.{Starts, StartsFields, fields-there}
-use Rattle.layout_memo.specs.Work.{Ready, After, after-none, FieldFact, AlignFact, FactWords, Settled, tableAt, table-word, table-other}
+use Rattle.layout_memo.specs.Work.{Ready, After, after-none, FieldFact, AlignFact, FactWords, tableAt, table-word, table-other}
 use Rattle.layout_memo.specs.Calls.{starts-length}
 use Rattle.layout_table.specs.declared.Known.{Known}
 
@@ -86,6 +88,33 @@ pub align-words : (m : ℕ) (es : List Entry) (place a key : ℕ) → key ≡ al
 align-words m es place a key e f =
     let d : key - 2 ^ 43 ≡ place = omega arith in
     record { field = λ z l. absurd (omega arith); align = λ l. rw d f }
+
+-- ---- how many facts the table has room for: two words each, of one word for each name and those behind what a translation wants
+unfoldable pub roomFor : (length m : ℕ) → ℕ
+roomFor length m = cond (leb m 1048576 && leb (workFor m) length) (min (2 ^ 32) ((length - workFor m) / 2 + m / 2)) 0
+
+module _ (length m : ℕ) where
+  pub room-over : 1048576 < m → 0 ≡ roomFor length m
+  unfolding roomFor
+  room-over h = rw (lt-leb m 1048576 h) refl
+
+  module _ (few : m ≤ 1048576) where
+    pub room-short : length < workFor m → 0 ≡ roomFor length m
+    unfolding roomFor
+    room-short h = rw (le-leb m 1048576 few, lt-leb (workFor m) length h) refl
+
+    pub room-there : workFor m ≤ length → (r : ℕ) → r ≡ min (2 ^ 32) ((length - workFor m) / 2 + m / 2) → r ≡ roomFor length m
+    unfolding roomFor
+    room-there h r e = rw (le-leb m 1048576 few, le-leb (workFor m) length h) e
+
+pub room-few : (length m r : ℕ) → r ≡ roomFor length m → 1 ≤ r → (m ≤ 2 ^ 40) × (r ≤ 2 ^ 32)
+unfolding roomFor
+room-few length m r e l = go (leb m 1048576) refl (leb (workFor m) length) e
+  where
+    go : (a : Bool) → leb m 1048576 ≡ a → (b : Bool) → r ≡ cond (a && b) (min (2 ^ 32) ((length - workFor m) / 2 + m / 2)) 0 → (m ≤ 2 ^ 40) × (r ≤ 2 ^ 32)
+    go true q true e = (omega (arith, leb-true m 1048576 q), omega arith)
+    go true q false e = absurd (omega arith)
+    go false q b e = absurd (omega arith)
 
 -- ---- looking for a fact
 -- a word that stands behind a key in the table, or 0
@@ -172,7 +201,7 @@ module _ (x n : ℕ) (l : x < 2 ^ 32) (h : n ≤ 2 ^ 32) where
   pub slot-small : x * n / 4294967296 ≤ 2 ^ 32
   slot-small = omega (arith, slot-most)
 
-pub table-name : (m i : ℕ) → i < m → 8 * i + 6 ≡ tableAt m i
+pub table-name : (m i : ℕ) → i < m → factAt i ≡ tableAt m i
 table-name m i l = ⊎-elim (λ t. sym (t .1)) (λ t. absurd (omega (arith, t .0))) (table-word m i)
 
 pub table-behind : (m i : ℕ) → m ≤ i → 7 * m + 64 + i ≡ tableAt m i
@@ -194,8 +223,8 @@ module _ {m : ℕ} {es : List Entry} {work : List ℕ} (n key value : ℕ) (r : 
   other : (i : ℕ) → (i ≡ tableAt m (2 * n) → ⊥) → (i ≡ tableAt m (2 * n + 1) → ⊥) → getD stored i 0 ≡ getD work i 0
   other i p q = getD-set-other (set work (tableAt m (2 * n)) key) (tableAt m (2 * n + 1)) i value 0 q ∙ getD-set-other work (tableAt m (2 * n)) i key 0 p
 
-  word : (x j : ℕ) → j < 8 → (j ≡ 6 → ⊥) → x < m → getD stored (8 * x + j) 0 ≡ getD work (8 * x + j) 0
-  word x j l h lx = other (8 * x + j) (λ e. table-other m (2 * n) x j l h lx (sym e)) (λ e. table-other m (2 * n + 1) x j l h lx (sym e))
+  word : (x j : ℕ) → j < 8 → (j ≡ 6 → ⊥) → x < m → getD stored (wordAt x j) 0 ≡ getD work (wordAt x j) 0
+  word x j l h lx = other (wordAt x j) (λ e. table-other m (2 * n) x j l h lx (sym e)) (λ e. table-other m (2 * n + 1) x j l h lx (sym e))
 
   key-there : getD stored (tableAt m (2 * n)) 0 ≡ key
   key-there =

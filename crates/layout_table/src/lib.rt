@@ -10,6 +10,7 @@ use crate::table::find;
 use crate::table::no_fields;
 use crate::table::note;
 use crate::table::room_for;
+use book::entry;
 use layout_field::Offset;
 use layout_field::field_start;
 use layout_field::fields_left;
@@ -70,7 +71,7 @@ fn next_field(
 {
     let at = from.at;
     let packed = sought.packed;
-    if book_kinds[at] == 0 {
+    if book_kinds[at] == entry::END {
         return ended(from);
     }
     if sought.index <= from.index {
@@ -200,7 +201,7 @@ fn size_for(facts: usize, count: usize) -> usize
 // Whether an entry of this kind begins an array or a struct.
 fn opens(kind: u64) -> bool {
     match kind {
-        13 | 14 | 16 | 17 => true,
+        entry::ARRAY | entry::PACKED_ARRAY | entry::STRUCT | entry::PACKED_STRUCT => true,
         _ => false,
     }
 }
@@ -224,13 +225,13 @@ fn lists_behind(kind: u64, lists: usize) -> usize
     ensures { λ r. ⌜ r ≤ lists + 1 ⌝ }
 {
     match kind {
-        0 => {
+        entry::END => {
             if lists == 0 {
                 return 0;
             }
             lists - 1
         }
-        16 | 17 => lists + 1,
+        entry::STRUCT | entry::PACKED_STRUCT => lists + 1,
         _ => lists,
     }
 }
@@ -243,7 +244,7 @@ fn left_behind(kind: u64, lists: usize, left: u64) -> u64
         return left;
     }
     match kind {
-        13 | 14 => left,
+        entry::ARRAY | entry::PACKED_ARRAY => left,
         _ => left - 1,
     }
 }

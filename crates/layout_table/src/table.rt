@@ -5,7 +5,7 @@ ghost use mathlib.Core.Path.{_≡_};
 ghost use Prim.Native.Nat.{_<_, _≤_, _^_};
 ghost use Rattle.book.specs.Entry.{entries};
 ghost use Rattle.layout_memo.specs.Work.{After, tableAt};
-ghost use Rattle.layout_table.specs.Table.{KeyOf, ValueOf, Probed, Best, AskFind, AskNote, AskTypeAt, AskNoteAlign, AlignFound, Stored, alignKey, noFields};
+ghost use Rattle.layout_table.specs.Table.{KeyOf, ValueOf, Probed, Best, AskFind, AskNote, AskTypeAt, AskNoteAlign, AlignFound, Stored, alignKey, noFields, roomFor};
 
 // Where the table's word i stands: word 6 of a name, or behind the words of terms.
 fn table_at(names: u64, i: usize) -> usize
@@ -14,9 +14,9 @@ fn table_at(names: u64, i: usize) -> usize
 {
     let m = names as usize;
     if i < m {
-        return 8 * i + 6;
+        return book::work::WORDS * i + book::work::FACT;
     }
-    7 * m + 64 + i
+    7 * m + book::work::TERMS + i
 }
 
 // The first word of the fact behind so many fields of a struct.
@@ -83,16 +83,16 @@ fn probe(work: &[u64], names: u64, facts: usize, key: u64) -> u64
 
 // How many facts the table has room for.
 pub fn room_for(length: usize, names: u64) -> usize
-    ensures { λ r. ⌜ (r ≤ 2 ^ 32) × (1 ≤ r → names ≤ 1048576) ⌝ }
+    ensures { λ r. ⌜ r ≡ roomFor length names ⌝ }
 {
     if 1048576 < names {
         return 0;
     }
     let m = names as usize;
-    if length < 8 * m + 64 {
+    if length < book::work::WORDS * m + book::work::TERMS {
         return 0;
     }
-    let room = (length - 8 * m - 64) / 2 + m / 2;
+    let room = (length - book::work::WORDS * m - book::work::TERMS) / 2 + m / 2;
     if 4294967296 < room {
         return 4294967296;
     }

@@ -139,6 +139,10 @@ accepted-iff bs m = (found (namesOf bs), λ w. rw (w .1) (holds (w .0) (w .2)))
     holds : (ns : List (List ℕ)) → length ns ≡ m → counts m (some ns) ≡ true
     holds ns e = eq-eqb (length ns) m e
 
+-- these names are the lines, so there are as many lines
+pub lines-counted : (bs : List ℕ) (m : ℕ) → accepted bs m ≡ true → length (lines bs) ≡ m
+lines-counted bs m h = let x = accepted-iff bs m .0 h in ap length (names-lines bs (x .0) (x .1)) ∙ x .2
+
 -- ---- a name takes two bytes at least: one of its own, and the one that ends it
 
 filled-long : (n : List ℕ) → filled n ≡ true → 0 < length n

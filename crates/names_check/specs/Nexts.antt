@@ -15,6 +15,10 @@ pub record Noted (step first : ℕ) (bs : List ℕ) (m : ℕ) (nexts nexts′ : 
   pub same : (i : ℕ) → ((x : ℕ) → x < m → i ≡ step * x + first → ⊥) → getD nexts′ i 0 ≡ getD nexts i 0
   pub long : length nexts′ ≡ length nexts
 
+-- they are noted where this is so. Left free: the words where it is not, since the call is refused then, and who lent them clears them
+abbrev pub NotedWhere : (told : Type 0) (step first : ℕ) (bs : List ℕ) (m : ℕ) (nexts nexts′ : List ℕ) → Type 0
+NotedWhere told step first bs m nexts nexts′ = told → Noted step first bs m nexts nexts′
+
 -- words that are 0 but for these
 pub record NextsAlone (step first : ℕ) (bs : List ℕ) (m : ℕ) (work : List ℕ) : Type 0 where
   pub nexts : (x : ℕ) → x < m → step * x + first < length work → getD work (step * x + first) 0 ≡ startOf (lines bs) (x + 1)

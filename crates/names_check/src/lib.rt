@@ -15,7 +15,7 @@ ghost use lib.ListN.{length, set};
 ghost use Rattle.names.specs.Name.{nameByte, before, accepted, lines};
 ghost use Rattle.names.specs.Prefix.{firstWith, pastWith};
 ghost use Rattle.names_check.specs.Read.{namesRead};
-ghost use Rattle.names_check.specs.Nexts.{Noted, placeBehind};
+ghost use Rattle.names_check.specs.Nexts.{NotedWhere, placeBehind};
 ghost use Rattle.names_check.specs.Found.{Spelled, Kept, Found};
 
 // Whether a byte may stand in a name: it is no control character.
@@ -151,7 +151,7 @@ fn next_name(names: &[u8], last: usize, past: usize, key: u64, at: usize) -> Nex
 
 // Whether the bytes are a list of names, and `count` of them, with the range of those that start with the prefix: one pass, in which each
 // name is compared with the one before it, and where the next one starts is noted, for the first name in the word `first`, for each other
-// one `step` words on. An empty name fails that comparison, since nothing comes before it. The range ends at the first name behind it, from
+// one `step` words on; the words are left free where the answer is no. An empty name fails that comparison, since nothing comes before it. The range ends at the first name behind it, from
 // which on `to` is less than `seen`.
 pub fn read_names(
     names: &[u8],
@@ -164,7 +164,7 @@ pub fn read_names(
     requires { ⌜ 0 < step ⌝ }
     requires { ⌜ step ≤ 8 ⌝ }
     ensures { λ r. ⌜ r ≡ namesRead (accepted (now (names .entry)) count) (firstWith (now (prefix .entry)) (lines (now (names .entry)))) (pastWith (now (prefix .entry)) (lines (now (names .entry)))) ⌝ }
-    ensures { λ _. ⌜ (accepted (now (names .entry)) count ≡ true → Noted step first (now (names .entry)) count (now (nexts .entry)) (now (nexts .exit))) ⌝ }
+    ensures { λ _. ⌜ NotedWhere (accepted (now (names .entry)) count ≡ true) step first (now (names .entry)) count (now (nexts .entry)) (now (nexts .exit)) ⌝ }
 {
     let mut seen: u64 = 0;
     let mut from: u64 = 0;

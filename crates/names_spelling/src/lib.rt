@@ -4,7 +4,7 @@ pub mod utf8;
 ghost use mathlib.Core.Path.{_≡_};
 ghost use Prim.Native.Nat.{_+_};
 ghost use lib.ListN.{length};
-ghost use Rattle.names.specs.Text.{within as textWithin, same, starts, contains};
+ghost use Rattle.names.specs.Text.{within as textWithin, starts};
 ghost use Rattle.names.specs.Name.{nameFrom};
 ghost use Rattle.names.specs.Utf8.{isTail};
 ghost use Rattle.names.specs.Spelling.{wordByte, cleanByte, sanitize};
@@ -54,34 +54,6 @@ pub fn name_starts(names: &[u8], at: usize, text: &[u8]) -> bool
         j += 1;
     }
     true
-}
-
-// Whether the name at `at` is the text. Its end is looked for only where it starts with the text.
-pub fn name_is(names: &[u8], at: usize, text: &[u8]) -> bool
-    ensures { λ r. ⌜ r ≡ same (nameFrom (now (names .entry)) at) (now (text .entry)) ⌝ }
-{
-    if name_starts(names, at, text) {
-        name_end(names, at) - at == text.len()
-    } else {
-        false
-    }
-}
-
-// Whether the text, a short one, stands somewhere in the name at `at`.
-pub fn name_contains(names: &[u8], at: usize, text: &[u8]) -> bool
-    ensures { λ r. ⌜ r ≡ contains (now (text .entry)) (nameFrom (now (names .entry)) at) ⌝ }
-{
-    let mut i = at;
-    while i < names.len() {
-        if name_starts(names, i, text) {
-            return true;
-        }
-        if names[i] == END {
-            return false;
-        }
-        i += 1;
-    }
-    text.len() == 0
 }
 
 // Whether a byte is a digit, an ASCII letter or `_`.

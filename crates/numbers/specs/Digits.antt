@@ -7,8 +7,8 @@ use Prim.Native.Nat.{ℕ, zero, suc, _+_, _-_, _*_, _/_, _%_, _^_, _<_, _≤_}
 use native.Mathlib.Nat.{lt-of-lt-of-le}
 use native.Mathlib.Omega.{arith}
 use lib.Dec.{ltb, lit≤}
-use lib.ListN.{length, getD, length-append, List·getD-append}
-use lib.Seq.{getD-append-seam}
+use lib.ListN.{length, getD, set, length-append, List·getD-append}
+use lib.Seq.{sets, set-set, getD-append-seam}
 use borrow.Author.Tests.{lt-ltb, le-ltb}
 use Rattle.numbers.specs.Tests.{lt-or-le}
 
@@ -100,6 +100,19 @@ length-more-four n h =
 -- a number of two digits
 pub decimal-two : (n : ℕ) → 10 ≤ n → n < 100 → decimal n ≡ (48 + n / 10) ∷ (48 + n % 10) ∷ []
 decimal-two n h k = rw (decimal-more n h, decimal-small (n / 10) (omega arith))
+
+-- a number below 100: two digits are stored, the last one at a place of its own or over the first
+module _ (n at k : ℕ) (t : List ℕ) where
+  pub short-one : n < 10 → k ≡ 0 → (at + k + 1 ≡ at + length (decimal n)) × (set (set t at (48 + n / 10)) (at + k) (48 + n % 10) ≡ sets t at (decimal n))
+  short-one h e =
+      let here : at + k ≡ at = omega arith in
+      let same : 48 + n % 10 ≡ 48 + n = omega arith in
+      (omega (arith, length-small n h), rw (here, set-set t at (48 + n / 10) (48 + n % 10), same, decimal-small n h))
+
+  pub short-two : 10 ≤ n → n < 100 → k ≡ 1 → (at + k + 1 ≡ at + length (decimal n)) × (set (set t at (48 + n / 10)) (at + k) (48 + n % 10) ≡ sets t at (decimal n))
+  short-two h g e =
+      let next : at + k ≡ suc at = omega arith in
+      (omega (arith, length-two n h g), rw (next, decimal-two n h g))
 
 -- a word has no more than 20 digits
 pub length-word : (n : ℕ) → n < 2 ^ 64 → length (decimal n) ≤ 20

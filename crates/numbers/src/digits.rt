@@ -35,19 +35,16 @@ pub fn decimal_len(n: u64) -> usize
     len + few_digits(rest)
 }
 
-// Writes the digits of a number below 100.
-fn put_short(n: u64, text: &mut [u8], at: usize) -> usize
+// Writes the digits of a number below 100. It takes no branch: a first digit of 0 is stored too, and the last one over it.
+pub fn put_short(n: u64, text: &mut [u8], at: usize) -> usize
     requires { ⌜ n < 100 ⌝ }
     requires { ⌜ at + length (decimal n) ≤ length (now text) ⌝ }
     ensures { λ r. ⌜ (r ≡ at + length (decimal n)) × (now (text .exit) ≡ sets (now (text .entry)) at (decimal n)) ⌝ }
 {
-    if n < 10 {
-        text[at] = 48 + n as u8;
-        return at + 1;
-    }
+    let last = at + (if n < 10 { 0 } else { 1 });
     text[at] = 48 + (n / 10) as u8;
-    text[at + 1] = 48 + (n % 10) as u8;
-    at + 2
+    text[last] = 48 + (n % 10) as u8;
+    last + 1
 }
 
 // Writes n's digits from at on, where the text has room for them, and answers the place after the last.

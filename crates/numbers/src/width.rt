@@ -1,6 +1,6 @@
 // Integers of a width in bits, as an instruction has them, kept in a u64.
 ghost use mathlib.Core.Path.{_≡_};
-ghost use Rattle.numbers.specs.Width.{maskToWidth, signExtend, intBytes, widthOk};
+ghost use Rattle.numbers.specs.Width.{maskToWidth, signExtend, widthOk};
 
 // The low bits of v, as many as the width says: all of them from 64 on, and none at 0.
 pub fn mask_to_width(v: u64, width: u32) -> u64
@@ -29,13 +29,6 @@ pub fn sign_extend(v: u64, width: u32) -> u64
     } else {
         low + (u64::MAX - ((1u64 << width) - 1))
     }
-}
-
-// How many bytes an integer of the width takes in memory.
-pub fn int_bytes(w: u32) -> u64
-    ensures { λ r. ⌜ r ≡ intBytes w ⌝ }
-{
-    ((w as u64) + 7) / 8
 }
 
 // Whether a book may have integers of the width.

@@ -5,7 +5,7 @@ use native.Mathlib.Omega.{arith}
 use lib.ListN.{length}
 use Rattle.numbers.specs.Bits.{bitAt}
 use Rattle.book_insts.specs.Insts.{shapeFields}
-use Rattle.book_insts.specs.Rules.{rules-length}
+use Rattle.book_insts.specs.Rules.{rules-length, rules-tell}
 use Rattle.book_blocks.specs.Scan.{Ends, Scan}
 use Rattle.book_blocks.specs.Scan as scan
 use borrow.Author.Needs.{needs}
@@ -64,7 +64,7 @@ loop-again c =
       l .0,
       scan.scan-field (l .1) (then1 .if1 .taken) 1 _
           (scan.scan-alone (l .1) (then1 .if1 .taken) (omega arith)
-          (c .before .one-entry .ensures (entry .args .names) (scan.scan-named (l .1) (then1 .if1 .taken)) (entry .pre) (c .if2 .taken))),
+          (rules-tell (entry .args .names) _ (scan.scan-named (l .1) (then1 .if1 .taken)) _ (entry .pre) _ _ (omega arith) (sym (c .before .one-entry .ensures) ∙ c .if2 .taken))),
     )
 
 mul-field-len : tie.Need-mul-field-len Inv-loop μ-loop

@@ -1,15 +1,13 @@
 -- `book_insts::one_entry` meets its contract: the rules of the kind hold of the word and the digit.
-use Prim.Native.Nat.{ℕ}
-use mathlib.Core.Path.{_≡_}
 use native.Mathlib.Omega.{arith}
 use borrow.Author.Needs.{needs}
-use Rattle.book_insts.specs.Rules.{rules-tell}
+use Rattle.book_insts.specs.Rules.{alone-beyond, alone-below}
 use Rattle.book_insts.proofs.one_entry.Statement.{statement}
 use Rattle.book_insts.proofs.one_entry.Tie as tie
 use Rattle.numbers.proofs.width.width_ok.Reads as width-ok-reads
 
 returns : tie.Need-returns
-returns c names named is h = absurd (let z : _≡_ {A = ℕ} 0 1 = cc in omega arith)
+returns c = alone-beyond _ _ _ _ (c .if1 .taken)
 
 mul-result : tie.Need-mul-result
 mul-result c = search needs
@@ -33,9 +31,7 @@ width-ok-requires : tie.Need-width-ok-requires
 width-ok-requires c κs = search needs
 
 returns-2 : tie.Need-returns-2
-returns-2 c names named is h =
-    let a = c .before .before .before .before .before .args in
-    rules-tell names (a .word) named (a .rule .now) is (a .kind) (a .digit) (omega arith) (omega arith) _ (c .width-ok .ensures) h
+returns-2 c = alone-below _ _ _ _ (omega arith) _ (c .width-ok .ensures)
 
 pub one-entry-spec : {M : Type 1} → statement M
 one-entry-spec =

@@ -2,7 +2,7 @@
 use Rattle.layout_memo.specs.Calls as calls
 use Rattle.layout_align.specs.LoopCalls as lc
 use Rattle.layout_memo.specs.FieldCalls as fields
-use Rattle.layout_memo.specs.Scalars.{passes-from}
+use Rattle.layout_memo.specs.Scalars.{passes-from, reach-none}
 use borrow.Author.Needs.{needs}
 use Prim.Native.Nat.{ℕ, _+_, _-_, _*_, _<_}
 use native.Mathlib.Omega.{arith}
@@ -452,7 +452,7 @@ struct-align-loop-holds t c =
     (entry .pre .1) in
     lc.align-again (entry .args .names) (entry .args .kinds .now) (entry .args .words .now)
     (entries (entry .args .book-kinds .now) (entry .args .book-words .now)) (entry .args .work .now) (entry .args .level) (entry .args .packed)
-    start _ _ (c .before .run-from .ensures) (after-reach .reach .ensures) (c .pass-scalars .ensures)
+    start _ _ (c .before .run-from .ensures) (reach-none _ _ _ (after-reach .reach .ensures)) (c .pass-scalars .ensures)
 
 struct-align-mul-if2 : (t : ℕ) → struct-align-lts.Need-mul-if2 (struct-align-claims t) (struct-align-at t) struct-align.Post struct-align-Inv-loop struct-align-μ-loop
 struct-align-mul-if2 t c = search needs
@@ -602,7 +602,7 @@ struct-align-loop-again t c =
     (after-larger .larger .ensures) (after-deeper .deeper .ensures) in
     lc.align-again (entry .args .names) (entry .args .kinds .now) (entry .args .words .now)
     (entries (entry .args .book-kinds .now) (entry .args .book-words .now)) (entry .args .work .now) (entry .args .level) (entry .args .packed)
-    next _ _ (c .before .run-from2 .ensures) (at-loop .before .before .before .reach .ensures) (c .pass-scalars2 .ensures)
+    next _ _ (c .before .run-from2 .ensures) (reach-none _ _ _ (at-loop .before .before .before .reach .ensures)) (c .pass-scalars2 .ensures)
 
 struct-align-same-length-2 : (t : ℕ) → struct-align-lts.Need-same-length-2 (struct-align-claims t) (struct-align-at t) struct-align.Post struct-align-Inv-loop struct-align-μ-loop
 struct-align-same-length-2 t c = search needs

@@ -2,7 +2,7 @@
 use Rattle.layout_memo.specs.Calls as calls
 use Rattle.layout_size.specs.LoopCalls as lc
 use Rattle.layout_memo.specs.FieldCalls as fields
-use Rattle.layout_memo.specs.Scalars.{passes-from}
+use Rattle.layout_memo.specs.Scalars.{passes-from, reach-none}
 use borrow.Author.Needs.{needs}
 use Rattle.layout_size.specs.LoopCalls.{SizeInv}
 use Prim.Native.Nat.{ℕ, _+_, _-_, _*_, _<_, _≤_}
@@ -453,7 +453,7 @@ struct-size-loop-holds t c =
       entry .pre .1 .levels,
       lc.size-again (entry .args .names) (entry .args .kinds .now) (entry .args .words .now)
           (entries (entry .args .book-kinds .now) (entry .args .book-words .now)) (entry .args .work .now) (entry .args .level)
-          (entry .args .packed) (entry .pre .1 .levels) start _ _ (c .before .run-from .ensures) (after-reach .reach .ensures) (c .pass-scalars .ensures),
+          (entry .args .packed) (entry .pre .1 .levels) start _ _ (c .before .run-from .ensures) (reach-none _ _ _ (after-reach .reach .ensures)) (c .pass-scalars .ensures),
     )
 
 struct-size-mul-if1 : (t : ℕ) → struct-size-lts.Need-mul-if1 (struct-size-claims t) (struct-size-at t) struct-size.Post struct-size-Inv-loop struct-size-μ-loop
@@ -652,7 +652,7 @@ struct-size-loop-again t c =
       at-loop .loop .inv .0,
       lc.size-again (entry .args .names) (entry .args .kinds .now) (entry .args .words .now)
           (entries (entry .args .book-kinds .now) (entry .args .book-words .now)) (entry .args .work .now) (entry .args .level)
-          (entry .args .packed) (at-loop .loop .inv .0) next _ _ (c .before .run-from2 .ensures) (at-loop .before .before .before .reach .ensures)
+          (entry .args .packed) (at-loop .loop .inv .0) next _ _ (c .before .run-from2 .ensures) (reach-none _ _ _ (at-loop .before .before .before .reach .ensures))
           (c .pass-scalars2 .ensures),
     )
 

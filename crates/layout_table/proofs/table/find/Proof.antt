@@ -39,7 +39,7 @@ key-of-requires c κs =
     (laws.find-place (entry .pre) (entry .args .packed), omega (arith, entry .pre .few, at-loop .loop .inv))
 
 probe-requires : tie.Need-probe-requires Inv-loop μ-loop
-probe-requires c κs = let h = c .before .before .before .before .room-for .ensures .1 (search needs) in search needs
+probe-requires c κs = laws.room-few _ _ _ (c .before .before .before .before .room-for .ensures) (omega arith)
 
 returns-2 : tie.Need-returns-2 Inv-loop μ-loop
 returns-2 c =

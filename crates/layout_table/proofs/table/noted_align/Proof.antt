@@ -1,5 +1,6 @@
 -- `layout_table::table::noted_align` meets its contract.
 use mathlib.Core.Path.{refl}
+use native.Mathlib.Omega.{arith}
 use Rattle.layout_table.specs.Table as laws
 use borrow.Author.Needs.{needs}
 use Rattle.layout_table.proofs.table.noted_align.Statement.{statement}
@@ -20,7 +21,7 @@ align-key-requires : tie.Need-align-key-requires
 align-key-requires c κs = laws.type-place (c .before .before .before .before .before .pre)
 
 probe-requires : tie.Need-probe-requires
-probe-requires c κs = let h = c .before .before .room-for .ensures .1 (search needs) in search needs
+probe-requires c κs = laws.room-few _ _ _ (c .before .before .room-for .ensures) (omega arith)
 
 returns-2 : tie.Need-returns-2
 returns-2 c =

@@ -1,6 +1,8 @@
 -- `layout_table::table::put` meets its contract.
 use mathlib.Core.Path.{refl}
 use mathlib.Core.Logic.{inl}
+use native.Mathlib.Omega.{arith}
+use Rattle.layout_table.specs.Table as laws
 use borrow.Author.Needs.{needs}
 use Rattle.layout_table.proofs.table.put.Statement.{statement}
 use Rattle.layout_table.proofs.table.put.Tie as tie
@@ -17,10 +19,11 @@ returns : tie.Need-returns
 returns c = inl refl
 
 free-slot-requires : tie.Need-free-slot-requires
-free-slot-requires c κs = let h = c .before .before .room-for .ensures .1 (search needs) in search needs
+free-slot-requires c κs = laws.room-few _ _ _ (c .before .before .room-for .ensures) (omega arith)
 
 store-requires : tie.Need-store-requires
-store-requires c κs = let h = c .before .before .before .before .room-for .ensures .1 (search needs) in search needs
+store-requires c κs =
+    let few = laws.room-few _ _ _ (c .before .before .before .before .room-for .ensures) (omega arith) in search needs
 
 same-length : tie.Need-same-length
 same-length c = search needs
