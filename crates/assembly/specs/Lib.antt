@@ -6,3 +6,4 @@ pub mod Open
 pub mod Laws
 pub mod Lists
 pub mod Cases
+pub mod Numbers

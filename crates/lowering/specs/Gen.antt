@@ -1,8 +1,9 @@
 -- Generating lines. A `Gen` takes the label counter and gives lines and the next counter, or a refusal. In a `do` block `x ← e` is the Rust's
 -- `let x = e?;` and a bare statement is `self.f(..)?;`.
 use Prim.Native.Nat.{ℕ, suc, _+_}
+use mathlib.Core.Path.{_≡_, refl}
 use mathlib.Core.Bool.{Bool, true, false}
-use mathlib.Core.List.{List, [], _∷_, _++_}
+use mathlib.Core.List.{List, [], _∷_, _++_, append-nil}
 use Rattle.book.specs.Result.{Result, ok, err, bind}
 use Rattle.assembly.specs.Line.{Line}
 
@@ -67,3 +68,12 @@ each f (x ∷ xs) = do
 unfoldable pub openGen : Unit {0}
 unfolding lines line skip refuse after _>>=_ _>>_ when choose fresh reserve each
 openGen = tt
+
+-- nothing behind g is g
+pub then-skip : (g : Gen) → (g >> skip) ≡ g
+unfolding _>>_ skip lines after bind
+then-skip g i n = go (g n) i
+  where
+    go : (r : Result Out) → bind r (λ p. bind (skip (p .next)) (λ q. ok (after (p .lines) q))) ≡ r
+    go (ok p) = λ j. ok (record { lines = append-nil (p .lines) j; next = p .next })
+    go (err e) = refl

@@ -48,3 +48,4 @@ pub mod Pieces
 pub mod Alike
 pub mod OneByOne
 pub mod AloneCalls
+pub mod Numbers

@@ -2,7 +2,7 @@
 use Prim.Native.Nat.{ℕ}
 use mathlib.Core.Path.{_≡_, refl, ap, sym, _∙_}
 use mathlib.Core.Bool.{Bool, true, false, not, cond, _&&_, _||_, and-false, or-assoc, or-false, or-true}
-use mathlib.Core.List.{List, [], _∷_, _++_, map, append-nil, List·Memᴰ, List·Memᴰ·head, List·Memᴰ·tail}
+use mathlib.Core.List.{List, [], _∷_, _++_, map, List·Memᴰ, List·Memᴰ·head, List·Memᴰ·tail}
 use lib.Dec.{eqb}
 use borrow.Author.Tests.{eqb-true, eq-eqb}
 use Rattle.names.specs.Name.{nameAt}
@@ -10,8 +10,7 @@ use Rattle.names.specs.Spelling.{isIntrinsic}
 use Rattle.book.specs.Ast.{Function, Mark, Book}
 use Rattle.book.specs.Decode.{member, markName, functionNames}
 use Rattle.book.specs.Forbidden.{any, reservedBy, uncallable, forbiddenFunction, forbidden}
-use Rattle.book.specs.Result.{Result, ok, err, bind}
-use Rattle.lowering.specs.Gen.{Out, Gen, skip, lines, after, _>>_, each}
+use Rattle.lowering.specs.Gen.{Gen, each, then-skip}
 use Rattle.lowering.specs.Context.{definedBy, codegenOf}
 use Rattle.lowering.specs.Function.{genFunction, genFunctions}
 use Rattle.lowering.specs.Alike.{neither, function-alike}
@@ -116,14 +115,6 @@ module _ (names : List (List ℕ)) (b : Book) where
       go false false n k = sym (or-false n)
 
 -- ---- one by one
-then-skip : (g : Gen) → (g >> skip) ≡ g
-unfolding _>>_ skip lines after bind
-then-skip g i n = go (g n) i
-  where
-    go : (r : Result Out) → bind r (λ p. bind (skip (p .next)) (λ q. ok (after (p .lines) q))) ≡ r
-    go (ok p) = λ j. ok (record { lines = append-nil (p .lines) j; next = p .next })
-    go (err e) = refl
-
 each-same : {A : Type 0} (g h : A → Gen) (xs : List A) → ((x : A) → List·Memᴰ x xs → g x ≡ h x) → each g xs ≡ each h xs
 unfolding each
 each-same g h [] e = refl

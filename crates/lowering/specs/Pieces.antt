@@ -1,10 +1,11 @@
 -- Books of several functions: what each has of its own, what they share, how the list of them is closed, and which refusal of
 -- several comes first. With the answers of the published Rust, asked function by function; written by `compare written`, in whose notation
 -- each book stands over its row.
+use Prim.Native.Nat.{_^_}
 use mathlib.Core.Path.{_≡_, refl}
 use mathlib.Core.List.{List, [], _∷_, map}
 use Rattle.assembly.specs.Cases.{unlines}
-use Rattle.lowering.specs.Sheet.{Sheet, Answer, answers, saysOf, openSheet}
+use Rattle.lowering.specs.Sheet.{Sheet, Answer, answersAt, answers, saysOf, openSheet}
 
 unfoldable pub pieces : List Sheet
 pieces =
@@ -667,3 +668,34 @@ pieces =
 pub pieces-hold : map answers pieces ≡ map saysOf pieces
 unfolding openSheet pieces
 pieces-hold = refl
+
+-- at the largest counter, so that only a later function begins above it
+unfoldable pub largest : List Sheet
+largest =
+    -- labels are counted on above 2^32: func:f i8 . block:e q=select 1 i8 1 2 ret i8 %q . func:g void . block:e br 1 :e :e . func:h void . block:e ret - . .
+    record {
+      entries =
+          (5, 1) ∷ (11, 8) ∷ (0, 0) ∷ (7, 0) ∷ (70, 5) ∷ (32, 1) ∷ (11, 8) ∷ (32, 1) ∷ (32, 2) ∷ (90, 0) ∷ (11, 8) ∷ (30, 4) ∷ (0, 0) ∷ (5, 2) ∷ (10, 0)
+          ∷ (0, 0) ∷ (7, 0) ∷ (91, 0) ∷ (32, 1) ∷ (23, 0) ∷ (23, 0) ∷ (0, 0) ∷ (5, 3) ∷ (10, 0) ∷ (0, 0) ∷ (7, 0) ∷ (90, 0) ∷ (21, 0) ∷ (0, 0) ∷ (0, 0) ∷ [];
+      names =
+          "e" ∷ "f" ∷ "g" ∷ "h" ∷ "q" ∷ [];
+      says = Answer.text (unlines (
+          "# i8 @f(0 params)" ∷ "f:" ∷ "push_0n 1;" ∷ "f__e:" ∷ "push 1;" ∷ "jz __sel_false_4294967296;" ∷ "push 1;" ∷ "jmp __sel_done_4294967297;"
+          ∷ "__sel_false_4294967296:" ∷ "push 2;" ∷ "__sel_done_4294967297:" ∷ "set_local 0;" ∷ "get_local 0;" ∷ "ret;" ∷ "" ∷ "# void @g(0 params)" ∷ "g:"
+          ∷ "g__e:" ∷ "push 1;" ∷ "jz __br_false_4294967298;" ∷ "jmp g__e;" ∷ "__br_false_4294967298:" ∷ "jmp g__e;" ∷ "" ∷ "# void @h(0 params)" ∷ "h:"
+          ∷ "h__e:" ∷ "push 0;" ∷ "ret;" ∷ "" ∷ [])) 4294967299;
+    } ∷
+    -- a fault in a function that begins above 2^32: func:f i8 . block:e q=select 1 i8 1 2 ret i8 %q . func:g i8 . block:e ret i8 %u . .
+    record {
+      entries =
+          (5, 1) ∷ (11, 8) ∷ (0, 0) ∷ (7, 0) ∷ (70, 4) ∷ (32, 1) ∷ (11, 8) ∷ (32, 1) ∷ (32, 2) ∷ (90, 0) ∷ (11, 8) ∷ (30, 3) ∷ (0, 0) ∷ (5, 2) ∷ (11, 8)
+          ∷ (0, 0) ∷ (7, 0) ∷ (90, 0) ∷ (11, 8) ∷ (30, 4) ∷ (0, 0) ∷ (0, 0) ∷ [];
+      names =
+          "e" ∷ "f" ∷ "g" ∷ "q" ∷ "u" ∷ [];
+      says = Answer.refusal 10;
+    } ∷
+    []
+
+pub largest-hold : map (answersAt (2 ^ 32)) largest ≡ map saysOf largest
+unfolding openSheet largest
+largest-hold = refl

@@ -29,19 +29,22 @@ answerIn work lines bytes book names counter =
     let t = translate book names counter (replicate work 7) (replicate lines 7) (replicate lines 7) in
     listed book names bytes (t .reply) (t .kinds) (t .operands)
 
--- a book's entries, its names, and its answer at counter 0
+-- a book's entries, its names, and its answer, at counter 0 unless it is said
 pub record Sheet : Type 0 where
   pub entries : List (ℕ × ℕ)
   pub names : List String
   pub says : Answer
 
+unfoldable pub answersAt : (counter : ℕ) → Sheet → Answer
+answersAt counter s = answerIn 1024 512 8192 (slice (s .entries) (s .names)) (unlines (s .names)) counter
+
 unfoldable pub answers : Sheet → Answer
-answers s = answerIn 1024 512 8192 (slice (s .entries) (s .names)) (unlines (s .names)) 0
+answers s = answersAt 0 s
 
 abbrev pub saysOf : Sheet → Answer
 saysOf s = s .says
 
 -- opens every definition of this file, for an example that computes
 unfoldable pub openSheet : Unit {0}
-unfolding openLowering unlines slice printed listed answerIn answers
+unfolding openLowering unlines slice printed listed answerIn answersAt answers
 openSheet = tt

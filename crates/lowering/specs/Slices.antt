@@ -3,8 +3,8 @@ use Prim.Native.Nat.{ℕ, _+_, _^_}
 use Prim.Native.String.{String}
 use mathlib.Core.Path.{_≡_, refl}
 use mathlib.Core.Bool.{false}
-use mathlib.Core.List.{List, [], _∷_, map}
-use lib.ListN.{replicate}
+use mathlib.Core.List.{List, [], _∷_, _++_, map}
+use lib.ListN.{replicate, take}
 use Rattle.book.specs.Ast.{Ty}
 use Rattle.book.specs.Result.{Result, ok, err}
 use Rattle.assembly.specs.Cases.{unlines, slice}
@@ -32,6 +32,14 @@ pub slice-refusals :
     ≡ 0 ∷ 1 ∷ 2 ∷ 2 ∷ 2 ∷ 4 ∷ 4 ∷ 20 ∷ 20 ∷ []
 unfolding openLowering unlines slice tiny called number
 slice-refusals = refl
+
+-- the book slice: whole, a word behind its entries, its last word missing
+unfoldable pub bookNumber : List ℕ → ℕ
+bookNumber book = translationNumber (translate book (unlines ("e" ∷ "f" ∷ [])) 0 (replicate 80 7) (replicate 6 8) (replicate 6 9) .reply)
+
+pub book-refusals : map bookNumber (tiny ∷ (tiny ++ 0 ∷ []) ∷ take 17 tiny ∷ []) ≡ 0 ∷ 1 ∷ 1 ∷ []
+unfolding openLowering unlines slice tiny bookNumber
+book-refusals = refl
 
 -- an accepted call: the lines in front, the rest as it was, the work slice zero
 pub accepted-slices :

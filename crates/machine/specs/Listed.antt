@@ -164,6 +164,17 @@ pub functions-hold :
 unfolding openMachine openAlone piece
 functions-hold = (refl, refl, refl)
 
+-- the lines behind a function's label, of whatever name, and behind a blank line are still those of the comment line before
+unfoldable pub behind : List Line
+behind = Line.comment 0 ∷ Line.fnLabel 2 ∷ Line.jmpBlock 1 ∷ Line.blank ∷ Line.blockLabel 1 ∷ Line.push 5 ∷ Line.ret ∷ []
+
+pub behind-hold :
+    (map (λ (l : Placed). l .function) (placed behind) ≡ replicate 7 (some 0))
+    × (map (λ (l : Placed). l .function) (placed (Line.fnLabel 2 ∷ Line.push 1 ∷ Line.blank ∷ Line.push 1 ∷ [])) ≡ replicate 4 none)
+    × (find names (bytes "f__b") (placed behind) ≡ some 4) × (runs 9 behind ≡ Came.ends 5 1)
+unfolding openMachine openAlone runs behind
+behind-hold = (refl, refl, refl, refl)
+
 -- begun at its comment line each comes to its own block, whichever stands first
 pub own-block : (map (λ (p : ℕ). runsFrom p 2 piece) (0 ∷ 6 ∷ []) ≡ Came.going 3 0 ∷ Came.going 9 0 ∷ []) × (map (λ (p : ℕ). runsFrom p 9 piece) (0 ∷ 6 ∷ []) ≡ Came.ends 5 1 ∷ Came.ends 6 1 ∷ [])
 unfolding openMachine runsFrom piece
