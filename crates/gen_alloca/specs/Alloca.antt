@@ -1,5 +1,5 @@
 -- `alloca`: where the count and the stated align stand, and `gen_dynamic_alloca` and the fixed place from their parts.
-use Prim.Native.Nat.{ℕ, _+_, _-_, _*_, _<_, _≤_, _^_, max}
+use Prim.Native.Nat.{ℕ, _+_, _-_, _<_, _≤_, _^_, max}
 use mathlib.Core.Path.{_≡_, refl, sym, ap, _∙_}
 use mathlib.Core.Bool.{not}
 use mathlib.Core.List.{List, _∷_}
@@ -12,6 +12,7 @@ use Rattle.book.specs.Ast.{Ty, TypedVal, BinOp}
 use Rattle.book.specs.Entry.{Entry, entries}
 use Rattle.book.specs.Kinds.{InstTag}
 use Rattle.book.specs.Fields.{Item, Field, Meanings, instFields}
+use Rattle.book.specs.Work.{nameWords, placeAt}
 use Rattle.book.specs.Map.{lookup}
 use Rattle.book.specs.Result.{okOr, bind}
 use Rattle.book_types.specs.Laws.{entries-part}
@@ -31,9 +32,8 @@ use Rattle.gen_lines.specs.Follow.{Asked, asked-ok, asked-puts}
 use Rattle.gen_values.specs.Values.{destOf, DestReaches}
 use Rattle.gen_values.specs.Maps.{Maps}
 use Rattle.gen_values.specs.Push.{some-of, none-of, bare-puts, get-local-puts}
-use Rattle.gen_values.specs.Fields.{Fields, ValueAt, type-in, behind-value}
+use Rattle.gen_values.specs.Fields.{Fields, ValueAt, OperandAt, partFrom, part-front, part-there, operand-at, value-part, type-in, behind-value}
 use Rattle.gen_fields.specs.Places.{behind, typed-value}
-use Rattle.gen_values.specs.Fields.{OperandAt, operand-at}
 use Rattle.gen_fields.specs.Items.{AlignAt, AlignSays, absent-kind, behind-absent, present, type-kind, value-kind}
 use Rattle.gen_size.specs.declared.Bytes.{Bytes}
 use Rattle.gen_size.specs.Sizes.{Measurable, AlignAsked}
@@ -60,6 +60,7 @@ CountSays m ks ws a (some tv) = (30 ≤ getD ks a 0) × ValueAt m ks ws a (tv .v
 pub record CountAt (m : ℕ) (ks ws : List ℕ) (a : ℕ) (o : Option TypedVal) : Type 0 where
   pub says : CountSays m ks ws a o
   pub in-kinds : a < length ks
+  pub in-words : a < length ws
 
 pub record CountThere (ks ws : List ℕ) (a : ℕ) (work : List ℕ) : Type 0 where
   pub in-kinds : a < length ks
@@ -78,12 +79,20 @@ pub record CountFront (m : ℕ) (ks ws : List ℕ) (a : ℕ) : Type 0 where
   pub in-kinds : a < length ks
   pub in-words : a < length ws
 
-pub count-there : {m : ℕ} (ks ws : List ℕ) (a : ℕ) {o : Option TypedVal} {work : List ℕ} → CountAt m ks ws a o → 8 * m ≤ length work → CountThere ks ws a work
+pub count-there : {m : ℕ} (ks ws : List ℕ) (a : ℕ) {o : Option TypedVal} {work : List ℕ} → CountAt m ks ws a o → nameWords m ≤ length work → CountThere ks ws a work
 count-there {m} ks ws a {o} {work} q room = record { in-kinds = q .in-kinds; operand = at o (q .says) }
   where
     at : (o : Option TypedVal) → CountSays m ks ws a o → (getD ks a 0 ≡ 21 → ⊥) → OperandAt ks ws a work
     at none e z = absurd (z e)
     at (some tv) e z = operand-at (e .1) room
+
+-- a count at a place is the one at the front of the part
+pub count-part : {m : ℕ} {ks ws : List ℕ} {a : ℕ} {o : Option TypedVal} → CountAt m ks ws a o → CountAt m (partFrom ks a) (partFrom ws a) 0 o
+count-part {m} {ks} {ws} {a} {o} q = record { says = at o (q .says); in-kinds = part-there ks a (q .in-kinds); in-words = part-there ws a (q .in-words) }
+  where
+    at : (o : Option TypedVal) → CountSays m ks ws a o → CountSays m (partFrom ks a) (partFrom ws a) 0 o
+    at none e = part-front ks a ∙ e
+    at (some tv) e = (rw (part-front ks a) (e .0), value-part (e .1))
 
 module _ (m : ℕ) (fs : List Field) (ks ws : List ℕ) (a : ℕ) where
   count-in : (p : Meanings (Field.optional Item.typed ∷ fs)) → Fields m (Field.optional Item.typed ∷ fs) p (drop a (entries ks ws)) → (a < length ks) × (a < length ws)
@@ -100,7 +109,7 @@ module _ (m : ℕ) (fs : List Field) (ks ws : List ℕ) (a : ℕ) where
   count-absent z p f = at (p .0) f
     where
       at : (o : Option TypedVal) → Fields m (Field.optional Item.typed ∷ fs) (o, p .1) (drop a (entries ks ws)) → CountPlaced m fs ks ws a (o, p .1)
-      at none f = record { at = record { says = z; in-kinds = absent-kind ks ws a f .1 }; behind = behind-absent ks ws a f }
+      at none f = let e = absent-kind ks ws a f in record { at = record { says = z; in-kinds = e .1; in-words = e .2 }; behind = behind-absent ks ws a f }
       at (some tv) f = absurd (omega (arith, type-kind ks ws a (present f) .1))
 
   pub count-present : (getD ks a 0 ≡ 21 → ⊥) → {n : ℕ} → n ≡ tyLen m (lent ks ws a) → (p : Meanings (Field.optional Item.typed ∷ fs))
@@ -114,7 +123,7 @@ module _ (m : ℕ) (fs : List Field) (ks ws : List ℕ) (a : ℕ) where
           let i : a + n ≡ a + tyLen m (drop a (entries ks ws)) = ap (λ k. a + k) (e ∙ ap (tyLen m) (entries-part a ks ws)) in
           let b = behind ks ws a (present f) i in
           let v = typed-value ks ws a (present f) i in
-          record { at = record { says = (value-kind ks ws (a + n) b, v); in-kinds = v .in-kinds }; behind = behind-value ks ws (a + n) b }
+          record { at = record { says = (value-kind ks ws (a + n) b, v); in-kinds = v .in-kinds; in-words = v .in-words }; behind = behind-value ks ws (a + n) b }
 
 module _ (c : FnCtx) (m : ℕ) (ks ws : List ℕ) (a : ℕ) {o : Option TypedVal} (q : CountAt m ks ws a o) {s t : Reached} {qs os qs′ os′ : List ℕ} where
   pub one-puts : getD ks a 0 ≡ 21 → Puts (pushInt 1 64) s t qs os qs′ os′ → Puts (pushCount c o) s t qs os qs′ os′
@@ -260,7 +269,7 @@ module _ (off : ℕ) where
   fixed-puts c {base} e few h p = then-puts (same-puts (λ n. ap (λ y. line (Line.getLocal y) n) (sym e)) (get-local-puts base few h)) p
 
 -- ---- `alloca`
-module _ {m : ℕ} {bs : List Entry} {c : FnCtx} {work : List ℕ} (k : Maps m bs c work) (x : ℕ) (below : x < m) {w : ℕ} (is : w ≡ getD work (8 * x + 3) 0)
+module _ {m : ℕ} {bs : List Entry} {c : FnCtx} {work : List ℕ} (k : Maps m bs c work) (x : ℕ) (below : x < m) {w : ℕ} (is : w ≡ getD work (placeAt x) 0)
     (ty : Ty) (count : Option TypedVal) (align : Option ℕ) {s t : Reached} {ks os ks′ os′ : List ℕ} where
   pub place-fixed : (w ≡ 0 → ⊥) → Puts (fixedPlace c (w - 1)) s t ks os ks′ os′ → Puts (placeOf c (lookup x (c .allocaOffsets)) ty count align) s t ks os ks′ os′
   unfolding placeOf
@@ -273,7 +282,7 @@ module _ {m : ℕ} {bs : List Entry} {c : FnCtx} {work : List ℕ} (k : Maps m b
 module _ (c : FnCtx) (dest : ℕ) (ty : Ty) (count : Option TypedVal) (align : Option ℕ) where
   pub nameless-puts : {s t : Reached} (ks os : List ℕ) → dest ≡ 0 → t ≡ madeRefused s 5 → Puts (genAlloca c (destOf dest) ty count align) s t ks os ks os
   unfolding genAlloca destOf okOr _>>=_ bind refuse
-  nameless-puts {s} ks os z h = same-puts (λ n. rw (eq-eqb dest 0 z)) (refuse-puts 5 s ks os h)
+  nameless-puts {s} ks os z h = same-puts (λ n. rw (eq-eqb dest 0 z)) (refuse-puts 5 (omega arith) s ks os h)
 
   pub alloca-puts : {s t u : Reached} {ks os ks₁ os₁ ks₂ os₂ : List ℕ} → (dest ≡ 0 → ⊥) → Puts (placeOf c (lookup (dest - 1) (c .allocaOffsets)) ty count align) s t ks os ks₁ os₁
       → Puts (storeDest c (destOf dest)) t u ks₁ os₁ ks₂ os₂ → Puts (genAlloca c (destOf dest) ty count align) s u ks os ks₂ os₂

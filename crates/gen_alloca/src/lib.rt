@@ -1,13 +1,15 @@
 // `alloca`: a fixed place is the frame's base and an offset, a varying one moves the stack pointer. The entries are lent from
-// the type on; word 3 of a result's name has its offset with 1 added, 0 for none.
+// the type on; the place among a result's work words has its offset with 1 added, 0 for none.
+use assembly::line;
+use book::entry;
 use gen_lines::Reached;
 use gen_lines::put;
 use gen_lines::refuse;
 use gen_size::Bytes;
 use gen_size::measured_align;
 use gen_size::measured_size;
-use gen_values::push_at;
 use gen_values::push_int;
+use gen_values::push_value;
 use gen_values::store_dest;
 use layout_memo::larger;
 use layout_memo::skip;
@@ -38,30 +40,29 @@ fn count_place(kinds: &[u64], words: &[u64], at: usize, names: u64) -> usize
         → Fields names (Field.optional Item.typed ∷ fs) p (drop at (entries (now (kinds .entry)) (now (words .entry))))
         → CountPlaced names fs (now (kinds .entry)) (now (words .entry)) r p) ⌝ }
 {
-    if kinds[at] == 21 {
+    if kinds[at] == entry::ABSENT {
         return at;
     }
     at + skip(&kinds[at..], &words[at..], names)
 }
 
-// The count whose value is at the place, 1 where there is none.
+// The count whose value is at the front, 1 where there is none.
 fn push_count(
     kinds: &[u64],
     words: &[u64],
-    at: usize,
     work: &[u64],
     lines: &mut [u16],
     operands: &mut [u64],
     s: Reached,
 ) -> Reached
-    requires { ⌜ CountThere (now kinds) (now words) at (now work) ⌝ }
-    ensures { λ r. ⌜ ((m : ℕ) (c : FnCtx) (o : Option TypedVal) → CountAt m (now (kinds .entry)) (now (words .entry)) at o → Locals c m (now (work .entry))
+    requires { ⌜ CountThere (now kinds) (now words) 0 (now work) ⌝ }
+    ensures { λ r. ⌜ ((m : ℕ) (c : FnCtx) (o : Option TypedVal) → CountAt m (now (kinds .entry)) (now (words .entry)) 0 o → Locals c m (now (work .entry))
         → Puts (pushCount c o) s r (now (lines .entry)) (now (operands .entry)) (now (lines .exit)) (now (operands .exit))) ⌝ }
 {
-    if kinds[at] == 21 {
+    if kinds[0] == entry::ABSENT {
         return push_int(1, 64, lines, operands, s);
     }
-    push_at(kinds, words, at, 64, work, lines, operands, s)
+    push_value(kinds, words, 64, work, lines, operands, s)
 }
 
 // The align stated at the place, else the type's.
@@ -79,7 +80,7 @@ fn align_or(
     ensures { λ r. ⌜ AlignGiven names (now (kinds .entry)) (now (words .entry)) at (entries (now («book_kinds» .entry)) (now («book_words» .entry)))
         (now (work .entry)) (now (work .exit)) s r ⌝ }
 {
-    if kinds[at] == 22 {
+    if kinds[at] == entry::NUMBER {
         return Bytes {
             bytes: words[at],
             s,
@@ -94,12 +95,12 @@ fn raised(align: u64, lines: &mut [u16], operands: &mut [u64], s: Reached) -> Re
     ensures { λ r. ⌜ ((g : Gen) (t : Reached) (ks os : List ℕ) → Puts g r t (now (lines .exit)) (now (operands .exit)) ks os
         → Puts (raise align g) s t (now (lines .entry)) (now (operands .entry)) ks os) ⌝ }
 {
-    let top = put(lines, operands, s, 91, 0);
+    let top = put(lines, operands, s, line::THREAD_GET, 0);
     let below = push_int(align - 1, 64, lines, operands, top);
-    let sum = put(lines, operands, below, 44, 0);
+    let sum = put(lines, operands, below, line::ADD_U64, 0);
     let mask = push_int(u64::MAX - (align - 1), 64, lines, operands, sum);
-    let start = put(lines, operands, mask, 51, 0);
-    put(lines, operands, start, 87, 0)
+    let start = put(lines, operands, mask, line::AND_U64, 0);
+    put(lines, operands, start, line::DUP, 0)
 }
 
 // So many elements of this size.
@@ -110,7 +111,7 @@ fn times_size(size: u64, lines: &mut [u16], operands: &mut [u64], s: Reached) ->
         return s;
     }
     let each = push_int(size, 64, lines, operands, s);
-    put(lines, operands, each, 46, 0)
+    put(lines, operands, each, line::MUL_U64, 0)
 }
 
 // The stack pointer moved behind so many elements of this size.
@@ -118,8 +119,8 @@ fn moved(size: u64, lines: &mut [u16], operands: &mut [u64], s: Reached) -> Reac
     ensures { λ r. ⌜ Puts (moveBy size) s r (now (lines .entry)) (now (operands .entry)) (now (lines .exit)) (now (operands .exit)) ⌝ }
 {
     let bytes = times_size(size, lines, operands, s);
-    let end = put(lines, operands, bytes, 44, 0);
-    put(lines, operands, end, 92, 0)
+    let end = put(lines, operands, bytes, line::ADD_U64, 0);
+    put(lines, operands, end, line::THREAD_SET, 0)
 }
 
 // `gen_dynamic_alloca`
@@ -142,6 +143,8 @@ fn gen_dynamic_alloca(
 {
     let size = measured_size(kinds, words, book_kinds, book_words, work, names, s);
     let count = count_place(kinds, words, skip(kinds, words, names), names);
+    let count_kinds = &kinds[count..];
+    let count_words = &words[count..];
     let stated = align_or(
         kinds,
         words,
@@ -153,7 +156,7 @@ fn gen_dynamic_alloca(
         size.s,
     );
     let start = raised(larger(stated.bytes, 8), lines, operands, stated.s);
-    let counted = push_count(kinds, words, count, work, lines, operands, start);
+    let counted = push_count(count_kinds, count_words, work, lines, operands, start);
     moved(size.bytes, lines, operands, counted)
 }
 
@@ -165,7 +168,7 @@ fn plus_offset(offset: u64, lines: &mut [u16], operands: &mut [u64], s: Reached)
         return s;
     }
     let pushed = push_int(offset, 64, lines, operands, s);
-    put(lines, operands, pushed, 44, 0)
+    put(lines, operands, pushed, line::ADD_U64, 0)
 }
 
 // A fixed place: the frame's base is in the slot `base`.
@@ -179,7 +182,7 @@ fn fixed_place(
     ensures { λ r. ⌜ ((c : FnCtx) → c .bpSlot ≡ base
         → Puts (fixedPlace c offset) s r (now (lines .entry)) (now (operands .entry)) (now (lines .exit)) (now (operands .exit))) ⌝ }
 {
-    let frame = put(lines, operands, s, 10, base);
+    let frame = put(lines, operands, s, line::GET_LOCAL, base);
     plus_offset(offset, lines, operands, frame)
 }
 
@@ -203,7 +206,7 @@ fn place_of(
         → Did (placeOf c (lookup name (c .allocaOffsets)) (p .0) (p .1 .0) (p .1 .1 .0)) names (entries (now («book_kinds» .entry)) (now («book_words» .entry))) c (now (work .exit))
         s r (now (lines .entry)) (now (operands .entry)) (now (lines .exit)) (now (operands .exit))) ⌝ }
 {
-    let place = work[8 * (name as usize) + 3];
+    let place = work[book::work::WORDS * (name as usize) + book::work::PLACE];
     if place != 0 {
         return fixed_place(place - 1, base, lines, operands, s);
     }

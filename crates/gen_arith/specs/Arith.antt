@@ -1,5 +1,5 @@
 -- What the generators of this crate are lent, and the laws that put their lines together.
-use Prim.Native.Nat.{ℕ, _+_, _*_, _≤_}
+use Prim.Native.Nat.{ℕ, _+_, _≤_}
 use mathlib.Core.Path.{_≡_, refl, subst}
 use mathlib.Core.Bool.{Bool, _&&_, _||_}
 use mathlib.Core.List.{List, [], _∷_}
@@ -9,6 +9,7 @@ use lib.Dec.{eqb, leb, ltb}
 use Rattle.book.specs.Ast.{Ty, Value, BinOp, ICmpPred, ConvOp}
 use Rattle.book.specs.Entry.{Entry, entries}
 use Rattle.book.specs.Fields.{Item, Field, Meanings}
+use Rattle.book.specs.Work.{nameWords}
 use Rattle.assembly.specs.Line.{Line}
 use Rattle.assembly.specs.Number.{kindOf, operandOf, operation, binNumber, icmpNumber}
 use Rattle.lowering.specs.Gen.{line, when}
@@ -19,7 +20,7 @@ use Rattle.layout_memo.specs.Front.{tyLen}
 use Rattle.gen_lines.specs.declared.Reached.{Reached}
 use Rattle.gen_lines.specs.Puts.{Puts, Lined, then-puts}
 use Rattle.gen_lines.specs.Follow.{Asked, asked-puts}
-use Rattle.gen_values.specs.Fields.{Fields, ValueAt, OperandAt, operand-at, value-at, behind-value, behind-type}
+use Rattle.gen_values.specs.Fields.{Fields, ValueAt, OperandAt, partFrom, operand-part, operand-at, value-at, behind-value, behind-type}
 use Rattle.gen_values.specs.Push.{bare-puts}
 use Rattle.gen_values.specs.Widths.{bin-puts}
 
@@ -34,7 +35,7 @@ converted = Field.plain Item.type ∷ Field.plain Item.value ∷ Field.plain Ite
 pub record There (fs : List Field) (m : ℕ) (es : List Entry) (work : List ℕ) : Type 0 where
   pub holds : Meanings fs
   pub fields : Fields m fs holds es
-  pub room : 8 * m + 64 ≤ length work
+  pub room : nameWords m + 64 ≤ length work
 
 -- conversions in ast.rs order
 unfoldable pub convNumber : ConvOp → ℕ
@@ -59,15 +60,13 @@ module _ {m : ℕ} {fs : List Field} {p : Meanings (Field.plain Item.type ∷ Fi
   pub behind-first : Fields m fs (p .1 .1) (drop (n + 1) (entries ks ws))
   behind-first = behind-value ks ws n behind
 
-  pub first-there : (work : List ℕ) → 8 * m + 64 ≤ length work → OperandAt ks ws n work
-  first-there work r = operand-at first-value (omega (arith, r))
-
 module _ {m : ℕ} {p : Meanings twoValues} (ks ws : List ℕ) (f : Fields m twoValues p (entries ks ws)) {n : ℕ} (e : n ≡ tyLen m (entries ks ws)) where
   pub second-value : ValueAt m ks ws (n + 1) (p .1 .1 .0)
   second-value = value-at ks ws (n + 1) (behind-first ks ws f e)
 
-  pub second-there : (work : List ℕ) → 8 * m + 64 ≤ length work → OperandAt ks ws (n + 1) work
-  second-there work r = operand-at second-value (omega (arith, r))
+-- a value may be pushed
+pub operand-there : {m : ℕ} {ks ws : List ℕ} {a : ℕ} {v : Value} (work : List ℕ) → nameWords m + 64 ≤ length work → ValueAt m ks ws a v → OperandAt (partFrom ks a) (partFrom ws a) 0 work
+operand-there work r h = operand-part (operand-at h (omega (arith, r)))
 
 -- ---- the lines
 module _ {s t : Reached} {ks os ks′ os′ : List ℕ} where

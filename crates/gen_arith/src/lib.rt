@@ -4,12 +4,12 @@ use gen_lines::put;
 use gen_values::emit_sext;
 use gen_values::emit_trunc_to;
 use gen_values::extend;
+use gen_values::need_width;
 use gen_values::operation;
-use gen_values::push_at;
-use gen_values::width_at;
+use gen_values::push_value;
 use layout_memo::skip;
 ghost use mathlib.Core.Path.{_≡_};
-ghost use Prim.Native.Nat.{ℕ, _<_, _+_};
+ghost use Prim.Native.Nat.{_<_, _+_};
 ghost use lib.Dec.{ltb};
 ghost use Rattle.book.specs.Entry.{entries};
 ghost use Rattle.book.specs.Fields.{Meanings};
@@ -72,12 +72,17 @@ pub fn gen_bin(
         → Fields names twoValues p (entries (now (kinds .entry)) (now (words .entry)))
         → Puts (genBin c o (p .0) (p .1 .0) (p .1 .1 .0)) s r (now (lines .entry)) (now (operands .entry)) (now (lines .exit)) (now (operands .exit))) ⌝ }
 {
-    let wide = width_at(kinds, words, 0, s);
+    let wide = need_width(kinds, words, s);
     let width = wide.width;
-    let at = skip(kinds, words, names);
-    let left = push_at(kinds, words, at, width, work, lines, operands, wide.s);
+    let lhs = skip(kinds, words, names);
+    let rhs = lhs + 1;
+    let lhs_kinds = &kinds[lhs..];
+    let lhs_words = &words[lhs..];
+    let rhs_kinds = &kinds[rhs..];
+    let rhs_words = &words[rhs..];
+    let left = push_value(lhs_kinds, lhs_words, width, work, lines, operands, wide.s);
     let extended = extend(signed_left(op), width, lines, operands, left);
-    let right = push_at(kinds, words, at + 1, width, work, lines, operands, extended);
+    let right = push_value(rhs_kinds, rhs_words, width, work, lines, operands, extended);
     let both = extend(signed_right(op), width, lines, operands, right);
     let done = put(lines, operands, both, operation(op, width), 0);
     cut(width, lines, operands, done)
@@ -100,13 +105,18 @@ pub fn gen_icmp(
         → Fields names twoValues p (entries (now (kinds .entry)) (now (words .entry)))
         → Puts (genIcmp c o (p .0) (p .1 .0) (p .1 .1 .0)) s r (now (lines .entry)) (now (operands .entry)) (now (lines .exit)) (now (operands .exit))) ⌝ }
 {
-    let wide = width_at(kinds, words, 0, s);
+    let wide = need_width(kinds, words, s);
     let width = wide.width;
-    let at = skip(kinds, words, names);
+    let lhs = skip(kinds, words, names);
+    let rhs = lhs + 1;
+    let lhs_kinds = &kinds[lhs..];
+    let lhs_words = &words[lhs..];
+    let rhs_kinds = &kinds[rhs..];
+    let rhs_words = &words[rhs..];
     let signed = signed_pred(pred);
-    let left = push_at(kinds, words, at, width, work, lines, operands, wide.s);
+    let left = push_value(lhs_kinds, lhs_words, width, work, lines, operands, wide.s);
     let extended = extend(signed, width, lines, operands, left);
-    let right = push_at(kinds, words, at + 1, width, work, lines, operands, extended);
+    let right = push_value(rhs_kinds, rhs_words, width, work, lines, operands, extended);
     let both = extend(signed, width, lines, operands, right);
     put(lines, operands, both, operation(pred, width), 0)
 }
@@ -153,13 +163,18 @@ pub fn gen_conv(
         → Fields names converted p (entries (now (kinds .entry)) (now (words .entry)))
         → Puts (genConv c o (p .0) (p .1 .0) (p .1 .1 .0)) s r (now (lines .entry)) (now (operands .entry)) (now (lines .exit)) (now (operands .exit))) ⌝ }
 {
-    let from = width_at(kinds, words, 0, s);
+    let from = need_width(kinds, words, s);
     let width = from.width;
-    let at = skip(kinds, words, names);
+    let val = skip(kinds, words, names);
+    let ty = val + 1;
+    let val_kinds = &kinds[val..];
+    let val_words = &words[val..];
+    let to_kinds = &kinds[ty..];
+    let to_words = &words[ty..];
     if op == 5 {
-        return push_at(kinds, words, at, width, work, lines, operands, from.s);
+        return push_value(val_kinds, val_words, width, work, lines, operands, from.s);
     }
-    let to = width_at(kinds, words, at + 1, from.s);
-    let value = push_at(kinds, words, at, width, work, lines, operands, to.s);
+    let to = need_width(to_kinds, to_words, from.s);
+    let value = push_value(val_kinds, val_words, width, work, lines, operands, to.s);
     emit_conv_op(op, width, to.width, lines, operands, value)
 }

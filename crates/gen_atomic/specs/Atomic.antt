@@ -1,17 +1,15 @@
 -- Atomics, `gen_cmpxchg` and `gen_extractvalue` from their parts.
-use Prim.Native.Nat.{ℕ, _+_, _-_, _*_, _<_, _%_, _^_}
-use mathlib.Core.Path.{_≡_, refl, sym, ap, subst, _∙_}
+use Prim.Native.Nat.{ℕ, _+_, _-_, _<_, _%_, _^_}
+use mathlib.Core.Path.{_≡_, refl, sym, ap, _∙_}
 use mathlib.Core.Bool.{Bool, true, false, not}
 use mathlib.Core.List.{List}
 use mathlib.Core.Option.{Option}
 use native.Mathlib.Omega.{arith}
 use borrow.Author.Tests.{eq-eqb, ne-eqb, leb-true, leb-false, lt-ltb, le-ltb}
-use lib.ListN.{drop, getD}
+use lib.ListN.{getD}
 use lib.Dec.{eqb, leb, ltb}
 use Rattle.book.specs.Ast.{Ty, Value, ICmpPred}
-use Rattle.book.specs.Entry.{Entry}
-use Rattle.book.specs.Fields.{Field, Meanings}
-use Rattle.book.specs.Limits.{ValueLimits}
+use Rattle.book.specs.Work.{slotAt}
 use Rattle.book.specs.Map.{lookup}
 use Rattle.book.specs.Result.{okOr}
 use Rattle.layout.specs.Layout.{sizeOf}
@@ -27,19 +25,14 @@ use Rattle.gen_lines.specs.Follow.{Asked, asked-ok, asked-err, asked-puts}
 use Rattle.gen_values.specs.Values.{valueOf, destOf}
 use Rattle.gen_values.specs.Maps.{Locals}
 use Rattle.gen_values.specs.Push.{some-of, none-of, bare-puts, set-local-puts}
-use Rattle.gen_values.specs.Fields.{Fields}
 use Rattle.gen_fields.specs.Kinds.{NoLocal, is-local, no-local}
 use Rattle.gen_fields.specs.Tests.{need-puts}
-
--- two places further
-pub third : {m : ℕ} {fs : List Field} {p : Meanings fs} (es : List Entry) (a : ℕ) → Fields m fs p (drop (a + 1 + 1) es) → Fields m fs p (drop (a + 2) es)
-third {m} {fs} {p} es a f = let e : a + 1 + 1 ≡ a + 2 = omega arith in subst (λ (n : ℕ). Fields m fs p (drop n es)) e f
 
 -- ---- atomics
 module _ (c : FnCtx) (ty : Ty) {n : ℕ} {s s₁ t : Reached} (ks os : List ℕ) where
   pub width-puts : Asked (sizeOf (c .codegen .structs) ty) s s₁ n → t ≡ orElse (eqb n 8) s₁ (madeRefused s₁ 12) → Puts (requireAtomicWidth c ty) s t ks os ks os
   unfolding requireAtomicWidth
-  width-puts a h = asked-puts (λ k. when (not (eqb k 8)) (refuse 12)) a (need-puts (eqb n 8) 12 s₁ ks os h)
+  width-puts a h = asked-puts (λ k. when (not (eqb k 8)) (refuse 12)) a (need-puts (eqb n 8) 12 (omega arith) s₁ ks os h)
 
 module _ (c : FnCtx) (ty : Ty) {s t u v : Reached} {ks os ks₁ os₁ ks₂ os₂ : List ℕ} where
   pub load-puts : (ptr : Value) → Puts (requireAtomicWidth c ty) s t ks os ks os → Puts (pushValue c ptr 64) t u ks os ks₁ os₁ → Lined 83 0 u v ks₁ os₁ ks₂ os₂
@@ -54,19 +47,19 @@ module _ (c : FnCtx) (ty : Ty) {s t u v w : Reached} {ks os ks₁ os₁ ks₂ os
   store-puts val ptr p q r h = then-puts p (then-puts q (then-puts r (bare-puts Line.atomicStore refl refl h)))
 
 -- ---- slots
-module _ (c : FnCtx) (m x e : ℕ) (work : List ℕ) (below : x < m) (k : Locals c m work) (s : Reached) {w : ℕ} (is : w ≡ getD work (8 * x + 1) 0) where
+module _ (c : FnCtx) (m x e : ℕ) (work : List ℕ) (below : x < m) (k : Locals c m work) (s : Reached) {w : ℕ} (is : w ≡ getD work (slotAt x) 0) where
   pub slot-found : (w ≡ 0 → ⊥) → Asked (okOr e (lookup x (c .slots))) s s (w - 1)
   unfolding okOr
   slot-found z = rw (some-of (lookup x (c .slots)) w (is ∙ k .slots x below) z) (asked-ok s (w - 1))
 
-  pub slot-missing : {t : Reached} → w ≡ 0 → t ≡ madeRefused s e → Asked (okOr e (lookup x (c .slots))) s t 0
+  pub slot-missing : {t : Reached} → 0 < e → w ≡ 0 → t ≡ madeRefused s e → Asked (okOr e (lookup x (c .slots))) s t 0
   unfolding okOr
-  slot-missing z h = rw (none-of (lookup x (c .slots)) w (is ∙ k .slots x below) z) (asked-err e s 0 h)
+  slot-missing p z h = rw (none-of (lookup x (c .slots)) w (is ∙ k .slots x below) z) (asked-err e p s 0 h)
 
 module _ (c : FnCtx) (dest : ℕ) (s : Reached) where
   pub nameless : {t : Reached} → dest ≡ 0 → t ≡ madeRefused s 5 → Asked (slotOf c (destOf dest)) s t 0
   unfolding slotOf destOf named okOr
-  nameless z h = rw (eq-eqb dest 0 z) (asked-err 5 s 0 h)
+  nameless z h = rw (eq-eqb dest 0 z) (asked-err 5 (omega arith) s 0 h)
 
   pub result-slot : {t : Reached} {x : ℕ} → (dest ≡ 0 → ⊥) → Asked (okOr 5 (lookup (dest - 1) (c .slots))) s t x → Asked (slotOf c (destOf dest)) s t x
   unfolding slotOf destOf named
@@ -83,13 +76,10 @@ module _ (c : FnCtx) (kind word : ℕ) (s : Reached) where
     where
       at : (v : Value) → NoLocal v → Asked (okOr 16 (aggSlot c v)) s t 0
       at (Value.local x) n = absurd n
-      at (Value.global x) n = asked-err 16 s 0 h
-      at (Value.int x) n = asked-err 16 s 0 h
-      at (Value.zero x) n = asked-err 16 s 0 h
-      at Value.other n = asked-err 16 s 0 h
-
-pub local-limit : (m kind word : ℕ) → kind ≡ 30 → ValueLimits m (valueOf kind word) → word < m
-local-limit m kind word e l = rw (is-local kind word e) at l
+      at (Value.global x) n = asked-err 16 (omega arith) s 0 h
+      at (Value.int x) n = asked-err 16 (omega arith) s 0 h
+      at (Value.zero x) n = asked-err 16 (omega arith) s 0 h
+      at Value.other n = asked-err 16 (omega arith) s 0 h
 
 -- ---- `gen_cmpxchg`
 -- the two slots
@@ -142,4 +132,4 @@ module _ (c : FnCtx) (agg : Value) (index : ℕ) (dest : Option ℕ) {base own :
   unfolding genExtractValue
   extract-puts a h i l p =
       asked-puts (λ x. when (ltb 1 index) (refuse 16) >> (line (Line.getLocal (x + index)) >> storeDest c dest)) a
-      (then-puts (same-puts (λ n. ap (λ b. when b (refuse 16) n) (index-test index)) (need-puts (leb index 1) 16 t₁ ks os h)) (then-puts (sum-slot base index i l) p))
+      (then-puts (same-puts (λ n. ap (λ b. when b (refuse 16) n) (index-test index)) (need-puts (leb index 1) 16 (omega arith) t₁ ks os h)) (then-puts (sum-slot base index i l) p))

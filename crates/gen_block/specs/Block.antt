@@ -1,4 +1,4 @@
--- A block at its place: its label, its instructions and its terminator, and its lines.
+-- A block in front of the entries lent: its label, its instructions and its terminator, and its lines.
 use Prim.Native.Nat.{ℕ, _+_, _<_, _≤_, _%_, _^_}
 use mathlib.Core.Path.{_≡_, refl, sym, subst}
 use mathlib.Core.List.{List, [], _∷_, _++_}
@@ -23,56 +23,67 @@ use Rattle.gen_term.specs.Terms.{TermAt}
 use Rattle.gen_block.specs.declared.Passed.{Passed}
 use Rattle.gen_block.specs.Body.{BodyAt, InstsAsk, InstsDone}
 
--- the block stands at the place, with the rest behind it
-pub record BlockHere (m : ℕ) (bs : List Entry) (at : ℕ) (b : BasicBlock) (rest : List Entry) : Type 0 where
-  pub here : drop at bs ≡ encBasicBlock b ++ rest
+-- the block stands in front, with the rest behind it
+pub record BlockHere (m : ℕ) (b : BasicBlock) (rest es : List Entry) : Type 0 where
+  pub here : es ≡ encBasicBlock b ++ rest
   pub keeps : BlockLimits m b
-  pub few : length bs ≤ 2 ^ 20
+  pub few : length es ≤ 2 ^ 20
 
-pub record BlockAsk (m : ℕ) (bk bw : List ℕ) (at slot : ℕ) (work : List ℕ) : Type 0 where
+-- it stands at the place `at` of the book
+pub record BlockAsk (m : ℕ) (ks ws bk bw : List ℕ) (at slot : ℕ) (work : List ℕ) : Type 0 where
   pub ctx : FnCtx
   pub maps : Maps m (entries bk bw) ctx work
   pub base : ctx .bpSlot ≡ slot
   pub block : BasicBlock
   pub rest : List Entry
-  pub front : BlockHere m (entries bk bw) at block rest
+  pub front : BlockHere m block rest (entries ks ws)
+  pub placed : entries ks ws ≡ drop at (entries bk bw)
 
 -- the block is done, and its terminator is at the place reached
-pub record BlockDone (m : ℕ) (bs : List Entry) (c : FnCtx) (b : BasicBlock) (rest : List Entry) (work′ : List ℕ) (s : Reached) (r : Passed)
+pub record BlockDone (m : ℕ) (es bs : List Entry) (c : FnCtx) (b : BasicBlock) (rest : List Entry) (work′ : List ℕ) (s : Reached) (r : Passed)
     (ks os ks′ os′ : List ℕ) : Type 0 where
   pub did : Did (genBlock c b) m bs c work′ s (r .s) ks os ks′ os′
-  pub ends : BodyAt m bs (r .at) [] (b .term) rest
+  pub ends : BodyAt m es (r .at) [] (b .term) rest
 
-module _ {m : ℕ} (bk bw : List ℕ) (at : ℕ) {b : BasicBlock} {rest : List Entry} (h : BlockHere m (entries bk bw) at b rest) where
-  head : drop at (entries bk bw) ≡ entry 7 (b .label) ∷ (ending encInst (encTerm (b .term)) (b .insts) ++ rest)
+module _ {m : ℕ} (ks ws : List ℕ) {b : BasicBlock} {rest : List Entry} (h : BlockHere m b rest (entries ks ws)) where
+  head : entries ks ws ≡ entry 7 (b .label) ∷ (ending encInst (encTerm (b .term)) (b .insts) ++ rest)
   unfolding encBasicBlock
   head = h .here
 
-  pub block-in : (at < length bk) × (at < length bw)
-  block-in = let q = entry-at bk bw at _ _ head in (q .2, q .3)
+  pub block-in : 0 < length ws
+  block-in = entry-at ks ws 0 _ _ head .3
 
-  pub block-name : getD bw at 0 ≡ b .label
-  block-name = entry-at bk bw at _ _ head .1
+  pub block-name : getD ws 0 0 ≡ b .label
+  block-name = entry-at ks ws 0 _ _ head .1
 
-  pub body-here : BodyAt m (entries bk bw) (at + 1) (b .insts) (b .term) rest
+  pub body-here : BodyAt m (entries ks ws) 1 (b .insts) (b .term) rest
   body-here =
-      record { here = entry-at bk bw at _ _ head .4; insts-keep = h .keeps .1 .0; term-keeps = h .keeps .1 .1; few = h .few }
+      record { here = entry-at ks ws 0 _ _ head .4; insts-keep = h .keeps .1 .0; term-keeps = h .keeps .1 .1; few = h .few }
 
-pub insts-ask : {m : ℕ} (bk bw : List ℕ) (at : ℕ) {slot : ℕ} {work : List ℕ} → BlockAsk m bk bw at slot work → InstsAsk m bk bw (at + 1) slot work
-insts-ask bk bw at a =
-    record { ctx = a .ctx; maps = a .maps; slot = a .base; insts = a .block .insts; term = a .block .term; rest = a .rest; front = body-here bk bw at (a .front) }
+pub insts-ask : {m : ℕ} (ks ws bk bw : List ℕ) {at slot : ℕ} {work : List ℕ} → BlockAsk m ks ws bk bw at slot work → InstsAsk m ks ws bk bw at slot work
+insts-ask ks ws bk bw a =
+    record {
+      ctx = a .ctx;
+      maps = a .maps;
+      slot = a .base;
+      insts = a .block .insts;
+      term = a .block .term;
+      rest = a .rest;
+      front = body-here ks ws (a .front);
+      placed = a .placed;
+    }
 
 -- the terminator at the place reached
-pub term-at : {m : ℕ} (bk bw : List ℕ) {end : ℕ} {t : Terminator} {rest : List Entry} → BodyAt m (entries bk bw) end [] t rest → TermAt m t (lentFrom bk bw end)
+pub term-at : {m : ℕ} (ks ws : List ℕ) {end : ℕ} {t : Terminator} {rest : List Entry} → BodyAt m (entries ks ws) end [] t rest → TermAt m t (lentFrom ks ws end)
 unfolding ending
-term-at {m} bk bw {end} {t} {rest} b =
-    subst (TermAt m t) (sym (entries-part end bk bw))
-    (record { rest = rest; here = b .here; keeps = b .term-keeps; few = omega (arith, b .few, length-drop end (entries bk bw)) })
+term-at {m} ks ws {end} {t} {rest} b =
+    subst (TermAt m t) (sym (entries-part end ks ws))
+    (record { rest = rest; here = b .here; keeps = b .term-keeps; few = omega (arith, b .few, length-drop end (entries ks ws)) })
 
 -- ---- the lines
-module _ (c : FnCtx) {m : ℕ} {bs : List Entry} {work : List ℕ} (b : BasicBlock) {rest : List Entry} {s t u : Reached} {r : Passed} {k₀ o₀ k₁ o₁ k₂ o₂ k₃ o₃ : List ℕ} where
-  pub block-lines : {name : ℕ} → name ≡ b .label → name < 2 ^ 64 → Lined 2 name s t k₀ o₀ k₁ o₁ → InstsDone m bs c (b .insts) (b .term) rest work t r k₁ o₁ k₂ o₂
-      → Puts (genTerm c name (b .term)) (r .s) u k₂ o₂ k₃ o₃ → BlockDone m bs c b rest work s (record { at = r .at; s = u }) k₀ o₀ k₃ o₃
+module _ (c : FnCtx) {m : ℕ} {es bs : List Entry} {work : List ℕ} (b : BasicBlock) {rest : List Entry} {s t u : Reached} {r : Passed} {k₀ o₀ k₁ o₁ k₂ o₂ k₃ o₃ : List ℕ} where
+  pub block-lines : {name : ℕ} → name ≡ b .label → name < 2 ^ 64 → Lined 2 name s t k₀ o₀ k₁ o₁ → InstsDone m es bs c (b .insts) (b .term) rest work t r k₁ o₁ k₂ o₂
+      → Puts (genTerm c name (b .term)) (r .s) u k₂ o₂ k₃ o₃ → BlockDone m es bs c b rest work s (record { at = r .at; s = u }) k₀ o₀ k₃ o₃
   unfolding genBlock kindOf operandOf
   block-lines {name} e few l d p =
       record {

@@ -1,9 +1,9 @@
--- The instructions of a block from a place on, and the terminator behind them.
+-- The instructions of a block from a place of its part on, and the terminator behind them.
 use Prim.Native.Nat.{ℕ, _+_, _-_, _<_, _≤_, _^_}
 use mathlib.Core.Path.{_≡_, refl, sym, ap, subst, _∙_}
 use mathlib.Core.List.{List, [], _∷_, _++_, append-assoc}
 use native.Mathlib.Omega.{arith}
-use lib.ListN.{length, drop, getD}
+use lib.ListN.{length, take, drop, getD, length-drop}
 use lib.Seq.{drop-drop, drop-append-seam}
 use Rattle.book.specs.Ast.{InstKind, Inst, Terminator}
 use Rattle.book.specs.Entry.{Entry, entries}
@@ -11,6 +11,7 @@ use Rattle.book.specs.Kinds.{instKind, termKind}
 use Rattle.book.specs.Fields.{instFields, instTagOf, instArgs, termTagOf}
 use Rattle.book.specs.Encode.{ending, encInst, encTerm, encFields}
 use Rattle.book.specs.Limits.{Each, InstLimits, TermLimits}
+use Rattle.book_types.specs.Laws.{lentFrom, entries-part, length-entries}
 use Rattle.lowering.specs.Gen.{each}
 use Rattle.lowering.specs.Context.{FnCtx}
 use Rattle.lowering.specs.Inst.{genInst}
@@ -19,7 +20,7 @@ use Rattle.gen_values.specs.Fields.{entry-at}
 use Rattle.gen_values.specs.Maps.{Maps, Did}
 use Rattle.gen_inst.specs.View.{InstAt}
 use Rattle.gen_inst.specs.Body.{kind-from, bin-range, conv-range, icmp-range}
-use Rattle.gen_inst.specs.Whole.{InstThere}
+use Rattle.gen_inst.specs.Whole.{InstThere, placed-further}
 use Rattle.gen_walk.specs.Walk.{FirstHigh, next-is, low-fields}
 use Rattle.gen_term.specs.Toward.{Toward, toward-none, toward-first, toward-then, toward-skip}
 use Rattle.gen_block.specs.declared.Passed.{Passed}
@@ -31,20 +32,22 @@ pub record BodyAt (m : ℕ) (bs : List Entry) (at : ℕ) (insts : List Inst) (te
   pub term-keeps : TermLimits m term
   pub few : length bs ≤ 2 ^ 20
 
-pub record InstsAsk (m : ℕ) (bk bw : List ℕ) (at base : ℕ) (work : List ℕ) : Type 0 where
+-- the part begins at the block's entry, which stands at the place `at` of the book, and the instructions behind it
+pub record InstsAsk (m : ℕ) (ks ws bk bw : List ℕ) (at base : ℕ) (work : List ℕ) : Type 0 where
   pub ctx : FnCtx
   pub maps : Maps m (entries bk bw) ctx work
   pub slot : ctx .bpSlot ≡ base
   pub insts : List Inst
   pub term : Terminator
   pub rest : List Entry
-  pub front : BodyAt m (entries bk bw) at insts term rest
+  pub front : BodyAt m (entries ks ws) 1 insts term rest
+  pub placed : entries ks ws ≡ drop at (entries bk bw)
 
 -- the instructions are done, and the terminator is at the place reached
-pub record InstsDone (m : ℕ) (bs : List Entry) (c : FnCtx) (insts : List Inst) (term : Terminator) (rest : List Entry) (work′ : List ℕ) (s : Reached) (r : Passed)
+pub record InstsDone (m : ℕ) (es bs : List Entry) (c : FnCtx) (insts : List Inst) (term : Terminator) (rest : List Entry) (work′ : List ℕ) (s : Reached) (r : Passed)
     (ks os ks′ os′ : List ℕ) : Type 0 where
   pub did : Did (each (genInst c) insts) m bs c work′ s (r .s) ks os ks′ os′
-  pub ends : BodyAt m bs (r .at) [] term rest
+  pub ends : BodyAt m es (r .at) [] term rest
 
 -- ---- the entry in front
 kind-below : (k : InstKind) → instKind (instTagOf k) < 90
@@ -96,8 +99,10 @@ module _ {m : ℕ} (ks ws : List ℕ) (at : ℕ) where
     unfolding ending
     whole = b .here ∙ append-assoc (encInst i) (ending encInst (encTerm term) more) (rest)
 
-    pub inst-here : InstAt m (entries ks ws) at i
-    inst-here = record { rest = ending encInst (encTerm term) more ++ rest; here = whole; keeps = b .insts-keep .0; few = b .few }
+    pub inst-here : InstAt m i (lentFrom ks ws at)
+    inst-here =
+        subst (InstAt m i) (sym (entries-part at ks ws))
+        (record { rest = ending encInst (encTerm term) more ++ rest; here = whole; keeps = b .insts-keep .0; few = omega (arith, b .few, length-drop at (entries ks ws)) })
 
     pub inst-low : getD ks at 0 < 90
     unfolding ending encInst
@@ -125,28 +130,29 @@ module _ {m : ℕ} (ks ws : List ℕ) (at : ℕ) where
 
 -- ---- the loop over them
 -- some are done, and the others stand at the place
-pub record Walked (m : ℕ) (bs : List Entry) (c : FnCtx) (insts : List Inst) (term : Terminator) (rest : List Entry) (work : List ℕ) (at : ℕ) (s t : Reached)
+pub record Walked (m : ℕ) (es bs : List Entry) (c : FnCtx) (insts : List Inst) (term : Terminator) (rest : List Entry) (work : List ℕ) (i : ℕ) (s t : Reached)
     (ks os ks′ os′ : List ℕ) : Type 0 where
   pub todo : List Inst
-  pub front : BodyAt m bs at todo term rest
+  pub front : BodyAt m es i todo term rest
   pub toward : Toward (each (genInst c) insts) (each (genInst c) todo) s t ks os ks′ os′
   pub maps : Maps m bs c work
 
-pub record InstsWalk (m : ℕ) (bk bw : List ℕ) (from base : ℕ) (work₀ ks os : List ℕ) (s : Reached) (work ks′ os′ : List ℕ) (at : ℕ) (t : Reached) : Type 0 where
-  pub long-work : length work ≡ length work₀
-  pub long-lines : length ks′ ≡ length ks
-  pub long-operands : length os′ ≡ length os
-  pub walked : (c : FnCtx) (insts : List Inst) (term : Terminator) (rest : List Entry) → BodyAt m (entries bk bw) from insts term rest → c .bpSlot ≡ base → Maps m (entries bk bw) c work₀
-      → Walked m (entries bk bw) c insts term rest work at s t ks os ks′ os′
+module _ (m : ℕ) (ks ws bk bw : List ℕ) (base : ℕ) (work₀ ls os : List ℕ) (s : Reached) where
+  pub record InstsWalk (work ls′ os′ : List ℕ) (i : ℕ) (t : Reached) : Type 0 where
+    pub long-work : length work ≡ length work₀
+    pub long-lines : length ls′ ≡ length ls
+    pub long-operands : length os′ ≡ length os
+    pub walked : (c : FnCtx) (insts : List Inst) (term : Terminator) (rest : List Entry) → BodyAt m (entries ks ws) 1 insts term rest → c .bpSlot ≡ base → Maps m (entries bk bw) c work₀
+        → Walked m (entries ks ws) (entries bk bw) c insts term rest work i s t ls os ls′ os′
 
-pub walk-start : (m : ℕ) (bk bw : List ℕ) (from base : ℕ) (work ks os : List ℕ) (s : Reached) → InstsWalk m bk bw from base work ks os s work ks os from s
-walk-start m bk bw from base work ks os s =
-    record {
-      long-work = refl;
-      long-lines = refl;
-      long-operands = refl;
-      walked = λ c insts term rest b e k. record { todo = insts; front = b; toward = toward-none (each (genInst c) insts) s ks os; maps = k };
-    }
+  pub walk-start : InstsWalk work₀ ls os 1 s
+  walk-start =
+      record {
+        long-work = refl;
+        long-lines = refl;
+        long-operands = refl;
+        walked = λ c insts term rest b e k. record { todo = insts; front = b; toward = toward-none (each (genInst c) insts) s ls os; maps = k };
+      }
 
 -- the first of those that are left, by the kind at the place
 pub record First (m : ℕ) (bs : List Entry) (at : ℕ) (todo : List Inst) (term : Terminator) (rest : List Entry) : Type 0 where
@@ -164,54 +170,62 @@ pub none-left : {m : ℕ} (ks ws : List ℕ) (at : ℕ) (todo : List Inst) {term
 none-left ks ws at [] b l = refl
 none-left ks ws at (i ∷ more) b l = absurd (omega (arith, inst-low ks ws at b))
 
-module _ {m : ℕ} (bk bw : List ℕ) {from base : ℕ} {work₀ ks os : List ℕ} {s : Reached} {work ks′ os′ : List ℕ} {at : ℕ} {t : Reached}
-    (w : InstsWalk m bk bw from base work₀ ks os s work ks′ os′ at t) where
+module _ {m : ℕ} (ks ws bk bw : List ℕ) {base : ℕ} {work₀ ls os : List ℕ} {s : Reached} {work ls′ os′ : List ℕ} {i : ℕ} {t : Reached}
+    (w : InstsWalk m ks ws bk bw base work₀ ls os s work ls′ os′ i t) where
   -- what the asked context says
-  asked : (a : InstsAsk m bk bw from base work₀) → Walked m (entries bk bw) (a .ctx) (a .insts) (a .term) (a .rest) work at s t ks os ks′ os′
+  asked : {at : ℕ} (a : InstsAsk m ks ws bk bw at base work₀) → Walked m (entries ks ws) (entries bk bw) (a .ctx) (a .insts) (a .term) (a .rest) work i s t ls os ls′ os′
   asked a = w .walked (a .ctx) (a .insts) (a .term) (a .rest) (a .front) (a .slot) (a .maps)
 
-  pub walk-in : InstsAsk m bk bw from base work₀ → at < length bk
-  walk-in a = body-in bk bw at (asked a .front) .0
+  pub walk-in : {at : ℕ} → InstsAsk m ks ws bk bw at base work₀ → (i < length ks) × (i < length ws) × (at + i < length bk)
+  walk-in {at} a =
+      let q = body-in ks ws i (asked a .front) in
+      (q .0, q .1, omega (arith, q .0, q .1, length-entries ks ws, ap length (a .placed), length-drop at (entries bk bw), length-entries bk bw))
 
-  pub walk-inst : InstsAsk m bk bw from base work₀ → getD bk at 0 < 90 → InstThere m bk bw at work
-  walk-inst a l =
+  pub walk-inst : {at : ℕ} → InstsAsk m ks ws bk bw at base work₀ → getD ks i 0 < 90 → InstThere m (take (length ks - i) (drop i ks)) (take (length ws - i) (drop i ws)) bk bw (at + i) work
+  walk-inst {at} a l =
       let v = asked a in
-      let f = first-left bk bw at (v .todo) (v .front) l in
-      record { inst = f .inst; here = inst-here bk bw at (f .front); ready = v .maps .measured; room = v .maps .room }
+      let f = first-left ks ws i (v .todo) (v .front) l in
+      record {
+        inst = f .inst;
+        here = inst-here ks ws i (f .front);
+        placed = placed-further ks ws (entries bk bw) at i (a .placed);
+        ready = v .maps .measured;
+        room = v .maps .room;
+      }
 
   -- one more
-  pub walk-more : getD bk at 0 < 90 → {work″ ks″ os″ : List ℕ} {u : Reached} {r : ℕ} → length work″ ≡ length work → length ks″ ≡ length ks′ → length os″ ≡ length os′
-      → ((c : FnCtx) (i : Inst) → InstAt m (entries bk bw) at i → c .bpSlot ≡ base → Maps m (entries bk bw) c work → Did (genInst c i) m (entries bk bw) c work″ t u ks′ os′ ks″ os″)
-      → FirstHigh bk (at + 1) r → InstsWalk m bk bw from base work₀ ks os s work″ ks″ os″ r u
+  pub walk-more : getD ks i 0 < 90 → {work″ ls″ os″ : List ℕ} {u : Reached} {r : ℕ} → length work″ ≡ length work → length ls″ ≡ length ls′ → length os″ ≡ length os′
+      → ((c : FnCtx) (j : Inst) → InstAt m j (lentFrom ks ws i) → c .bpSlot ≡ base → Maps m (entries bk bw) c work → Did (genInst c j) m (entries bk bw) c work″ t u ls′ os′ ls″ os″)
+      → FirstHigh ks (i + 1) r → InstsWalk m ks ws bk bw base work₀ ls os s work″ ls″ os″ r u
   unfolding each
-  walk-more l {work″} {ks″} {os″} {u} {r} lw lk lo one h =
+  walk-more l {work″} {ls″} {os″} {u} {r} lw lk lo one h =
       record {
         long-work = lw ∙ w .long-work;
         long-lines = lk ∙ w .long-lines;
         long-operands = lo ∙ w .long-operands;
         walked = λ c insts term rest b e k.
             let v = w .walked c insts term rest b e k in
-            let f = first-left bk bw at (v .todo) (v .front) l in
-            let d = one c (f .inst) (inst-here bk bw at (f .front)) e (v .maps) in
+            let f = first-left ks ws i (v .todo) (v .front) l in
+            let d = one c (f .inst) (inst-here ks ws i (f .front)) e (v .maps) in
             record {
               todo = f .more;
-              front = inst-next bk bw at (f .front) h;
-              toward = toward-then (subst (λ (xs : List Inst). Toward (each (genInst c) insts) (each (genInst c) xs) s t ks os ks′ os′) (f .same) (v .toward))
+              front = inst-next ks ws i (f .front) h;
+              toward = toward-then (subst (λ (xs : List Inst). Toward (each (genInst c) insts) (each (genInst c) xs) s t ls os ls′ os′) (f .same) (v .toward))
                   (toward-first (each (genInst c) (f .more)) (d .puts));
               maps = d .maps;
             };
       }
 
-  pub walk-done : 90 ≤ getD bk at 0 → (c : FnCtx) (insts : List Inst) (term : Terminator) (rest : List Entry) → BodyAt m (entries bk bw) from insts term rest → c .bpSlot ≡ base
-      → Maps m (entries bk bw) c work₀ → InstsDone m (entries bk bw) c insts term rest work s (record { at = at; s = t }) ks os ks′ os′
+  pub walk-done : 90 ≤ getD ks i 0 → (c : FnCtx) (insts : List Inst) (term : Terminator) (rest : List Entry) → BodyAt m (entries ks ws) 1 insts term rest → c .bpSlot ≡ base
+      → Maps m (entries bk bw) c work₀ → InstsDone m (entries ks ws) (entries bk bw) c insts term rest work s (record { at = i; s = t }) ls os ls′ os′
   unfolding each
   walk-done l c insts term rest b e k =
       let v = w .walked c insts term rest b e k in
-      let z = none-left bk bw at (v .todo) (v .front) l in
+      let z = none-left ks ws i (v .todo) (v .front) l in
       record {
         did = record {
-          puts = toward-skip (subst (λ (xs : List Inst). Toward (each (genInst c) insts) (each (genInst c) xs) s t ks os ks′ os′) z (v .toward));
+          puts = toward-skip (subst (λ (xs : List Inst). Toward (each (genInst c) insts) (each (genInst c) xs) s t ls os ls′ os′) z (v .toward));
           maps = v .maps;
         };
-        ends = subst (λ (xs : List Inst). BodyAt m (entries bk bw) at xs term rest) z (v .front);
+        ends = subst (λ (xs : List Inst). BodyAt m (entries ks ws) i xs term rest) z (v .front);
       }

@@ -1,4 +1,6 @@
 // `gen_function`'s blocks: a block's label, its instructions one after the other, its terminator.
+use assembly::line;
+use book::entry;
 use gen_inst::gen_inst;
 use gen_lines::Reached;
 use gen_lines::put;
@@ -15,17 +17,19 @@ ghost use Rattle.gen_values.specs.Maps.{Maps};
 ghost use Rattle.gen_block.specs.Body.{BodyAt, InstsAsk, InstsDone};
 ghost use Rattle.gen_block.specs.Block.{BlockAsk, BlockHere, BlockDone};
 
-// The place of the terminator, and what is reached there.
+// The place of the terminator, counted from the block's entry, and what is reached there.
 pub struct Passed {
     pub at: usize,
     pub s: Reached,
 }
 
-// The instructions from a place on, up to the terminator.
+// The block's instructions, up to its terminator.
 fn gen_insts(
+    kinds: &[u64],
+    words: &[u64],
     book_kinds: &[u64],
     book_words: &[u64],
-    from: usize,
+    at: usize,
     work: &mut [u64],
     names: u64,
     base: u64,
@@ -33,20 +37,22 @@ fn gen_insts(
     operands: &mut [u64],
     s: Reached,
 ) -> Passed
-    requires { ⌜ InstsAsk names (now «book_kinds») (now «book_words») from base (now work) ⌝ }
+    requires { ⌜ InstsAsk names (now kinds) (now words) (now «book_kinds») (now «book_words») at base (now work) ⌝ }
     ensures { λ r. ⌜ ((c : FnCtx) (insts : List Inst) (term : Terminator) (rest : List Entry)
-        → BodyAt names (entries (now («book_kinds» .entry)) (now («book_words» .entry))) from insts term rest
+        → BodyAt names (entries (now (kinds .entry)) (now (words .entry))) 1 insts term rest
         → c .bpSlot ≡ base → Maps names (entries (now («book_kinds» .entry)) (now («book_words» .entry))) c (now (work .entry))
-        → InstsDone names (entries (now («book_kinds» .entry)) (now («book_words» .entry))) c insts term rest (now (work .exit)) s r
-        (now (lines .entry)) (now (operands .entry)) (now (lines .exit)) (now (operands .exit))) ⌝ }
+        → InstsDone names (entries (now (kinds .entry)) (now (words .entry))) (entries (now («book_kinds» .entry)) (now («book_words» .entry)))
+        c insts term rest (now (work .exit)) s r (now (lines .entry)) (now (operands .entry)) (now (lines .exit)) (now (operands .exit))) ⌝ }
 {
-    let mut at = from;
+    let mut i = 1;
     let mut reached = s;
-    while book_kinds[at] < 90 {
+    while kinds[i] < entry::RET {
         reached = gen_inst(
+            &kinds[i..],
+            &words[i..],
             book_kinds,
             book_words,
-            at,
+            at + i,
             work,
             names,
             base,
@@ -54,13 +60,16 @@ fn gen_insts(
             operands,
             reached,
         );
-        at = next_inst(book_kinds, at + 1);
+        i = next_inst(kinds, i + 1);
     }
-    Passed { at, s: reached }
+    Passed { at: i, s: reached }
 }
 
-// A block of `gen_function`: its label, its instructions, its terminator, whose place is answered too.
+// A block of `gen_function`: its label, its instructions, its terminator, whose place is answered too. The part begins at
+// the block's entry, which stands at the place `at` of the book.
 pub fn gen_block(
+    kinds: &[u64],
+    words: &[u64],
     book_kinds: &[u64],
     book_words: &[u64],
     at: usize,
@@ -71,19 +80,21 @@ pub fn gen_block(
     operands: &mut [u64],
     s: Reached,
 ) -> Passed
-    requires { ⌜ BlockAsk names (now «book_kinds») (now «book_words») at (base .slot) (now work) ⌝ }
-    ensures { λ r. ⌜ ((c : FnCtx) (b : BasicBlock) (rest : List Entry) → BlockHere names (entries (now («book_kinds» .entry)) (now («book_words» .entry))) at b rest
+    requires { ⌜ BlockAsk names (now kinds) (now words) (now «book_kinds») (now «book_words») at (base .slot) (now work) ⌝ }
+    ensures { λ r. ⌜ ((c : FnCtx) (b : BasicBlock) (rest : List Entry) → BlockHere names b rest (entries (now (kinds .entry)) (now (words .entry)))
         → (c .bpSlot ≡ base .slot) × (c .hasFrame ≡ base .framed) → Maps names (entries (now («book_kinds» .entry)) (now («book_words» .entry))) c (now (work .entry))
-        → BlockDone names (entries (now («book_kinds» .entry)) (now («book_words» .entry))) c b rest (now (work .exit))
-        s r (now (lines .entry)) (now (operands .entry)) (now (lines .exit)) (now (operands .exit))) ⌝ }
+        → BlockDone names (entries (now (kinds .entry)) (now (words .entry))) (entries (now («book_kinds» .entry)) (now («book_words» .entry)))
+        c b rest (now (work .exit)) s r (now (lines .entry)) (now (operands .entry)) (now (lines .exit)) (now (operands .exit))) ⌝ }
 {
-    let name = book_words[at];
-    let labelled = put(lines, operands, s, 2, name);
+    let name = words[0];
+    let labelled = put(lines, operands, s, line::BLOCK_LABEL, name);
     let slot = base.slot;
     let body = gen_insts(
+        kinds,
+        words,
         book_kinds,
         book_words,
-        at + 1,
+        at,
         work,
         names,
         slot,
@@ -94,8 +105,8 @@ pub fn gen_block(
     let end = body.at;
     let ended = gen_term(
         name,
-        &book_kinds[end..],
-        &book_words[end..],
+        &kinds[end..],
+        &words[end..],
         book_kinds,
         book_words,
         names,

@@ -1,8 +1,11 @@
-// Work words 0 and 2 of names: a function's parameters and its blocks. The entries are the whole book's, so that the
-// places noted count from its first entry. `names` is the number of the book's names.
+// Work words 0 and 2 of names: a function's parameters and its blocks. `names` is the number of the book's names.
+use book::entry;
+use book_types::shorter;
 use layout_memo::skip;
 ghost use mathlib.Core.Path.{_≡_};
-ghost use Rattle.book.specs.Entry.{entries};
+ghost use mathlib.Core.List.{List};
+ghost use Rattle.book.specs.Ast.{BasicBlock, Function, Param};
+ghost use Rattle.book.specs.Entry.{Entry, entries};
 ghost use Rattle.layout_memo.specs.Structs.{IsBook};
 ghost use Prim.Native.Nat.{ℕ};
 ghost use Rattle.gen_blocks.specs.Function.{FunctionsAt, functionsIn, lastOf};
@@ -16,103 +19,90 @@ pub fn find_function(kinds: &[u64], words: &[u64], names: u64) -> usize
         (functionsIn names (entries (now (kinds .entry)) (now (words .entry)))) ⌝ }
 {
     let mut at: usize = 0;
-    while kinds[at] != 5 {
+    while kinds[at] != entry::FUNCTION {
         at = at + 1;
     }
     at
 }
 
-// Notes the parameter at the place, which has this index, and answers the place behind it.
-fn place_param(
-    kinds: &[u64],
-    words: &[u64],
-    work: &mut [u64],
-    names: u64,
-    at: usize,
-    index: u64,
-) -> usize
-    requires { ⌜ ((fn : ℕ) × AtParam names (now kinds) (now words) fn (now work) at index) ⌝ }
-    ensures { λ r. ⌜ ((fn : ℕ) → AtParam names (now (kinds .entry)) (now (words .entry)) fn (now (work .entry)) at index
-        → NextParam names (entries (now (kinds .entry)) (now (words .entry))) fn (now (work .entry)) (now (work .exit)) at index r) ⌝ }
+// Notes the parameter at the front, which has this index, and answers the number of its entries.
+fn place_param(kinds: &[u64], words: &[u64], work: &mut [u64], names: u64, index: u64) -> usize
+    requires { ⌜ ((all : List Param) × ((rest : List Entry) × AtParam names all rest (now kinds) (now words) (now work) index)) ⌝ }
+    ensures { λ r. ⌜ ((all : List Param) (rest : List Entry) → AtParam names all rest (now (kinds .entry)) (now (words .entry)) (now (work .entry)) index
+        → NextParam names all rest (entries (now (kinds .entry)) (now (words .entry))) (now (work .entry)) (now (work .exit)) index r) ⌝ }
 {
-    let name = words[at];
-    let ty = at + 1;
-    let next = ty + skip(&kinds[ty..], &words[ty..], names);
+    let name = words[0];
+    let next = 1 + skip(&kinds[1..], &words[1..], names);
     if name == 0 {
         return next;
     }
-    work[8 * ((name - 1) as usize)] = index + 1;
+    work[book::work::WORDS * ((name - 1) as usize)] = index + 1;
     next
 }
 
-// Notes all parameters of the function at the place, and answers the place of its list of blocks. The functions end at `last`.
-fn place_params(
-    kinds: &[u64],
-    words: &[u64],
-    work: &mut [u64],
-    names: u64,
-    at: usize,
-    last: usize,
-) -> usize
-    requires { ⌜ ParamsAsked names (entries (now kinds) (now words)) last (now work) at ⌝ }
-    ensures { λ r. ⌜ ParamsPlaced names (entries (now (kinds .entry)) (now (words .entry))) at (now (work .entry)) (now (work .exit)) r ⌝ }
+// Notes all parameters of the function at the front, and answers the place of its list of blocks.
+fn place_params(kinds: &[u64], words: &[u64], work: &mut [u64], names: u64) -> usize
+    requires { ⌜ ((f : Function) × ((rest : List Entry) × ParamsAsked names f rest (entries (now kinds) (now words)) (now work))) ⌝ }
+    ensures { λ r. ⌜ ((f : Function) (rest : List Entry) → ParamsAsked names f rest (entries (now (kinds .entry)) (now (words .entry))) (now (work .entry))
+        → ParamsPlaced names f rest (entries (now (kinds .entry)) (now (words .entry))) (now (work .entry)) (now (work .exit)) r) ⌝ }
 {
-    let ty = at + 1;
-    let mut next = ty + skip(&kinds[ty..], &words[ty..], names);
+    let mut next = 1 + skip(&kinds[1..], &words[1..], names);
     let mut index: u64 = 0;
-    while kinds[next] == 6 {
-        next = place_param(kinds, words, work, names, next, index);
+    while kinds[next] == entry::PARAM {
+        next = next + place_param(&kinds[next..], &words[next..], work, names, index);
         index = index + 1;
     }
     next + 1
 }
 
-// Notes all blocks of the list at the place: for each, the place of its first instruction. Answers where the function ends: at the
-// next one's entry, or at `last`.
-fn place_blocks(
-    kinds: &[u64],
-    words: &[u64],
-    work: &mut [u64],
-    names: u64,
-    at: usize,
-    last: usize,
-) -> usize
-    requires { ⌜ ((fn : ℕ) × BlocksAsked names (entries (now kinds) (now words)) fn last (now work) at) ⌝ }
-    ensures { λ r. ⌜ ((fn : ℕ) → BlocksAsked names (entries (now (kinds .entry)) (now (words .entry))) fn last (now (work .entry)) at
-        → BlocksPlaced names (entries (now (kinds .entry)) (now (words .entry))) fn (now (work .entry)) (now (work .exit)) r) ⌝ }
+// Notes all blocks of the list at the front, which stands at the place `at` of the book: for each, the place of its first
+// instruction in the book. Answers the number of entries to the next function's, or to the end.
+fn place_blocks(kinds: &[u64], words: &[u64], work: &mut [u64], names: u64, at: usize) -> usize
+    requires { ⌜ ((blocks : List BasicBlock) × ((rest : List Entry) × ((book : List Entry)
+        × BlocksAsked names blocks rest book at (entries (now kinds) (now words)) (now work)))) ⌝ }
+    ensures { λ r. ⌜ ((blocks : List BasicBlock) (rest book : List Entry)
+        → BlocksAsked names blocks rest book at (entries (now (kinds .entry)) (now (words .entry))) (now (work .entry))
+        → BlocksPlaced names blocks rest book (entries (now (kinds .entry)) (now (words .entry))) (now (work .entry)) (now (work .exit)) r) ⌝ }
 {
-    let mut next = at;
-    while next < last {
-        if kinds[next] == 5 {
+    let end = shorter(kinds, words);
+    let mut next: usize = 0;
+    while next < end {
+        if kinds[next] == entry::FUNCTION {
             return next;
         }
-        if kinds[next] == 7 {
-            work[8 * (words[next] as usize) + 2] = (next + 2) as u64;
+        if kinds[next] == entry::BLOCK {
+            let first = (at + next + 2) as u64;
+            work[book::work::WORDS * (words[next] as usize) + book::work::BLOCK] = first;
         }
         next = next + 1;
     }
     next
 }
 
-// Where a function's list of blocks stands, and where the function ends.
+// Where a function's list of blocks stands in the book, and where the function ends.
 pub struct Placed {
     pub blocks: usize,
     pub end: usize,
 }
 
-// Notes the parameters and the blocks of the function at the place, in words that are 0. The functions end at `last`.
+// Notes the parameters and the blocks of the function at the front, in words that are 0. The part has the functions from this
+// one on, and stands at the place `at` of the book.
 pub fn place_function(
     kinds: &[u64],
     words: &[u64],
     work: &mut [u64],
     names: u64,
     at: usize,
-    last: usize,
 ) -> Placed
-    requires { ⌜ FunctionAsked names (entries (now kinds) (now words)) last (now work) at ⌝ }
-    ensures { λ r. ⌜ FunctionPlaced names (entries (now (kinds .entry)) (now (words .entry))) at (now (work .entry)) (now (work .exit)) r ⌝ }
+    requires { ⌜ ((book : List Entry) × ((last : ℕ) × FunctionAsked names book last (entries (now kinds) (now words)) at (now work))) ⌝ }
+    ensures { λ r. ⌜ ((book : List Entry) (last : ℕ) → FunctionAsked names book last (entries (now (kinds .entry)) (now (words .entry))) at (now (work .entry))
+        → FunctionPlaced names book at (now (work .entry)) (now (work .exit)) r) ⌝ }
 {
-    let blocks = place_params(kinds, words, work, names, at, last);
-    let end = place_blocks(kinds, words, work, names, blocks, last);
-    Placed { blocks, end }
+    let first = place_params(kinds, words, work, names);
+    let blocks = at + first;
+    let left = place_blocks(&kinds[first..], &words[first..], work, names, blocks);
+    Placed {
+        blocks,
+        end: blocks + left,
+    }
 }

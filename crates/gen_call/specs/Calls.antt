@@ -17,6 +17,9 @@ use Rattle.book.specs.Entry.{Entry, entries}
 use Rattle.book.specs.Fields.{Item, Field, Meanings}
 use Rattle.book.specs.Kinds.{ValTag, valTag}
 use Rattle.book.specs.Limits.{ValueLimits}
+use Rattle.book.specs.Work.{nameWords, markAt}
+use Rattle.layout_memo.specs.Front.{tyLen}
+use Rattle.book_types.specs.Laws.{lentFrom}
 use Rattle.assembly.specs.Line.{Line}
 use Rattle.assembly.specs.Number.{kindOf, operandOf}
 use Rattle.lowering.specs.Gen.{refuse, when, choose}
@@ -25,24 +28,20 @@ use Rattle.lowering.specs.Operand.{pushValue, storeOrPop}
 use Rattle.lowering.specs.Call.{isVoid, pushArgs, callTarget, genPlainCall, genSyscall, genMemcmpCall, callNamed, genCall}
 use Rattle.gen_lines.specs.declared.Reached.{Reached}
 use Rattle.gen_lines.specs.Puts.{Puts, Lined, orElse, madeRefused, line-puts, skip-puts, refuse-puts, same-puts, then-puts}
-use Rattle.gen_values.specs.Values.{valueBy, valueOf, DestReaches}
+use Rattle.gen_values.specs.Values.{valueBy, valueOf}
 use Rattle.gen_values.specs.Maps.{callClass, markWord}
 use Rattle.gen_values.specs.Push.{bare-puts, word-same}
-use Rattle.gen_values.specs.Fields.{Fields, ValueAt, entry-at, value-at, behind-value}
+use Rattle.gen_values.specs.Fields.{Fields, ValueAt, fields-part, entry-at, value-at, behind-value}
 use Rattle.gen_fields.specs.Kinds.{NoName, is-local, is-global, no-name}
 use Rattle.gen_fields.specs.Items.{type-front}
 use Rattle.gen_fields.specs.Tests.{need-puts}
-use Rattle.gen_call.specs.Args.{ArgsLent}
+use Rattle.gen_fields.specs.Places.{past-type}
+use Rattle.gen_fields.specs.Given.{Given}
+use Rattle.gen_call.specs.Args.{Args, ArgsLent}
 
 -- the callee and its arguments
 abbrev pub callee : List Field
 callee = Field.plain Item.value ∷ Field.list Item.typed ∷ []
-
-pub record CalleeLent (m : ℕ) (ks ws : List ℕ) (a dest : ℕ) (work : List ℕ) : Type 0 where
-  pub holds : Meanings callee
-  pub fields : Fields m callee holds (drop a (entries ks ws))
-  pub result : dest ≤ m
-  pub room : 8 * m ≤ length work
 
 -- ---- the class of a callee: 2 a syscall, 3 memcmp, 1 a function that is defined, 0 anything else
 unfoldable pub classOf : Codegen → Value → ℕ
@@ -52,12 +51,15 @@ classOf g (Value.int v) = 0
 classOf g (Value.zero z) = 0
 classOf g Value.other = 0
 
--- word 5 of each name
+-- the mark of each name
 abbrev pub Marks : (m : ℕ) → FnCtx → List ℕ → Type 0
-Marks m c work = (x : ℕ) → x < m → getD work (8 * x + 5) 0 ≡ markWord (c .codegen) x
+Marks m c work = (x : ℕ) → x < m → getD work (markAt x) 0 ≡ markWord (c .codegen) x
 
-pub record ClassReaches (kind word : ℕ) (work : List ℕ) : Type 0 where
-  pub there : kind ≡ 31 → 8 * word + 5 < length work
+-- a value is at the front, and a global's work words are there
+pub record ClassReaches (ks ws work : List ℕ) : Type 0 where
+  pub in-kinds : 0 < length ks
+  pub in-words : 0 < length ws
+  pub there : getD ks 0 0 ≡ 31 → markAt (getD ws 0 0) < length work
 
 class-few : (g : Codegen) (x : ℕ) → callClass g x ≤ 3
 unfolding callClass
@@ -78,7 +80,7 @@ mark-class g x = at (hasOverflow (nameAt (g .names) x))
     at false = omega (arith, class-few g x)
 
 module _ (m : ℕ) (c : FnCtx) (kind word : ℕ) where
-  pub class-global : (work : List ℕ) → kind ≡ 31 → ValueLimits m (valueOf kind word) → Marks m c work → getD work (8 * word + 5) 0 % 4 ≡ classOf (c .codegen) (valueOf kind word)
+  pub class-global : (work : List ℕ) → kind ≡ 31 → ValueLimits m (valueOf kind word) → Marks m c work → getD work (markAt word) 0 % 4 ≡ classOf (c .codegen) (valueOf kind word)
   unfolding classOf
   class-global work e l k =
       let g = is-global kind word e in
@@ -191,7 +193,7 @@ module _ (c : FnCtx) (kind word n : ℕ) {s t u : Reached} {ks os ks₁ os₁ : 
   target-global e b d h i l =
       let g = is-global kind word e in
       let d′ : b ≡ member word (c .codegen .defined) = rw g at d in
-      rw g (then-puts (same-puts (λ k. ap (λ y. when (not y) (refuse 15) k) d′) (need-puts b 15 s ks os h)) (line-puts (Line.call word n) refl i l))
+      rw g (then-puts (same-puts (λ k. ap (λ y. when (not y) (refuse 15) k) d′) (need-puts b 15 (omega arith) s ks os h)) (line-puts (Line.call word n) refl i l))
 
 module _ (c : FnCtx) (kind word n : ℕ) {s t u : Reached} {ks os ks₁ os₁ ks₂ os₂ : List ℕ} where
   pub target-local : kind ≡ 30 → n < 2 ^ 64 → Puts (pushValue c (valueOf kind word) 64) s t ks os ks₁ os₁ → Lined 12 n t u ks₁ os₁ ks₂ os₂
@@ -207,9 +209,9 @@ module _ (c : FnCtx) (kind word n : ℕ) {s t : Reached} (ks os : List ℕ) wher
       at : (v : Value) → NoName v → Puts (callTarget c v n) s t ks os ks os
       at (Value.local x) e = absurd e
       at (Value.global x) e = absurd e
-      at (Value.int x) e = refuse-puts 15 s ks os h
-      at (Value.zero x) e = refuse-puts 15 s ks os h
-      at Value.other e = refuse-puts 15 s ks os h
+      at (Value.int x) e = refuse-puts 15 (omega arith) s ks os h
+      at (Value.zero x) e = refuse-puts 15 (omega arith) s ks os h
+      at Value.other e = refuse-puts 15 (omega arith) s ks os h
 
 -- ---- `gen_call`
 few-test : (n : ℕ) → not (leb n 255) ≡ ltb 255 n
@@ -224,7 +226,7 @@ module _ (c : FnCtx) (dest : Option ℕ) (v : Value) (args : List TypedVal) {n :
       → Puts (storeOrPop c dest) t₃ t₄ ks₂ os₂ ks₃ os₃ → Puts (genPlainCall c dest v args) s t₄ ks os ks₃ os₃
   unfolding genPlainCall
   plain-puts e h p q r =
-      then-puts (same-puts (λ i. ap (λ b. when b (refuse 15) i) (few-test n ∙ ap (ltb 255) e)) (need-puts (leb n 255) 15 s ks os h))
+      then-puts (same-puts (λ i. ap (λ b. when b (refuse 15) i) (few-test n ∙ ap (ltb 255) e)) (need-puts (leb n 255) 15 (omega arith) s ks os h))
       (then-puts p (then-puts (same-puts (λ i. ap (λ y. callTarget c v y i) e) q) r))
 
 -- ---- `gen_syscall`
@@ -263,16 +265,30 @@ void-entry (Ty.struct true ts) ks ws a tail h = rw (entry-at ks ws a _ _ h .0)
 pub void-kind : {m : ℕ} {fs : List Field} {p : Meanings (Field.plain Item.type ∷ fs)} (ks ws : List ℕ) → Fields m (Field.plain Item.type ∷ fs) p (entries ks ws) → eqb (getD ks 0 0) 10 ≡ isVoid (p .0)
 void-kind {m} {fs} {p} ks ws f = void-entry (p .0) ks ws 0 _ (type-front f)
 
--- ---- the callee's entry and its arguments
-module _ {m : ℕ} (ks ws : List ℕ) (a : ℕ) where
-  pub class-reaches : {v : Value} {work : List ℕ} → ValueAt m ks ws a v → 8 * m ≤ length work → ClassReaches (getD ks a 0) (getD ws a 0) work
-  class-reaches q room = record { there = λ e. let l : ValueLimits m (Value.global (getD ws a 0)) = rw (sym (q .is) ∙ is-global (getD ks a 0) (getD ws a 0) e) at (q .limits) in omega (arith, l) }
+-- ---- the callee at the front and the arguments behind it
+pub class-reaches : (m : ℕ) (ks ws : List ℕ) {v : Value} {work : List ℕ} → ValueAt m ks ws 0 v → nameWords m ≤ length work → ClassReaches ks ws work
+class-reaches m ks ws q room =
+    record {
+      in-kinds = q .in-kinds;
+      in-words = q .in-words;
+      there = λ e.
+          let l : ValueLimits m (Value.global (getD ws 0 0)) = rw (sym (q .is) ∙ is-global (getD ks 0 0) (getD ws 0 0) e) at (q .limits) in
+          omega (arith, l);
+    }
 
-  pub dest-there : {dest : ℕ} {work : List ℕ} → CalleeLent m ks ws a dest work → DestReaches dest work
-  dest-there l = record { there = λ z. omega (arith, l .result, l .room) }
+pub args-part : {m : ℕ} {p : Meanings callee} (ks ws : List ℕ) → Fields m callee p (entries ks ws) → Args m (p .1 .0) (lentFrom ks ws 1)
+args-part ks ws f = fields-part ks ws 1 (behind-value ks ws 0 f)
 
-  pub lent-args : {dest : ℕ} {work : List ℕ} → CalleeLent m ks ws a dest work → ArgsLent m ks ws (a + 1)
-  lent-args l = record { holds = l .holds .1 .0; fields = behind-value ks ws a (l .fields) }
+pub lent-args : {m dest : ℕ} {work : List ℕ} (ks ws : List ℕ) → Given m callee (entries ks ws) dest work → ArgsLent m (lentFrom ks ws 1)
+lent-args ks ws g = record { holds = g .holds .1 .0; fields = args-part ks ws (g .fields) }
 
-  pub lent-value : {dest : ℕ} {work : List ℕ} (l : CalleeLent m ks ws a dest work) → ValueAt m ks ws a (l .holds .0)
-  lent-value l = value-at ks ws a (l .fields)
+pub callee-in : {m : ℕ} {p : Meanings callee} (ks ws : List ℕ) → Fields m callee p (entries ks ws) → (1 ≤ length ks) × (1 ≤ length ws)
+callee-in ks ws f = let v = value-at ks ws 0 f in (omega (arith, v .in-kinds), omega (arith, v .in-words))
+
+-- behind the return type in front
+pub callee-part : {m : ℕ} {p : Meanings (Field.plain Item.type ∷ callee)} (ks ws : List ℕ) {a : ℕ} → Fields m (Field.plain Item.type ∷ callee) p (entries ks ws) → a ≡ tyLen m (entries ks ws)
+    → (a < length ks) × (a < length ws) × Fields m callee (p .1) (lentFrom ks ws a)
+callee-part ks ws {a} f e =
+    let c = past-type ks ws f e in
+    let v = value-at ks ws a c in
+    (v .in-kinds, v .in-words, fields-part ks ws a c)

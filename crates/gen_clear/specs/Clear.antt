@@ -3,7 +3,7 @@ use Prim.Native.Nat.{ℕ, zero, suc, _+_, _-_, _*_, _<_, _≤_, _^_}
 use mathlib.Core.Path.{_≡_, refl, sym, ap, _∙_, subst}
 use mathlib.Core.Logic.{_⊎_, inl, inr, ⊎-elim}
 use mathlib.Core.Bool.{Bool, true, false}
-use mathlib.Core.List.{List, [], _∷_, _++_}
+use mathlib.Core.List.{List, [], _∷_, _++_, append-nil}
 use native.Mathlib.Omega.{arith}
 use borrow.Author.Tests.{eqb-true, eqb-false}
 use lib.Dec.{eqb}
@@ -15,6 +15,8 @@ use Rattle.book.specs.Encode.{encFunction}
 use Rattle.book.specs.Limits.{Each, FunctionLimits}
 use Rattle.book.specs.Result.{ok}
 use Rattle.book.specs.Shape.{allInsts}
+use Rattle.book.specs.Work.{nameWords, paramAt, slotAt, blockAt, placeAt, bodyAt, markAt, measuredAt, wordAt}
+use Rattle.book_types.specs.Laws.{within-kinds, within-words}
 use Rattle.layout.specs.Frame.{Places, framePass, noFrame}
 use Rattle.layout_memo.specs.Work.{Ready, tableAt, table-other}
 use Rattle.lowering.specs.Context.{Codegen}
@@ -22,22 +24,23 @@ use Rattle.lowering.specs.Function.{contextOf}
 use Rattle.gen_values.specs.Maps.{Maps}
 use Rattle.gen_values.specs.Fields.{entry-at}
 use Rattle.gen_blocks.specs.Words.{ready-kept}
+use Rattle.gen_blocks.specs.Function.{between, between-part}
 use Rattle.gen_prepare.specs.Prepare.{Clean, Shared}
 use Rattle.gen_clear.specs.Sets.{Sets, Somewhere, Bounded, function-bounded}
 use Rattle.gen_clear.specs.Covers.{covers-params, covers-slots, covers-blocks, covers-places}
 
 -- a word of a function's, of the name x
 abbrev pub Own : (m i : ℕ) → Type 0
-Own m i = (x : ℕ) × ((j : ℕ) × ((x < m) × ((j < 4) × (i ≡ 8 * x + j))))
+Own m i = (x : ℕ) × ((j : ℕ) × ((x < m) × ((j < 4) × (i ≡ wordAt x j))))
 
 -- every word of a function's that is not 0 is set by one of these entries
 abbrev pub Covered : (m : ℕ) (work : List ℕ) (part : List Entry) → Type 0
-Covered m work part = (x j : ℕ) → x < m → j < 4 → (getD work (8 * x + j) 0 ≡ 0 → ⊥) → Somewhere (λ e. Sets e x j) part
+Covered m work part = (x j : ℕ) → x < m → j < 4 → (getD work (wordAt x j) 0 ≡ 0 → ⊥) → Somewhere (λ e. Sets e x j) part
 
 -- ---- one entry: its words are 0, and nothing else but 0 is written
 pub record Cleared (m : ℕ) (e : Entry) (work work′ : List ℕ) : Type 0 where
   pub long : length work′ ≡ length work
-  pub gone : (x j : ℕ) → x < m → Sets e x j → getD work′ (8 * x + j) 0 ≡ 0
+  pub gone : (x j : ℕ) → x < m → Sets e x j → getD work′ (wordAt x j) 0 ≡ 0
   pub less : (i : ℕ) → (getD work′ i 0 ≡ 0) ⊎ (getD work′ i 0 ≡ getD work i 0)
   pub same : (i : ℕ) → (Own m i → ⊥) → getD work′ i 0 ≡ getD work i 0
 
@@ -47,11 +50,12 @@ pub record Clearing (m : ℕ) (es : List Entry) (work₀ work : List ℕ) (a b :
   pub rest : List Entry
   pub here : drop a es ≡ part ++ rest
   pub size : b ≡ a + length part
+  pub there : b ≤ length es
   pub bounded : Each (Bounded m) part
   pub covered : Covered m work part
   pub long : length work ≡ length work₀
   pub same : (i : ℕ) → (Own m i → ⊥) → getD work i 0 ≡ getD work₀ i 0
-  pub room : 8 * m ≤ length work
+  pub room : nameWords m ≤ length work
   pub few : length es ≤ 2 ^ 20
 
 -- all are cleared
@@ -63,6 +67,10 @@ pub record AllCleared (m : ℕ) (work work′ : List ℕ) : Type 0 where
 abbrev pub ClearAsk : (m : ℕ) (es : List Entry) (a b : ℕ) (work : List ℕ) → Type 0
 ClearAsk m es a b work = Clearing m es work work a b
 
+-- these entries, all of them
+abbrev pub ClearPart : (m : ℕ) (es : List Entry) (work : List ℕ) → Type 0
+ClearPart m es work = ClearAsk m es 0 (length es) work
+
 -- ---- what an entry clears
 pub positive-of : (w : ℕ) → (w ≡ 0 → ⊥) → 1 ≤ w
 positive-of zero n = absurd (n refl)
@@ -73,7 +81,7 @@ none-cleared : (m : ℕ) (e : Entry) (work : List ℕ) → ((x j : ℕ) → Sets
 none-cleared m e work n = record { long = refl; gone = λ x j l s. absurd (n x j s); less = λ i. inr refl; same = λ i o. refl }
 
 -- one word of a function's
-module _ (m : ℕ) (work : List ℕ) (k : ℕ) (own : Own m k) (room : 8 * m ≤ length work) where
+module _ (m : ℕ) (work : List ℕ) (k : ℕ) (own : Own m k) (room : nameWords m ≤ length work) where
   within : k < length work
   within = let (x, (j, (l, (s, e)))) = own in omega arith
 
@@ -88,66 +96,66 @@ module _ (m : ℕ) (work : List ℕ) (k : ℕ) (own : Own m k) (room : 8 * m ≤
   same-one i n = getD-set-other work k i 0 0 (λ z. n (rw z own))
 
 -- a block: word 2
-pub block-cleared : (m w : ℕ) (work : List ℕ) → w < m → 8 * m ≤ length work → Cleared m (entry 7 w) work (set work (8 * w + 2) 0)
+pub block-cleared : (m w : ℕ) (work : List ℕ) → w < m → nameWords m ≤ length work → Cleared m (entry 7 w) work (set work (blockAt w) 0)
 block-cleared m w work l room =
-    let own : Own m (8 * w + 2) = (w, (2, (l, (omega arith, refl)))) in
-    record { long = length-set work (8 * w + 2) 0; gone = gone; less = less-one m work (8 * w + 2) own room; same = same-one m work (8 * w + 2) own room }
+    let own : Own m (blockAt w) = (w, (2, (l, (omega arith, refl)))) in
+    record { long = length-set work (blockAt w) 0; gone = gone; less = less-one m work (blockAt w) own room; same = same-one m work (blockAt w) own room }
   where
-    gone : (x j : ℕ) → x < m → Sets (entry 7 w) x j → getD (set work (8 * w + 2) 0) (8 * x + j) 0 ≡ 0
+    gone : (x j : ℕ) → x < m → Sets (entry 7 w) x j → getD (set work (blockAt w) 0) (wordAt x j) 0 ≡ 0
     gone x j lx (Sets.param z e i) = absurd (omega arith)
     gone x j lx (Sets.slot z e i) = absurd (omega arith)
-    gone x j lx (Sets.block z e i) = rw (sym i, z) (getD-set-same work (8 * w + 2) 0 0 (omega arith))
+    gone x j lx (Sets.block z e i) = rw (sym i, z) (getD-set-same work (blockAt w) 0 0 (omega arith))
     gone x j lx (Sets.place z e i) = absurd (omega arith)
 
 -- a parameter: word 0, where it has a name
-pub param-cleared : (m w : ℕ) (work : List ℕ) → (w ≡ 0 → ⊥) → w ≤ m → 8 * m ≤ length work → Cleared m (entry 6 w) work (set work (8 * w - 8) 0)
+pub param-cleared : (m w : ℕ) (work : List ℕ) → (w ≡ 0 → ⊥) → w ≤ m → nameWords m ≤ length work → Cleared m (entry 6 w) work (set work (paramAt (w - 1)) 0)
 param-cleared m w work n l room =
-    let own : Own m (8 * w - 8) = (w - 1, (0, (omega (arith, positive), (omega arith, omega (arith, positive))))) in
-    record { long = length-set work (8 * w - 8) 0; gone = gone; less = less-one m work (8 * w - 8) own room; same = same-one m work (8 * w - 8) own room }
+    let own : Own m (paramAt (w - 1)) = (w - 1, (0, (omega (arith, positive), (omega arith, omega (arith, positive))))) in
+    record { long = length-set work (paramAt (w - 1)) 0; gone = gone; less = less-one m work (paramAt (w - 1)) own room; same = same-one m work (paramAt (w - 1)) own room }
   where
     positive : 1 ≤ w
     positive = positive-of w n
 
-    gone : (x j : ℕ) → x < m → Sets (entry 6 w) x j → getD (set work (8 * w - 8) 0) (8 * x + j) 0 ≡ 0
-    gone x j lx (Sets.param z e i) = let q : 8 * x + j ≡ 8 * w - 8 = omega (arith, z, i) in rw q (getD-set-same work (8 * w - 8) 0 0 (omega (arith, positive)))
+    gone : (x j : ℕ) → x < m → Sets (entry 6 w) x j → getD (set work (paramAt (w - 1)) 0) (wordAt x j) 0 ≡ 0
+    gone x j lx (Sets.param z e i) = let q : wordAt x j ≡ paramAt (w - 1) = omega (arith, z, i) in rw q (getD-set-same work (paramAt (w - 1)) 0 0 (omega (arith, positive)))
     gone x j lx (Sets.slot z e i) = absurd (omega arith)
     gone x j lx (Sets.block z e i) = absurd (omega arith)
     gone x j lx (Sets.place z e i) = absurd (omega arith)
 
 -- a result: words 1 and 3
-pub result-cleared : (m k w : ℕ) (work : List ℕ) → 40 ≤ k → (w ≡ 0 → ⊥) → w ≤ m → 8 * m ≤ length work → Cleared m (entry k w) work (set (set work (8 * w - 7) 0) (8 * w - 5) 0)
+pub result-cleared : (m k w : ℕ) (work : List ℕ) → 40 ≤ k → (w ≡ 0 → ⊥) → w ≤ m → nameWords m ≤ length work → Cleared m (entry k w) work (set (set work (slotAt (w - 1)) 0) (placeAt (w - 1)) 0)
 result-cleared m k w work h n l room =
-    record { long = length-set once (8 * w - 5) 0 ∙ length-set work (8 * w - 7) 0; gone = gone; less = less; same = same }
+    record { long = length-set once (placeAt (w - 1)) 0 ∙ length-set work (slotAt (w - 1)) 0; gone = gone; less = less; same = same }
   where
     positive : 1 ≤ w
     positive = positive-of w n
 
     once : List ℕ
-    once = set work (8 * w - 7) 0
+    once = set work (slotAt (w - 1)) 0
 
-    own₁ : Own m (8 * w - 7)
+    own₁ : Own m (slotAt (w - 1))
     own₁ = (w - 1, (1, (omega (arith, positive), (omega arith, omega (arith, positive)))))
 
-    own₃ : Own m (8 * w - 5)
+    own₃ : Own m (placeAt (w - 1))
     own₃ = (w - 1, (3, (omega (arith, positive), (omega arith, omega (arith, positive)))))
 
-    room₁ : 8 * m ≤ length once
-    room₁ = omega (arith, length-set work (8 * w - 7) 0)
+    room₁ : nameWords m ≤ length once
+    room₁ = omega (arith, length-set work (slotAt (w - 1)) 0)
 
-    less : (i : ℕ) → (getD (set once (8 * w - 5) 0) i 0 ≡ 0) ⊎ (getD (set once (8 * w - 5) 0) i 0 ≡ getD work i 0)
+    less : (i : ℕ) → (getD (set once (placeAt (w - 1)) 0) i 0 ≡ 0) ⊎ (getD (set once (placeAt (w - 1)) 0) i 0 ≡ getD work i 0)
     less i =
-        ⊎-elim (λ p. inl p) (λ p. ⊎-elim (λ q. inl (p ∙ q)) (λ q. inr (p ∙ q)) (less-one m work (8 * w - 7) own₁ room i)) (less-one m once (8 * w - 5) own₃ room₁ i)
+        ⊎-elim (λ p. inl p) (λ p. ⊎-elim (λ q. inl (p ∙ q)) (λ q. inr (p ∙ q)) (less-one m work (slotAt (w - 1)) own₁ room i)) (less-one m once (placeAt (w - 1)) own₃ room₁ i)
 
-    same : (i : ℕ) → (Own m i → ⊥) → getD (set once (8 * w - 5) 0) i 0 ≡ getD work i 0
-    same i o = same-one m once (8 * w - 5) own₃ room₁ i o ∙ same-one m work (8 * w - 7) own₁ room i o
+    same : (i : ℕ) → (Own m i → ⊥) → getD (set once (placeAt (w - 1)) 0) i 0 ≡ getD work i 0
+    same i o = same-one m once (placeAt (w - 1)) own₃ room₁ i o ∙ same-one m work (slotAt (w - 1)) own₁ room i o
 
-    gone : (x j : ℕ) → x < m → Sets (entry k w) x j → getD (set once (8 * w - 5) 0) (8 * x + j) 0 ≡ 0
+    gone : (x j : ℕ) → x < m → Sets (entry k w) x j → getD (set once (placeAt (w - 1)) 0) (wordAt x j) 0 ≡ 0
     gone x j lx (Sets.param z e i) = absurd (omega arith)
     gone x j lx (Sets.slot z e i) =
-        let q : 8 * x + j ≡ 8 * w - 7 = omega (arith, z, i) in
-        rw q (getD-set-other once (8 * w - 5) (8 * w - 7) 0 0 (λ y. omega (arith, positive)) ∙ getD-set-same work (8 * w - 7) 0 0 (omega (arith, positive)))
+        let q : wordAt x j ≡ slotAt (w - 1) = omega (arith, z, i) in
+        rw q (getD-set-other once (placeAt (w - 1)) (slotAt (w - 1)) 0 0 (λ y. omega (arith, positive)) ∙ getD-set-same work (slotAt (w - 1)) 0 0 (omega (arith, positive)))
     gone x j lx (Sets.block z e i) = absurd (omega arith)
-    gone x j lx (Sets.place z e i) = let q : 8 * x + j ≡ 8 * w - 5 = omega (arith, z, i) in rw q (getD-set-same once (8 * w - 5) 0 0 (omega (arith, positive, room₁)))
+    gone x j lx (Sets.place z e i) = let q : wordAt x j ≡ placeAt (w - 1) = omega (arith, z, i) in rw q (getD-set-same once (placeAt (w - 1)) 0 0 (omega (arith, positive, room₁)))
 
 -- entries without a name, and those that say none
 pub unnamed-cleared : (m k : ℕ) (work : List ℕ) → (k ≡ 7 → ⊥) → Cleared m (entry k 0) work work
@@ -187,7 +195,7 @@ module _ (m : ℕ) (es : List Entry) (work₀ work : List ℕ) (a b : ℕ) (p : 
       go : (part : List Entry) → b ≡ a + length part → Covered m work part → AllCleared m work₀ work
       go (e ∷ part) s c = absurd (omega arith)
       go [] s c =
-          let word : (x j : ℕ) → x < m → j < 4 → getD work (8 * x + j) 0 ≡ 0 = λ x j lx lj. zero-word (getD work (8 * x + j) 0) (c x j lx lj) in
+          let word : (x j : ℕ) → x < m → j < 4 → getD work (wordAt x j) 0 ≡ 0 = λ x j lx lj. zero-word (getD work (wordAt x j) 0) (c x j lx lj) in
           record {
             clean = record {
               params = λ x lx. let q : 8 * x ≡ 8 * x + 0 = omega arith in rw q (word x 0 lx (omega arith));
@@ -240,6 +248,7 @@ module _ (m : ℕ) (ks ws work₀ work : List ℕ) (a b : ℕ) (p : Clearing m (
         rest = p .rest;
         here = here .next;
         size = omega (arith, p .size, ap length (here .is));
+        there = p .there;
         bounded = subst (Each (Bounded m)) (here .is) (p .bounded) .1;
         covered = covered;
         long = c .long ∙ p .long;
@@ -248,24 +257,25 @@ module _ (m : ℕ) (ks ws work₀ work : List ℕ) (a b : ℕ) (p : Clearing m (
         few = p .few;
       }
     where
-      left : (x j : ℕ) → x < m → (getD work′ (8 * x + j) 0 ≡ 0 → ⊥) → Somewhere (λ e. Sets e x j) (here .first ∷ here .others) → Somewhere (λ e. Sets e x j) (here .others)
+      left : (x j : ℕ) → x < m → (getD work′ (wordAt x j) 0 ≡ 0 → ⊥) → Somewhere (λ e. Sets e x j) (here .first ∷ here .others) → Somewhere (λ e. Sets e x j) (here .others)
       left x j lx n (inl s) = absurd (n (c .gone x j lx (sets-as (here .kind) (here .word) s)))
       left x j lx n (inr s) = s
 
       covered : Covered m work′ (here .others)
       covered x j lx lj n =
-          let was : (getD work (8 * x + j) 0 ≡ 0 → ⊥) = λ z. ⊎-elim (λ q. n q) (λ q. n (q ∙ z)) (c .less (8 * x + j)) in
+          let was : (getD work (wordAt x j) 0 ≡ 0 → ⊥) = λ z. ⊎-elim (λ q. n q) (λ q. n (q ∙ z)) (c .less (wordAt x j)) in
           left x j lx n (subst (Somewhere (λ e. Sets e x j)) (here .is) (p .covered x j lx lj was))
 
 -- ---- what it is asked for
 -- nothing is set
-pub none-ask : (m : ℕ) (es : List Entry) (work : List ℕ) → Clean m work → 8 * m ≤ length work → length es ≤ 2 ^ 20 → ClearAsk m es 0 0 work
+pub none-ask : (m : ℕ) (es : List Entry) (work : List ℕ) → Clean m work → nameWords m ≤ length work → length es ≤ 2 ^ 20 → ClearAsk m es 0 0 work
 none-ask m es work k room few =
     record {
       part = [];
       rest = es;
       here = refl;
       size = refl;
+      there = omega arith;
       bounded = tt;
       covered = λ x j lx lj n. n (word x j lx lj);
       long = refl;
@@ -274,23 +284,48 @@ none-ask m es work k room few =
       few = few;
     }
   where
-    word : (x j : ℕ) → x < m → j < 4 → getD work (8 * x + j) 0 ≡ 0
+    word : (x j : ℕ) → x < m → j < 4 → getD work (wordAt x j) 0 ≡ 0
     word x zero lx lj = let q : 8 * x + 0 ≡ 8 * x = omega arith in rw q (k .params x lx)
     word x (suc zero) lx lj = k .slots x lx
     word x (suc (suc zero)) lx lj = k .blocks x lx
     word x (suc (suc (suc zero))) lx lj = k .places x lx
     word x (suc (suc (suc (suc j)))) lx lj = absurd (omega arith)
 
+-- the part of lent kinds and words from one place to another
+module _ {m : ℕ} (ks ws : List ℕ) {a b : ℕ} {work : List ℕ} (p : ClearAsk m (entries ks ws) a b work) where
+  pub cut-within : (a ≤ b) × (b ≤ length ks) × (b ≤ length ws)
+  cut-within = (omega (arith, p .size), within-kinds b ks ws (p .there), within-words b ks ws (p .there))
+
+  cut-is : between ks ws a b ≡ p .part
+  cut-is = between-part ks ws a b (p .part) (p .rest) (p .here) (p .size)
+
+  pub clear-part : ClearPart m (between ks ws a b) work
+  clear-part =
+      record {
+        part = p .part;
+        rest = [];
+        here = cut-is ∙ sym (append-nil (p .part));
+        size = omega (arith, ap length cut-is);
+        there = omega arith;
+        bounded = p .bounded;
+        covered = p .covered;
+        long = refl;
+        same = λ i o. refl;
+        room = p .room;
+        few = omega (arith, ap length cut-is, p .size, p .there, p .few);
+      }
+
 -- the function f at the place a, up to b, has set its context
 pub function-ask : (m : ℕ) (es : List Entry) (work : List ℕ) (a b : ℕ) (g : Codegen) (f : Function) (fr : Places) (rest : List Entry)
-    → drop a es ≡ encFunction f ++ rest → b ≡ a + length (encFunction f) → FunctionLimits m f → length es ≤ 2 ^ 20
+    → drop a es ≡ encFunction f ++ rest → a ≤ length es → b ≡ a + length (encFunction f) → FunctionLimits m f → length es ≤ 2 ^ 20
     → framePass (g .structs) (allInsts (f .blocks)) noFrame ≡ ok fr → Maps m es (contextOf g f fr) work → ClearAsk m es a b work
-function-ask m es work a b g f fr rest h s l few pass k =
+function-ask m es work a b g f fr rest h t s l few pass k =
     record {
       part = encFunction f;
       rest = rest;
       here = h;
       size = s;
+      there = omega (arith, ap length h, length-append (encFunction f) rest, length-drop a es);
       bounded = function-bounded m f l;
       covered = covered;
       long = refl;
@@ -311,12 +346,12 @@ pub shared-after : {m : ℕ} {es : List Entry} {g : Codegen} {work work′ : Lis
 shared-after {m} k c =
     record {
       room = omega (arith, k .room, c .long);
-      marks = λ x l. c .same (8 * x + 5) (other x 5 (omega arith) (omega arith)) ∙ k .marks x l;
+      marks = λ x l. c .same (markAt x) (other x 5 (omega arith) (omega arith)) ∙ k .marks x l;
       structs = k .structs;
       measured =
-          ready-kept (k .measured) (c .long) (λ x l. c .same (8 * x + 4) (other x 4 (omega arith) (omega arith))) (λ x l. c .same (8 * x + 7) (other x 7 (omega arith) (omega arith)))
+          ready-kept (k .measured) (c .long) (λ x l. c .same (bodyAt x) (other x 4 (omega arith) (omega arith))) (λ x l. c .same (measuredAt x) (other x 7 (omega arith) (omega arith)))
           (λ i. c .same (tableAt m i) (λ (y, (j, (ly, (lj, e)))). table-other m i y j (omega arith) (λ z. omega arith) ly e));
     }
   where
-    other : (x j : ℕ) → 4 ≤ j → j < 8 → Own m (8 * x + j) → ⊥
+    other : (x j : ℕ) → 4 ≤ j → j < 8 → Own m (wordAt x j) → ⊥
     other x j h t (y, (i, (ly, (li, e)))) = omega arith

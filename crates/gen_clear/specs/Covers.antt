@@ -16,6 +16,7 @@ use Rattle.book.specs.Shape.{Shape, shape, allInsts}
 use Rattle.layout.specs.Frame.{Places, countOf, withPlace, withDynamic, place, frameStep, framePass, noFrame}
 use Rattle.layout.specs.Layout.{alignOf, sizeOf, frameLimit}
 use Rattle.numbers.specs.Align.{alignUp}
+use Rattle.book.specs.Work.{paramAt, slotAt, blockAt, placeAt}
 use Rattle.lowering.specs.Context.{Codegen, Slots, slotStep, slotMap, noSlots, paramMap, blockMap}
 use Rattle.lowering.specs.Places.{lookup-cons}
 use Rattle.lowering.specs.Function.{slotsOf, contextOf}
@@ -175,13 +176,13 @@ module _ (P : Entry → Type 0) (f : Function) where
 -- a word that is not 0 is set by one of the function's entries
 module _ {m : ℕ} {es : List Entry} (g : Codegen) (f : Function) (fr : Places) (pass : framePass (g .structs) (allInsts (f .blocks)) noFrame ≡ ok fr) {work : List ℕ}
     (k : Maps m es (contextOf g f fr) work) (x : ℕ) (l : x < m) where
-  pub covers-params : (getD work (8 * x) 0 ≡ 0 → ⊥) → Somewhere (λ e. Sets e x 0) (encFunction f)
+  pub covers-params : (getD work (paramAt x) 0 ≡ 0 → ⊥) → Somewhere (λ e. Sets e x 0) (encFunction f)
   unfolding contextOf
   covers-params n =
       ⊎-elim (λ p. has-none x p) (λ p. in-params (λ e. Sets e x 0) f p)
       (params-set x 0 (f .params) [] (entry 0 0 ∷ []) (has-of x (paramMap 0 (f .params) []) (λ z. n (k .locals .params x l ∙ z))))
 
-  pub covers-blocks : (getD work (8 * x + 2) 0 ≡ 0 → ⊥) → Somewhere (λ e. Sets e x 2) (encFunction f)
+  pub covers-blocks : (getD work (blockAt x) 0 ≡ 0 → ⊥) → Somewhere (λ e. Sets e x 2) (encFunction f)
   unfolding contextOf
   covers-blocks n =
       ⊎-elim (λ p. has-none x p) (λ p. in-blocks (λ e. Sets e x 2) f p)
@@ -190,14 +191,14 @@ module _ {m : ℕ} {es : List Entry} (g : Codegen) (f : Function) (fr : Places) 
   says-function : Somewhere (Result-of x) (allInsts (f .blocks)) → Somewhere (Says x) (encFunction f)
   says-function h = in-blocks (Says x) f (blocks-say x (f .blocks) (entry 0 0 ∷ []) h)
 
-  pub covers-slots : (getD work (8 * x + 1) 0 ≡ 0 → ⊥) → Somewhere (λ e. Sets e x 1) (encFunction f)
+  pub covers-slots : (getD work (slotAt x) 0 ≡ 0 → ⊥) → Somewhere (λ e. Sets e x 1) (encFunction f)
   unfolding contextOf slotsOf noSlots
   covers-slots n =
       somewhere-map (Says x) (λ e. Sets e x 1) (λ e p. Sets.slot refl (p .0) (p .1)) (encFunction f)
       (⊎-elim (λ p. has-none x p) says-function
       (slots-set (g .names) x (allInsts (f .blocks)) noSlots (has-of x (slotsOf g f .slots) (λ z. n (k .locals .slots x l ∙ z)))))
 
-  pub covers-places : (getD work (8 * x + 3) 0 ≡ 0 → ⊥) → Somewhere (λ e. Sets e x 3) (encFunction f)
+  pub covers-places : (getD work (placeAt x) 0 ≡ 0 → ⊥) → Somewhere (λ e. Sets e x 3) (encFunction f)
   unfolding contextOf noFrame
   covers-places n =
       somewhere-map (Says x) (λ e. Sets e x 3) (λ e p. Sets.place refl (p .0) (p .1)) (encFunction f)

@@ -1,49 +1,46 @@
 // Words 0 to 3 of names, cleared where a function has set them: along its entries, not over all names. So the functions of a piece
 // are translated in a time that goes by their entries, however many names the book has.
-ghost use Prim.Native.Nat.{_*_, _≤_};
+use book::entry;
+use book_types::shorter;
+ghost use Prim.Native.Nat.{_≤_};
 ghost use lib.ListN.{length};
-ghost use Rattle.book.specs.Entry.{entry, entries};
+ghost use Rattle.book.specs.Entry.{entry as entryOf, entries};
+ghost use Rattle.book.specs.Work.{nameWords};
 ghost use Rattle.gen_clear.specs.Sets.{Bounded};
-ghost use Rattle.gen_clear.specs.Clear.{Cleared, ClearAsk, AllCleared};
+ghost use Rattle.gen_clear.specs.Clear.{Cleared, ClearPart, AllCleared};
 
 // The words that an entry has set: a parameter's, a block's or a result's.
 fn clear_entry(kind: u64, word: u64, work: &mut [u64], names: u64)
-    requires { ⌜ Bounded names (entry kind word) × (8 * names ≤ length (now work)) ⌝ }
-    ensures { λ _. ⌜ Cleared names (entry kind word) (now (work .entry)) (now (work .exit)) ⌝ }
+    requires { ⌜ Bounded names (entryOf kind word) × (nameWords names ≤ length (now work)) ⌝ }
+    ensures { λ _. ⌜ Cleared names (entryOf kind word) (now (work .entry)) (now (work .exit)) ⌝ }
 {
-    if 40 <= kind {
+    if entry::ADD <= kind {
         if word != 0 {
-            let place = 8 * (word as usize);
-            work[place - 7] = 0;
-            work[place - 5] = 0;
+            let first = book::work::WORDS * ((word - 1) as usize);
+            work[first + book::work::SLOT] = 0;
+            work[first + book::work::PLACE] = 0;
         }
         return;
     }
-    if kind == 7 {
-        work[8 * (word as usize) + 2] = 0;
+    if kind == entry::BLOCK {
+        work[book::work::WORDS * (word as usize) + book::work::BLOCK] = 0;
         return;
     }
-    if kind == 6 {
+    if kind == entry::PARAM {
         if word != 0 {
-            work[8 * (word as usize) - 8] = 0;
+            work[book::work::WORDS * ((word - 1) as usize)] = 0;
         }
     }
 }
 
-// All words that the entries from one place to another have set. The entries are the whole book's.
-pub fn clear_function(
-    kinds: &[u64],
-    words: &[u64],
-    work: &mut [u64],
-    names: u64,
-    from: usize,
-    to: usize,
-)
-    requires { ⌜ ClearAsk names (entries (now kinds) (now words)) from to (now work) ⌝ }
+// All words that these entries have set.
+pub fn clear_function(kinds: &[u64], words: &[u64], work: &mut [u64], names: u64)
+    requires { ⌜ ClearPart names (entries (now kinds) (now words)) (now work) ⌝ }
     ensures { λ _. ⌜ AllCleared names (now (work .entry)) (now (work .exit)) ⌝ }
 {
-    let mut at = from;
-    while at < to {
+    let end = shorter(kinds, words);
+    let mut at: usize = 0;
+    while at < end {
         clear_entry(kinds[at], words[at], work, names);
         at = at + 1;
     }

@@ -90,7 +90,7 @@ module _ (c : FnCtx) (cps : List Copy) (xs : List ℕ) (same : map (λ (cp : Cop
       (record {
         long-kinds = b .long-kinds;
         long-operands = b .long-operands;
-        stays = λ r. record { refused = still refused ∙ r; number = counter };
+        stays = λ r. record { refused = still refused ∙ r; number = refused };
         goes = λ n a.
             let z : s .at + 0 ≡ s .at = omega arith in
             record {

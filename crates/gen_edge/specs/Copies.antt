@@ -1,5 +1,5 @@
 -- The copies of an edge, phi by phi: what is refused before a value is pushed, and the values pushed. "The first matching predecessor counts."
-use Prim.Native.Nat.{ℕ, _+_, _-_, _*_, _≤_}
+use Prim.Native.Nat.{ℕ, _+_, _-_, _*_, _<_, _≤_}
 use mathlib.Core.Path.{_≡_, refl, sym, ap, subst, _∙_}
 use mathlib.Core.Bool.{Bool, true, false, cond, not, _&&_}
 use mathlib.Core.Option.{Option, none, some}
@@ -13,6 +13,7 @@ use Rattle.book.specs.Rule.{pick}
 use Rattle.book.specs.Shape.{Shape, shape}
 use Rattle.book.specs.Map.{lookup}
 use Rattle.book.specs.Encode.{destWord}
+use Rattle.book.specs.Work.{nameWords, slotAt}
 use Rattle.book.specs.Limits.{Maybe, NameLimits}
 use Rattle.book.specs.Result.{Result, ok, err, bind, okOr}
 use Rattle.lowering.specs.Gen.{Gen, _>>=_, _>>_, each}
@@ -20,12 +21,12 @@ use Rattle.lowering.specs.Context.{FnCtx, named, slotOf}
 use Rattle.lowering.specs.Operand.{intWidth, pushValue, pushTyped}
 use Rattle.lowering.specs.Edge.{Copy, incomingFrom, copyOf, copyStep, copies, pushCopy}
 use Rattle.gen_lines.specs.declared.Reached.{Reached}
-use Rattle.gen_lines.specs.Puts.{Puts, Barred, isRefused, orElse, madeRefused, then-puts}
+use Rattle.gen_lines.specs.Puts.{Puts, Barred, isRefused, orElse, madeRefused, made-refused, then-puts}
 use Rattle.gen_lines.specs.Follow.{Asked, Answered, asked-puts, asked-ok, asked-err, none-puts, more-puts}
 use Rattle.gen_values.specs.Maps.{Locals, numbered}
 use Rattle.gen_values.specs.Push.{some-of, none-of}
 use Rattle.gen_values.specs.Values.{valueOf, DestReaches}
-use Rattle.gen_values.specs.Fields.{WidthSays, ValueAt}
+use Rattle.gen_values.specs.Fields.{ValueAt}
 use Rattle.gen_edge.specs.Phis.{Phi, phiThen, leading}
 
 -- ---- asking twice
@@ -44,10 +45,10 @@ module _ {A B : Type 0} {r : Result A} (g : A → Result B) {s t u : Reached} {x
           subst (λ (z : A). Answered (g z) s u y) j (subst (λ (v : Reached). Answered (g x) v u y) i w)
 
 -- a test that `need` makes
-module _ {A : Type 0} {r : Result A} (e : ℕ) (s : Reached) {t : Reached} (x : A) where
+module _ {A : Type 0} {r : Result A} (e : ℕ) (positive : 0 < e) (s : Reached) {t : Reached} (x : A) where
   pub asked-need : (b : Bool) → (b ≡ true → r ≡ ok x) → (b ≡ false → r ≡ err e) → t ≡ orElse b s (madeRefused s e) → Asked r s t x
   asked-need true p q h = subst (λ (v : Result A). Asked v s t x) (sym (p refl)) (subst (λ (v : Reached). Asked (ok x) s v x) (sym h) (asked-ok s x))
-  asked-need false p q h = subst (λ (v : Result A). Asked v s t x) (sym (q refl)) (asked-err e s x h)
+  asked-need false p q h = subst (λ (v : Result A). Asked v s t x) (sym (q refl)) (asked-err e positive s x h)
 
 -- what came behind a refusal is refused, so nothing was refused before where nothing is
 pub asked-going : {A : Type 0} {r : Result A} {s t : Reached} {x : A} → Asked r s t x → isRefused t ≡ false → isRefused s ≡ false
@@ -67,13 +68,13 @@ both-true false b h = absurd (let z : _≡_ {A = ℕ} 0 1 = cc in omega arith)
 
 -- ---- the slot of a result word, with 1 added, 0 for none
 unfoldable pub slotWord : (dest : ℕ) (work : List ℕ) → ℕ
-slotWord d work = cond (eqb d 0) 0 (getD work (8 * (d - 1) + 1) 0)
+slotWord d work = cond (eqb d 0) 0 (getD work (slotAt (d - 1)) 0)
 
 -- the slot itself, where there is one
 abbrev pub slotNumber : List ℕ → Option ℕ → ℕ
 slotNumber work dest = slotWord (destWord dest) work - 1
 
-pub dest-reaches : (m : ℕ) {d : ℕ} {work : List ℕ} (dest : Option ℕ) → d ≡ destWord dest → Maybe (NameLimits m) dest → 8 * m + 64 ≤ length work → DestReaches d work
+pub dest-reaches : (m : ℕ) {d : ℕ} {work : List ℕ} (dest : Option ℕ) → d ≡ destWord dest → Maybe (NameLimits m) dest → nameWords m + 64 ≤ length work → DestReaches d work
 dest-reaches m none e k r = record { there = λ z. absurd (z e) }
 dest-reaches m (some x) e k r = record { there = λ z. omega arith }
 
@@ -91,13 +92,13 @@ module _ (c : FnCtx) (m : ℕ) (work : List ℕ) (maps : Locals c m work) (dest 
       at : (o : Option ℕ) → Maybe (NameLimits m) o → w ≡ slotWord (destWord o) work → (b ≡ true → slotOf c o ≡ ok (w - 1)) × (b ≡ false → slotOf c o ≡ err 5)
       at none k q = (λ t. absurd (other-of t q), λ f. refl)
       at (some x) k q =
-          let i : 8 * (x + 1 - 1) + 1 ≡ 8 * x + 1 = omega arith in
+          let i : slotAt (x + 1 - 1) ≡ slotAt x = omega arith in
           let v : w ≡ numbered (lookup x (c .slots)) = q ∙ rw (ne-eqb (x + 1) 0 (λ z. omega arith), i) (maps .slots x k) in
           (λ t. rw (some-of (lookup x (c .slots)) w v (other-of t)), λ f. rw (none-of (lookup x (c .slots)) w v (zero-of f)))
 
   pub asked-slot : (s : Reached) {t : Reached} (w : ℕ) {b : Bool} → w ≡ slotWord (destWord dest) work → b ≡ not (eqb w 0) → t ≡ orElse b s (madeRefused s 5)
       → Asked (slotOf c dest) s t (w - 1)
-  asked-slot s w {b} e d h = let q = slot-is w e b d in asked-need 5 s (w - 1) b (q .0) (q .1) h
+  asked-slot s w {b} e d h = let q = slot-is w e b d in asked-need 5 (omega arith) s (w - 1) b (q .0) (q .1) h
 
 -- ---- the first matching predecessor: the place of its value, 0 for none
 module _ (m pred : ℕ) (ks ws : List ℕ) where
@@ -169,7 +170,7 @@ module _ (m pred : ℕ) (ks ws : List ℕ) where
       → Asked (okOr 18 (incomingFrom pred is)) s t (valueOf (getD ks found 0) (getD ws found 0))
   unfolding okOr
   asked-found is found f s {t} {b} d h =
-      asked-need 18 s _ b
+      asked-need 18 (omega arith) s _ b
       (λ y. rw (found-value is f (λ z. let q : true ≡ false = sym y ∙ d ∙ ap not (eq-eqb found 0 z) in let x : _≡_ {A = ℕ} 0 1 = cc in omega arith)))
       (λ y. rw (f .absent (eqb-true found 0 (not-false (eqb found 0) (sym d ∙ y))))) h
 
@@ -236,30 +237,18 @@ module _ (c : FnCtx) (pred m : ℕ) (ks ws work : List ℕ) (maps : Locals c m w
       (asked-then (λ val. ok (record { slot = slotNumber work (p .dest); val = val; ty = p .ty })) (asked-found m pred ks ws (p .incoming) found f n refl q) (asked-ok t _))
 
 -- a phi without the predecessor is refused
-made-refused : (v : Reached) (e : ℕ) (b : Bool) → isRefused v ≡ b → isRefused (orElse b v (record { at = v .at; counter = e; refused = 1 })) ≡ true
-made-refused v e true h = h
-made-refused v e false h = refl
-
 pub noted-found : (dest found : ℕ) (work : List ℕ) (s : Reached) {t : Reached} → t ≡ noted dest found work s → isRefused t ≡ false → found ≡ 0 → ⊥
 noted-found dest found work s {t} h f z =
     let n : Reached = orElse (not (eqb (slotWord dest work) 0)) s (madeRefused s 5) in
-    let q : t ≡ madeRefused n 18 = h ∙ rw (eq-eqb found 0 z) in
-    let y : true ≡ false = sym (made-refused n 18 (isRefused n) refl) ∙ sym (ap isRefused q) ∙ f in
+    let y : true ≡ false = sym (made-refused 18 (omega arith) n (h ∙ rw (eq-eqb found 0 z))) ∙ f in
     let x : _≡_ {A = ℕ} 0 1 = cc in
     omega arith
 
 -- ---- a value at its type's width
-module _ (w : ℕ) (s : Reached) {t : Reached} {b : Bool} (d : b ≡ not (eqb w 0)) (h : t ≡ orElse b s (madeRefused s 9)) where
-  asked-int : (r : Result ℕ) → WidthSays w r → Asked r s t w
-  asked-int (ok v) (i, z) =
-      asked-need 9 s w b (λ y. ap ok (sym i)) (λ y. absurd (z (sym i ∙ eqb-true w 0 (not-false (eqb w 0) (sym d ∙ y))))) h
-  asked-int (err e) (i, j) =
-      asked-need 9 s w b (λ y. absurd (let q : true ≡ false = sym y ∙ d ∙ ap not (eq-eqb w 0 i) in let x : _≡_ {A = ℕ} 0 1 = cc in omega arith)) (λ y. ap err j) h
-
-  pub typed-puts : (c : FnCtx) (ty : Ty) (v : Value) {u : Reached} {ks os ks′ os′ : List ℕ} → WidthSays w (intWidth ty) → Puts (pushValue c v w) t u ks os ks′ os′
-      → Puts (pushTyped c ty v) s u ks os ks′ os′
-  unfolding pushTyped
-  typed-puts c ty v k p = asked-puts (λ x. pushValue c v x) (asked-int (intWidth ty) k) p
+pub typed-puts : (c : FnCtx) (ty : Ty) (v : Value) {w : ℕ} {s t u : Reached} {ks os ks′ os′ : List ℕ} → Asked (intWidth ty) s t w → Puts (pushValue c v w) t u ks os ks′ os′
+    → Puts (pushTyped c ty v) s u ks os ks′ os′
+unfolding pushTyped
+typed-puts c ty v a p = asked-puts (λ x. pushValue c v x) a p
 
 -- ---- the phis behind which a pass has come
 pub record Pushed (c : FnCtx) (pred : ℕ) (work : List ℕ) (ps : List Phi) (s n t : Reached) (ks os ks′ os′ : List ℕ) : Type 0 where

@@ -1,20 +1,23 @@
 -- The pass that sets the slots, and an edge as a whole.
-use Prim.Native.Nat.{ℕ, suc, _+_, _-_, _*_, _<_, _≤_, _%_, _^_}
+use Prim.Native.Nat.{ℕ, suc, _+_, _-_, _<_, _≤_, _%_, _^_}
 use mathlib.Core.Path.{_≡_, refl, sym, ap, subst, _∙_}
 use mathlib.Core.Option.{some}
 use mathlib.Core.List.{List, [], _∷_, _++_, map, map-append, reverse, append-nil, append-assoc}
 use native.Mathlib.Omega.{arith}
 use native.Mathlib.Nat.{mod-eq-of-lt}
 use lib.ListN.{length, getD, drop, take, set, length-append, length-map}
+use lib.Seq.{drop-drop}
 use Rattle.book.specs.Ast.{Incoming, BasicBlock}
 use Rattle.book.specs.Entry.{Entry, entries}
+use Rattle.book.specs.Work.{nameWords, blockAt}
 use Rattle.book.specs.Encode.{ending}
 use Rattle.book.specs.Map.{lookup}
 use Rattle.book.specs.Result.{bind, okOr}
-use Rattle.book_types.specs.Laws.{entries-part, within-kinds, within-words}
+use Rattle.book_types.specs.Laws.{lentFrom, entries-part, within-kinds, within-words}
 use Rattle.assembly.specs.Line.{Line}
 use Rattle.assembly.specs.Number.{kindOf, operandOf}
 use Rattle.lowering.specs.Gen.{refuse, _>>=_, _>>_, each}
+use Rattle.layout_memo.specs.Front.{tyLen}
 use Rattle.lowering.specs.Context.{FnCtx}
 use Rattle.lowering.specs.Edge.{Copy, setCopy, emitEdgeCopies, edge}
 use Rattle.gen_lines.specs.declared.Reached.{Reached}
@@ -27,15 +30,26 @@ use Rattle.gen_edge.specs.Copies.{slotWord, slotNumber, copies-leading, 
 use Rattle.gen_edge.specs.Walks.{Passed}
 use Rattle.gen_edge.specs.Backwards.{Set, set-none, set-more, set-puts}
 
--- ---- behind a phi
-pub record Stands (m : ℕ) (ks ws : List ℕ) (place : ℕ) : Type 0 where
-  pub phis : List Phi
-  pub phi : PhiAt m ks ws place phis
+-- ---- the phi at the front
+pub record PhiLent (m : ℕ) (es : List Entry) : Type 0 where
+  pub phi : Phi
+  pub more : List Phi
+  pub front : Leading m (phi ∷ more) es
 
--- what is left of the pairs of a phi
+-- its type, and its pairs behind the type
+pub front-phi : {m : ℕ} (ks ws : List ℕ) (p : Phi) (ps : List Phi) → Leading m (p ∷ ps) (entries ks ws) → PhiAt m ks ws 0 (p ∷ ps)
+front-phi ks ws p ps f = leading-next ks ws 0 (p ∷ ps) f (leading-kind ks ws 0 p ps f)
+
+-- what is left of them
 pub record Left (m : ℕ) (ks ws : List ℕ) (more : List Phi) (pair : ℕ) : Type 0 where
   pub todo : List Incoming
   pub front : Pairs m todo more (drop pair (entries ks ws))
+
+pub left-start : {m n : ℕ} (ks ws : List ℕ) (p : Phi) (ps : List Phi) → Leading m (p ∷ ps) (entries ks ws) → n ≡ tyLen m (lentFrom ks ws 1) → Left m ks ws ps (1 + n)
+left-start {m} {n} ks ws p ps f e =
+    let q = front-phi ks ws p ps f in
+    let same : q .more ≡ ps = cc (q .same) in
+    record { todo = q .phi .incoming; front = subst (λ (qs : List Phi). Pairs m (q .phi .incoming) qs (drop (1 + n) (entries ks ws))) same (q .pairs (e ∙ ap (tyLen m) (entries-part 1 ks ws))) }
 
 module _ (m : ℕ) (ks ws : List ℕ) (more : List Phi) {pair : ℕ} (l : Left m ks ws more pair) where
   pub left-in : (pair < length ks) × (pair < length ws)
@@ -53,7 +67,7 @@ pub record SetAsk (m : ℕ) (ks ws work : List ℕ) (count : ℕ) : Type 0 where
   pub phis : List Phi
   pub front : Leading m phis (entries ks ws)
   pub counted : count ≡ length phis
-  pub room : 8 * m + 64 ≤ length work
+  pub room : nameWords m + 64 ≤ length work
 
 abbrev pub slotsOf : List ℕ → List Phi → List ℕ
 slotsOf work ps = map (λ (p : Phi). slotNumber work (p .dest)) ps
@@ -90,8 +104,23 @@ module _ (m : ℕ) (ks ws work : List ℕ) (ps : List Phi) where
     pub set-in : (left ≡ 0 → ⊥) → (place < length ks) × (place < length ws)
     set-in z = leading-in ks ws place (w .todo) (w .front)
 
-    pub set-reaches : (z : left ≡ 0 → ⊥) → 8 * m + 64 ≤ length work → DestReaches (getD ws place 0) work
+    pub set-reaches : (z : left ≡ 0 → ⊥) → nameWords m + 64 ≤ length work → DestReaches (getD ws place 0) work
     set-reaches z room = let q = set-phi z in dest-reaches m (q .phi .dest) (q .dest) (q .named) room
+
+    -- the phi at the place is at the front of the part, and those behind it are behind its entries
+    pub set-front : (z : left ≡ 0 → ⊥) → Leading m (set-phi z .phi ∷ set-phi z .more) (lentFrom ks ws place)
+    set-front z =
+        let q = set-phi z in
+        subst (Leading m (q .phi ∷ q .more)) (sym (entries-part place ks ws)) (subst (λ (qs : List Phi). Leading m qs (drop place (entries ks ws))) (q .same) (w .front))
+
+    pub set-lent : (left ≡ 0 → ⊥) → PhiLent m (lentFrom ks ws place)
+    set-lent z = record { phi = set-phi z .phi; more = set-phi z .more; front = set-front z }
+
+    pub set-behind : (z : left ≡ 0 → ⊥) (n : ℕ)
+        → ((p : Phi) (qs : List Phi) → Leading m (p ∷ qs) (lentFrom ks ws place) → Leading m qs (drop n (lentFrom ks ws place)))
+        → Leading m (set-phi z .more) (drop (place + n) (entries ks ws))
+    set-behind z n f =
+        subst (Leading m (set-phi z .more)) (ap (drop n) (entries-part place ks ws) ∙ drop-drop n place (entries ks ws)) (f (set-phi z .phi) (set-phi z .more) (set-front z))
 
     -- one slot more
     pub set-next : (z : left ≡ 0 → ⊥) → {place′ stored : ℕ} {ls″ os″ : List ℕ} → Leading m (set-phi z .more) (drop place′ (entries ks ws)) → stored ≡ (first + (left - 1)) % 2 ^ 64
@@ -132,10 +161,10 @@ pub record EdgeAsk (m succ : ℕ) (bks bws work : List ℕ) : Type 0 where
 
 module _ (c : FnCtx) (pred succ m : ℕ) (bks bws work : List ℕ) (maps : Maps m (entries bks bws) c work) (below : succ < m) where
   -- no block of this name
-  pub unknown-puts : {w : ℕ} → w ≡ getD work (8 * succ + 2) 0 → w ≡ 0 → (s : Reached) {t : Reached} (ls os : List ℕ) → t ≡ madeRefused s 17
+  pub unknown-puts : {w : ℕ} → w ≡ getD work (blockAt succ) 0 → w ≡ 0 → (s : Reached) {t : Reached} (ls os : List ℕ) → t ≡ madeRefused s 17
       → Puts (emitEdgeCopies c pred succ) s t ls os ls os
   unfolding emitEdgeCopies okOr _>>=_ bind refuse
-  unknown-puts e z s ls os h = same-puts (λ n. rw (maps .blocks succ below .absent (sym e ∙ z))) (refuse-puts 17 s ls os h)
+  unknown-puts e z s ls os h = same-puts (λ n. rw (maps .blocks succ below .absent (sym e ∙ z))) (refuse-puts 17 (omega arith) s ls os h)
 
   -- the block at its place, whose entries are lent on
   pub record Target (place : ℕ) : Type 0 where
@@ -145,10 +174,10 @@ module _ (c : FnCtx) (pred succ m : ℕ) (bks bws work : List ℕ) (maps : Maps 
     pub in-words : place ≤ length bws
     pub front : Leading m (leading (block .insts)) (entries (take (length bks - place) (drop place bks)) (take (length bws - place) (drop place bws)))
 
-  pub target : {w : ℕ} → w ≡ getD work (8 * succ + 2) 0 → (w ≡ 0 → ⊥) → Target (w - 1)
+  pub target : {w : ℕ} → w ≡ getD work (blockAt succ) 0 → (w ≡ 0 → ⊥) → Target (w - 1)
   target {w} e z =
       let b = maps .blocks succ below .present (λ y. z (e ∙ y)) in
-      let i : getD work (8 * succ + 2) 0 - 1 ≡ w - 1 = ap (λ x. x - 1) (sym e) in
+      let i : getD work (blockAt succ) 0 - 1 ≡ w - 1 = ap (λ x. x - 1) (sym e) in
       let at : BlockAt m (entries bks bws) (b .0) (w - 1) = subst (λ (x : ℕ). BlockAt m (entries bks bws) (b .0) x) i (b .2) in
       record {
         block = b .0;

@@ -1,12 +1,16 @@
 -- The passes over leading phis, and over the incoming pairs of one.
-use Prim.Native.Nat.{ℕ, _+_, _*_, _<_, _≤_}
+use Prim.Native.Nat.{ℕ, _+_, _<_, _≤_}
 use mathlib.Core.Path.{_≡_, refl, sym, ap, subst, _∙_}
+use mathlib.Core.Bool.{Bool, true, false, not}
 use mathlib.Core.List.{List, [], _∷_, _++_, append-nil, append-assoc}
 use native.Mathlib.Omega.{arith}
+use borrow.Author.Tests.{eq-eqb, ne-eqb, eqb-true, eqb-false}
 use lib.ListN.{length, getD, drop, length-append}
+use lib.Dec.{eqb}
 use Rattle.book.specs.Ast.{Ty, Value, Incoming}
 use Rattle.book.specs.Entry.{entries}
-use Rattle.book.specs.Limits.{ValueLimits}
+use Rattle.book.specs.Work.{nameWords}
+use Rattle.book_types.specs.Laws.{lentFrom, entries-part}
 use Rattle.lowering.specs.Context.{FnCtx}
 use Rattle.lowering.specs.Operand.{intWidth, pushTyped}
 use Rattle.lowering.specs.Edge.{pushCopy}
@@ -14,8 +18,8 @@ use Rattle.layout_memo.specs.Front.{tyLen}
 use Rattle.gen_lines.specs.declared.Reached.{Reached}
 use Rattle.gen_lines.specs.Puts.{Puts, isRefused, orElse}
 use Rattle.gen_values.specs.Maps.{Locals}
-use Rattle.gen_values.specs.Values.{valueOf, widthBy, Reaches, DestReaches}
-use Rattle.gen_values.specs.Fields.{operand-at, WidthSays, ValueAt}
+use Rattle.gen_values.specs.Values.{widthBy, DestReaches}
+use Rattle.gen_values.specs.Fields.{WidthSays, ValueAt, OperandAt, operand-at, partFrom, part-front, part-there, value-part}
 use Rattle.gen_edge.specs.Phis.{Phi, Leading, Pairs, PhiAt, pairs-in, pairs-end, pairs-next, leading-in, leading-end, leading-next}
 use Rattle.gen_edge.specs.Copies.{FoundAt, Pushed, copyAt, noted, noted-found, asked-phi, pushed-none, pushed-more, found-none, dest-reaches}
 
@@ -25,7 +29,7 @@ pub record Lent (m : ℕ) (ks ws work : List ℕ) : Type 0 where
   pub locals : Locals ctx m work
   pub phis : List Phi
   pub front : Leading m phis (entries ks ws)
-  pub room : 8 * m + 64 ≤ length work
+  pub room : nameWords m + 64 ≤ length work
 
 -- `done` lie behind the place
 pub record Walk (c : FnCtx) (pred m : ℕ) (ks ws work : List ℕ) (ps : List Phi) (place count : ℕ) (s n t : Reached) (ls os ls′ os′ : List ℕ) : Type 0 where
@@ -53,26 +57,38 @@ pub record Passed (c : FnCtx) (pred : ℕ) (work : List ℕ) (ps : List Phi) (co
   pub counted : count ≡ length ps
   pub pushed : Pushed c pred work ps s noted reached ls os ls′ os′
 
--- what `push_found` asks: the type's entry, and the value's where there is one
-pub record PushAsk (ks ws work : List ℕ) (ty found : ℕ) : Type 0 where
-  pub type-kinds : ty < length ks
-  pub type-words : ty < length ws
-  pub value : (found ≡ 0 → ⊥) → (found < length ks) × (found < length ws) × Reaches (getD ks found 0) (getD ws found 0) work
+-- what pushing the value found asks: a type at the front of its part, and the value at the front of its own
+pub record FoundAsk (tks tws ks ws work : List ℕ) : Type 0 where
+  pub type-kinds : 0 < length tks
+  pub type-words : 0 < length tws
+  pub value : OperandAt ks ws 0 work
 
 -- ---- pairs
-pub value-reaches : (m : ℕ) {ks ws work : List ℕ} {a : ℕ} {v : Value} → ValueAt m ks ws a v → 8 * m + 64 ≤ length work → Reaches (getD ks a 0) (getD ws a 0) work
-value-reaches m {ks} {ws} {work} q room = operand-at {work = work} q (omega (arith, room)) .reaches
+pub value-reaches : (m : ℕ) {ks ws work : List ℕ} {a : ℕ} {v : Value} → ValueAt m ks ws a v → nameWords m + 64 ≤ length work → OperandAt ks ws a work
+value-reaches m {work = work} q room = operand-at {work = work} q (omega (arith, room))
+
+-- no test is both
+pub never : {A : Type 0} {b : Bool} → b ≡ true → b ≡ false → A
+never t f = absurd (let q : true ≡ false = sym t ∙ f in let y : _≡_ {A = ℕ} 0 1 = cc in omega arith)
+
+-- a place that is not 0 was found
+found-is : (found : ℕ) → not (eqb found 0) ≡ true → found ≡ 0 → ⊥
+found-is found t z = never t (ap not (eq-eqb found 0 z))
 
 module _ (pred m : ℕ) (ks ws : List ℕ) (place : ℕ) (ps : List Phi) where
-  pub pairs-start : Leading m ps (drop place (entries ks ws)) → getD ks place 0 ≡ 75 → {n : ℕ} → n ≡ tyLen m (drop (place + 1) (entries ks ws))
+  pub pairs-start : Leading m ps (drop place (entries ks ws)) → getD ks place 0 ≡ 75 → {n : ℕ} → n ≡ tyLen m (lentFrom ks ws (place + 1))
       → PairWalk pred m ks ws place ps (place + 1 + n) 0
   pairs-start f k e =
       let a = leading-next ks ws place ps f k in
-      record { at = a; seen = []; todo = a .phi .incoming; same = refl; front = a .pairs e; first = found-none m pred ks ws }
+      record { at = a; seen = []; todo = a .phi .incoming; same = refl; front = a .pairs (e ∙ ap (tyLen m) (entries-part (place + 1) ks ws)); first = found-none m pred ks ws }
 
   module _ {pair found : ℕ} (w : PairWalk pred m ks ws place ps pair found) where
     pub pair-in : (pair < length ks) × (pair < length ws)
     pair-in = pairs-in ks ws pair (w .todo) (w .front)
+
+    -- a type has one entry at least
+    pub pair-long : {n : ℕ} → n ≡ tyLen m (lentFrom ks ws (place + 1)) → 1 ≤ n
+    pair-long e = omega (arith, w .at .long, e ∙ ap (tyLen m) (entries-part (place + 1) ks ws))
 
     pub pair-label : (getD ks pair 0 ≡ 0 → ⊥) → pair + 1 < length ws
     pair-label z = pairs-next ks ws pair (w .todo) (w .front) z .in-words
@@ -93,15 +109,24 @@ module _ (pred m : ℕ) (ks ws : List ℕ) (place : ℕ) (ps : List Phi) where
         }
 
     -- what the value asks
-    pub pair-asks : {work : List ℕ} → 8 * m + 64 ≤ length work → PushAsk ks ws work (place + 1) found
-    pair-asks room =
+    pub pair-asks : {work : List ℕ} → nameWords m + 64 ≤ length work → not (eqb found 0) ≡ true
+        → FoundAsk (partFrom ks (place + 1)) (partFrom ws (place + 1)) (partFrom ks found) (partFrom ws found) work
+    pair-asks room t =
         record {
-          type-kinds = w .at .in-kinds;
-          type-words = w .at .in-words;
-          value = λ z. let p = w .first .present z in let v = p .2 in (v .in-kinds, v .in-words, value-reaches m v room);
+          type-kinds = part-there ks (place + 1) (w .at .in-kinds);
+          type-words = part-there ws (place + 1) (w .at .in-words);
+          value = value-reaches m (value-part (w .first .present (found-is found t) .2)) room;
         }
 
-    pub phi-reaches : {work : List ℕ} → 8 * m + 64 ≤ length work → DestReaches (getD ws place 0) work
+    -- the place found is one of the entries, or the first
+    pub pair-found : (found ≤ length ks) × (found ≤ length ws)
+    pair-found = at (eqb found 0) refl
+      where
+        at : (b : Bool) → eqb found 0 ≡ b → (found ≤ length ks) × (found ≤ length ws)
+        at true e = let z = eqb-true found 0 e in (omega arith, omega arith)
+        at false e = let v = w .first .present (eqb-false found 0 e) .2 in (omega (arith, v .in-kinds), omega (arith, v .in-words))
+
+    pub phi-reaches : {work : List ℕ} → nameWords m + 64 ≤ length work → DestReaches (getD ws place 0) work
     phi-reaches room = dest-reaches m (w .at .phi .dest) (w .at .dest) (w .at .named) room
 
     -- behind the closing entry
@@ -122,8 +147,8 @@ module _ (c : FnCtx) (pred m : ℕ) (ks ws work : List ℕ) (ps : List Phi) wher
     -- one phi more
     module _ (maps : Locals c m work) {pair found : ℕ} (v : PairWalk pred m ks ws place (w .todo) pair found) (z : getD ks pair 0 ≡ 0) {n′ t′ : Reached} {ls″ os″ : List ℕ} where
       pub walk-more : n′ ≡ noted (getD ws place 0) found work n
-          → ((found ≡ 0 → ⊥) → (m : ℕ) (c : FnCtx) (ty : Ty) → WidthSays (widthBy (getD ks (place + 1) 0) (getD ws (place + 1) 0)) (intWidth ty)
-          → ValueLimits m (valueOf (getD ks found 0) (getD ws found 0)) → Locals c m work → Puts (pushTyped c ty (valueOf (getD ks found 0) (getD ws found 0))) t t′ ls′ os′ ls″ os″)
+          → (not (eqb found 0) ≡ true → (m : ℕ) (c : FnCtx) (ty : Ty) (v : Value) → WidthSays (widthBy (getD (partFrom ks (place + 1)) 0 0) (getD (partFrom ws (place + 1)) 0 0)) (intWidth ty)
+          → ValueAt m (partFrom ks found) (partFrom ws found) 0 v → Locals c m work → Puts (pushTyped c ty v) t t′ ls′ os′ ls″ os″)
           → length ls″ ≡ length ls′ → length os″ ≡ length os′
           → Walk c pred m ks ws work ps (pair + 1) (count + 1) s n′ t′ ls os ls″ os″
       unfolding pushCopy
@@ -142,7 +167,7 @@ module _ (c : FnCtx) (pred m : ℕ) (ks ws work : List ℕ) (ps : List Phi) wher
                 (λ r.
                 let y = noted-found (getD ws place 0) found work n e r in
                 let q = f .present y in
-                p y m c (phi .ty) (v .at .width) (rw (q .2 .is) (q .2 .limits)) maps) lk lo;
+                rw (q .2 .is) (p (ap not (ne-eqb found 0 y)) m c (phi .ty) (q .0) (rw (part-front ks (place + 1), part-front ws (place + 1)) (v .at .width)) (value-part (q .2)) maps)) lk lo;
           }
 
     -- behind them all

@@ -1,33 +1,35 @@
 // `emit_edge_copies`, and the jump behind it: "An edge pushes every incoming value, then sets slots backwards; the scan of
 // leading phis ends at the first instruction that is none. The first matching predecessor counts." A first pass pushes the
 // values and notes what is refused before any of them; a second one sets the slots, at places counted from the last.
+use assembly::line;
+use book::entry;
 use gen_lines::Reached;
 use gen_lines::put;
 use gen_lines::refuse;
-use gen_values::int_width;
 use gen_values::need;
+use gen_values::need_width;
 use gen_values::push_value;
 use layout_memo::skip;
 use std::num::wrapping_add_usize;
 ghost use mathlib.Core.Path.{_≡_};
-ghost use mathlib.Core.List.{List, map, reverse};
+ghost use mathlib.Core.List.{List, _∷_, map, reverse};
+ghost use mathlib.Core.Bool.{true};
 ghost use Prim.Native.Nat.{ℕ, _-_, _≤_, _%_, _^_};
 ghost use lib.ListN.{length, getD, drop, set};
-ghost use Rattle.book.specs.Ast.{Ty};
+ghost use Rattle.book.specs.Ast.{Ty, Value};
 ghost use Rattle.book.specs.Entry.{entries};
-ghost use Rattle.book.specs.Limits.{ValueLimits};
 ghost use Rattle.lowering.specs.Context.{FnCtx};
 ghost use Rattle.lowering.specs.Gen.{each};
 ghost use Rattle.lowering.specs.Operand.{intWidth, pushTyped};
 ghost use Rattle.lowering.specs.Edge.{Copy, setCopy, emitEdgeCopies, edge as edgeOf};
 ghost use Rattle.gen_lines.specs.Puts.{Puts, further, isRefused, orElse};
-ghost use Rattle.gen_values.specs.Values.{valueOf, widthBy, Reaches, DestReaches};
-ghost use Rattle.gen_values.specs.Fields.{WidthSays};
+ghost use Rattle.gen_values.specs.Values.{widthBy, DestReaches};
+ghost use Rattle.gen_values.specs.Fields.{WidthSays, ValueAt};
 ghost use Rattle.gen_values.specs.Maps.{Locals, Maps};
-ghost use Rattle.gen_edge.specs.Phis.{Phi, Leading, PhiAt};
+ghost use Rattle.gen_edge.specs.Phis.{Phi, Leading};
 ghost use Rattle.gen_edge.specs.Copies.{slotWord, noted as notedFrom};
-ghost use Rattle.gen_edge.specs.Walks.{Lent, Passed, PushAsk};
-ghost use Rattle.gen_edge.specs.Edges.{Stands, SetAsk, slotsOf, EdgeAsk};
+ghost use Rattle.gen_edge.specs.Walks.{Lent, Passed, FoundAsk};
+ghost use Rattle.gen_edge.specs.Edges.{PhiLent, SetAsk, slotsOf, EdgeAsk};
 
 // The number of phis passed, and what was reached behind their values.
 pub struct Copies {
@@ -43,7 +45,7 @@ fn slot_word(dest: u64, work: &[u64]) -> u64
     if dest == 0 {
         return 0;
     }
-    work[8 * ((dest - 1) as usize) + 1]
+    work[book::work::WORDS * ((dest - 1) as usize) + book::work::SLOT]
 }
 
 // What is refused before a value is pushed: a phi without a slot, then one without the predecessor.
@@ -55,56 +57,29 @@ fn note(dest: u64, found: usize, work: &[u64], s: Reached) -> Reached
     need(slotted, found != 0, 18)
 }
 
-// A value at its type's width, by the entry that begins the type and the value's.
-pub fn push_typed(
-    type_kind: u64,
-    type_word: u64,
-    kind: u64,
-    word: u64,
-    work: &[u64],
-    lines: &mut [u16],
-    operands: &mut [u64],
-    s: Reached,
-) -> Reached
-    requires { ⌜ Reaches kind word (now work) ⌝ }
-    ensures { λ r. ⌜ ((m : ℕ) (c : FnCtx) (ty : Ty) → WidthSays (widthBy «type_kind» «type_word») (intWidth ty) → ValueLimits m (valueOf kind word) → Locals c m (now (work .entry))
-        → Puts (pushTyped c ty (valueOf kind word)) s r (now (lines .entry)) (now (operands .entry)) (now (lines .exit)) (now (operands .exit))) ⌝ }
-{
-    let width = int_width(type_kind, type_word);
-    let wide = need(s, width != 0, 9);
-    push_value(kind, word, width, work, lines, operands, wide)
-}
-
-// The value that was found, at the width of the type at `ty`; nothing where none was.
+// The value at the front, where one was found, at the width of the type at the front of its part; nothing where none was.
 fn push_found(
+    found: bool,
+    type_kinds: &[u64],
+    type_words: &[u64],
     kinds: &[u64],
     words: &[u64],
-    ty: usize,
-    found: usize,
     work: &[u64],
     lines: &mut [u16],
     operands: &mut [u64],
     s: Reached,
 ) -> Reached
-    requires { ⌜ PushAsk (now kinds) (now words) (now work) ty found ⌝ }
-    ensures { λ r. ⌜ ((found ≡ 0 → ⊥) → (m : ℕ) (c : FnCtx) (t : Ty) → WidthSays (widthBy (getD (now (kinds .entry)) ty 0) (getD (now (words .entry)) ty 0)) (intWidth t)
-        → ValueLimits m (valueOf (getD (now (kinds .entry)) found 0) (getD (now (words .entry)) found 0)) → Locals c m (now (work .entry))
-        → Puts (pushTyped c t (valueOf (getD (now (kinds .entry)) found 0) (getD (now (words .entry)) found 0))) s r
-        (now (lines .entry)) (now (operands .entry)) (now (lines .exit)) (now (operands .exit))) ⌝ }
+    requires { ⌜ (found ≡ true → FoundAsk (now «type_kinds») (now «type_words») (now kinds) (now words) (now work)) ⌝ }
+    ensures { λ r. ⌜ (found ≡ true → (m : ℕ) (c : FnCtx) (ty : Ty) (v : Value)
+        → WidthSays (widthBy (getD (now («type_kinds» .entry)) 0 0) (getD (now («type_words» .entry)) 0 0)) (intWidth ty)
+        → ValueAt m (now (kinds .entry)) (now (words .entry)) 0 v → Locals c m (now (work .entry))
+        → Puts (pushTyped c ty v) s r (now (lines .entry)) (now (operands .entry)) (now (lines .exit)) (now (operands .exit))) ⌝ }
 {
-    if found == 0 {
-        return s;
+    if found {
+        let wide = need_width(type_kinds, type_words, s);
+        return push_value(kinds, words, wide.width, work, lines, operands, wide.s);
     }
-    push_typed(
-        kinds[ty],
-        words[ty],
-        kinds[found],
-        words[found],
-        work,
-        lines,
-        operands,
-        s,
-    )
+    s
 }
 
 // What was noted, or else what was reached.
@@ -134,20 +109,32 @@ fn push_copies(
     let mut phis: usize = 0;
     let mut at: usize = 0;
     'phis: loop {
-        if kinds[at] != 75 {
+        if kinds[at] != entry::PHI {
             break 'phis;
         }
         let ty = at + 1;
-        let mut pair = ty + skip(&kinds[ty..], &words[ty..], names);
+        let type_kinds = &kinds[ty..];
+        let type_words = &words[ty..];
+        let mut pair = ty + skip(type_kinds, type_words, names);
         let mut found: usize = 0;
-        while kinds[pair] != 0 {
+        while kinds[pair] != entry::END {
             if (found == 0) & (words[pair + 1] == pred) {
                 found = pair;
             }
             pair += 2;
         }
         noted = note(words[at], found, work, noted);
-        reached = push_found(kinds, words, ty, found, work, lines, operands, reached);
+        reached = push_found(
+            found != 0,
+            type_kinds,
+            type_words,
+            &kinds[found..],
+            &words[found..],
+            work,
+            lines,
+            operands,
+            reached,
+        );
         phis += 1;
         at = pair + 1;
     }
@@ -157,15 +144,14 @@ fn push_copies(
     }
 }
 
-// The place behind the phi at a place.
-fn behind_phi(kinds: &[u64], words: &[u64], names: u64, at: usize) -> usize
-    requires { ⌜ Stands names (now kinds) (now words) at ⌝ }
-    ensures { λ r. ⌜ ((ps : List Phi) (q : PhiAt names (now (kinds .entry)) (now (words .entry)) at ps)
-        → Leading names (q .more) (drop r (entries (now (kinds .entry)) (now (words .entry))))) ⌝ }
+// The number of entries of the phi at the front.
+fn phi_len(kinds: &[u64], words: &[u64], names: u64) -> usize
+    requires { ⌜ PhiLent names (entries (now kinds) (now words)) ⌝ }
+    ensures { λ r. ⌜ ((p : Phi) (ps : List Phi) → Leading names (p ∷ ps) (entries (now (kinds .entry)) (now (words .entry)))
+        → Leading names ps (drop r (entries (now (kinds .entry)) (now (words .entry))))) ⌝ }
 {
-    let ty = at + 1;
-    let mut pair = ty + skip(&kinds[ty..], &words[ty..], names);
-    while kinds[pair] != 0 {
+    let mut pair = 1 + skip(&kinds[1..], &words[1..], names);
+    while kinds[pair] != entry::END {
         pair += 2;
     }
     pair + 1
@@ -195,7 +181,7 @@ fn put_at(lines: &mut [u16], operands: &mut [u64], place: usize, slot: u64)
             counter: 0,
             refused: 0,
         },
-        11,
+        line::SET_LOCAL,
         slot,
     );
 }
@@ -236,7 +222,7 @@ fn set_slots(
         left -= 1;
         let slot = slot_number(words[at], work);
         put_at(lines, operands, wrapping_add_usize(first, left), slot);
-        at = behind_phi(kinds, words, names, at);
+        at += phi_len(&kinds[at..], &words[at..], names);
     }
     Reached {
         at: beyond(first, phis),
@@ -261,7 +247,7 @@ pub fn emit_edge_copies(
     ensures { λ r. ⌜ ((c : FnCtx) → Maps names (entries (now («book_kinds» .entry)) (now («book_words» .entry))) c (now (work .entry))
         → Puts (emitEdgeCopies c pred succ) s r (now (lines .entry)) (now (operands .entry)) (now (lines .exit)) (now (operands .exit))) ⌝ }
 {
-    let place = work[8 * (succ as usize) + 2];
+    let place = work[book::work::WORDS * (succ as usize) + book::work::BLOCK];
     if place == 0 {
         return refuse(s, 17);
     }
@@ -309,5 +295,5 @@ pub fn edge(
         operands,
         s,
     );
-    put(lines, operands, copied, 3, succ)
+    put(lines, operands, copied, line::JMP_BLOCK, succ)
 }

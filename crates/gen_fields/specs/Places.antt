@@ -1,22 +1,20 @@
 -- Places of values and types among the lent entries: what pushing asks of them, and the laws that read them.
-use Prim.Native.Nat.{ℕ, _+_, _*_, _<_, _≤_}
+use Prim.Native.Nat.{ℕ, _+_, _<_, _≤_}
 use mathlib.Core.Path.{_≡_, refl, sym, subst}
-use mathlib.Core.Bool.{Bool, not}
 use mathlib.Core.List.{List, _∷_, _++_}
 use native.Mathlib.Omega.{arith}
 use lib.ListN.{length, drop, getD}
-use lib.Dec.{eqb}
 use Rattle.book.specs.Entry.{entry, entries}
 use Rattle.book.specs.Encode.{encFields}
 use Rattle.book.specs.Fields.{Item, Field, Meanings}
+use Rattle.book.specs.Work.{nameWords}
 use Rattle.lowering.specs.Context.{FnCtx}
-use Rattle.lowering.specs.Operand.{pushValue, pushTyped}
+use Rattle.lowering.specs.Operand.{intWidth, pushValue, pushTyped}
 use Rattle.layout_memo.specs.Front.{tyLen}
 use Rattle.gen_lines.specs.declared.Reached.{Reached}
-use Rattle.gen_lines.specs.Puts.{Puts, orElse, madeRefused}
-use Rattle.gen_lines.specs.Follow.{asked-puts}
-use Rattle.gen_values.specs.Values.{widthBy}
-use Rattle.gen_values.specs.Fields.{Fields, ValueAt, OperandAt, operand-at, entry-at, value-at, behind-type, type-in, asked-width}
+use Rattle.gen_lines.specs.Puts.{Puts}
+use Rattle.gen_lines.specs.Follow.{Asked, asked-puts}
+use Rattle.gen_values.specs.Fields.{Fields, ValueAt, OperandAt, operand-at, entry-at, value-at, behind-type, type-in}
 
 -- a value and the entry that begins its type
 pub record TypedAt (ks ws : List ℕ) (ty a : ℕ) (work : List ℕ) : Type 0 where
@@ -42,14 +40,13 @@ module _ {m : ℕ} {fs : List Field} {p : Meanings (Field.plain Item.type ∷ Fi
   pub typed-value : ValueAt m ks ws a (p .1 .0)
   typed-value = value-at ks ws a behind
 
-  pub typed-at : {work : List ℕ} → 8 * m ≤ length work → TypedAt ks ws ty a work
+  pub typed-at : {work : List ℕ} → nameWords m ≤ length work → TypedAt ks ws ty a work
   typed-at room = let t = type-in ks ws ty f in record { type-kinds = t .0; type-words = t .1; value = operand-at typed-value room }
 
-  pub typed-puts : (c : FnCtx) (s : Reached) {t u : Reached} {w : ℕ} {b : Bool} {qs os qs′ os′ : List ℕ}
-      → w ≡ widthBy (getD ks ty 0) (getD ws ty 0) → b ≡ not (eqb w 0) → t ≡ orElse b s (madeRefused s 9)
-      → Puts (pushValue c (p .1 .0) w) t u qs os qs′ os′ → Puts (pushTyped c (p .0) (p .1 .0)) s u qs os qs′ os′
+  pub typed-puts : (c : FnCtx) {s t u : Reached} {w : ℕ} {qs os qs′ os′ : List ℕ} → Asked (intWidth (p .0)) s t w → Puts (pushValue c (p .1 .0) w) t u qs os qs′ os′
+      → Puts (pushTyped c (p .0) (p .1 .0)) s u qs os qs′ os′
   unfolding pushTyped
-  typed-puts c s i j k q = asked-puts (λ x. pushValue c (p .1 .0) x) (asked-width ks ws ty f s i j k) q
+  typed-puts c asked q = asked-puts (λ x. pushValue c (p .1 .0) x) asked q
 
 -- ---- a number
 module _ {m : ℕ} {fs : List Field} {p : Meanings (Field.plain Item.index ∷ fs)} (ks ws : List ℕ) (a : ℕ)

@@ -144,7 +144,8 @@ module _ (m dest : ℕ) (ks ws : List ℕ) (args : Meanings allocaFields) (k : F
   pub alloca-unnamed : {bs : List Entry} {work : List ℕ} {f r : Frame} → dest ≡ 0 → Ready m bs work → r ≡ barredBy f 5 → PlaceStep m bs work work f r (stepOf bs)
   unfolding frameStep destOf okOr bind
   alloca-unnamed {bs} z ready e =
-      step-none (stepOf bs) ready (ap (λ (x : Frame). x .slots) e) (λ p h. rw (eq-eqb dest 0 z) (ap (λ (x : Frame). x .refused) e, ap (λ (x : Frame). x .off) e))
+      step-none (stepOf bs) ready (ap (λ (x : Frame). x .slots) e) (ap (λ (x : Frame). x .off) e)
+      (λ p h. rw (eq-eqb dest 0 z) (record { positive = omega arith; number = ap (λ (x : Frame). x .refused) e }))
 
   module _ (z : dest ≡ 0 → ⊥) (c : Count) (e : countBy c ≡ countOf (args .1 .0)) where
     step-named : {o : Option ℕ} → countBy c ≡ o → (bs : List Entry) (p : Places) → stepOf bs p ≡ place (structsIn m bs) (dest - 1) (args .0) o p
@@ -162,7 +163,7 @@ module _ (m dest : ℕ) (ks ws : List ℕ) (args : Meanings allocaFields) (k : F
     pub alloca-varying : {bs : List Entry} {work : List ℕ} {f : Frame} → c ≡ count.Varying → Ready m bs work → PlaceStep m bs work work f (dynamicBy f) (stepOf bs)
     unfolding place withDynamic
     alloca-varying {bs} {work} {f} d ready =
-        step-none (stepOf bs) ready refl
+        step-none (stepOf bs) ready refl refl
         (λ p h.
         subst (λ (x : Result Places). FrameSays m x work (dynamicBy f)) (sym (step-named (ap countBy d) bs p))
         (record { going = h .going; off = h .off; within = h .within; dynamic = refl; words = h .words }))

@@ -13,17 +13,18 @@ use Rattle.book.specs.Decode.{member}
 use Rattle.book.specs.Map.{lookup}
 use Rattle.book.specs.Result.{Result, ok, err}
 use Rattle.book.specs.Shape.{allInsts}
+use Rattle.book.specs.Work.{slotAt, placeAt, markAt}
 use Rattle.layout.specs.Frame.{Places, noFrame, framePass}
 use Rattle.layout_memo.specs.Work.{structsIn}
 use Rattle.lowering.specs.Context.{Codegen, FnCtx}
 use Rattle.lowering.specs.Function.{slotsOf, contextOf}
 use Rattle.gen_values.specs.Maps.{numbered, callClass, markWord}
-use Rattle.gen_frame.specs.Frames.{Overflows, FrameSays}
+use Rattle.gen_frame.specs.Frames.{Barred, Overflows, FrameSays}
 use Rattle.gen_frame.specs.Pass.{BlocksAt, FrameDone}
 use Rattle.gen_frame.specs.declared.Frame.{Frame}
 
 -- word 5 is 4 or more exactly for a name containing `.with.overflow.`
-pub marks-overflow : (g : Codegen) (m : ℕ) (work : List ℕ) → ((x : ℕ) → x < m → getD work (8 * x + 5) 0 ≡ markWord g x) → Overflows (g .names) m work
+pub marks-overflow : (g : Codegen) (m : ℕ) (work : List ℕ) → ((x : ℕ) → x < m → getD work (markAt x) 0 ≡ markWord g x) → Overflows (g .names) m work
 unfolding markWord callClass
 marks-overflow g m work h x l =
     ap (leb 4) (h x l)
@@ -41,9 +42,9 @@ marks-overflow g m work h x l =
 
 -- the words of slots and fixed places hold the context's maps, and the answer the rest of it
 pub record Framed (m : ℕ) (c : FnCtx) (p : Places) (work : List ℕ) (f : Frame) : Type 0 where
-  pub accepted : f .refused ≡ false
-  pub slots : (x : ℕ) → x < m → getD work (8 * x + 1) 0 ≡ numbered (lookup x (c .slots))
-  pub places : (x : ℕ) → x < m → getD work (8 * x + 3) 0 ≡ numbered (lookup x (c .allocaOffsets))
+  pub accepted : f .refused ≡ 0
+  pub slots : (x : ℕ) → x < m → getD work (slotAt x) 0 ≡ numbered (lookup x (c .slots))
+  pub places : (x : ℕ) → x < m → getD work (placeAt x) 0 ≡ numbered (lookup x (c .allocaOffsets))
   pub base : f .slots ≡ c .bpSlot
   pub off : f .off ≡ p .off
   pub within : p .off ≤ 2147483648
@@ -55,12 +56,12 @@ module _ (g : Codegen) (fn : Function) {m : ℕ} {es bs : List Entry} {work work
   says {res} e =
       subst (λ (x : Result Places). FrameSays m x work′ r) (ap (λ (x : List StructType). framePass x (allInsts (fn .blocks)) noFrame) (sym same) ∙ e) (d .places (fn .blocks) at)
 
-  pub frame-context : {p : Places} → ((x : ℕ) → x < m → getD work (8 * x + 5) 0 ≡ markWord g x) → framePass (g .structs) (allInsts (fn .blocks)) noFrame ≡ ok p → Framed m (contextOf g fn p) p work′ r
+  pub frame-context : {p : Places} → ((x : ℕ) → x < m → getD work (markAt x) 0 ≡ markWord g x) → framePass (g .structs) (allInsts (fn .blocks)) noFrame ≡ ok p → Framed m (contextOf g fn p) p work′ r
   unfolding contextOf slotsOf
   frame-context {p} marks e =
       let h = says e in
       let s = d .slots (fn .blocks) at (h .going) (g .names) (marks-overflow g m work marks) in
       record { accepted = h .going; slots = s .words; places = h .words; base = s .count; off = h .off; within = h .within; dynamic = h .dynamic }
 
-  pub frame-refused : {n : ℕ} → framePass (g .structs) (allInsts (fn .blocks)) noFrame ≡ err n → (r .refused ≡ true) × (r .off ≡ n)
+  pub frame-refused : {n : ℕ} → framePass (g .structs) (allInsts (fn .blocks)) noFrame ≡ err n → Barred n (r .refused)
   frame-refused e = says e

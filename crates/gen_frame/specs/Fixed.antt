@@ -9,6 +9,7 @@ use borrow.Author.Tests.{le-leb, lt-leb, leb-true, leb-false}
 use lib.ListN.{length, set}
 use lib.Dec.{leb}
 use Rattle.numbers.specs.Align.{alignUp, align-most}
+use Rattle.book.specs.Work.{placeAt}
 use Rattle.gen_lines.specs.Puts.{orElse}
 use Rattle.gen_frame.specs.Frames.{barredBy}
 use Rattle.gen_frame.specs.declared.Frame.{Frame}
@@ -38,7 +39,7 @@ module _ (size count : ℕ) where
 
 -- ---- one place more
 pub record SmallPlace (name align size : ℕ) (f : Frame) (work : List ℕ) : Type 0 where
-  pub room : 8 * name + 3 < length work
+  pub room : placeAt name < length work
   pub ends : f .off ≤ 2147483648
   pub aligned : align ≤ 8
   pub small : size ≤ 16777216
@@ -51,13 +52,13 @@ module _ (align size count : ℕ) (f : Frame) where
   endOf = startOf + size * count
 
   abbrev pub madeBy : Frame
-  madeBy = record { slots = f .slots; off = endOf; dynamic = f .dynamic; refused = false }
+  madeBy = record { slots = f .slots; off = endOf; dynamic = f .dynamic; refused = 0 }
 
   abbrev pub fixedBy : Frame
   fixedBy = orElse (leb endOf (2 ^ 31)) madeBy (barredBy f 7)
 
   abbrev pub fixedWords : (name : ℕ) → List ℕ → List ℕ
-  fixedWords name work = orElse (leb endOf (2 ^ 31)) (set work (8 * name + 3) (startOf + 1)) work
+  fixedWords name work = orElse (leb endOf (2 ^ 31)) (set work (placeAt name) (startOf + 1)) work
 
   module _ {r : ℕ} (p : Product size count r) where
     pub end-over : 2147483648 < startOf + r → leb endOf (2 ^ 31) ≡ false
@@ -76,11 +77,11 @@ module _ (align size count : ℕ) (f : Frame) where
     fixed-over l e = let q = end-over p (omega arith) in (e ∙ sym (rw q refl), sym (rw q refl))
 
     pub fixed-at : start + r ≤ 2147483648
-        → (record { slots = f .slots; off = start + r; dynamic = f .dynamic; refused = false } ≡ fixedBy) × (set work (8 * name + 3) (start + 1) ≡ fixedWords name work)
+        → (record { slots = f .slots; off = start + r; dynamic = f .dynamic; refused = 0 } ≡ fixedBy) × (set work (placeAt name) (start + 1) ≡ fixedWords name work)
     fixed-at l =
         let q = end-is p (omega arith) in
         let e : start + r ≡ endOf = ap (λ x. x + r) s ∙ q .0 in
-        (rw (q .1) (ap (λ x. record { slots = f .slots; off = x; dynamic = f .dynamic; refused = false }) e), rw (q .1) (ap (λ x. set work (8 * name + 3) (x + 1)) s))
+        (rw (q .1) (ap (λ x. record { slots = f .slots; off = x; dynamic = f .dynamic; refused = 0 }) e), rw (q .1) (ap (λ x. set work (placeAt name) (x + 1)) s))
 
 -- the sum of a place's start and bytes fits
 pub end-fits : (off align : ℕ) {size count start r : ℕ} → start ≡ alignUp off align → off ≤ 2147483648 → align ≤ 16 → Product size count r → start + r < 2 ^ 63

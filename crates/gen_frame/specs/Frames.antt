@@ -14,6 +14,7 @@ use Rattle.names.specs.Spelling.{hasOverflow}
 use Rattle.book.specs.Entry.{Entry}
 use Rattle.book.specs.Result.{Result, ok, err}
 use Rattle.book.specs.Map.{Map, lookup}
+use Rattle.book.specs.Work.{nameWords, slotAt, placeAt, bodyAt, markAt, measuredAt, wordAt}
 use Rattle.layout.specs.Frame.{Places}
 use Rattle.layout_memo.specs.Work.{Ready, Kept, Settled, settled-word, tableAt, facts-kept}
 use Rattle.lowering.specs.Context.{Slots}
@@ -21,12 +22,20 @@ use Rattle.gen_values.specs.Maps.{numbered}
 use Rattle.gen_frame.specs.declared.Frame.{Frame}
 
 -- ---- answers
--- none is refused and not
+-- a refusal with the number e is told: it is not 0
+pub record Barred (e told : ℕ) : Type 0 where
+  pub positive : 0 < e
+  pub number : told ≡ e
+
+pub not-told : {A : Type 0} {e told : ℕ} → Barred e told → told ≡ 0 → A
+not-told b z = absurd (omega (arith, b .positive, b .number))
+
+-- no test holds and fails
 pub never : {A : Type 0} {b : Bool} → b ≡ true → b ≡ false → A
 never p q = absurd (let z : _≡_ {A = ℕ} 0 1 = cc in omega arith)
 
 abbrev pub barredBy : Frame → ℕ → Frame
-barredBy f e = record { slots = f .slots; off = e; dynamic = f .dynamic; refused = true }
+barredBy f e = record { slots = f .slots; off = f .off; dynamic = f .dynamic; refused = e }
 
 abbrev pub dynamicBy : Frame → Frame
 dynamicBy f = record { slots = f .slots; off = f .off; dynamic = true; refused = f .refused }
@@ -34,34 +43,34 @@ dynamicBy f = record { slots = f .slots; off = f .off; dynamic = true; refused =
 -- ---- slots
 pub record SlotsHold (m : ℕ) (s : Slots) (work : List ℕ) (f : Frame) : Type 0 where
   pub count : f .slots ≡ s .num
-  pub words : (x : ℕ) → x < m → getD work (8 * x + 1) 0 ≡ numbered (lookup x (s .slots))
+  pub words : (x : ℕ) → x < m → getD work (slotAt x) 0 ≡ numbered (lookup x (s .slots))
 
 -- word 5 of a name says whether it contains `.with.overflow.`
 abbrev pub Overflows : List (List ℕ) → ℕ → List ℕ → Type 0
-Overflows names m work = (x : ℕ) → x < m → leb 4 (getD work (8 * x + 5) 0) ≡ hasOverflow (nameAt names x)
+Overflows names m work = (x : ℕ) → x < m → leb 4 (getD work (markAt x) 0) ≡ hasOverflow (nameAt names x)
 
 -- ---- fixed places
 pub record PlacesHold (m : ℕ) (p : Places) (work : List ℕ) (f : Frame) : Type 0 where
-  pub going : f .refused ≡ false
+  pub going : f .refused ≡ 0
   pub off : f .off ≡ p .off
   pub within : p .off ≤ 2 ^ 31
   pub dynamic : f .dynamic ≡ p .dynamic
-  pub words : (x : ℕ) → x < m → getD work (8 * x + 3) 0 ≡ numbered (lookup x (p .offsets))
+  pub words : (x : ℕ) → x < m → getD work (placeAt x) 0 ≡ numbered (lookup x (p .offsets))
 
 abbrev pub FrameSays : ℕ → Result Places → List ℕ → Frame → Type 0
 FrameSays m (ok p) work f = PlacesHold m p work f
-FrameSays m (err e) work f = (f .refused ≡ true) × (f .off ≡ e)
+FrameSays m (err e) work f = Barred e (f .refused)
 
 -- ---- what is left as it was
 -- words 3 may have changed, and those of measuring
 pub record PlacesKept (m : ℕ) (work work′ : List ℕ) : Type 0 where
   pub long : length work′ ≡ length work
-  pub same : (i : ℕ) → ((x : ℕ) → x < m → i ≡ 8 * x + 3 → ⊥) → Settled m i → getD work′ i 0 ≡ getD work i 0
+  pub same : (i : ℕ) → ((x : ℕ) → x < m → i ≡ placeAt x → ⊥) → Settled m i → getD work′ i 0 ≡ getD work i 0
 
 -- words 1 and 3 may have changed, and those of measuring
 pub record FrameKept (m : ℕ) (work work′ : List ℕ) : Type 0 where
   pub long : length work′ ≡ length work
-  pub same : (i : ℕ) → ((x : ℕ) → x < m → i ≡ 8 * x + 1 → ⊥) → ((x : ℕ) → x < m → i ≡ 8 * x + 3 → ⊥) → Settled m i → getD work′ i 0 ≡ getD work i 0
+  pub same : (i : ℕ) → ((x : ℕ) → x < m → i ≡ slotAt x → ⊥) → ((x : ℕ) → x < m → i ≡ placeAt x → ⊥) → Settled m i → getD work′ i 0 ≡ getD work i 0
 
 module _ {m : ℕ} where
   pub measured-kept : {work work′ : List ℕ} → Kept m work work′ → PlacesKept m work work′
@@ -80,31 +89,31 @@ module _ {m : ℕ} where
   kept-then p q = record { long = q .long ∙ p .long; same = λ i x y z. q .same i x y z ∙ p .same i x y z }
 
   pub overflows-kept : (names : List (List ℕ)) {work work′ : List ℕ} → FrameKept m work work′ → Overflows names m work → Overflows names m work′
-  overflows-kept names k o x l = ap (leb 4) (k .same (8 * x + 5) (λ y _ e. omega arith) (λ y _ e. omega arith) (settled-word x 5 l (omega arith))) ∙ o x l
+  overflows-kept names k o x l = ap (leb 4) (k .same (markAt x) (λ y _ e. omega arith) (λ y _ e. omega arith) (settled-word x 5 l (omega arith))) ∙ o x l
 
 -- ---- a word of a name is set
 -- a map's word j of each name, with one entry more
-module _ (j : ℕ) (small : j < 8) {m : ℕ} (work : List ℕ) (room : 8 * m ≤ length work) (x v : ℕ) (named : x < m) (map : Map ℕ) where
-  pub word-set : ((y : ℕ) → y < m → getD work (8 * y + j) 0 ≡ numbered (lookup y map)) → (y : ℕ) → y < m → getD (set work (8 * x + j) (v + 1)) (8 * y + j) 0 ≡ numbered (lookup y ((x, v) ∷ map))
+module _ (j : ℕ) (small : j < 8) {m : ℕ} (work : List ℕ) (room : nameWords m ≤ length work) (x v : ℕ) (named : x < m) (map : Map ℕ) where
+  pub word-set : ((y : ℕ) → y < m → getD work (wordAt y j) 0 ≡ numbered (lookup y map)) → (y : ℕ) → y < m → getD (set work (wordAt x j) (v + 1)) (wordAt y j) 0 ≡ numbered (lookup y ((x, v) ∷ map))
   unfolding lookup
   word-set h y l = go (eqb y x) refl
     where
-      go : (b : Bool) → eqb y x ≡ b → getD (set work (8 * x + j) (v + 1)) (8 * y + j) 0 ≡ numbered (lookup y ((x, v) ∷ map))
+      go : (b : Bool) → eqb y x ≡ b → getD (set work (wordAt x j) (v + 1)) (wordAt y j) 0 ≡ numbered (lookup y ((x, v) ∷ map))
       go true e =
           let q = eqb-true y x e in
-          let f : 8 * x + j < length work = omega arith in
-          rw (e, q) (getD-set-same work (8 * x + j) (v + 1) 0 f ∙ add-one v)
+          let f : wordAt x j < length work = omega arith in
+          rw (e, q) (getD-set-same work (wordAt x j) (v + 1) 0 f ∙ add-one v)
       go false e =
           let q = eqb-false y x e in
-          rw (e, getD-set-other work (8 * x + j) (8 * y + j) (v + 1) 0 (λ z. q (omega arith))) (h y l)
+          rw (e, getD-set-other work (wordAt x j) (wordAt y j) (v + 1) 0 (λ z. q (omega arith))) (h y l)
 
 -- the words of measuring, of bodies and of the table are left
-pub ready-set : {m : ℕ} {bs : List Entry} {work : List ℕ} (i v : ℕ) → Ready m bs work → ((x : ℕ) → i ≡ 8 * x + 4 → ⊥) → ((x : ℕ) → i ≡ 8 * x + 7 → ⊥) → ((k : ℕ) → tableAt m k ≡ i → ⊥) → Ready m bs (set work i v)
+pub ready-set : {m : ℕ} {bs : List Entry} {work : List ℕ} (i v : ℕ) → Ready m bs work → ((x : ℕ) → i ≡ bodyAt x → ⊥) → ((x : ℕ) → i ≡ measuredAt x → ⊥) → ((k : ℕ) → tableAt m k ≡ i → ⊥) → Ready m bs (set work i v)
 ready-set {m} {bs} {work} i v r a b t =
     record {
       room = omega (arith, r .room, length-set work i v);
-      bodies = λ x l. rw (getD-set-other work i (8 * x + 4) v 0 (λ e. a x (sym e))) (r .bodies x l);
-      known = λ x l. rw (getD-set-other work i (8 * x + 7) v 0 (λ e. b x (sym e))) (r .known x l);
+      bodies = λ x l. rw (getD-set-other work i (bodyAt x) v 0 (λ e. a x (sym e))) (r .bodies x l);
+      known = λ x l. rw (getD-set-other work i (measuredAt x) v 0 (λ e. b x (sym e))) (r .known x l);
       facts = facts-kept (set work i v) r (λ k. getD-set-other work i (tableAt m k) v 0 (t k));
       few = r .few;
     }

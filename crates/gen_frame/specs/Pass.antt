@@ -19,13 +19,14 @@ use Rattle.book.specs.Read.{got, many}
 use Rattle.book.specs.Result.{Result, ok, err, bind}
 use Rattle.book.specs.Shape.{shape, allInsts}
 use Rattle.book.specs.AgreeBook.{agrees-blocks}
+use Rattle.book.specs.Work.{slotAt, placeAt}
 use Rattle.book_types.specs.Laws.{entries-drop, entries-part, within-kinds, within-words}
 use Rattle.layout.specs.Frame.{Places, noFrame, frameStep, framePass}
 use Rattle.layout_memo.specs.Front.{kindOf, kind-at}
 use Rattle.layout_memo.specs.Work.{Ready, structsIn}
 use Rattle.layout_memo.specs.Calls.{lent}
 use Rattle.lowering.specs.Context.{Slots, noSlots, slotStep, slotMap}
-use Rattle.gen_frame.specs.Frames.{never, SlotsHold, Overflows, FrameSays, FrameKept, kept-none, kept-then, overflows-kept}
+use Rattle.gen_frame.specs.Frames.{not-told, SlotsHold, Overflows, FrameSays, FrameKept, kept-none, kept-then, overflows-kept}
 use Rattle.gen_frame.specs.Taken.{InstAt}
 use Rattle.gen_frame.specs.Steps.{StepAsk, Stepped, step-idle}
 use Rattle.gen_frame.specs.Scan.{First, Scan, scan-blocks}
@@ -51,16 +52,17 @@ pub record FrameAsk (m : ℕ) (es bs : List Entry) (work : List ℕ) : Type 0 wh
   pub at : BlocksAt m blocks es
   pub ends : at .rest ≡ []
   pub ready : Ready m bs work
-  pub slots : (x : ℕ) → x < m → getD work (8 * x + 1) 0 ≡ 0
-  pub places : (x : ℕ) → x < m → getD work (8 * x + 3) 0 ≡ 0
+  pub slots : (x : ℕ) → x < m → getD work (slotAt x) 0 ≡ 0
+  pub places : (x : ℕ) → x < m → getD work (placeAt x) 0 ≡ 0
 
 -- the answer is that of `framePass`, with the slots of `slotMap`. Left free: what words 1, 3 and 7 hold where it refuses
 pub record FrameDone (m : ℕ) (es bs : List Entry) (work work′ : List ℕ) (r : Frame) : Type 0 where
   pub ready : Ready m bs work′
   pub kept : FrameKept m work work′
   pub few : r .slots ≤ 2 * length es
+  pub ends : r .off ≤ 2147483648
   pub places : (blocks : List BasicBlock) → BlocksAt m blocks es → FrameSays m (framePass (structsIn m bs) (allInsts blocks) noFrame) work′ r
-  pub slots : (blocks : List BasicBlock) → BlocksAt m blocks es → r .refused ≡ false → (names : List (List ℕ)) → Overflows names m work
+  pub slots : (blocks : List BasicBlock) → BlocksAt m blocks es → r .refused ≡ 0 → (names : List (List ℕ)) → Overflows names m work
       → SlotsHold m (slotMap names (allInsts blocks) noSlots) work′ r
 
 -- ---- on the way
@@ -78,14 +80,15 @@ pub record Going (m : ℕ) (es bs : List Entry) (work₀ work : List ℕ) (at : 
   pub so : Result Places
   pub rest : framePass (structsIn m bs) (allInsts blocks) noFrame ≡ bind so (framePass (structsIn m bs) left)
   pub says : FrameSays m so work f
-  pub slots : f .refused ≡ false → (names : List (List ℕ)) → Overflows names m work₀ → SlotsSo m names (allInsts blocks) left work f
+  pub slots : f .refused ≡ 0 → (names : List (List ℕ)) → Overflows names m work₀ → SlotsSo m names (allInsts blocks) left work f
   pub ready : Ready m bs work
   pub kept : FrameKept m work₀ work
   pub there : at ≤ length es
   pub few : f .slots ≤ 2 * at
+  pub ends : f .off ≤ 2147483648
 
 abbrev pub first : Frame
-first = record { slots = 0; off = 0; dynamic = false; refused = false }
+first = record { slots = 0; off = 0; dynamic = false; refused = 0 }
 
 pub going-start : {m : ℕ} {es bs : List Entry} {work : List ℕ} → FrameAsk m es bs work → Going m es bs work work 0 first
 unfolding bind noFrame noSlots lookup
@@ -104,16 +107,12 @@ going-start {m} {es} {bs} {work} a =
       kept = kept-none;
       there = omega arith;
       few = omega arith;
+      ends = omega arith;
     }
 
 -- a place before the end of the entries
 pub inside : (ks ws : List ℕ) {at end : ℕ} → end ≡ length (entries ks ws) → at < end → (at < length (entries ks ws)) × (at + 1 ≤ length ks) × (at + 1 ≤ length ws)
 inside ks ws {at} e l = (omega arith, within-kinds (at + 1) ks ws (omega arith), within-words (at + 1) ks ws (omega arith))
-
--- where the places end
-pub says-ends : (m : ℕ) (so : Result Places) (work : List ℕ) (f : Frame) → FrameSays m so work f → f .refused ≡ false → f .off ≤ 2147483648
-says-ends m (ok p) work f h e = omega (arith, h .off, h .within)
-says-ends m (err n) work f h e = never (h .0) e
 
 module _ {m : ℕ} (ks ws : List ℕ) {bs : List Entry} {work₀ work : List ℕ} {at : ℕ} {f : Frame} (g : Going m (entries ks ws) bs work₀ work at f) where
   abbrev here : List Entry
@@ -128,6 +127,7 @@ module _ {m : ℕ} (ks ws : List ℕ) {bs : List Entry} {work₀ work : List ℕ
         ready = g .ready;
         kept = g .kept;
         few = omega (arith, g .few, g .there);
+        ends = g .ends;
         places = λ blocks b.
             subst (λ (r : Result Places). FrameSays m r work f)
             (sym (ap (λ x. framePass (structsIn m bs) (allInsts x) noFrame) (same-blocks b (g .own)) ∙ g .rest ∙ ap (λ x. bind (g .so) (framePass (structsIn m bs) x)) e ∙ whole (g .so))) (g .says);
@@ -174,6 +174,7 @@ module _ {m : ℕ} (ks ws : List ℕ) {bs : List Entry} {work₀ work : List ℕ
           kept = g .kept;
           there = omega arith;
           few = omega (arith, g .few);
+          ends = g .ends;
         }
 
     -- a step was done
@@ -186,10 +187,10 @@ module _ {m : ℕ} (ks ws : List ℕ) {bs : List Entry} {work₀ work : List ℕ
       behind (ok p) = refl
       behind (err n) = refl
 
-      not-before : (so : Result Places) → FrameSays m so work f → FrameSays m (bind so step) work′ r → r .refused ≡ false → f .refused ≡ false
+      not-before : (so : Result Places) → FrameSays m so work f → FrameSays m (bind so step) work′ r → r .refused ≡ 0 → f .refused ≡ 0
       unfolding bind
       not-before (ok p) h k e = h .going
-      not-before (err n) h k e = never (k .0) e
+      not-before (err n) h k e = not-told k e
 
       done : Scan m next back → Going m (entries ks ws) bs work₀ work′ (at + 1) r
       unfolding slotMap
@@ -214,6 +215,7 @@ module _ {m : ℕ} (ks ws : List ℕ) {bs : List Entry} {work₀ work : List ℕ
             kept = kept-then (g .kept) (s .kept);
             there = omega arith;
             few = omega (arith, g .few, s .few);
+            ends = s .ends (g .ends);
           }
 
     -- an instruction
@@ -233,7 +235,7 @@ module _ {m : ℕ} (ks ws : List ℕ) {bs : List Entry} {work₀ work : List ℕ
             at = inst-here;
             ready = g .ready;
             few = omega (arith, g .few, g .own .few);
-            ends = says-ends m (g .so) work f (g .says);
+            ends = g .ends;
           })
 
       pub going-inst : {work′ : List ℕ} {r : Frame} → Stepped m (lent ks ws at) bs work work′ f r → Going m (entries ks ws) bs work₀ work′ (at + 1) r

@@ -13,7 +13,9 @@ use Rattle.numbers.specs.Align.{alignUp}
 use Rattle.book.specs.Entry.{Entry}
 use Rattle.book.specs.Ast.{Ty, StructType}
 use Rattle.book.specs.Result.{Result, ok, err, bind, given}
-use Rattle.layout.specs.Layout.{alignOf, sizeOf, frameLimit}
+use Rattle.book.specs.Work.{nameWords, placeAt}
+use Rattle.layout.specs.Layout.{alignAt, sizeAt, alignOf, sizeOf, frameLimit}
+use Rattle.layout.specs.Refusals.{refusal-positive, refusing-err, align-refusing, size-refusing}
 use Rattle.layout.specs.Frame.{Places, place, withPlace}
 use Rattle.layout_memo.specs.Front.{Starts, tyOf}
 use Rattle.layout_memo.specs.Work.{Ready, After, Outcome, kept-word, table-other, structsIn, sizes, aligns, size-small, align-small}
@@ -51,6 +53,7 @@ pub record PlaceStep (m : ℕ) (bs : List Entry) (work work′ : List ℕ) (f r 
   pub ready : Ready m bs work′
   pub kept : PlacesKept m work work′
   pub slots : r .slots ≡ f .slots
+  pub ends : f .off ≤ 2147483648 → r .off ≤ 2147483648
   pub says : (p : Places) → PlacesHold m p work f → FrameSays m (step p) work′ r
 
 module _ (m name : ℕ) where
@@ -64,12 +67,12 @@ module _ (m name : ℕ) where
 pub same-step : {m : ℕ} {bs : List Entry} {work work′ : List ℕ} {f r : Frame} (one all : Places → Result Places) → ((p : Places) → all p ≡ one p)
     → PlaceStep m bs work work′ f r one → PlaceStep m bs work work′ f r all
 same-step {m} {bs} {work} {work′} {f} {r} one all e s =
-    record { ready = s .ready; kept = s .kept; slots = s .slots; says = λ p h. subst (λ (q : Result Places). FrameSays m q work′ r) (sym (e p)) (s .says p h) }
+    record { ready = s .ready; kept = s .kept; slots = s .slots; ends = s .ends; says = λ p h. subst (λ (q : Result Places). FrameSays m q work′ r) (sym (e p)) (s .says p h) }
 
 -- nothing was measured
-pub step-none : {m : ℕ} {bs : List Entry} {work : List ℕ} {f r : Frame} (step : Places → Result Places) → Ready m bs work → r .slots ≡ f .slots
+pub step-none : {m : ℕ} {bs : List Entry} {work : List ℕ} {f r : Frame} (step : Places → Result Places) → Ready m bs work → r .slots ≡ f .slots → r .off ≡ f .off
     → ((p : Places) → PlacesHold m p work f → FrameSays m (step p) work r) → PlaceStep m bs work work f r step
-step-none step r e s = record { ready = r; kept = record { long = refl; same = λ i a b. refl }; slots = e; says = s }
+step-none step r e o s = record { ready = r; kept = record { long = refl; same = λ i a b. refl }; slots = e; ends = λ l. omega arith; says = s }
 
 -- the words of places stand as before where only word 7 changed
 holds-after : {m : ℕ} {bs : List Entry} {work work′ : List ℕ} {p : Places} {f : Frame} → After m bs work work′ → PlacesHold m p work f → PlacesHold m p work′ f
@@ -84,15 +87,17 @@ then-step {m} {bs} {a} {b} {c} {f} {r} one all x y e =
       ready = y .ready;
       kept = places-then (measured-kept (x .kept)) (y .kept);
       slots = y .slots;
+      ends = y .ends;
       says = λ p h. subst (λ (q : Result Places). FrameSays m q c r) (sym (e p)) (y .says p (holds-after x h));
     }
 
 -- a refusal while measuring
 barred-step : {m : ℕ} {bs : List Entry} {work work′ : List ℕ} {f r : Frame} {e : ℕ} (all : Places → Result Places)
-    → After m bs work work′ → r ≡ barredBy f e → ((p : Places) → all p ≡ err e) → PlaceStep m bs work work′ f r all
-barred-step {m} {bs} {work} {work′} {f} {r} {e} all a d h =
+    → After m bs work work′ → r ≡ barredBy f e → 0 < e → ((p : Places) → all p ≡ err e) → PlaceStep m bs work work′ f r all
+barred-step {m} {bs} {work} {work′} {f} {r} {e} all a d z h =
     then-step (λ p. err e) all a
-    (step-none (λ p. err e) (a .ready) (ap (λ (x : Frame). x .slots) d) (λ p k. (ap (λ (x : Frame). x .refused) d, ap (λ (x : Frame). x .off) d))) h
+    (step-none (λ p. err e) (a .ready) (ap (λ (x : Frame). x .slots) d) (ap (λ (x : Frame). x .off) d)
+    (λ p k. record { positive = z; number = ap (λ (x : Frame). x .refused) d })) h
 
 -- one place more, when alignment and size are known
 module _ (name align size count : ℕ) where
@@ -107,9 +112,9 @@ module _ (name align size count : ℕ) where
     end = endOf align size count f
 
     abbrev stored : List ℕ
-    stored = set work (8 * name + 3) (start + 1)
+    stored = set work (placeAt name) (start + 1)
 
-    holds : {m : ℕ} (p : Places) → name < m → 8 * m ≤ length work → PlacesHold m p work f → end ≤ 2 ^ 31 → PlacesHold m (withPlace name start end p) stored (madeBy align size count f)
+    holds : {m : ℕ} (p : Places) → name < m → nameWords m ≤ length work → PlacesHold m p work f → end ≤ 2 ^ 31 → PlacesHold m (withPlace name start end p) stored (madeBy align size count f)
     unfolding withPlace
     holds p named room h l = record { going = refl; off = refl; within = l; dynamic = h .dynamic; words = word-set 3 (omega arith) work room name start named (p .offsets) (h .words) }
 
@@ -120,18 +125,19 @@ module _ (name align size count : ℕ) where
         go : (b : Bool) → leb end (2 ^ 31) ≡ b → PlaceStep m bs work (orElse b stored work) f (orElse b (madeBy align size count f) (barredBy f 7)) limited
         go true e =
             record {
-              ready = ready-set (8 * name + 3) (start + 1) ready (λ x d. omega arith) (λ x d. omega arith) (λ k. table-other m k name 3 (omega arith) (λ z. omega arith) named);
-              kept = record { long = length-set work (8 * name + 3) (start + 1); same = λ i a b. getD-set-other work (8 * name + 3) i (start + 1) 0 (a name named) };
+              ready = ready-set (placeAt name) (start + 1) ready (λ x d. omega arith) (λ x d. omega arith) (λ k. table-other m k name 3 (omega arith) (λ z. omega arith) named);
+              kept = record { long = length-set work (placeAt name) (start + 1); same = λ i a b. getD-set-other work (placeAt name) i (start + 1) 0 (a name named) };
               slots = refl;
+              ends = λ l. leb-true end (2 ^ 31) e;
               says = λ p h.
                   let d : limited p ≡ ok (withPlace name start end p) = rw (sym (h .off), e) refl in
                   subst (λ (x : Result Places). FrameSays m x stored (madeBy align size count f)) (sym d) (holds p named (ready .room) h (leb-true end (2 ^ 31) e));
             }
         go false e =
-            step-none limited ready refl
+            step-none limited ready refl refl
             (λ p h.
             let d : limited p ≡ err 7 = rw (sym (h .off), e) refl in
-            subst (λ (x : Result Places). FrameSays m x work (barredBy f 7)) (sym d) (refl, refl))
+            subst (λ (x : Result Places). FrameSays m x work (barredBy f 7)) (sym d) (record { positive = omega arith; number = refl }))
 
 module _ (m : ℕ) (es bs : List Entry) where
   abbrev structs : List StructType
@@ -143,11 +149,17 @@ module _ (m : ℕ) (es bs : List Entry) where
   module _ (name count : ℕ) {work work′ : List ℕ} {f : Frame} {q : Measured} where
     pub align-barred : {r : Frame} {e : ℕ} → Outcome m bs work work′ (aligns structs ty) 64 q → q ≡ Refused e → r ≡ barredBy f e → PlaceDone m name count es bs work work′ f r
     unfolding alignOf bind
-    align-barred o d b = barred-step (place structs name ty (some count)) (o .after) b (λ p. place-is structs name ty count p ∙ rw (refused-at q (aligns structs ty) 64 d (o .says)) refl)
+    align-barred o d b =
+        let e = refused-at q (aligns structs ty) 64 d (o .says) in
+        barred-step (place structs name ty (some count)) (o .after) b (refusal-positive (refusing-err (alignAt structs 64 ty) (align-refusing structs 64 ty) e))
+        (λ p. place-is structs name ty count p ∙ rw e refl)
 
     pub size-barred : {r : Frame} {e : ℕ} (align : ℕ) → Outcome m bs work work′ (sizes structs ty) 64 q → q ≡ Refused e → r ≡ barredBy f e → SizedDone m name align count es bs work work′ f r
     unfolding placeSized sizeOf bind
-    size-barred align o d b = barred-step (placeSized structs name align ty count) (o .after) b (λ p. rw (refused-at q (sizes structs ty) 64 d (o .says)) refl)
+    size-barred align o d b =
+        let e = refused-at q (sizes structs ty) 64 d (o .says) in
+        barred-step (placeSized structs name align ty count) (o .after) b (refusal-positive (refusing-err (sizeAt structs 64 ty) (size-refusing structs 64 ty) e))
+        (λ p. rw e refl)
 
     module _ {n h : ℕ} (d : q ≡ Bytes n h) where
       -- the alignment is known

@@ -1,5 +1,5 @@
 -- One instruction of the frame pass: its slots, and its place where it is an alloca.
-use Prim.Native.Nat.{ℕ, _+_, _*_, _≤_, _^_}
+use Prim.Native.Nat.{ℕ, zero, suc, _+_, _*_, _≤_, _^_}
 use mathlib.Core.Path.{_≡_, refl, sym, ap, subst, _∙_}
 use mathlib.Core.Bool.{Bool, true, false}
 use mathlib.Core.List.{List}
@@ -14,13 +14,14 @@ use Rattle.book.specs.Encode.{destWord}
 use Rattle.book.specs.Limits.{Maybe, NameLimits}
 use Rattle.book.specs.Result.{Result, ok, err, bind}
 use Rattle.book.specs.Shape.{Shape, shape}
+use Rattle.book.specs.Work.{slotAt}
 use Rattle.layout.specs.Frame.{Places, frameStep}
 use Rattle.layout_memo.specs.Work.{Ready, settled-word, structsIn}
 use Rattle.layout_memo.specs.Calls.{lent}
 use Rattle.lowering.specs.Context.{Slots, slotStep}
 use Rattle.gen_values.specs.Values.{destOf, dest-is}
 use Rattle.gen_values.specs.Fields.{Fields}
-use Rattle.gen_frame.specs.Frames.{never, SlotsHold, Overflows, FrameSays, FrameKept, kept-none, kept-then, kept-places}
+use Rattle.gen_frame.specs.Frames.{not-told, SlotsHold, Overflows, FrameSays, FrameKept, kept-none, kept-then, kept-places}
 use Rattle.gen_frame.specs.Allocas.{allocaFields, AllocaAsk, AllocaDone}
 use Rattle.gen_frame.specs.Taken.{InstAt, inst-front, same-tag, TakeAsk, Taken, take-none}
 use Rattle.gen_frame.specs.declared.Frame.{Frame}
@@ -30,15 +31,16 @@ pub record StepAsk (m : ℕ) (f : Frame) (es bs : List Entry) (work : List ℕ) 
   pub at : InstAt m inst es
   pub ready : Ready m bs work
   pub few : f .slots ≤ 2 ^ 22
-  pub ends : f .refused ≡ false → f .off ≤ 2147483648
+  pub ends : f .off ≤ 2147483648
 
 -- what was done: the places as `frameStep` says, the slots as `slotStep` does
 pub record Stepped (m : ℕ) (es bs : List Entry) (work work′ : List ℕ) (f r : Frame) : Type 0 where
   pub ready : Ready m bs work′
   pub kept : FrameKept m work work′
   pub few : r .slots ≤ f .slots + 2
+  pub ends : f .off ≤ 2147483648 → r .off ≤ 2147483648
   pub places : (i : Inst) → InstAt m i es → (fr : Result Places) → FrameSays m fr work f → FrameSays m (bind fr (frameStep (structsIn m bs) (i .dest) (shape (i .kind)))) work′ r
-  pub slots : (i : Inst) → InstAt m i es → r .refused ≡ false → (names : List (List ℕ)) → Overflows names m work → (s : Slots) → SlotsHold m s work f
+  pub slots : (i : Inst) → InstAt m i es → r .refused ≡ 0 → (names : List (List ℕ)) → Overflows names m work → (s : Slots) → SlotsHold m s work f
       → SlotsHold m (slotStep names (i .dest) (shape (i .kind)) s) work′ r
 
 -- an alloca; any other has no place
@@ -101,24 +103,24 @@ module _ {m : ℕ} (ks ws : List ℕ) {bs : List Entry} (work : List ℕ) (f : F
   take-ask k = record { inst = k .inst; at = k .at; room = k .ready .room; few = k .few }
 
   -- behind a refusal
-  pub step-refused : Ready m bs work → f .refused ≡ true → Stepped m (entries ks ws) bs work work f f
+  pub step-refused : Ready m bs work → (f .refused ≡ 0 → ⊥) → Stepped m (entries ks ws) bs work work f f
   unfolding bind
   step-refused ready e =
-      record { ready = ready; kept = kept-none; few = omega arith; places = λ i a. still i; slots = λ i a d. never e d }
+      record { ready = ready; kept = kept-none; few = omega arith; ends = λ l. l; places = λ i a. still i; slots = λ i a d. absurd (e d) }
     where
       still : (i : Inst) (fr : Result Places) → FrameSays m fr work f → FrameSays m (bind fr (frameStep (structsIn m bs) (i .dest) (shape (i .kind)))) work f
-      still i (ok p) h = never e (h .going)
+      still i (ok p) h = absurd (e (h .going))
       still i (err n) h = h
 
-  module _ (going : f .refused ≡ false) {work′ : List ℕ} {taken : Frame} (t : Taken m (entries ks ws) work work′ f taken) where
+  module _ (going : f .refused ≡ 0) {work′ : List ℕ} {taken : Frame} (t : Taken m (entries ks ws) work work′ f taken) where
     -- no alloca
     pub step-plain : Ready m bs work → (getD ks 0 0 ≡ 73 → ⊥) → Stepped m (entries ks ws) bs work work′ f taken
     unfolding bind
     step-plain ready z =
-        record { ready = t .ready bs ready; kept = t .kept; few = t .few; places = places; slots = λ i a d names o s h. t .slots i a names o s h }
+        record { ready = t .ready bs ready; kept = t .kept; few = t .few; ends = λ l. omega (arith, t .off); places = places; slots = λ i a d names o s h. t .slots i a names o s h }
       where
         places : (i : Inst) → InstAt m i (entries ks ws) → (fr : Result Places) → FrameSays m fr work f → FrameSays m (bind fr (frameStep (structsIn m bs) (i .dest) (shape (i .kind)))) work′ taken
-        places i a (err n) h = never (h .0) going
+        places i a (err n) h = not-told h going
         places i a (ok p) h =
             subst (λ (x : Result Places). FrameSays m x work′ taken)
             (sym (tag-unplaced (structsIn m bs) (i .dest) (i .kind) p (λ e. z (inst-front ks ws a .kind ∙ ap instKind e)))) (t .places p h)
@@ -129,7 +131,7 @@ module _ {m : ℕ} (ks ws : List ℕ) {bs : List Entry} (work : List ℕ) (f : F
       alloca-ask k =
           let a = alloca-front ks ws (k .at) e in
           let d : getD ws 0 0 ≤ m = dest-within (k .inst .dest) (inst-front ks ws (k .at) .dest) (k .at .keeps .0) in
-          record { args = a .args; fields = a .fields; named = d; ready = t .ready bs (k .ready); ends = omega (arith, k .ends going, t .off) }
+          record { args = a .args; fields = a .fields; named = d; ready = t .ready bs (k .ready); ends = omega (arith, k .ends, t .off) }
 
       pub step-alloca : (k : StepAsk m f (entries ks ws) bs work) {work″ : List ℕ} {r : Frame} → AllocaDone m (getD ws 0 0) (lent ks ws 1) bs work′ work″ taken r
           → Stepped m (entries ks ws) bs work work″ f r
@@ -141,14 +143,15 @@ module _ {m : ℕ} (ks ws : List ℕ) {bs : List Entry} (work : List ℕ) (f : F
             ready = s .ready;
             kept = kept-then (t .kept) (kept-places (s .kept));
             few = omega (arith, t .few, s .slots);
+            ends = λ l. s .ends (omega (arith, t .off));
             places = places;
             slots = λ i a d names o z h.
                 let g = t .slots i a names o z h in
-                record { count = s .slots ∙ g .count; words = λ x l. s .kept .same (8 * x + 1) (λ y _ q. omega arith) (settled-word x 1 l (omega arith)) ∙ g .words x l };
+                record { count = s .slots ∙ g .count; words = λ x l. s .kept .same (slotAt x) (λ y _ q. omega arith) (settled-word x 1 l (omega arith)) ∙ g .words x l };
           }
         where
           places : (i : Inst) → InstAt m i (entries ks ws) → (fr : Result Places) → FrameSays m fr work f → FrameSays m (bind fr (frameStep (structsIn m bs) (i .dest) (shape (i .kind)))) work″ r
-          places i a (err n) h = never (h .0) going
+          places i a (err n) h = not-told h going
           places i a (ok p) h =
               let c = alloca-front ks ws a e in
               let d : destOf (getD ws 0 0) ≡ i .dest = ap destOf (inst-front ks ws a .dest) ∙ dest-is (i .dest) in
@@ -158,6 +161,6 @@ module _ {m : ℕ} (ks ws : List ℕ) {bs : List Entry} (work : List ℕ) (f : F
   pub step-idle : Ready m bs work → getD ws 0 0 ≡ 0 → (getD ks 0 0 ≡ 73 → ⊥) → Stepped m (entries ks ws) bs work work f f
   step-idle ready w z = at (f .refused) refl
     where
-      at : (b : Bool) → f .refused ≡ b → Stepped m (entries ks ws) bs work work f f
-      at true e = step-refused ready e
-      at false e = step-plain e (take-none ks ws work f w) ready z
+      at : (n : ℕ) → f .refused ≡ n → Stepped m (entries ks ws) bs work work f f
+      at zero e = step-plain e (take-none ks ws work f w) ready z
+      at (suc n) e = step-refused ready (λ d. omega arith)

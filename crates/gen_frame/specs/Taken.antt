@@ -16,6 +16,7 @@ use Rattle.book.specs.Encode.{encFields, encInst, destWord, valueEntry}
 use Rattle.book.specs.Limits.{Maybe, NameLimits, InstLimits, ValueLimits}
 use Rattle.book.specs.Shape.{Shape, shape}
 use Rattle.book.specs.AgreeInst.{inst-found}
+use Rattle.book.specs.Work.{nameWords, slotAt, placeAt, markAt}
 use Rattle.book_types.specs.Laws.{entries-part}
 use Rattle.layout.specs.Frame.{Places}
 use Rattle.layout_memo.specs.Front.{tyLen}
@@ -34,7 +35,7 @@ callFields = instFields InstTag.call
 pub record CallAsk (m : ℕ) (es : List Entry) (work : List ℕ) : Type 0 where
   pub args : Meanings callFields
   pub fields : Fields m callFields args es
-  pub room : 8 * m ≤ length work
+  pub room : nameWords m ≤ length work
 
 pub record CallSlots (m : ℕ) (es : List Entry) (work : List ℕ) (r : ℕ) : Type 0 where
   pub most : r ≤ 2
@@ -58,8 +59,8 @@ pub record CalleeAt (m : ℕ) (v : Value) (ks ws work : List ℕ) (n : ℕ) : Ty
   pub in-words : n < length ws
   pub below : getD ks n 0 ≡ 31 → getD ws n 0 < m
   pub other : (getD ks n 0 ≡ 31 → ⊥) → (names : List (List ℕ)) → 1 ≡ callSlots names v
-  pub plain : getD ks n 0 ≡ 31 → getD work (8 * getD ws n 0 + 5) 0 < 4 → (names : List (List ℕ)) → Overflows names m work → 1 ≡ callSlots names v
-  pub doubled : getD ks n 0 ≡ 31 → 4 ≤ getD work (8 * getD ws n 0 + 5) 0 → (names : List (List ℕ)) → Overflows names m work → 2 ≡ callSlots names v
+  pub plain : getD ks n 0 ≡ 31 → getD work (markAt (getD ws n 0)) 0 < 4 → (names : List (List ℕ)) → Overflows names m work → 1 ≡ callSlots names v
+  pub doubled : getD ks n 0 ≡ 31 → 4 ≤ getD work (markAt (getD ws n 0)) 0 → (names : List (List ℕ)) → Overflows names m work → 2 ≡ callSlots names v
 
 module _ {m : ℕ} (ks ws work : List ℕ) (args : Meanings callFields) (k : Fields m callFields args (entries ks ws)) where
   pub callee-at : {n : ℕ} → n ≡ tyLen m (entries ks ws) → CalleeAt m (args .1 .0) ks ws work n
@@ -82,10 +83,10 @@ module _ {m : ℕ} (ks ws work : List ℕ) {n : ℕ} (e : n ≡ tyLen m (entries
   pub call-other : (getD ks n 0 ≡ 31 → ⊥) → CallSlots m (entries ks ws) work 1
   call-other d = record { most = omega arith; says = λ args k names o. callee-at ks ws work args k e .other d names }
 
-  pub call-plain : getD ks n 0 ≡ 31 → getD work (8 * getD ws n 0 + 5) 0 < 4 → CallSlots m (entries ks ws) work 1
+  pub call-plain : getD ks n 0 ≡ 31 → getD work (markAt (getD ws n 0)) 0 < 4 → CallSlots m (entries ks ws) work 1
   call-plain d l = record { most = omega arith; says = λ args k. callee-at ks ws work args k e .plain d l }
 
-  pub call-doubled : getD ks n 0 ≡ 31 → 4 ≤ getD work (8 * getD ws n 0 + 5) 0 → CallSlots m (entries ks ws) work 2
+  pub call-doubled : getD ks n 0 ≡ 31 → 4 ≤ getD work (markAt (getD ws n 0)) 0 → CallSlots m (entries ks ws) work 2
   call-doubled d l = record { most = omega arith; says = λ args k. callee-at ks ws work args k e .doubled d l }
 
 -- ---- an instruction
@@ -195,7 +196,7 @@ call-front {m} {i} ks ws a e =
 pub record SlotsAsk (m : ℕ) (es : List Entry) (work : List ℕ) : Type 0 where
   pub inst : Inst
   pub at : InstAt m inst es
-  pub room : 8 * m ≤ length work
+  pub room : nameWords m ≤ length work
 
 pub record SlotsFor (m : ℕ) (es : List Entry) (work : List ℕ) (r : ℕ) : Type 0 where
   pub most : r ≤ 2
@@ -236,7 +237,7 @@ module _ {m : ℕ} (ks ws work : List ℕ) where
 pub record TakeAsk (m : ℕ) (f : Frame) (es : List Entry) (work : List ℕ) : Type 0 where
   pub inst : Inst
   pub at : InstAt m inst es
-  pub room : 8 * m ≤ length work
+  pub room : nameWords m ≤ length work
   pub few : f .slots ≤ 2 ^ 22
 
 pub record Taken (m : ℕ) (es : List Entry) (work work′ : List ℕ) (f r : Frame) : Type 0 where
@@ -279,15 +280,15 @@ module _ {m : ℕ} (ks ws work : List ℕ) (f : Frame) where
     take-below = subst (Maybe (NameLimits m)) (dest-some (ask .inst .dest) (inst-front ks ws (ask .at) .dest) z) (ask .at .keeps .0)
 
     pub take-some : {n : ℕ} → SlotsFor m (entries ks ws) work n
-        → Taken m (entries ks ws) work (set work (8 * x + 1) (f .slots + 1)) f (record { slots = f .slots + n; off = f .off; dynamic = f .dynamic; refused = f .refused })
+        → Taken m (entries ks ws) work (set work (slotAt x) (f .slots + 1)) f (record { slots = f .slots + n; off = f .off; dynamic = f .dynamic; refused = f .refused })
     unfolding slotStep
     take-some {n} c =
         record {
-          kept = record { long = length-set work (8 * x + 1) (f .slots + 1); same = λ i a b d. getD-set-other work (8 * x + 1) i (f .slots + 1) 0 (a x take-below) };
+          kept = record { long = length-set work (slotAt x) (f .slots + 1); same = λ i a b d. getD-set-other work (slotAt x) i (f .slots + 1) 0 (a x take-below) };
           few = omega (arith, c .most);
           off = refl;
           going = refl;
-          ready = λ bs r. ready-set (8 * x + 1) (f .slots + 1) r (λ y e. omega arith) (λ y e. omega arith) (λ k. table-other m k x 1 (omega arith) (λ e. omega arith) take-below);
+          ready = λ bs r. ready-set (slotAt x) (f .slots + 1) r (λ y e. omega arith) (λ y e. omega arith) (λ k. table-other m k x 1 (omega arith) (λ e. omega arith) take-below);
           slots = λ i a names o s h.
               rw (dest-some (i .dest) (inst-front ks ws a .dest) z)
               (record {
@@ -300,6 +301,6 @@ module _ {m : ℕ} (ks ws work : List ℕ) (f : Frame) where
                 off = h .off;
                 within = h .within;
                 dynamic = h .dynamic;
-                words = λ y l. getD-set-other work (8 * x + 1) (8 * y + 3) (f .slots + 1) 0 (λ e. omega arith) ∙ h .words y l;
+                words = λ y l. getD-set-other work (slotAt x) (placeAt y) (f .slots + 1) 0 (λ e. omega arith) ∙ h .words y l;
               };
         }

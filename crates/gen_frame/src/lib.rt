@@ -5,19 +5,20 @@ mod slots;
 
 use crate::places::alloca;
 use crate::slots::take_slots;
+use book::entry;
 use book_types::shorter;
 ghost use Rattle.book.specs.Entry.{entries};
 ghost use Rattle.gen_frame.specs.Steps.{StepAsk, Stepped};
 ghost use Rattle.gen_frame.specs.Scan.{Acts};
 ghost use Rattle.gen_frame.specs.Pass.{FrameAsk, FrameDone};
 
-// The slots taken so far, where the fixed places end, and whether a varying one is among the places; or that a place was
-// refused, and its number in place of their end.
+// The slots taken so far, where the fixed places end, whether a varying one is among the places, and the refusal's number
+// where a place was refused, 0 where none was.
 pub struct Frame {
     pub slots: u64,
     pub off: u64,
     pub dynamic: bool,
-    pub refused: bool,
+    pub refused: u64,
 }
 
 // One instruction: its slots, and its place where it is an alloca. Behind a refusal nothing changes.
@@ -34,11 +35,11 @@ fn frame_inst(
     ensures { λ r. ⌜ Stepped names (entries (now (kinds .entry)) (now (words .entry))) (entries (now («book_kinds» .entry)) (now («book_words» .entry)))
         (now (work .entry)) (now (work .exit)) f r ⌝ }
 {
-    if f.refused {
+    if f.refused != 0 {
         return f;
     }
     let taken = take_slots(kinds, words, work, names, f);
-    if kinds[0] != 73 {
+    if kinds[0] != entry::ALLOCA {
         return taken;
     }
     alloca(
@@ -57,13 +58,13 @@ fn frame_inst(
 fn acts(kind: u64, word: u64) -> bool
     ensures { λ r. ⌜ Acts kind word r ⌝ }
 {
-    if kind < 40 {
+    if kind < entry::ADD {
         return false;
     }
-    if 90 <= kind {
+    if entry::RET <= kind {
         return false;
     }
-    if kind == 73 {
+    if kind == entry::ALLOCA {
         return true;
     }
     word != 0
@@ -89,7 +90,7 @@ pub fn frame_pass(
         slots: 0,
         off: 0,
         dynamic: false,
-        refused: false,
+        refused: 0,
     };
     while at < end {
         if acts(kinds[at], words[at]) {

@@ -1,5 +1,6 @@
 // Places of allocas: where a fixed one starts and ends, and that there is a varying one.
 use crate::Frame;
+use book::entry;
 use layout_align::align_of;
 use layout_memo::Measured;
 use layout_memo::skip;
@@ -22,9 +23,9 @@ fn barred(f: Frame, number: u64) -> Frame
 {
     Frame {
         slots: f.slots,
-        off: number,
+        off: f.off,
         dynamic: f.dynamic,
-        refused: true,
+        refused: number,
     }
 }
 
@@ -52,12 +53,12 @@ fn fix_place(work: &mut [u64], name: u64, align: u64, size: u64, count: u64, f: 
     if 2147483648 < end {
         return barred(f, 7);
     }
-    work[8 * (name as usize) + 3] = start + 1;
+    work[book::work::WORDS * (name as usize) + book::work::PLACE] = start + 1;
     Frame {
         slots: f.slots,
         off: end,
         dynamic: f.dynamic,
-        refused: false,
+        refused: 0,
     }
 }
 
@@ -128,11 +129,11 @@ fn count_of(kinds: &[u64], words: &[u64], names: u64) -> Count
     requires { ⌜ ((o : Option TypedVal) × CountAt names o (entries (now kinds) (now words))) ⌝ }
     ensures { λ r. ⌜ ((o : Option TypedVal) → CountAt names o (entries (now (kinds .entry)) (now (words .entry))) → countBy r ≡ countOf o) ⌝ }
 {
-    if kinds[0] == 21 {
+    if kinds[0] == entry::ABSENT {
         return Count::Fixed(1);
     }
     let at = skip(kinds, words, names);
-    if kinds[at] == 32 {
+    if kinds[at] == entry::INTEGER {
         return Count::Fixed(words[at]);
     }
     Count::Varying

@@ -1,5 +1,6 @@
 // Slots of results.
 use crate::Frame;
+use book::entry;
 use layout_memo::skip;
 ghost use Rattle.book.specs.Entry.{entries};
 ghost use Rattle.gen_frame.specs.Taken.{CallAsk, CallSlots, SlotsAsk, SlotsFor, TakeAsk, Taken};
@@ -10,10 +11,10 @@ fn call_slots(kinds: &[u64], words: &[u64], work: &[u64], names: u64) -> u64
     ensures { λ r. ⌜ CallSlots names (entries (now (kinds .entry)) (now (words .entry))) (now (work .entry)) r ⌝ }
 {
     let at = skip(kinds, words, names);
-    if kinds[at] != 31 {
+    if kinds[at] != entry::GLOBAL {
         return 1;
     }
-    if work[8 * (words[at] as usize) + 5] < 4 {
+    if work[book::work::WORDS * (words[at] as usize) + book::work::MARK] < 4 {
         return 1;
     }
     2
@@ -25,8 +26,8 @@ fn slots_for(kinds: &[u64], words: &[u64], work: &[u64], names: u64) -> u64
     ensures { λ r. ⌜ SlotsFor names (entries (now (kinds .entry)) (now (words .entry))) (now (work .entry)) r ⌝ }
 {
     match kinds[0] {
-        80 => 2,
-        76 => call_slots(&kinds[1..], &words[1..], work, names),
+        entry::CMPXCHG => 2,
+        entry::CALL => call_slots(&kinds[1..], &words[1..], work, names),
         _ => 1,
     }
 }
@@ -41,7 +42,7 @@ pub fn take_slots(kinds: &[u64], words: &[u64], work: &mut [u64], names: u64, f:
         return f;
     }
     let n = slots_for(kinds, words, work, names);
-    work[8 * ((dest - 1) as usize) + 1] = f.slots + 1;
+    work[book::work::WORDS * ((dest - 1) as usize) + book::work::SLOT] = f.slots + 1;
     Frame {
         slots: f.slots + n,
         off: f.off,

@@ -1,17 +1,17 @@
 -- The function's blocks, one after the other.
-use Prim.Native.Nat.{ℕ, _+_, _<_, _≤_, _^_}
+use Prim.Native.Nat.{ℕ, _+_, _-_, _<_, _≤_, _^_}
 use mathlib.Core.Path.{_≡_, refl, sym, ap, subst, _∙_}
 use mathlib.Core.List.{List, [], _∷_, _++_, append-assoc}
 use native.Mathlib.Omega.{arith}
-use lib.ListN.{length, drop, length-drop, length-append}
+use lib.ListN.{length, take, drop, length-drop, length-append}
 use lib.Seq.{drop-drop, drop-append-seam}
 use Rattle.book.specs.Ast.{Inst, BasicBlock, Terminator}
 use Rattle.book.specs.Entry.{Entry, entry, entries}
 use Rattle.book.specs.Fields.{termFields, termTagOf, termArgs}
 use Rattle.book.specs.Encode.{ending, closed, encInst, encTerm, encFields, encBasicBlock}
 use Rattle.book.specs.Limits.{Each, BlockLimits}
+use Rattle.book_types.specs.Laws.{lentFrom, entries-part, length-entries}
 use Rattle.lowering.specs.Gen.{each}
-use Rattle.lowering.specs.Fits.{items-within}
 use Rattle.lowering.specs.Context.{FnCtx}
 use Rattle.lowering.specs.Function.{genBlock}
 use Rattle.gen_lines.specs.declared.Reached.{Reached}
@@ -93,7 +93,8 @@ pub record First (m : ℕ) (ks ws : List ℕ) (end at : ℕ) (todo : List BasicB
   pub more : List BasicBlock
   pub rest : List Entry
   pub same : todo ≡ block ∷ more
-  pub here : BlockHere m (entries ks ws) at block (closed encBasicBlock more ++ rest)
+  pub here : BlockHere m block (closed encBasicBlock more ++ rest) (lentFrom ks ws at)
+  pub few : length (entries ks ws) ≤ 2 ^ 20
   pub ends : end + length rest ≡ length (entries ks ws)
   pub keeps : Each (BlockLimits m) more
 
@@ -107,7 +108,12 @@ module _ {m : ℕ} (ks ws : List ℕ) {end : ℕ} (at : ℕ) where
         more = bs;
         rest = l .rest;
         same = refl;
-        here = record { here = l .front ∙ append-assoc (encBasicBlock b) (closed encBasicBlock bs) (l .rest); keeps = l .keeps .0; few = l .few };
+        here = record {
+          here = entries-part at ks ws ∙ l .front ∙ append-assoc (encBasicBlock b) (closed encBasicBlock bs) (l .rest);
+          keeps = l .keeps .0;
+          few = omega (arith, l .few, ap length (entries-part at ks ws), length-drop at (entries ks ws));
+        };
+        few = l .few;
         ends = l .ends;
         keeps = l .keeps .1;
       }
@@ -121,16 +127,16 @@ module _ {m : ℕ} (ks ws : List ℕ) {end : ℕ} (at : ℕ) where
       absurd (omega (arith, ap length (l .front), length-append all (l .rest), list-long (b ∷ bs), length-drop at (entries ks ws), l .ends))
 
 -- ---- behind a block's terminator
-inst-long : (i : Inst) → 1 ≤ length (encInst i)
-unfolding encInst
-inst-long i = omega arith
-
-pub term-later : {m : ℕ} (bs : List Entry) (at end : ℕ) (b : BasicBlock) (rest : List Entry) → BlockHere m bs at b rest → BodyAt m bs end [] (b .term) rest → at ≤ end
-unfolding ending encBasicBlock encTerm
-term-later bs at end b rest h t =
-    let whole = ap length (h .here) ∙ length-append (encBasicBlock b) rest in
-    let last = ap length (t .here) ∙ length-append (encTerm (b .term)) rest in
-    omega (arith, whole, last, length-drop at bs, length-drop end bs, items-within encInst inst-long (encTerm (b .term)) (b .insts))
+-- a place of the block's part in the book
+pub in-book : {m : ℕ} (ks ws : List ℕ) (at : ℕ) {i : ℕ} {insts : List Inst} {t : Terminator} {rest : List Entry} → length (entries ks ws) ≤ 2 ^ 20
+    → BodyAt m (lentFrom ks ws at) i insts t rest → BodyAt m (entries ks ws) (at + i) insts t rest
+in-book ks ws at {i} few b =
+    record {
+      here = sym (drop-drop i at (entries ks ws)) ∙ ap (drop i) (sym (entries-part at ks ws)) ∙ b .here;
+      insts-keep = b .insts-keep;
+      term-keeps = b .term-keeps;
+      few = few;
+    }
 
 pub behind-term : {m : ℕ} (ks ws : List ℕ) (more : List BasicBlock) → Each (BlockLimits m) more → {last end r : ℕ} {t : Terminator} (rest : List Entry)
     → last + length rest ≡ length (entries ks ws) → BodyAt m (entries ks ws) end [] t (closed encBasicBlock more ++ rest) → FirstBlock ks last (end + 1) r → Left m ks ws last r more
@@ -174,6 +180,9 @@ pub record BlocksAsk (m : ℕ) (bk bw : List ℕ) (from end : ℕ) (base : Base)
   pub order : from ≤ end
   pub in-kinds : end ≤ length bk
 
+pub in-words : {m : ℕ} (bk bw : List ℕ) {from end : ℕ} {base : Base} {work : List ℕ} → BlocksAsk m bk bw from end base work → end ≤ length bw
+in-words bk bw a = omega (arith, a .listed .ends, length-entries bk bw)
+
 pub record BlocksWalk (m : ℕ) (bk bw : List ℕ) (from end : ℕ) (base : Base) (work₀ ks os : List ℕ) (s : Reached) (work ks′ os′ : List ℕ) (at : ℕ) (t : Reached) : Type 0 where
   pub long-work : length work ≡ length work₀
   pub long-lines : length ks′ ≡ length ks
@@ -202,34 +211,29 @@ module _ {m : ℕ} (bk bw : List ℕ) {from end : ℕ} {base : Base} {work₀ ks
   asked : (a : BlocksAsk m bk bw from end base work₀) → Walked m bk bw (a .ctx) (a .blocks) work end at s t ks os ks′ os′
   asked a = w .walked (a .ctx) (a .blocks) (a .listed) (a .based) (a .maps)
 
-  pub walk-block : BlocksAsk m bk bw from end base work₀ → at < end → BlockAsk m bk bw at (base .slot) work
+  pub walk-block : BlocksAsk m bk bw from end base work₀ → at < end
+      → BlockAsk m (take (length bk - at) (drop at bk)) (take (length bw - at) (drop at bw)) bk bw at (base .slot) work
   walk-block a l =
       let v = asked a in
       let f = first-left bk bw at (v .todo) (v .left) l in
-      record { ctx = a .ctx; maps = v .maps; base = a .based .0; block = f .block; rest = closed encBasicBlock (f .more) ++ f .rest; front = f .here }
+      record { ctx = a .ctx; maps = v .maps; base = a .based .0; block = f .block; rest = closed encBasicBlock (f .more) ++ f .rest; front = f .here; placed = entries-part at bk bw }
 
   -- what `gen_block` did
   abbrev pub Did-block : (work″ : List ℕ) → Passed → (ks″ os″ : List ℕ) → Type 0
-  Did-block work″ p ks″ os″ = (c : FnCtx) (b : BasicBlock) (rest : List Entry) → BlockHere m (entries bk bw) at b rest → Based c base → Maps m (entries bk bw) c work
-      → BlockDone m (entries bk bw) c b rest work″ t p ks′ os′ ks″ os″
+  Did-block work″ p ks″ os″ = (c : FnCtx) (b : BasicBlock) (rest : List Entry) → BlockHere m b rest (lentFrom bk bw at) → Based c base → Maps m (entries bk bw) c work
+      → BlockDone m (lentFrom bk bw at) (entries bk bw) c b rest work″ t p ks′ os′ ks″ os″
 
   module _ (l : at < end) {work″ ks″ os″ : List ℕ} {p : Passed} (one : Did-block work″ p ks″ os″) where
     -- the terminator is there
-    pub walk-end : BlocksAsk m bk bw from end base work₀ → p .at < end
+    pub walk-end : BlocksAsk m bk bw from end base work₀ → at + p .at < end
     walk-end a =
         let v = asked a in
         let f = first-left bk bw at (v .todo) (v .left) l in
-        body-before bk bw (p .at) (f .more) (f .rest) (f .ends) (one (a .ctx) (f .block) _ (f .here) (a .based) (v .maps) .ends)
-
-    -- behind the block's entry
-    pub walk-further : BlocksAsk m bk bw from end base work₀ → at ≤ p .at
-    walk-further a =
-        let v = asked a in
-        let f = first-left bk bw at (v .todo) (v .left) l in
-        term-later (entries bk bw) at (p .at) (f .block) _ (f .here) (one (a .ctx) (f .block) _ (f .here) (a .based) (v .maps) .ends)
+        let d = one (a .ctx) (f .block) _ (f .here) (a .based) (v .maps) in
+        body-before bk bw (at + p .at) (f .more) (f .rest) (f .ends) (in-book bk bw at (f .few) (d .ends))
 
     -- one more
-    pub walk-more : length work″ ≡ length work → length ks″ ≡ length ks′ → length os″ ≡ length os′ → {r : ℕ} → FirstBlock bk end (p .at + 1) r
+    pub walk-more : length work″ ≡ length work → length ks″ ≡ length ks′ → length os″ ≡ length os′ → {r : ℕ} → FirstBlock bk end (at + p .at + 1) r
         → BlocksWalk m bk bw from end base work₀ ks os s work″ ks″ os″ r (p .s)
     unfolding each
     walk-more lw lk lo {r} h =
@@ -243,7 +247,7 @@ module _ {m : ℕ} (bk bw : List ℕ) {from end : ℕ} {base : Base} {work₀ ks
               let d = one c (f .block) _ (f .here) e (v .maps) in
               record {
                 todo = f .more;
-                left = behind-term bk bw (f .more) (f .keeps) (f .rest) (f .ends) (d .ends) h;
+                left = behind-term bk bw (f .more) (f .keeps) (f .rest) (f .ends) (in-book bk bw at (f .few) (d .ends)) h;
                 toward = toward-then (subst (λ (xs : List BasicBlock). Toward (each (genBlock c) blocks) (each (genBlock c) xs) s t ks os ks′ os′) (f .same) (v .toward))
                     (toward-first (each (genBlock c) (f .more)) (d .did .puts));
                 maps = d .did .maps;

@@ -3,6 +3,7 @@ use Prim.Native.Nat.{ℕ, _+_, _<_, _≤_, _%_, _^_}
 use mathlib.Core.Path.{_≡_, refl, sym, ap, subst, _∙_}
 use mathlib.Core.Bool.{Bool, true, false, cond}
 use mathlib.Core.List.{List, _++_}
+use native.Mathlib.Omega.{arith}
 use lib.ListN.{length, drop, getD}
 use lib.Dec.{leb, ltb}
 use borrow.Author.Tests.{ltb-true, ltb-false, lt-ltb, le-ltb, le-leb, lt-leb}
@@ -80,7 +81,7 @@ pub slots-limit : (total : ℕ) {s t : Reached} {b : Bool} (ks os : List ℕ) �
     → Puts (when (ltb 65535 total) (refuse 8)) s t ks os ks os
 slots-limit total {s} {t} {b} ks os e h =
     when-puts (ltb 65535 total)
-    (λ i. refuse-puts 8 s ks os (h ∙ ap (λ (x : Bool). orElse x s (madeRefused s 8)) (e ∙ lt-leb total 65535 (ltb-true 65535 total i))))
+    (λ i. refuse-puts 8 (omega arith) s ks os (h ∙ ap (λ (x : Bool). orElse x s (madeRefused s 8)) (e ∙ lt-leb total 65535 (ltb-true 65535 total i))))
     (λ i.
     let q : t ≡ s = h ∙ ap (λ (x : Bool). orElse x s (madeRefused s 8)) (e ∙ le-leb total 65535 (ltb-false 65535 total i)) in
     subst (λ (x : Reached). Puts skip s x ks os ks os) (sym q) (skip-puts s ks os))

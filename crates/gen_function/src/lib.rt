@@ -1,4 +1,5 @@
 // `gen_function` behind the frame pass: the lines around the blocks, and the blocks one after the other.
+use assembly::line;
 use gen_block::gen_block;
 use gen_lines::Reached;
 use gen_lines::put;
@@ -44,6 +45,8 @@ fn gen_blocks(
     let mut reached = s;
     while at < last {
         let block = gen_block(
+            &book_kinds[at..],
+            &book_words[at..],
             book_kinds,
             book_words,
             at,
@@ -55,7 +58,7 @@ fn gen_blocks(
             reached,
         );
         reached = block.s;
-        let end = block.at;
+        let end = at + block.at;
         at = next_block(book_kinds, end + 1, last);
     }
     reached
@@ -67,7 +70,7 @@ fn push_slots(total: u64, lines: &mut [u16], operands: &mut [u64], s: Reached) -
         (now (lines .entry)) (now (operands .entry)) (now (lines .exit)) (now (operands .exit)) ⌝ }
 {
     if 0 < total {
-        put(lines, operands, s, 7, total)
+        put(lines, operands, s, line::PUSH_0N, total)
     } else {
         s
     }
@@ -78,12 +81,12 @@ fn prologue(slot: u64, size: u64, lines: &mut [u16], operands: &mut [u64], s: Re
     ensures { λ r. ⌜ ((c : FnCtx) → c .bpSlot ≡ slot → c .frameSize ≡ size
         → Puts (prologueOf c) s r (now (lines .entry)) (now (operands .entry)) (now (lines .exit)) (now (operands .exit))) ⌝ }
 {
-    let top = put(lines, operands, s, 91, 0);
-    let twice = put(lines, operands, top, 87, 0);
-    let kept = put(lines, operands, twice, 11, slot);
-    let bytes = put(lines, operands, kept, 8, size);
-    let end = put(lines, operands, bytes, 44, 0);
-    put(lines, operands, end, 92, 0)
+    let top = put(lines, operands, s, line::THREAD_GET, 0);
+    let twice = put(lines, operands, top, line::DUP, 0);
+    let kept = put(lines, operands, twice, line::SET_LOCAL, slot);
+    let bytes = put(lines, operands, kept, line::PUSH, size);
+    let end = put(lines, operands, bytes, line::ADD_U64, 0);
+    put(lines, operands, end, line::THREAD_SET, 0)
 }
 
 // The same where there is a frame.
@@ -130,8 +133,8 @@ pub fn gen_function(
     let at = head.at;
     let name = book_words[at];
     let total = total_slots(head);
-    let titled = put(lines, operands, s, 0, name);
-    let labelled = put(lines, operands, titled, 1, name);
+    let titled = put(lines, operands, s, line::COMMENT, name);
+    let labelled = put(lines, operands, titled, line::FN_LABEL, name);
     let few = need(labelled, total <= 65535, 8);
     let slotted = push_slots(total, lines, operands, few);
     let entered = enter_frame(head, lines, operands, slotted);
@@ -151,5 +154,5 @@ pub fn gen_function(
         operands,
         entered,
     );
-    put(lines, operands, done, 93, 0)
+    put(lines, operands, done, line::BLANK, 0)
 }

@@ -1,5 +1,5 @@
 -- One function: the words that the last one set are cleared, then its own are filled, then come its lines.
-use Prim.Native.Nat.{ℕ, _+_, _<_, _≤_}
+use Prim.Native.Nat.{ℕ, _+_, _<_}
 use mathlib.Core.Path.{_≡_, refl, sym, ap, subst, _∙_}
 use mathlib.Core.Bool.{Bool, true, false, cond, not}
 use mathlib.Core.List.{List, _∷_, _++_}
@@ -7,7 +7,7 @@ use native.Mathlib.Omega.{arith}
 use lib.ListN.{length, drop, length-append, length-drop}
 use Rattle.book.specs.Ast.{Function}
 use Rattle.book.specs.Entry.{Entry, entries}
-use Rattle.book.specs.Encode.{ending, closed, encBasicBlock, encFunction}
+use Rattle.book.specs.Encode.{ending, closed, encBasicBlock, encFunction, function-long}
 use Rattle.book.specs.Limits.{FunctionLimits}
 use Rattle.book.specs.Result.{Result, ok, err, bind}
 use Rattle.book.specs.Shape.{allInsts}
@@ -19,6 +19,7 @@ use Rattle.lowering.specs.Function.{genLines, contextOf, totalSlots, genFunctio
 use Rattle.gen_lines.specs.declared.Reached.{Reached}
 use Rattle.gen_lines.specs.Puts.{Puts, isRefused, madeRefused, refuse-puts, same-puts}
 use Rattle.gen_values.specs.Maps.{Maps, Did}
+use Rattle.gen_frame.specs.Frames.{not-told}
 use Rattle.gen_blocks.specs.Function.{functionIn, behindIn, FunctionAt, FunctionsAt, first-is, first-at, next-at}
 use Rattle.gen_prepare.specs.declared.Prepared.{Prepared}
 use Rattle.gen_prepare.specs.Prepare.{Shared, PrepareAsk, PreparedAs, SetUp, PrepareDone}
@@ -46,18 +47,6 @@ pub record Turned (g : Codegen) (f : Function) (fs : List Function) (m : ℕ) (e
 -- no answer is refused and not
 pub never : {A : Type 0} {b : Bool} → b ≡ true → b ≡ false → A
 never p q = absurd (let z : _≡_ {A = ℕ} 0 1 = cc in omega arith)
-
--- behind a refusal there is one
-pub made-refused : (s : Reached) (n : ℕ) {t : Reached} → t ≡ madeRefused s n → isRefused t ≡ true
-made-refused s n {t} e = ap isRefused e ∙ go (isRefused s) refl
-  where
-    go : (b : Bool) → isRefused s ≡ b → isRefused (madeRefused s n) ≡ true
-    go true q = rw q q
-    go false q = rw q refl
-
-function-long : (f : Function) → 1 ≤ length (encFunction f)
-unfolding encFunction
-function-long f = omega arith
 
 module _ {m : ℕ} (bk bw : List ℕ) {at last : ℕ} (g : Codegen) (f : Function) (fs : List Function) (here : FunctionsAt m (entries bk bw) last at (f ∷ fs)) where
   abbrev es : List Entry
@@ -123,16 +112,16 @@ module _ {m : ℕ} (bk bw : List ℕ) {at last : ℕ} (g : Codegen) (f : Functio
           }
 
       -- a place was refused
-      pub refused-turn : r .refused ≡ true → {s t : Reached} (ks os : List ℕ) → t ≡ madeRefused s (r .size) → Puts (genFunction g f) s t ks os ks os
+      pub refused-turn : (r .refused ≡ 0 → ⊥) → {s t : Reached} (ks os : List ℕ) → t ≡ madeRefused s (r .refused) → Puts (genFunction g f) s t ks os ks os
       unfolding genFunction _>>=_ bind refuse
       refused-turn e {s} {t} ks os q = go (framePass (g .structs) (allInsts (f .blocks)) noFrame) says
         where
           go : (p : Result Places) → PreparedAs p g f m es work′ r → Puts (p >>= (λ fr. genLines (contextOf g f fr) f (totalSlots g f fr))) s t ks os ks os
-          go (ok fr) z = never e (z .going)
-          go (err n) z = same-puts (λ k. refl) (refuse-puts n s ks os (q ∙ ap (madeRefused s) (z .1)))
+          go (ok fr) z = absurd (e (z .going))
+          go (err n) z = same-puts (λ k. refl) (refuse-puts n (z .positive) s ks os (q ∙ ap (madeRefused s) (z .number)))
 
       -- none was: the function's context
-      module _ (e : r .refused ≡ false) where
+      module _ (e : r .refused ≡ 0) where
         pub record Context : Type 0 where
           pub places : Places
           pub is : framePass (g .structs) (allInsts (f .blocks)) noFrame ≡ ok places
@@ -143,7 +132,7 @@ module _ {m : ℕ} (bk bw : List ℕ) {at last : ℕ} (g : Codegen) (f : Functio
           where
             go : (p : Result Places) → framePass (g .structs) (allInsts (f .blocks)) noFrame ≡ p → PreparedAs p g f m es work′ r → Context
             go (ok fr) i z = record { places = fr; is = i; set = z }
-            go (err n) i z = never (z .0) e
+            go (err n) i z = not-told z e
 
         abbrev ctx : FnCtx
         ctx = contextOf g f (context .places)
@@ -174,5 +163,5 @@ module _ {m : ℕ} (bk bw : List ℕ) {at last : ℕ} (g : Codegen) (f : Functio
           for-next =
               let k = did .maps in (
                 record { room = k .room; marks = k .marks; structs = k .structs; measured = k .measured },
-                function-ask m es work″ at (r .end) g f (context .places) (behindIn m es at) front end-is (here .limits .0) (here .few) (context .is) k,
+                function-ask m es work″ at (r .end) g f (context .places) (behindIn m es at) front (here .there) end-is (here .limits .0) (here .few) (context .is) k,
               )

@@ -41,12 +41,14 @@ fn gen_turn(
         → Turned g f fs names (entries (now («book_kinds» .entry)) (now («book_words» .entry))) last at (now (work .exit)) t r
         (now (lines .entry)) (now (operands .entry)) (now (lines .exit)) (now (operands .exit))) ⌝ }
 {
-    clear_function(book_kinds, book_words, work, names, t.from, t.to);
+    let from = t.from;
+    let to = t.to;
+    clear_function(&book_kinds[from..to], &book_words[from..to], work, names);
     let head = prepare(book_kinds, book_words, work, names, at, last);
     let end = head.end;
-    if head.refused {
+    if head.refused != 0 {
         return Turn {
-            s: refuse(t.s, head.size),
+            s: refuse(t.s, head.refused),
             from: at,
             to: end,
         };

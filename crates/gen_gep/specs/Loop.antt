@@ -1,5 +1,5 @@
 -- The loop over the indices, and what it leaves for the lines.
-use Prim.Native.Nat.{ℕ, _+_, _*_, _<_, _≤_}
+use Prim.Native.Nat.{ℕ, _+_, _<_, _≤_}
 use mathlib.Core.Path.{_≡_, refl, ap, _∙_}
 use mathlib.Core.Bool.{true, false}
 use mathlib.Core.List.{List, []}
@@ -9,6 +9,7 @@ use Rattle.book.specs.Ast.{TypedVal}
 use Rattle.book.specs.Entry.{entries}
 use Rattle.book.specs.Fields.{Meanings}
 use Rattle.book.specs.Result.{Result, bind}
+use Rattle.book.specs.Check.{workFor}
 use Rattle.layout.specs.Step.{Step as GepStep, constInt}
 use Rattle.layout_memo.specs.Front.{Starts, tyLen}
 use Rattle.layout_memo.specs.Work.{Ready, structsIn}
@@ -46,7 +47,7 @@ pub record GepAsk (m : ℕ) (bk bw work : List ℕ) (at : ℕ) : Type 0 where
   pub holds : Meanings gepFields
   pub fields : Fields m gepFields holds (drop at (entries bk bw))
   pub ready : Ready m (entries bk bw) work
-  pub room : 8 * m + 64 ≤ length work
+  pub room : workFor m ≤ length work
 
 -- and the place of the indices
 pub record WalkAsk (m : ℕ) (bk bw work : List ℕ) (at index : ℕ) : Type 0 where
@@ -86,7 +87,7 @@ module _ {m : ℕ} {bk bw work work′ : List ℕ} {whole : Result GepWalk} {s :
     more : More m bk bw index (l .left)
     more = list-more m bk bw index (l .left) (l .list) z
 
-    pub loop-take : 8 * m + 64 ≤ length work → {v n : ℕ} → v ≡ index + n → n ≡ tyLen m (drop index (entries bk bw)) → TakeAsk m bk bw work′ index v w
+    pub loop-take : workFor m ≤ length work → {v n : ℕ} → v ≡ index + n → n ≡ tyLen m (drop index (entries bk bw)) → TakeAsk m bk bw work′ index v w
     loop-take room e en =
         record {
           holds = _;

@@ -7,6 +7,8 @@ use lib.ListN.{length, drop, take, getD, set, length-set}
 use lib.Seq.{getD-set-same, getD-set-other}
 use Rattle.book.specs.Entry.{Entry, entries}
 use Rattle.book.specs.Fields.{Meanings}
+use Rattle.book.specs.Work.{bodyAt, measuredAt, nameWords, paramAt, wordAt}
+use Rattle.book.specs.Check.{workFor}
 use Rattle.lowering.specs.Context.{FnCtx}
 use Rattle.lowering.specs.Gep.{VarTerm}
 use Rattle.layout_memo.specs.Work.{Ready, After, kept-word, kept-term, tableAt, table-term, facts-kept}
@@ -20,7 +22,7 @@ use Rattle.gen_gep.specs.Indices.{indexThen}
 pub record Stays (m : ℕ) (es : List Entry) (work work′ : List ℕ) : Type 0 where
   pub ready : Ready m es work′
   pub long : length work′ ≡ length work
-  pub same : (x j : ℕ) → x < m → j < 6 → getD work′ (8 * x + j) 0 ≡ getD work (8 * x + j) 0
+  pub same : (x j : ℕ) → x < m → j < 6 → getD work′ (wordAt x j) 0 ≡ getD work (wordAt x j) 0
 
 module _ {m : ℕ} {es : List Entry} where
   pub stays-none : {work : List ℕ} → Ready m es work → Stays m es work work
@@ -33,18 +35,18 @@ module _ {m : ℕ} {es : List Entry} where
   stays-after a = record { ready = a .ready; long = a .kept .long; same = kept-word a }
 
   -- a word of terms is stored
-  stays-set : {work : List ℕ} (i v : ℕ) → 8 * m ≤ i → i < 8 * m + 64 → Ready m es work → Stays m es work (set work i v)
+  stays-set : {work : List ℕ} (i v : ℕ) → nameWords m ≤ i → i < workFor m → Ready m es work → Stays m es work (set work i v)
   stays-set {work} i v l h r =
       record {
         ready = record {
           room = omega (arith, r .room, length-set work i v);
-          bodies = λ y ly. rw (getD-set-other work i (8 * y + 4) v 0 (λ e. omega arith)) (r .bodies y ly);
-          known = λ y ly. rw (getD-set-other work i (8 * y + 7) v 0 (λ e. omega arith)) (r .known y ly);
+          bodies = λ y ly. rw (getD-set-other work i (bodyAt y) v 0 (λ e. omega arith)) (r .bodies y ly);
+          known = λ y ly. rw (getD-set-other work i (measuredAt y) v 0 (λ e. omega arith)) (r .known y ly);
           facts = facts-kept (set work i v) r (λ k. getD-set-other work i (tableAt m k) v 0 (table-term m k i l h));
           few = r .few;
         };
         long = length-set work i v;
-        same = λ x j lx lj. getD-set-other work i (8 * x + j) v 0 (λ e. omega arith);
+        same = λ x j lx lj. getD-set-other work i (wordAt x j) v 0 (λ e. omega arith);
       }
 
   pub maps-stays : {c : FnCtx} {work work′ : List ℕ} → Maps m es c work → Stays m es work work′ → Maps m es c work′
@@ -52,7 +54,7 @@ module _ {m : ℕ} {es : List Entry} where
       record {
         room = omega (arith, k .room, a .long);
         locals = record {
-          params = λ x l. subst (λ (i : ℕ). getD work′ i 0 ≡ getD work i 0) (let e : 8 * x + 0 ≡ 8 * x = omega arith in e) (a .same x 0 l (omega arith)) ∙ k .locals .params x l;
+          params = λ x l. subst (λ (i : ℕ). getD work′ i 0 ≡ getD work i 0) (let e : wordAt x 0 ≡ paramAt x = omega arith in e) (a .same x 0 l (omega arith)) ∙ k .locals .params x l;
           slots = λ x l. a .same x 1 l (omega arith) ∙ k .locals .slots x l;
         };
         blocks = λ x l. rw (a .same x 2 l (omega arith)) (k .blocks x l);
@@ -72,7 +74,7 @@ pub record TermIs (m : ℕ) (bk bw : List ℕ) (place size : ℕ) (t : VarTerm) 
   pub stride : t .stride ≡ size
 
 abbrev pub TermAt : (m : ℕ) (bk bw work : List ℕ) (j : ℕ) → VarTerm → Type 0
-TermAt m bk bw work j t = TermIs m bk bw (getD work (8 * m + 2 * j) 0) (getD work (8 * m + 2 * j + 1) 0) t
+TermAt m bk bw work j t = TermIs m bk bw (getD work (nameWords m + 2 * j) 0) (getD work (nameWords m + 2 * j + 1) 0) t
 
 -- terms from the j-th on
 abbrev pub Terms : (m : ℕ) (bk bw work : List ℕ) (j : ℕ) → List VarTerm → Type 0
@@ -80,16 +82,16 @@ Terms m bk bw work j [] = Unit {0}
 Terms m bk bw work j (t ∷ ts) = TermAt m bk bw work j t × Terms m bk bw work (suc j) ts
 
 module _ (m : ℕ) (bk bw : List ℕ) where
-  term-kept : (work work′ : List ℕ) (j : ℕ) (t : VarTerm) → getD work′ (8 * m + 2 * j) 0 ≡ getD work (8 * m + 2 * j) 0
-      → getD work′ (8 * m + 2 * j + 1) 0 ≡ getD work (8 * m + 2 * j + 1) 0
+  term-kept : (work work′ : List ℕ) (j : ℕ) (t : VarTerm) → getD work′ (nameWords m + 2 * j) 0 ≡ getD work (nameWords m + 2 * j) 0
+      → getD work′ (nameWords m + 2 * j + 1) 0 ≡ getD work (nameWords m + 2 * j + 1) 0
       → TermAt m bk bw work j t → TermAt m bk bw work′ j t
   term-kept work work′ j t a b k = rw (a, b) k
 
-  terms-kept : (work work′ : List ℕ) (j : ℕ) (ts : List VarTerm) → ((i : ℕ) → 8 * m ≤ i → i < 8 * m + 2 * (j + length ts) → getD work′ i 0 ≡ getD work i 0)
+  terms-kept : (work work′ : List ℕ) (j : ℕ) (ts : List VarTerm) → ((i : ℕ) → nameWords m ≤ i → i < nameWords m + 2 * (j + length ts) → getD work′ i 0 ≡ getD work i 0)
       → Terms m bk bw work j ts → Terms m bk bw work′ j ts
   terms-kept work work′ j [] same k = tt
   terms-kept work work′ j (t ∷ ts) same k = (
-    term-kept work work′ j t (same (8 * m + 2 * j) (omega arith) (omega arith)) (same (8 * m + 2 * j + 1) (omega arith) (omega arith)) (k .0),
+    term-kept work work′ j t (same (nameWords m + 2 * j) (omega arith) (omega arith)) (same (nameWords m + 2 * j + 1) (omega arith) (omega arith)) (k .0),
     terms-kept work work′ (suc j) ts (λ i l h. same i l (omega arith)) (k .1),
   )
 
@@ -99,9 +101,9 @@ module _ (m : ℕ) (bk bw : List ℕ) where
   terms-more work j (u ∷ ts) t n e k h = (k .0, terms-more work (suc j) ts t n (omega arith) (k .1) h)
 
   -- a term is stored behind the others
-  module _ (work : List ℕ) (n place stride : ℕ) (room : 8 * m + 64 ≤ length work) (few : n < 32) where
+  module _ (work : List ℕ) (n place stride : ℕ) (room : workFor m ≤ length work) (few : n < 32) where
     abbrev pub to : ℕ
-    to = 8 * m + 2 * n
+    to = nameWords m + 2 * n
 
     abbrev pub stored : List ℕ
     stored = set (set work to place) (to + 1) stride
@@ -150,7 +152,7 @@ module _ (m : ℕ) (bk bw : List ℕ) where
 pub record TermAsk (m : ℕ) (bk bw work : List ℕ) (place stride : ℕ) : Type 0 where
   pub term : VarTerm
   pub is : TermIs m bk bw place stride term
-  pub room : 8 * m + 64 ≤ length work
+  pub room : workFor m ≤ length work
 
 -- so many terms
 pub record TermsAsk (m : ℕ) (bk bw work : List ℕ) (n : ℕ) : Type 0 where
@@ -158,15 +160,15 @@ pub record TermsAsk (m : ℕ) (bk bw work : List ℕ) (n : ℕ) : Type 0 where
   pub count : length kept ≡ n
   pub few : n ≤ 32
   pub terms : Terms m bk bw work 0 kept
-  pub room : 8 * m + 64 ≤ length work
+  pub room : workFor m ≤ length work
 
 module _ {m : ℕ} {bk bw work : List ℕ} {n : ℕ} (t : TermsAsk m bk bw work n) (i : ℕ) (l : i < n) where
-  pub term-asked : TermAsk m bk bw work (getD work (8 * m + 2 * i) 0) (getD work (8 * m + 2 * i + 1) 0)
+  pub term-asked : TermAsk m bk bw work (getD work (nameWords m + 2 * i) 0) (getD work (nameWords m + 2 * i + 1) 0)
   term-asked =
       let x : Ith m bk bw work 0 i (t .kept) = term-at m bk bw work 0 i (t .kept) (omega (arith, t .count)) (t .terms) in
       let e : 0 + i ≡ i = omega arith in
       record { term = x .term; is = subst (λ (j : ℕ). TermAt m bk bw work j (x .term)) e (x .here); room = t .room }
 
   -- its two words are there
-  pub term-there : 8 * m + 2 * i + 1 < length work
+  pub term-there : nameWords m + 2 * i + 1 < length work
   term-there = omega (arith, t .room, t .few)

@@ -1,22 +1,25 @@
 -- The walk over the indices: "All GEP constants add up to one `push` ..; offset sums wrap at 2^64." A refusal goes through, so that the walk goes on behind one.
-use Prim.Native.Nat.{ℕ, _+_, _*_, _<_, _≤_, _%_, _^_}
+use Prim.Native.Nat.{ℕ, _+_, _<_, _≤_, _%_, _^_}
 use mathlib.Core.Path.{_≡_, refl, ap, subst, _∙_}
 use mathlib.Core.Bool.{Bool, true, false}
 use mathlib.Core.List.{List, [], _∷_, _++_}
-use mathlib.Core.Option.{Option}
+use mathlib.Core.Option.{Option, none, some}
 use native.Mathlib.Omega.{arith}
 use lib.ListN.{length, drop, getD, length-append}
 use Rattle.numbers.specs.Wrap.{wrapAdd}
-use Rattle.book.specs.Ast.{Ty, TypedVal, StructType}
+use Rattle.book.specs.Ast.{Ty, Value, TypedVal, StructType}
 use Rattle.book.specs.Entry.{Entry, entries}
 use Rattle.book.specs.Fields.{Meanings}
 use Rattle.book.specs.Result.{Result, ok, err, bind}
+use Rattle.book.specs.Check.{workFor}
 use Rattle.layout.specs.Step.{Step as GepStep, constInt, stride}
+use Rattle.layout.specs.Refusals.{Refusing, refusal-positive, refusing-err, gep-step-refusing}
 use Rattle.layout_memo.specs.Front.{Starts, tyOf, tyLen}
 use Rattle.layout_memo.specs.Work.{Ready, After}
 use Rattle.layout_step.specs.Steps.{Stepped, Steps, StepOutcome, indexOf, arrayBy, stepBy, step-by}
 use Rattle.layout_step.specs.declared.Index.{Index}
 use Rattle.layout_step.specs.declared.Step.{Step}
+use Rattle.layout_step.specs.declared.Step.the-variants as step
 use Rattle.lowering.specs.Operand.{intWidth}
 use Rattle.lowering.specs.Gep.{VarTerm, Walk as GepWalk, varTerm, start, took, firstStep, walkRest, walk}
 use Rattle.gen_lines.specs.declared.Reached.{Reached}
@@ -56,6 +59,28 @@ module _ (structs : List StructType) where
   walk-same t (idx ∷ is) =
       let f : walkRest structs is ≡ walkFrom false is = λ i x. later-same is x i in
       rw f (two-binds (arrayBy structs t (constInt (idx .val))) (λ (s : GepStep). took s idx (start t)) (walkFrom false is))
+
+  -- a refusal's number is not 0
+  later-refusing : (t : Ty) (o : Option ℕ) → Refusing (stepBy structs t o)
+  unfolding constInt
+  later-refusing t none = rw (step-by structs t Value.other) at (gep-step-refusing structs t Value.other)
+  later-refusing t (some n) = rw (step-by structs t (Value.int n)) at (gep-step-refusing structs t (Value.int n))
+
+  step-refusing : (first : Bool) (t : Ty) (o : Option ℕ) → Refusing (stepFrom first t o)
+  unfolding stepFrom stepBy
+  step-refusing true t o = later-refusing (Ty.array false 0 t) o
+  step-refusing false t o = later-refusing t o
+
+abbrev pub Numbered : Step → Type 0
+Numbered (step.Refused e) = 0 < e
+Numbered (step.Constant off next) = Unit {0}
+Numbered (step.Varying size next) = Unit {0}
+
+pub step-numbered : {m : ℕ} {es : List Entry} {work work′ : List ℕ} (structs : List StructType) (first : Bool) (t : Ty) (o : Option ℕ) (r : Step)
+    → StepOutcome m es work work′ (stepFrom structs first t o) r → Numbered r
+step-numbered structs first t o (step.Refused e) q = refusal-positive (refusing-err (stepFrom structs first t o) (step-refusing structs first t o) (q .says))
+step-numbered structs first t o (step.Constant off next) q = tt
+step-numbered structs first t o (step.Varying size next) q = tt
 
 -- ---- what is asked for, one after the other
 module _ {A B : Type 0} {r : Result A} (f : A → Result B) {s t u : Reached} {x : A} {y : B} where
@@ -102,7 +127,7 @@ pub record Went (m : ℕ) (bk bw work work′ : List ℕ) (answer : Result GepWa
 pub record TookAsk (m : ℕ) (bk bw work : List ℕ) (index : ℕ) (w : Way) : Type 0 where
   pub in-kinds : index < length bk
   pub in-words : index < length bw
-  pub room : 8 * m + 64 ≤ length work
+  pub room : workFor m ≤ length work
   pub few : w .terms < 32
 
 pub record TakeAsk (m : ℕ) (bk bw work : List ℕ) (index value : ℕ) (w : Way) : Type 0 where
@@ -111,7 +136,7 @@ pub record TakeAsk (m : ℕ) (bk bw work : List ℕ) (index value : ℕ) (w : Wa
   pub behind : value ≡ index + tyLen m (drop index (entries bk bw))
   pub front : Starts m (drop (w .ty) (entries bk bw))
   pub ready : Ready m (entries bk bw) work
-  pub room : 8 * m + 64 ≤ length work
+  pub room : workFor m ≤ length work
   pub few : w .terms < 32
 
 module _ {m : ℕ} {bk bw work : List ℕ} {index value : ℕ} {w : Way} (t : TakeAsk m bk bw work index value w) where
@@ -125,14 +150,14 @@ module _ {m : ℕ} {bk bw work : List ℕ} {index value : ℕ} {w : Way} (t : Ta
 
 -- ---- a step taken
 module _ {m : ℕ} {bk bw work : List ℕ} {k : GepWalk} {w : Way} (idx : TypedVal) (ready : Ready m (entries bk bw) work) (at : WalkAt m bk bw work k w) where
-  pub refused-went : Starts m (drop (w .ty) (entries bk bw)) → {answer : Result GepStep} (e : ℕ) → answer ≡ err e → {t : Reached} → t ≡ madeRefused (w .s) e
+  pub refused-went : Starts m (drop (w .ty) (entries bk bw)) → {answer : Result GepStep} (e : ℕ) → 0 < e → answer ≡ err e → {t : Reached} → t ≡ madeRefused (w .s) e
       → Went m bk bw work work (bind answer (λ (t : GepStep). took t idx k)) w (record { first = false; ty = w .ty; sum = w .sum; terms = w .terms; s = t })
   unfolding bind
-  refused-went front e i j =
+  refused-went front e number i j =
       record {
         walk = k;
         here = record { type = at .type; sum = at .sum; count = at .count; terms = at .terms };
-        asked = rw i (asked-err e (w .s) k j);
+        asked = rw i (asked-err e number (w .s) k j);
         front = front;
         stays = stays-none ready;
         later = refl;
@@ -155,7 +180,7 @@ module _ {m : ℕ} {bk bw work : List ℕ} {k : GepWalk} {w : Way} (idx : TypedV
 
 -- a varying index: its type must have a width
 module _ (m : ℕ) (bk bw work : List ℕ) (k : GepWalk) (w : Way) (index : ℕ) {p : Meanings indexThen} (f : Fields m indexThen p (drop index (entries bk bw)))
-    (ready : Ready m (entries bk bw) work) (at : WalkAt m bk bw work k w) (room : 8 * m + 64 ≤ length work) (few : w .terms < 32) where
+    (ready : Ready m (entries bk bw) work) (at : WalkAt m bk bw work k w) (room : workFor m ≤ length work) (few : w .terms < 32) where
   pub vary-went : (size next : ℕ) → Starts m (drop next (entries bk bw)) → {work′ : List ℕ} → work′ ≡ stored m bk bw work (w .terms) index size room few → {v : ℕ} {t : Reached}
       → Asked (intWidth (p .0)) (w .s) t v
       → Went m bk bw work work′ (took (GepStep.var size (tyOf m (drop next (entries bk bw)))) (indexIn p) k) w (record { first = false; ty = next; sum = w .sum; terms = w .terms + 1; s = t })

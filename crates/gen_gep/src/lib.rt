@@ -1,21 +1,21 @@
 // `gen_gep`. A walk over the indices adds up the constant offsets modulo 2^64 and keeps the varying terms, of which there are
 // at most 32, in the 64 work words behind the names': for each the place of its index among the book's entries and its stride.
+use assembly::line;
+use book::entry;
 use gen_lines::Reached;
 use gen_lines::put;
 use gen_lines::refuse;
 use gen_values::emit_sext;
-use gen_values::int_width;
-use gen_values::push_at;
+use gen_values::need_width;
 use gen_values::push_int;
-use gen_values::skip_at;
-use gen_values::width_at;
-use layout_memo::Measured;
-use layout_size::size_of;
+use gen_values::push_value;
+use gen_values::width_of;
+use layout_memo::skip;
 use layout_step::Index;
 use layout_step::Step;
+use layout_step::array_step;
 use layout_step::gep_step;
 use numbers::wrap::wrapping_add;
-use numbers::wrap::wrapping_mul;
 ghost use mathlib.Core.Path.{_≡_};
 ghost use mathlib.Core.List.{List};
 ghost use Prim.Native.Nat.{ℕ, _<_};
@@ -26,9 +26,9 @@ ghost use Rattle.book.specs.Entry.{entries};
 ghost use Rattle.book.specs.Fields.{Meanings};
 ghost use Rattle.book.specs.Result.{Result, bind};
 ghost use Rattle.layout.specs.Step.{Step as GepStep, constInt};
-ghost use Rattle.layout_memo.specs.Front.{tyOf, Starts};
+ghost use Rattle.layout_memo.specs.Front.{tyOf, tyLen, Starts};
 ghost use Rattle.layout_memo.specs.Work.{structsIn, Ready};
-ghost use Rattle.layout_step.specs.Steps.{AskAt, StepOutcome, Steps, indexOf, arrayBy};
+ghost use Rattle.layout_step.specs.Steps.{AskAt, StepOutcome, Steps, indexOf};
 ghost use Rattle.lowering.specs.Gen.{when, each};
 ghost use Rattle.lowering.specs.Context.{FnCtx};
 ghost use Rattle.lowering.specs.Operand.{emitSext};
@@ -38,7 +38,7 @@ ghost use Rattle.gen_values.specs.Fields.{Fields, ValueAt};
 ghost use Rattle.gen_values.specs.Maps.{Locals, Maps, Did};
 ghost use Rattle.gen_gep.specs.Indices.{gepFields, indexList, indexThen, indexIn};
 ghost use Rattle.gen_gep.specs.Terms.{Terms, TermIs, TermsAsk, TermAsk};
-ghost use Rattle.gen_gep.specs.Walks.{stepFrom, WalkAt, Went, TookAsk, TakeAsk};
+ghost use Rattle.gen_gep.specs.Walks.{stepFrom, WalkAt, Went, TookAsk, TakeAsk, Numbered};
 ghost use Rattle.gen_gep.specs.Loop.{GepAsk, WalkAsk, Walked};
 ghost use Rattle.gen_gep.specs.Lines.{sumGen};
 
@@ -52,49 +52,26 @@ pub struct Way {
     pub s: Reached,
 }
 
+// The number of entries of the type at a place.
+fn skip_at(book_kinds: &[u64], book_words: &[u64], at: usize, names: u64) -> usize
+    requires { ⌜ (at < length (now «book_kinds»)) × (at < length (now «book_words»)) ⌝ }
+    ensures { λ r. ⌜ r ≡ tyLen names (drop at (entries (now («book_kinds» .entry)) (now («book_words» .entry)))) ⌝ }
+{
+    skip(&book_kinds[at..], &book_words[at..], names)
+}
+
 // The index whose value is at a place.
 fn index_at(kinds: &[u64], words: &[u64], at: usize) -> Index
     requires { ⌜ (at < length (now kinds)) × (at < length (now words)) ⌝ }
     ensures { λ r. ⌜ ((m : ℕ) (v : Value) → ValueAt m (now (kinds .entry)) (now (words .entry)) at v → indexOf r ≡ constInt v) ⌝ }
 {
-    if kinds[at] == 32 {
+    if kinds[at] == entry::INTEGER {
         return Index::Constant(words[at]);
     }
     Index::Varying
 }
 
-// The first index strides over the base type, which is at the place.
-fn first_step(
-    book_kinds: &[u64],
-    book_words: &[u64],
-    work: &mut [u64],
-    names: u64,
-    at: usize,
-    index: Index,
-) -> Step
-    requires { ⌜ AskAt names (entries (now «book_kinds») (now «book_words»)) (now work) at ⌝ }
-    ensures { λ r. ⌜ StepOutcome names (entries (now («book_kinds» .entry)) (now («book_words» .entry))) (now (work .entry)) (now (work .exit))
-        (arrayBy (structsIn names (entries (now («book_kinds» .entry)) (now («book_words» .entry))))
-        (tyOf names (drop at (entries (now («book_kinds» .entry)) (now («book_words» .entry))))) (indexOf index)) r ⌝ }
-{
-    match size_of(
-        &book_kinds[at..],
-        &book_words[at..],
-        book_kinds,
-        book_words,
-        work,
-        names,
-        64,
-    ) {
-        Measured::Refused(e) => Step::Refused(e),
-        Measured::Bytes(size, _) => match index {
-            Index::Constant(c) => Step::Constant(wrapping_mul(c, size), at),
-            Index::Varying => Step::Varying(size, at),
-        },
-    }
-}
-
-// The step of an index, the first or a later one, from the type at the place.
+// The step of an index from the type at the place: the first strides over it, a later one steps into it.
 fn next_step(
     book_kinds: &[u64],
     book_words: &[u64],
@@ -110,7 +87,7 @@ fn next_step(
         (tyOf names (drop at (entries (now («book_kinds» .entry)) (now («book_words» .entry))))) (indexOf index)) r ⌝ }
 {
     if first {
-        return first_step(book_kinds, book_words, work, names, at, index);
+        return array_step(book_kinds, book_words, work, names, at, index);
     }
     gep_step(book_kinds, book_words, work, names, at, index)
 }
@@ -134,8 +111,8 @@ fn vary(
         → Went names (now («book_kinds» .entry)) (now («book_words» .entry)) (now (work .entry)) (now (work .exit))
         (tookOf (GepStep.var stride (tyOf names (drop next (entries (now («book_kinds» .entry)) (now («book_words» .entry)))))) (indexIn p) k) w r) ⌝ }
 {
-    let wide = width_at(book_kinds, book_words, index, w.s);
-    let to = 8 * (names as usize) + 2 * w.terms;
+    let wide = need_width(&book_kinds[index..], &book_words[index..], w.s);
+    let to = book::work::WORDS * (names as usize) + 2 * w.terms;
     work[to] = index as u64;
     work[to + 1] = stride;
     let s = wide.s;
@@ -158,7 +135,7 @@ fn took(
     step: Step,
     w: Way,
 ) -> Way
-    requires { ⌜ TookAsk names (now «book_kinds») (now «book_words») (now work) index w ⌝ }
+    requires { ⌜ TookAsk names (now «book_kinds») (now «book_words») (now work) index w × Numbered step ⌝ }
     ensures { λ r. ⌜ ((p : Meanings indexThen) (k : GepWalk) (answer : Result GepStep)
         → Fields names indexThen p (drop index (entries (now («book_kinds» .entry)) (now («book_words» .entry))))
         → Ready names (entries (now («book_kinds» .entry)) (now («book_words» .entry))) (now (work .entry))
@@ -251,7 +228,7 @@ fn walk(
         s,
     };
     let mut index = indices;
-    while book_kinds[index] != 0 {
+    while book_kinds[index] != entry::END {
         let value = index + skip_at(book_kinds, book_words, index, names);
         w = walk_index(book_kinds, book_words, work, names, index, value, w);
         index = value + 1;
@@ -285,12 +262,11 @@ fn gen_var_term(
     ensures { λ r. ⌜ ((c : FnCtx) (t : VarTerm) → Locals c names (now (work .entry)) → TermIs names (now («book_kinds» .entry)) (now («book_words» .entry)) index stride t
         → Puts (genVarTerm c t) s r (now (lines .entry)) (now (operands .entry)) (now (lines .exit)) (now (operands .exit))) ⌝ }
 {
-    let width = int_width(book_kinds[index], book_words[index]);
+    let width = width_of(&book_kinds[index..], &book_words[index..]);
     let value = index + skip_at(book_kinds, book_words, index, names);
-    let pushed = push_at(
-        book_kinds,
-        book_words,
-        value,
+    let pushed = push_value(
+        &book_kinds[value..],
+        &book_words[value..],
         width,
         work,
         lines,
@@ -299,8 +275,8 @@ fn gen_var_term(
     );
     let wide = widen(width, lines, operands, pushed);
     let strided = push_int(stride, 64, lines, operands, wide);
-    let times = put(lines, operands, strided, 46, 0);
-    put(lines, operands, times, 44, 0)
+    let times = put(lines, operands, strided, line::MUL_U64, 0);
+    put(lines, operands, times, line::ADD_U64, 0)
 }
 
 // The varying terms, in order.
@@ -322,7 +298,7 @@ fn gen_var_terms(
     let mut reached = s;
     let mut i: usize = 0;
     while i < terms {
-        let from = 8 * (names as usize) + 2 * i;
+        let from = book::work::WORDS * (names as usize) + 2 * i;
         let index = work[from] as usize;
         reached = gen_var_term(
             book_kinds,
@@ -348,7 +324,7 @@ fn add_sum(sum: u64, lines: &mut [u16], operands: &mut [u64], s: Reached) -> Rea
         return s;
     }
     let pushed = push_int(sum, 64, lines, operands, s);
-    put(lines, operands, pushed, 44, 0)
+    put(lines, operands, pushed, line::ADD_U64, 0)
 }
 
 // `gen_gep` of the instruction whose fields start at a place of the book's entries.
@@ -370,10 +346,9 @@ pub fn gen_gep(
 {
     let pointer = at + skip_at(book_kinds, book_words, at, names);
     let w = walk(book_kinds, book_words, work, names, at, pointer + 1, s);
-    let pushed = push_at(
-        book_kinds,
-        book_words,
-        pointer,
+    let pushed = push_value(
+        &book_kinds[pointer..],
+        &book_words[pointer..],
         64,
         work,
         lines,

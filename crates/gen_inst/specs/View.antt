@@ -1,5 +1,5 @@
--- An instruction at its place among the book's entries: what the entry in front and the group of its kind tell.
-use Prim.Native.Nat.{ℕ, _+_, _-_, _*_, _<_, _≤_, _^_}
+-- An instruction in front of the entries lent: what its entry and the group of its kind tell.
+use Prim.Native.Nat.{ℕ, _+_, _-_, _<_, _≤_, _^_}
 use mathlib.Core.Path.{_≡_, refl, sym, ap, subst, _∙_}
 use mathlib.Core.List.{List, _∷_, _++_}
 use mathlib.Core.Option.{Option, none, some}
@@ -19,44 +19,39 @@ use Rattle.book_insts.specs.declared.InstGroup.{InstGroup}
 use Rattle.book_insts.specs.declared.InstGroup.the-variants as group
 use Rattle.assembly.specs.Number.{binNumber, icmpNumber}
 use Rattle.gen_values.specs.Fields.{Fields, entry-at}
-use Rattle.gen_values.specs.Values.{DestReaches}
 use Rattle.gen_arith.specs.Arith.{convNumber}
 
--- the instruction i stands at the place a of the book
-pub record InstAt (m : ℕ) (bs : List Entry) (a : ℕ) (i : Inst) : Type 0 where
+-- the instruction i stands in front
+pub record InstAt (m : ℕ) (i : Inst) (es : List Entry) : Type 0 where
   pub rest : List Entry
-  pub here : drop a bs ≡ encInst i ++ rest
+  pub here : es ≡ encInst i ++ rest
   pub keeps : InstLimits m i
-  pub few : length bs ≤ 2 ^ 20
+  pub few : length es ≤ 2 ^ 20
 
-module _ {m : ℕ} {i : Inst} (ks ws : List ℕ) (a : ℕ) (h : InstAt m (entries ks ws) a i) where
-  front : drop a (entries ks ws) ≡ entry (instKind (instTagOf (i .kind))) (destWord (i .dest)) ∷ (encFields (instFields (instTagOf (i .kind))) (instArgs (i .kind)) ++ h .rest)
+module _ {m : ℕ} {i : Inst} (ks ws : List ℕ) (h : InstAt m i (entries ks ws)) where
+  front : entries ks ws ≡ entry (instKind (instTagOf (i .kind))) (destWord (i .dest)) ∷ (encFields (instFields (instTagOf (i .kind))) (instArgs (i .kind)) ++ h .rest)
   unfolding encInst
   front = h .here
 
   -- its kind and its result word
-  pub kind-is : getD ks a 0 ≡ instKind (instTagOf (i .kind))
-  kind-is = entry-at ks ws a _ _ front .0
+  pub kind-is : getD ks 0 0 ≡ instKind (instTagOf (i .kind))
+  kind-is = entry-at ks ws 0 _ _ front .0
 
-  pub dest-word : getD ws a 0 ≡ destWord (i .dest)
-  dest-word = entry-at ks ws a _ _ front .1
+  pub dest-word : getD ws 0 0 ≡ destWord (i .dest)
+  dest-word = entry-at ks ws 0 _ _ front .1
 
-  pub inst-in : (a < length ks) × (a < length ws)
-  inst-in = let q = entry-at ks ws a _ _ front in (q .2, q .3)
+  pub inst-in : (0 < length ks) × (0 < length ws)
+  inst-in = let q = entry-at ks ws 0 _ _ front in (q .2, q .3)
 
   -- its fields, behind that entry
-  pub fields-behind : Fields m (instFields (instTagOf (i .kind))) (instArgs (i .kind)) (drop (a + 1) (entries ks ws))
+  pub fields-behind : Fields m (instFields (instTagOf (i .kind))) (instArgs (i .kind)) (drop 1 (entries ks ws))
   fields-behind =
       record {
         rest = h .rest;
-        here = entry-at ks ws a _ _ front .4;
+        here = entry-at ks ws 0 _ _ front .4;
         keeps = h .keeps .1;
-        few = omega (arith, h .few, length-drop (a + 1) (entries ks ws));
+        few = omega (arith, h .few, length-drop 1 (entries ks ws));
       }
-
-  -- the group of its kind
-  pub group-is : {g : InstGroup} → g ≡ instGroupOf (instTag (getD ks a 0)) → g ≡ instGroupOf (some (instTagOf (i .kind)))
-  group-is e = e ∙ ap (λ k. instGroupOf (instTag k)) kind-is ∙ ap instGroupOf (inst-found (instTagOf (i .kind)))
 
 -- ---- what the group tells
 abbrev pub Told : InstGroup → InstKind → Type 0
@@ -143,6 +138,3 @@ not-59 k e = let none-there : Told group.Other k = told-single 59 k refl e refl 
 pub dest-below : (m : ℕ) (d : Option ℕ) → Maybe (NameLimits m) d → destWord d ≤ m
 dest-below m none k = omega arith
 dest-below m (some x) k = omega (arith, k)
-
-pub dest-reaches : (m : ℕ) (d : Option ℕ) → Maybe (NameLimits m) d → {w : ℕ} (work : List ℕ) → w ≡ destWord d → 8 * m + 64 ≤ length work → DestReaches w work
-dest-reaches m d k {w} work e r = record { there = λ z. omega (arith, dest-below m d k, e, r) }

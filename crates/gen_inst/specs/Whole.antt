@@ -1,18 +1,16 @@
--- `gen_inst`: what it is lent, the kinds by their ranges, and the body with the result behind it.
-use Prim.Native.Nat.{ℕ, _+_, _*_, _<_, _≤_}
-use mathlib.Core.Path.{_≡_, refl, sym, subst}
-use mathlib.Core.Bool.{Bool, true, false}
-use mathlib.Core.Logic.{_⊎_, inl, inr, ⊎-elim}
+-- `gen_inst`: what it is lent, and the body with the result behind it.
+use Prim.Native.Nat.{ℕ, _+_, _-_, _<_, _≤_}
+use mathlib.Core.Path.{_≡_, sym, ap, subst, _∙_}
 use mathlib.Core.List.{List}
 use native.Mathlib.Omega.{arith}
-use borrow.Author.Tests.{eqb-true, eqb-false}
-use lib.ListN.{length, getD}
-use lib.Dec.{eqb}
+use lib.ListN.{length, drop, getD, length-drop}
+use lib.Seq.{drop-drop}
 use Rattle.book.specs.Ast.{Inst}
 use Rattle.book.specs.Entry.{Entry, entries}
 use Rattle.book.specs.Kinds.{instKind}
 use Rattle.book.specs.Fields.{instFields, instTagOf, instArgs}
-use Rattle.book_types.specs.Laws.{lentFrom, entries-part}
+use Rattle.book.specs.Work.{nameWords}
+use Rattle.book_types.specs.Laws.{lentFrom, entries-part, length-entries}
 use Rattle.lowering.specs.Context.{FnCtx}
 use Rattle.lowering.specs.Operand.{storeDest}
 use Rattle.lowering.specs.Inst.{genInst}
@@ -21,58 +19,43 @@ use Rattle.gen_lines.specs.declared.Reached.{Reached}
 use Rattle.gen_lines.specs.Puts.{Puts}
 use Rattle.gen_values.specs.Fields.{Fields}
 use Rattle.gen_values.specs.Maps.{Did}
-use Rattle.gen_inst.specs.View.{InstAt, kind-is, dest-word, fields-behind, dest-below}
+use Rattle.gen_inst.specs.View.{InstAt, kind-is, dest-word, inst-in, fields-behind, dest-below}
 use Rattle.gen_inst.specs.Body.{bodyGen, Stores, Unstored, stored-puts, unstored-puts}
-use Rattle.gen_inst.specs.Measured.{Measures}
-use Rattle.gen_inst.specs.Own.{Own, Held}
+use Rattle.gen_inst.specs.Held.{HeldAt}
 
--- an instruction stands at the place, and its types can be measured
-pub record InstThere (m : ℕ) (bk bw : List ℕ) (at : ℕ) (work : List ℕ) : Type 0 where
+-- an instruction stands in front of the part, which is the book from the place `at` on, and its types can be measured
+pub record InstThere (m : ℕ) (ks ws bk bw : List ℕ) (at : ℕ) (work : List ℕ) : Type 0 where
   pub inst : Inst
-  pub here : InstAt m (entries bk bw) at inst
+  pub here : InstAt m inst (entries ks ws)
+  pub placed : entries ks ws ≡ drop at (entries bk bw)
   pub ready : Ready m (entries bk bw) work
-  pub room : 8 * m + 64 ≤ length work
-
--- ---- the ranges of kinds
-pub measures-low : (kind : ℕ) → 71 ≤ kind → kind < 73 → Measures kind
-measures-low kind a b = at (eqb kind 71) refl
-  where
-    at : (t : Bool) → eqb kind 71 ≡ t → Measures kind
-    at true e = inl (eqb-true kind 71 e)
-    at false e = inr (inl (omega (arith, eqb-false kind 71 e)))
-
-pub measures-high : (kind : ℕ) → 77 ≤ kind → kind < 80 → Measures kind
-measures-high kind a b = at (eqb kind 77) (eqb kind 78) refl refl
-  where
-    at : (t u : Bool) → eqb kind 77 ≡ t → eqb kind 78 ≡ u → Measures kind
-    at true u e f = inr (inr (inl (eqb-true kind 77 e)))
-    at false true e f = inr (inr (inr (inl (eqb-true kind 78 f))))
-    at false false e f = inr (inr (inr (inr (omega (arith, eqb-false kind 77 e, eqb-false kind 78 f)))))
-
-pub own-low : (kind : ℕ) → 73 ≤ kind → kind < 77 → Own kind
-own-low kind a b = record { high = omega arith; other = ⊎-elim (λ e. omega arith) (⊎-elim (λ e. omega arith) (⊎-elim (λ e. omega arith) (⊎-elim (λ e. omega arith) (λ e. omega arith)))) }
-
-pub own-high : (kind : ℕ) → 80 ≤ kind → Own kind
-own-high kind a = record { high = omega arith; other = ⊎-elim (λ e. omega arith) (⊎-elim (λ e. omega arith) (⊎-elim (λ e. omega arith) (⊎-elim (λ e. omega arith) (λ e. omega arith)))) }
+  pub room : nameWords m + 64 ≤ length work
 
 -- ---- what the body is lent
-module _ {m : ℕ} (bk bw : List ℕ) (at : ℕ) {i : Inst} (h : InstAt m (entries bk bw) at i) where
-  pub part-fields : Fields m (instFields (instTagOf (i .kind))) (instArgs (i .kind)) (lentFrom bk bw (at + 1))
-  part-fields = subst (Fields m (instFields (instTagOf (i .kind))) (instArgs (i .kind))) (sym (entries-part (at + 1) bk bw)) (fields-behind bk bw at h)
+-- a part of a part
+pub placed-further : (ks ws : List ℕ) (bs : List Entry) (at i : ℕ) → entries ks ws ≡ drop at bs → lentFrom ks ws i ≡ drop (at + i) bs
+placed-further ks ws bs at i e = entries-part i ks ws ∙ ap (drop i) e ∙ drop-drop i at bs
 
-  pub dest-few : getD bw at 0 ≤ m
-  dest-few = subst (λ (n : ℕ). n ≤ m) (sym (dest-word bk bw at h)) (dest-below m (i .dest) (h .keeps .0))
+module _ {m : ℕ} (ks ws : List ℕ) {i : Inst} (h : InstAt m i (entries ks ws)) where
+  pub part-fields : Fields m (instFields (instTagOf (i .kind))) (instArgs (i .kind)) (lentFrom ks ws 1)
+  part-fields = subst (Fields m (instFields (instTagOf (i .kind))) (instArgs (i .kind))) (sym (entries-part 1 ks ws)) (fields-behind ks ws h)
 
-pub body-held : {m : ℕ} (bk bw : List ℕ) (at : ℕ) {work : List ℕ} → InstThere m bk bw at work → Held (getD bk at 0) m (lentFrom bk bw (at + 1)) (entries bk bw) (at + 1) (getD bw at 0) work
-body-held bk bw at t =
+  pub dest-few : getD ws 0 0 ≤ m
+  dest-few = subst (λ (n : ℕ). n ≤ m) (sym (dest-word ks ws h)) (dest-below m (i .dest) (h .keeps .0))
+
+-- the place is one of the book's
+pub inst-within : {m : ℕ} (ks ws bk bw : List ℕ) (at : ℕ) {work : List ℕ} → InstThere m ks ws bk bw at work → at < length bk
+inst-within ks ws bk bw at t =
+    let q = inst-in ks ws (t .here) in
+    omega (arith, q .0, q .1, length-entries ks ws, ap length (t .placed), length-drop at (entries bk bw), length-entries bk bw)
+
+pub body-held : {m : ℕ} (ks ws bk bw : List ℕ) (at : ℕ) {work : List ℕ} → InstThere m ks ws bk bw at work
+    → HeldAt (getD ks 0 0) m (lentFrom ks ws 1) (entries bk bw) (at + 1) (getD ws 0 0) work
+body-held ks ws bk bw at t =
     record {
-      inst = t .inst .kind;
-      is = kind-is bk bw at (t .here);
-      fields = part-fields bk bw at (t .here);
-      placed = entries-part (at + 1) bk bw;
-      ready = t .ready;
-      room = t .room;
-      result = dest-few bk bw at (t .here);
+      held = record { inst = t .inst .kind; is = kind-is ks ws (t .here); fields = part-fields ks ws (t .here); ready = t .ready; room = t .room };
+      placed = placed-further ks ws (entries bk bw) at 1 (t .placed);
+      result = dest-few ks ws (t .here);
     }
 
 -- ---- the whole instruction

@@ -1,4 +1,5 @@
 // The lines of loads, stores and freezes, atomic ones among them, which measure their type.
+use book::entry;
 use gen_atomic::gen_atomic_load;
 use gen_atomic::gen_atomic_store;
 use gen_lines::Reached;
@@ -16,7 +17,8 @@ ghost use Rattle.lowering.specs.Context.{FnCtx};
 ghost use Rattle.gen_values.specs.Maps.{Maps, Did};
 ghost use Rattle.gen_values.specs.Fields.{Fields};
 ghost use Rattle.gen_inst.specs.Body.{bodyGen};
-ghost use Rattle.gen_inst.specs.Measured.{Held, Measures};
+ghost use Rattle.gen_inst.specs.Held.{Held};
+ghost use Rattle.gen_inst.specs.Measured.{Measures};
 
 pub fn measured_lines(
     kind: u64,
@@ -38,7 +40,7 @@ pub fn measured_lines(
         s r (now (lines .entry)) (now (operands .entry)) (now (lines .exit)) (now (operands .exit))) ⌝ }
 {
     match kind {
-        71 => gen_load(
+        entry::LOAD => gen_load(
             kinds,
             words,
             book_kinds,
@@ -49,7 +51,7 @@ pub fn measured_lines(
             operands,
             s,
         ),
-        72 => gen_store(
+        entry::STORE => gen_store(
             kinds,
             words,
             book_kinds,
@@ -60,7 +62,7 @@ pub fn measured_lines(
             operands,
             s,
         ),
-        77 => gen_freeze(
+        entry::FREEZE => gen_freeze(
             kinds,
             words,
             book_kinds,
@@ -71,7 +73,7 @@ pub fn measured_lines(
             operands,
             s,
         ),
-        78 => gen_atomic_load(
+        entry::ATOMIC_LOAD => gen_atomic_load(
             kinds,
             words,
             book_kinds,
@@ -82,7 +84,7 @@ pub fn measured_lines(
             operands,
             s,
         ),
-        79 => gen_atomic_store(
+        entry::ATOMIC_STORE => gen_atomic_store(
             kinds,
             words,
             book_kinds,

@@ -1,4 +1,5 @@
-// The lines of allocas, getelementptrs, calls, cmpxchgs and extractvalues; phis and fences have none.
+// The lines of selects, allocas, getelementptrs, calls, cmpxchgs and extractvalues; phis and fences have none.
+use book::entry;
 use gen_alloca::gen_alloca;
 use gen_atomic::gen_cmpxchg;
 use gen_atomic::gen_extractvalue;
@@ -6,9 +7,10 @@ use gen_atomic::require_atomic_width;
 use gen_call::gen_call;
 use gen_gep::gen_gep;
 use gen_lines::Reached;
+use gen_select::gen_select;
 ghost use mathlib.Core.Path.{_≡_};
 ghost use mathlib.Core.Option.{Option};
-ghost use Prim.Native.Nat.{ℕ};
+ghost use Prim.Native.Nat.{ℕ, _≤_};
 ghost use Rattle.book.specs.Ast.{InstKind};
 ghost use Rattle.book.specs.Entry.{entries};
 ghost use Rattle.book.specs.Encode.{destWord};
@@ -18,7 +20,8 @@ ghost use Rattle.lowering.specs.Context.{FnCtx};
 ghost use Rattle.gen_values.specs.Maps.{Maps, Did};
 ghost use Rattle.gen_values.specs.Fields.{Fields};
 ghost use Rattle.gen_inst.specs.Body.{bodyGen};
-ghost use Rattle.gen_inst.specs.Own.{Held, Own};
+ghost use Rattle.gen_inst.specs.Held.{Held, HeldAt};
+ghost use Rattle.gen_inst.specs.Own.{Own};
 
 // A `cmpxchg` tests the atomic width before anything else.
 fn swap_lines(
@@ -26,7 +29,6 @@ fn swap_lines(
     words: &[u64],
     book_kinds: &[u64],
     book_words: &[u64],
-    from: usize,
     work: &mut [u64],
     names: u64,
     dest: u64,
@@ -34,7 +36,8 @@ fn swap_lines(
     operands: &mut [u64],
     s: Reached,
 ) -> Reached
-    requires { ⌜ Held 80 names (entries (now kinds) (now words)) (entries (now «book_kinds») (now «book_words»)) from dest (now work) ⌝ }
+    requires { ⌜ Held 80 names (entries (now kinds) (now words)) (entries (now «book_kinds») (now «book_words»)) (now work) ⌝ }
+    requires { ⌜ dest ≤ names ⌝ }
     ensures { λ r. ⌜ ((c : FnCtx) (d : Option ℕ) (k : InstKind) → 80 ≡ instKind (instTagOf k) → dest ≡ destWord d
         → Maps names (entries (now («book_kinds» .entry)) (now («book_words» .entry))) c (now (work .entry))
         → Fields names (instFields (instTagOf k)) (instArgs k) (entries (now (kinds .entry)) (now (words .entry)))
@@ -60,7 +63,7 @@ pub fn own_lines(
     operands: &mut [u64],
     s: Reached,
 ) -> Reached
-    requires { ⌜ Held kind names (entries (now kinds) (now words)) (entries (now «book_kinds») (now «book_words»)) from dest (now work) ⌝ }
+    requires { ⌜ HeldAt kind names (entries (now kinds) (now words)) (entries (now «book_kinds») (now «book_words»)) from dest (now work) ⌝ }
     ensures { λ r. ⌜ ((c : FnCtx) (d : Option ℕ) (k : InstKind) → kind ≡ instKind (instTagOf k) → Own kind → dest ≡ destWord d → c .bpSlot ≡ base
         → Maps names (entries (now («book_kinds» .entry)) (now («book_words» .entry))) c (now (work .entry))
         → Fields names (instFields (instTagOf k)) (instArgs k) (entries (now (kinds .entry)) (now (words .entry)))
@@ -68,7 +71,8 @@ pub fn own_lines(
         s r (now (lines .entry)) (now (operands .entry)) (now (lines .exit)) (now (operands .exit))) ⌝ }
 {
     match kind {
-        73 => gen_alloca(
+        entry::SELECT => gen_select(kinds, words, names, work, lines, operands, s),
+        entry::ALLOCA => gen_alloca(
             kinds,
             words,
             book_kinds,
@@ -81,7 +85,7 @@ pub fn own_lines(
             operands,
             s,
         ),
-        74 => gen_gep(
+        entry::GET_ELEMENT_PTR => gen_gep(
             book_kinds,
             book_words,
             from,
@@ -91,13 +95,12 @@ pub fn own_lines(
             operands,
             s,
         ),
-        76 => gen_call(kinds, words, names, dest, work, lines, operands, s),
-        80 => swap_lines(
+        entry::CALL => gen_call(kinds, words, names, dest, work, lines, operands, s),
+        entry::CMPXCHG => swap_lines(
             kinds,
             words,
             book_kinds,
             book_words,
-            from,
             work,
             names,
             dest,
@@ -105,7 +108,16 @@ pub fn own_lines(
             operands,
             s,
         ),
-        81 => gen_extractvalue(kinds, words, names, dest, work, lines, operands, s),
+        entry::EXTRACT_VALUE => gen_extractvalue(
+            kinds,
+            words,
+            names,
+            dest,
+            work,
+            lines,
+            operands,
+            s,
+        ),
         _ => s,
     }
 }

@@ -2,15 +2,15 @@
 use Prim.Native.Nat.{ℕ, _+_, _<_, _%_, _^_}
 use mathlib.Core.Path.{_≡_, refl, sym, ap, subst, _∙_}
 use mathlib.Core.Bool.{Bool, true, false}
-use mathlib.Core.List.{List, [], _∷_, _++_, append-assoc, append-nil}
+use mathlib.Core.List.{List, [], _∷_, _++_, append-assoc}
 use native.Mathlib.Omega.{arith}
 use native.Mathlib.Numerals.{add-one}
 use native.Mathlib.Nat.{mod-eq-of-lt}
 use Rattle.book.specs.Result.{Result, ok, err, bind}
 use Rattle.assembly.specs.Line.{Line}
-use Rattle.lowering.specs.Gen.{Gen, Out, lines, skip, after, _>>=_, _>>_, when, choose, fresh, reserve, each}
+use Rattle.lowering.specs.Gen.{Gen, Out, lines, skip, after, _>>=_, _>>_, when, choose, fresh, reserve, each, then-skip}
 use Rattle.gen_lines.specs.declared.Reached.{Reached}
-use Rattle.gen_lines.specs.Puts.{Puts, After, Able, Barred, isRefused, madeRefused, madeFresh, skip-puts, then-puts, same-puts}
+use Rattle.gen_lines.specs.Puts.{Puts, After, Able, Barred, isRefused, madeRefused, madeFresh, refused-before, refused-now, skip-puts, then-puts, same-puts}
 
 -- ---- what is asked for: the code has x, or it refused as r does
 abbrev pub Answered : {A : Type 0} → Result A → (s t : Reached) → A → Type 0
@@ -18,7 +18,7 @@ Answered (ok a) s t x = (t ≡ s) × (x ≡ a)
 Answered (err e) s t x = Barred e t
 
 pub record Asked {A : Type 0} (r : Result A) (s t : Reached) (x : A) : Type 0 where
-  pub stays : isRefused s ≡ true → Barred (s .counter) t
+  pub stays : isRefused s ≡ true → Barred (s .refused) t
   pub goes : isRefused s ≡ false → Answered r s t x
 
 module _ {A : Type 0} {r : Result A} (f : A → Gen) {s t u : Reached} {x : A} {ks os ks′ os′ : List ℕ} where
@@ -46,13 +46,8 @@ pub asked-ok : {A : Type 0} (s : Reached) (x : A) → Asked (ok x) s s x
 asked-ok s x = record { stays = λ r. record { refused = r; number = refl }; goes = λ r. (refl, refl) }
 
 -- a refusal
-pub asked-err : {A : Type 0} (e : ℕ) (s : Reached) {t : Reached} (x : A) → t ≡ madeRefused s e → Asked (err e) s t x
-asked-err e s {t} x h =
-    record {
-      stays = λ r. let q : t ≡ s = h ∙ rw r in record { refused = ap isRefused q ∙ r; number = ap (λ (v : Reached). v .counter) q };
-      goes = λ r. let q : t ≡ record { at = s .at; counter = e; refused = 1 } = h ∙ rw r in
-          record { refused = ap isRefused q; number = ap (λ (v : Reached). v .counter) q };
-    }
+pub asked-err : {A : Type 0} (e : ℕ) → 0 < e → (s : Reached) {t : Reached} (x : A) → t ≡ madeRefused s e → Asked (err e) s t x
+asked-err e p s x h = record { stays = refused-before e p s h; goes = refused-now e p s h }
 
 -- ---- tests
 module _ {g h : Gen} {s t : Reached} {ks os ks′ os′ : List ℕ} where
@@ -77,21 +72,17 @@ module _ {f : ℕ → Gen} (k : ℕ) {s t u : Reached} {ks os ks′ os′ : List
       record {
         long-kinds = own .long-kinds;
         long-operands = own .long-operands;
-        stays = λ r.
-            let q : t ≡ s = h ∙ rw r in
-            let d = own .stays (ap isRefused q ∙ r) in
-            record { refused = d .refused; number = d .number ∙ ap (λ (v : Reached). v .counter) q };
+        stays = λ r. let d = own .stays (ap isRefused h ∙ r) in record { refused = d .refused; number = d .number ∙ ap (λ (v : Reached). v .refused) h };
         goes = λ n a.
-            let q : t ≡ record { at = s .at; counter = (s .counter + k) % 2 ^ 64; refused = 0 } = h ∙ rw (a .going) in
-            let c : t .counter ≡ (n + k) % 2 ^ 64 = ap (λ (v : Reached). v .counter) q ∙ rw (a .counts) (omega arith) in
+            let c : t .counter ≡ (n + k) % 2 ^ 64 = ap (λ (v : Reached). v .counter) h ∙ rw (a .counts) (omega arith) in
             let b : Able t ks os (n + k) = record {
-              going = ap isRefused q;
-              within = rw q (a .within);
+              going = ap isRefused h ∙ a .going;
+              within = rw h (a .within);
               few-kinds = a .few-kinds;
               few-operands = a .few-operands;
               counts = c;
             } in
-            subst (λ (x : ℕ). After (f n (n + k)) x u ks os ks′ os′) (ap (λ (v : Reached). v .at) q) (p n (a .counts) .goes (n + k) b);
+            subst (λ (x : ℕ). After (f n (n + k)) x u ks os ks′ os′) (ap (λ (v : Reached). v .at) h) (p n (a .counts) .goes (n + k) b);
       }
 
 module _ {f : ℕ → Gen} {s t u : Reached} {ks os ks′ os′ : List ℕ} where
@@ -107,14 +98,6 @@ unit-left g n = at (g n)
   where
     at : (r : Result Out) → bind r (λ q. ok (after [] q)) ≡ r
     at (ok out) = refl
-    at (err e) = refl
-
-unit-right : (g : Gen) (n : ℕ) → (g >> skip) n ≡ g n
-unfolding _>>_ skip lines bind after
-unit-right g n = at (g n)
-  where
-    at : (r : Result Out) → bind r (λ p. bind (skip (p .next)) (λ q. ok (after (p .lines) q))) ≡ r
-    at (ok out) = ap ok (λ i. record { lines = append-nil (out .lines) i; next = out .next })
     at (err e) = refl
 
 assoc : (g h k : Gen) (n : ℕ) → ((g >> h) >> k) n ≡ (g >> (h >> k)) n
@@ -147,7 +130,7 @@ then-same g h k e n = at (g n)
 module _ {A : Type 0} (f : A → Gen) where
   each-append : (xs : List A) (x : A) (n : ℕ) → (each f xs >> f x) n ≡ each f (xs ++ (x ∷ [])) n
   unfolding each
-  each-append [] x n = unit-left (f x) n ∙ sym (unit-right (f x) n)
+  each-append [] x n = unit-left (f x) n ∙ sym (ap (λ (g : Gen). g n) (then-skip (f x)))
   each-append (y ∷ ys) x n = assoc (f y) (each f ys) (f x) n ∙ then-same (f y) _ _ (each-append ys x) n
 
   -- nothing of a list, and one more of it

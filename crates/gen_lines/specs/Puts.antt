@@ -1,12 +1,12 @@
 -- What a generator of lines leaves behind: `Puts g` says that the code did what the definition g says. Lines go from a place on into two slices, as far as these
 -- reach; a counter is a word, so the definition's counter is meant modulo 2^64, and so are the operands.
-use Prim.Native.Nat.{ℕ, suc, _+_, _≤_, _%_, _^_, min}
+use Prim.Native.Nat.{ℕ, suc, _+_, _<_, _≤_, _%_, _^_, min}
 use mathlib.Core.Path.{_≡_, refl, sym, ap, subst, _∙_}
 use mathlib.Core.Bool.{Bool, true, false, not}
 use mathlib.Core.List.{List, [], _∷_, _++_, map}
 use native.Mathlib.Omega.{arith}
 use native.Mathlib.Nat.{add-zero}
-use borrow.Author.Tests.{leb-true, leb-false}
+use borrow.Author.Tests.{leb-true, leb-false, ne-eqb}
 use lib.ListN.{length, set, length-append, length-set}
 use lib.Seq.{sets, length-sets, set-out}
 use lib.Dec.{leb, eqb}
@@ -42,11 +42,11 @@ orElse false a b = b
 
 -- behind a refusal, unless one came before
 abbrev pub madeRefused : Reached → ℕ → Reached
-madeRefused s e = orElse (isRefused s) s (record { at = s .at; counter = e; refused = 1 })
+madeRefused s e = orElse (isRefused s) s (record { at = s .at; counter = s .counter; refused = e })
 
 -- behind k labels
 abbrev pub madeFresh : Reached → ℕ → Reached
-madeFresh s k = orElse (isRefused s) s (record { at = s .at; counter = (s .counter + k) % 2 ^ 64; refused = 0 })
+madeFresh s k = record { at = s .at; counter = (s .counter + k) % 2 ^ 64; refused = s .refused }
 
 -- ---- what a generator leaves
 -- an operand as a word
@@ -64,7 +64,7 @@ pub record Wrote (out : Out) (at : ℕ) (t : Reached) (ks os ks′ os′ : List 
 -- refused with this number
 pub record Barred (e : ℕ) (t : Reached) : Type 0 where
   pub refused : isRefused t ≡ true
-  pub number : t .counter ≡ e
+  pub number : t .refused ≡ e
 
 abbrev pub After : Result Out → (at : ℕ) → Reached → (ks os ks′ os′ : List ℕ) → Type 0
 After (ok out) at t ks os ks′ os′ = Wrote out at t ks os ks′ os′
@@ -82,7 +82,7 @@ pub record Able (s : Reached) (ks os : List ℕ) (n : ℕ) : Type 0 where
 pub record Puts (g : Gen) (s t : Reached) (ks os ks′ os′ : List ℕ) : Type 0 where
   pub long-kinds : length ks′ ≡ length ks
   pub long-operands : length os′ ≡ length os
-  pub stays : isRefused s ≡ true → Barred (s .counter) t
+  pub stays : isRefused s ≡ true → Barred (s .refused) t
   pub goes : (n : ℕ) → Able s ks os n → After (g n) (s .at) t ks os ks′ os′
 
 -- the word is the same
@@ -97,7 +97,7 @@ line-puts {k} {x} {s} {t} {ks} {os} l ek ex h =
     record {
       long-kinds = ap length (h .kinds) ∙ length-set ks (s .at) k;
       long-operands = ap length (h .operands) ∙ length-set os (s .at) x;
-      stays = λ r. record { refused = still (h .refused) ∙ r; number = h .counter };
+      stays = λ r. record { refused = still (h .refused) ∙ r; number = h .refused };
       goes = λ n a. record {
         going = still (h .refused) ∙ a .going;
         place = h .place;
@@ -118,20 +118,28 @@ skip-puts s ks os =
       goes = λ n a. record { going = a .going; place = omega (arith, a .within); next = a .counts; kinds = refl; operands = refl };
     }
 
--- ---- a refusal
-pub refuse-puts : (e : ℕ) (s : Reached) {t : Reached} (ks os : List ℕ) → t ≡ madeRefused s e → Puts (refuse e) s t ks os ks os
-unfolding refuse
-refuse-puts e s {t} ks os h =
-    record {
-      long-kinds = refl;
-      long-operands = refl;
-      stays = λ r. let q : t ≡ s = h ∙ rw r in record { refused = ap isRefused q ∙ r; number = ap (λ (x : Reached). x .counter) q };
-      goes = λ n a. barred (a .going);
-    }
-  where
-    barred : isRefused s ≡ false → Barred e t
-    barred r = let q : t ≡ record { at = s .at; counter = e; refused = 1 } = h ∙ rw r in
-        record { refused = ap isRefused q; number = ap (λ (x : Reached). x .counter) q }
+-- ---- a refusal: its number is not 0
+module _ (e : ℕ) (positive : 0 < e) (s : Reached) {t : Reached} where
+  -- one that came before stays
+  pub refused-before : t ≡ madeRefused s e → isRefused s ≡ true → Barred (s .refused) t
+  refused-before h r = let q : t ≡ s = h ∙ rw r in record { refused = ap isRefused q ∙ r; number = ap (λ (x : Reached). x .refused) q }
+
+  pub refused-now : t ≡ madeRefused s e → isRefused s ≡ false → Barred e t
+  refused-now h r =
+      let q : t ≡ record { at = s .at; counter = s .counter; refused = e } = h ∙ rw r in
+      record { refused = ap isRefused q ∙ ap not (ne-eqb e 0 (λ z. omega arith)); number = ap (λ (x : Reached). x .refused) q }
+
+  -- behind a refusal there is one
+  pub made-refused : t ≡ madeRefused s e → isRefused t ≡ true
+  made-refused h = go (isRefused s) refl
+    where
+      go : (b : Bool) → isRefused s ≡ b → isRefused t ≡ true
+      go true r = refused-before h r .refused
+      go false r = refused-now h r .refused
+
+  pub refuse-puts : (ks os : List ℕ) → t ≡ madeRefused s e → Puts (refuse e) s t ks os ks os
+  unfolding refuse
+  refuse-puts ks os h = record { long-kinds = refl; long-operands = refl; stays = refused-before h; goes = λ n a. refused-now h (a .going) }
 
 -- ---- the same generator
 pub same-puts : {g h : Gen} {s t : Reached} {ks os ks′ os′ : List ℕ} → ((n : ℕ) → g n ≡ h n) → Puts g s t ks os ks′ os′ → Puts h s t ks os ks′ os′

@@ -3,12 +3,13 @@
 // a test between them.
 use std::num::wrapping_add_u64;
 ghost use mathlib.Core.Path.{_≡_};
+ghost use Prim.Native.Nat.{_<_};
 ghost use lib.ListN.{set};
 ghost use Rattle.gen_lines.specs.Puts.{further as furtherFrom, Lined, madeFresh, madeRefused};
 
-// The place behind the last line and the label counter; or that a generator refused, and its number in place of the counter.
-// `refused` is 0 where none did. It is a word because a flag would leave padding: the struct is handed on by value, and
-// copying padding reads across what was stored just before, which waits for the store.
+// The place behind the last line, the label counter, and the refusal's number where a generator refused, 0 where none did: behind
+// it the place and the counter count for nothing. All are words because a flag would leave padding: the struct is handed on by
+// value, and copying padding reads across what was stored just before, which waits for the store.
 pub struct Reached {
     pub at: usize,
     pub counter: u64,
@@ -60,6 +61,7 @@ pub fn put(lines: &mut [u16], operands: &mut [u64], s: Reached, kind: u16, opera
 
 // A refusal, unless one came before.
 pub fn refuse(s: Reached, number: u64) -> Reached
+    requires { ⌜ 0 < number ⌝ }
     ensures { λ r. ⌜ r ≡ madeRefused s number ⌝ }
 {
     if s.refused != 0 {
@@ -67,8 +69,8 @@ pub fn refuse(s: Reached, number: u64) -> Reached
     } else {
         Reached {
             at: s.at,
-            counter: number,
-            refused: 1,
+            counter: s.counter,
+            refused: number,
         }
     }
 }
@@ -77,14 +79,10 @@ pub fn refuse(s: Reached, number: u64) -> Reached
 pub fn fresh(s: Reached, labels: u64) -> Reached
     ensures { λ r. ⌜ r ≡ madeFresh s labels ⌝ }
 {
-    if s.refused != 0 {
-        s
-    } else {
-        Reached {
-            at: s.at,
-            counter: wrapping_add_u64(s.counter, labels),
-            refused: 0,
-        }
+    Reached {
+        at: s.at,
+        counter: wrapping_add_u64(s.counter, labels),
+        refused: s.refused,
     }
 }
 

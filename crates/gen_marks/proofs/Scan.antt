@@ -1,18 +1,18 @@
 -- A name looked through for `.with.overflow.`, and its class by its spelling.
-use Prim.Native.Nat.{ℕ, _+_, _-_, _<_, _≤_}
+use Prim.Native.Nat.{ℕ, suc, _+_, _-_, _<_, _≤_}
 use mathlib.Core.Path.{_≡_, refl, sym, ap, _∙_}
-use mathlib.Core.Bool.{Bool, true, false, _||_, or-false}
-use mathlib.Core.List.{List, _∷_, _++_}
+use mathlib.Core.Bool.{Bool, true, false, _||_, or-false, false≢true}
+use mathlib.Core.List.{List, [], _∷_, _++_}
 use native.Mathlib.Omega.{arith}
 use borrow.Author.Tests.{eqb-true, eqb-false, eq-eqb, ne-eqb}
-use lib.Dec.{eqb}
+use lib.Dec.{eqb, eqb·suc-suc}
 use lib.ListN.{length, getD, length-append}
 use Rattle.names.specs.Text.{bytes, same, starts, contains}
 use Rattle.names.specs.Name.{nameFrom}
 use Rattle.names.specs.Spelling.{isBcmp, isMemcmp, hasOverflow}
-use Rattle.names.specs.Tests.{is-false}
+use Rattle.names.specs.Tests.{both, is-false}
 use Rattle.names.specs.Texts.{contains-here, contains-iff}
-use Rattle.names_spelling.proofs.Spell.{name-ended, name-more, contains-later, same-part, same-not}
+use Rattle.names_spelling.proofs.Spell.{name-ended, name-more}
 use Rattle.gen_marks.specs.Spelling.{Ended}
 
 -- a name does not start with a text that has another first byte
@@ -29,6 +29,11 @@ contains-long : (p s : List ℕ) → contains p s ≡ true → length p ≤ leng
 contains-long p s h =
     let w = contains-iff p s .0 h in
     omega (arith, ap length (w .2), length-append (w .0) (p ++ w .1), length-append p (w .1))
+
+-- what does not start a text is contained in the rest or not at all
+contains-later : (p s r : List ℕ) (b : ℕ) → s ≡ b ∷ r → starts p s ≡ false → contains p s ≡ contains p r
+unfolding contains
+contains-later p s r b e h = rw e (rw (rw e at h))
 
 -- at the place i of the name that goes from `at` to `end`, in front of which the text does not start
 pub record Looking (bs : List ℕ) (at end i : ℕ) : Type 0 where
@@ -66,6 +71,34 @@ module _ {bs : List ℕ} {at end i : ℕ} (s : Looking bs at end i) where
     look-other n = look-later (starts-other bs i 46 _ (omega (arith, s .left .inside)) n)
 
 -- ---- the class
+-- a text that starts with another is the same if it is as long
+same-long : (p s : List ℕ) → starts p s ≡ true → same s p ≡ eqb (length s) (length p)
+unfolding same starts
+same-long [] [] h = refl
+same-long [] (y ∷ s) h = sym (ne-eqb (suc (length s)) 0 (λ e. omega arith))
+same-long (x ∷ p) [] h = absurd (false≢true h)
+same-long (x ∷ p) (y ∷ s) h =
+    let h′ = both (eqb x y) (starts p s) h in
+    rw (eq-eqb y x (sym (eqb-true x y (h′ .0))), eqb·suc-suc (length s) (length p)) (same-long p s (h′ .1))
+
+same-starts : (p s : List ℕ) → same s p ≡ true → starts p s ≡ true
+unfolding same starts
+same-starts [] s h = refl
+same-starts (x ∷ p) [] h = h
+same-starts (x ∷ p) (y ∷ s) h =
+    let h′ = both (eqb y x) (same s p) h in
+    rw (eq-eqb x y (sym (eqb-true y x (h′ .0)))) (same-starts p s (h′ .1))
+
+-- the same of a text that goes from `at` to `end`
+same-part : (p s : List ℕ) (at end : ℕ) → end ≡ at + length s → starts p s ≡ true → same s p ≡ eqb (end - at) (length p)
+same-part p s at end e h = same-long p s h ∙ ap (λ k. eqb k (length p)) drawn
+  where
+    drawn : length s ≡ end - at
+    drawn = omega arith
+
+same-not : (p s : List ℕ) → starts p s ≡ false → same s p ≡ false
+same-not p s h = is-false (same s p) (λ e. false≢true (sym h ∙ same-starts p s e))
+
 -- the name s goes from `at` to `end`: only a text as long may be the same
 module _ (s : List ℕ) (at end : ℕ) (e : end ≡ at + length s) where
   module _ (p : List ℕ) where

@@ -23,6 +23,7 @@ use Rattle.gen_values.specs.Maps.{markWord}
 use Rattle.gen_values.specs.Fields.{entry-at}
 use Rattle.gen_blocks.specs.Words.{WordsKept, words-none, words-set, words-then, ready-words}
 use Rattle.book.specs.Heads.{Inside, inside-ty, inside-body}
+use Rattle.book.specs.Work.{nameWords, markAt}
 use Rattle.gen_marks.specs.Mark.{plainMark, definedMark, raised, Raised, raise-one, mark-is}
 use Rattle.gen_marks.specs.Spelling.{SpellDone}
 
@@ -151,7 +152,7 @@ all-below m es k =
 -- ---- the pass: what it asks and leaves
 pub record DefineAsked (m : ℕ) (es : List Entry) (work : List ℕ) : Type 0 where
   pub book : IsBook m es
-  pub room : 8 * m ≤ length work
+  pub room : nameWords m ≤ length work
 
 pub record DefineDone (m : ℕ) (es : List Entry) (work work′ : List ℕ) : Type 0 where
   pub words : Raised m (λ x. member x (definers es)) work work′
@@ -164,7 +165,7 @@ pub record Marking (m : ℕ) (es : List Entry) (work₀ work : List ℕ) (a : �
   pub below : Each (λ x. x < m) (definers (drop a es))
   pub words : Raised m seen work₀ work
   pub kept : WordsKept m 5 work₀ work
-  pub room : 8 * m ≤ length work
+  pub room : nameWords m ≤ length work
 
 pub define-start : (m : ℕ) (es : List Entry) (work : List ℕ) → DefineAsked m es work → Marking m es work work 0
 define-start m es work k =
@@ -175,7 +176,7 @@ module _ (m : ℕ) (ks ws work₀ work : List ℕ) (a : ℕ) (p : Marking m (ent
   es = entries ks ws
 
   abbrev raising : List ℕ
-  raising = set work (8 * getD ws a 0 + 5) (definedMark (getD work (8 * getD ws a 0 + 5) 0))
+  raising = set work (markAt (getD ws a 0)) (definedMark (getD work (markAt (getD ws a 0)) 0))
 
   swap : (s e l : Bool) → (s || (e || l)) ≡ ((e || s) || l)
   swap true true l = refl
@@ -216,8 +217,8 @@ module _ (m : ℕ) (ks ws work₀ work : List ℕ) (a : ℕ) (p : Marking m (ent
               goes = λ x. p .goes x ∙ ap (λ (d : List ℕ). p .seen x || member x d) (step true i) ∙ swap (p .seen x) (eqb x w) (member x (definers (drop (a + 1) es)));
               below = both .1;
               words = raise-one m (p .seen) work₀ work (p .words) (p .room) w (both .0);
-              kept = words-then (p .kept) (words-set w (8 * w + 5) (definedMark (getD work (8 * w + 5) 0)) (both .0) refl);
-              room = omega (arith, p .room, length-set work (8 * w + 5) (definedMark (getD work (8 * w + 5) 0)));
+              kept = words-then (p .kept) (words-set w (markAt w) (definedMark (getD work (markAt w) 0)) (both .0) refl);
+              room = omega (arith, p .room, length-set work (markAt w) (definedMark (getD work (markAt w) 0)));
             };
       }
     where
@@ -240,7 +241,7 @@ module _ (m : ℕ) (ks ws work₀ work : List ℕ) (a : ℕ) (p : Marking m (ent
       let e : drop a es ≡ [] = drop-of-length-le es l in
       let all : (x : ℕ) → member x (definers es) ≡ p .seen x = λ x. p .goes x ∙ ap (λ (r : List Entry). p .seen x || member x (definers r)) e ∙ or-false (p .seen x) in
       record {
-        words = λ x h. p .words x h ∙ ap (λ (b : Bool). raised b (getD work₀ (8 * x + 5) 0)) (sym (all x));
+        words = λ x h. p .words x h ∙ ap (λ (b : Bool). raised b (getD work₀ (markAt x) 0)) (sym (all x));
         kept = p .kept;
       }
 
@@ -248,12 +249,12 @@ module _ (m : ℕ) (ks ws work₀ work : List ℕ) (a : ℕ) (p : Marking m (ent
 pub record MarksAsked (bs : List ℕ) (m : ℕ) (es : List Entry) (work : List ℕ) : Type 0 where
   pub names : accepted bs m ≡ true
   pub book : IsBook m es
-  pub room : 8 * m ≤ length work
-  pub nexts : (x : ℕ) → x < m → getD work (8 * x + 5) 0 ≡ startOf (lines bs) (x + 1)
+  pub room : nameWords m ≤ length work
+  pub nexts : (x : ℕ) → x < m → getD work (markAt x) 0 ≡ startOf (lines bs) (x + 1)
 
 -- word 5 of each name is its mark, and no other word has changed
 pub record MarksPlaced (m : ℕ) (g : Codegen) (work work′ : List ℕ) : Type 0 where
-  pub marks : (x : ℕ) → x < m → getD work′ (8 * x + 5) 0 ≡ markWord g x
+  pub marks : (x : ℕ) → x < m → getD work′ (markAt x) 0 ≡ markWord g x
   pub kept : WordsKept m 5 work work′
 
 module _ {bs : List ℕ} {m : ℕ} (ks ws : List ℕ) {work : List ℕ} (k : MarksAsked bs m (entries ks ws) work) where

@@ -11,6 +11,7 @@ use borrow.Author.Tests.{eqb-true, eqb-false, ne-eqb}
 use Rattle.names.specs.Name.{nameAt}
 use Rattle.names.specs.Spelling.{isSyscall, isBcmp, isMemcmp, hasOverflow}
 use Rattle.book.specs.Decode.{member}
+use Rattle.book.specs.Work.{nameWords, markAt}
 use Rattle.lowering.specs.Context.{Codegen}
 use Rattle.gen_values.specs.Maps.{callClass, markWord}
 
@@ -72,23 +73,23 @@ defined-again w = at (eqb (w % 4) 0) refl
 -- ---- the words of all names
 -- each is what it was, and defined where x was seen
 abbrev pub Raised : (m : ℕ) → (ℕ → Bool) → (work work′ : List ℕ) → Type 0
-Raised m seen work work′ = (x : ℕ) → x < m → getD work′ (8 * x + 5) 0 ≡ raised (seen x) (getD work (8 * x + 5) 0)
+Raised m seen work work′ = (x : ℕ) → x < m → getD work′ (markAt x) 0 ≡ raised (seen x) (getD work (markAt x) 0)
 
-pub raise-one : (m : ℕ) (seen : ℕ → Bool) (work work′ : List ℕ) → Raised m seen work work′ → 8 * m ≤ length work′ → (y : ℕ) → y < m
-    → Raised m (λ x. eqb x y || seen x) work (set work′ (8 * y + 5) (definedMark (getD work′ (8 * y + 5) 0)))
+pub raise-one : (m : ℕ) (seen : ℕ → Bool) (work work′ : List ℕ) → Raised m seen work work′ → nameWords m ≤ length work′ → (y : ℕ) → y < m
+    → Raised m (λ x. eqb x y || seen x) work (set work′ (markAt y) (definedMark (getD work′ (markAt y) 0)))
 raise-one m seen work work′ r room y l x lx = at (eqb x y) refl
   where
     v : ℕ
-    v = definedMark (getD work′ (8 * y + 5) 0)
+    v = definedMark (getD work′ (markAt y) 0)
 
-    own : (b : Bool) → definedMark (raised b (getD work (8 * y + 5) 0)) ≡ definedMark (getD work (8 * y + 5) 0)
-    own true = defined-again (getD work (8 * y + 5) 0)
+    own : (b : Bool) → definedMark (raised b (getD work (markAt y) 0)) ≡ definedMark (getD work (markAt y) 0)
+    own true = defined-again (getD work (markAt y) 0)
     own false = refl
 
-    at : (b : Bool) → eqb x y ≡ b → getD (set work′ (8 * y + 5) v) (8 * x + 5) 0 ≡ raised (b || seen x) (getD work (8 * x + 5) 0)
+    at : (b : Bool) → eqb x y ≡ b → getD (set work′ (markAt y) v) (markAt x) 0 ≡ raised (b || seen x) (getD work (markAt x) 0)
     at true e =
-        let s : 8 * y + 5 < length work′ = omega arith in
-        rw (eqb-true x y e) (getD-set-same work′ (8 * y + 5) v 0 s ∙ ap definedMark (r y l) ∙ own (seen y))
+        let s : markAt y < length work′ = omega arith in
+        rw (eqb-true x y e) (getD-set-same work′ (markAt y) v 0 s ∙ ap definedMark (r y l) ∙ own (seen y))
     at false e =
         let n = eqb-false x y e in
-        getD-set-other work′ (8 * y + 5) (8 * x + 5) v 0 (λ z. n (omega arith)) ∙ r x lx
+        getD-set-other work′ (markAt y) (markAt x) v 0 (λ z. n (omega arith)) ∙ r x lx

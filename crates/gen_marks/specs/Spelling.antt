@@ -10,8 +10,9 @@ use lib.Seq.{getD-set-same, getD-set-other}
 use borrow.Author.Tests.{eqb-true, eqb-false, ltb-true, ltb-false}
 use Rattle.names.specs.Name.{lines, accepted, nameAt, nameFrom, startOf}
 use Rattle.names.specs.Spelling.{hasOverflow}
-use Rattle.names.specs.Lines.{Names, names-iff, names-lines, accepted-iff}
+use Rattle.names.specs.Lines.{Names, names-iff, names-lines, accepted-iff, lines-counted}
 use Rattle.names.specs.Places.{stands, next-start, last-start}
+use Rattle.book.specs.Work.{nameWords, markAt}
 use Rattle.gen_blocks.specs.Words.{WordsKept, words-none, words-set, words-then}
 use Rattle.gen_marks.specs.Mark.{spelled, withOverflow, plainMark}
 
@@ -23,11 +24,11 @@ pub record Ended (bs : List ℕ) (at end : ℕ) : Type 0 where
 -- what the pass asks and leaves
 pub record SpellAsked (bs : List ℕ) (m : ℕ) (work : List ℕ) : Type 0 where
   pub names : accepted bs m ≡ true
-  pub room : 8 * m ≤ length work
-  pub nexts : (x : ℕ) → x < m → getD work (8 * x + 5) 0 ≡ startOf (lines bs) (x + 1)
+  pub room : nameWords m ≤ length work
+  pub nexts : (x : ℕ) → x < m → getD work (markAt x) 0 ≡ startOf (lines bs) (x + 1)
 
 pub record SpellDone (bs : List ℕ) (m : ℕ) (work work′ : List ℕ) : Type 0 where
-  pub words : (x : ℕ) → x < m → getD work′ (8 * x + 5) 0 ≡ plainMark (nameAt (lines bs) x)
+  pub words : (x : ℕ) → x < m → getD work′ (markAt x) 0 ≡ plainMark (nameAt (lines bs) x)
   pub kept : WordsKept m 5 work work′
 
 -- at the place `at`, where the name x begins
@@ -36,10 +37,10 @@ pub record Spelling (bs : List ℕ) (m : ℕ) (work₀ work : List ℕ) (at x : 
   pub count : length (lines bs) ≡ m
   pub place : at ≡ startOf (lines bs) x
   pub few : x ≤ m
-  pub words : (y : ℕ) → y < x → getD work (8 * y + 5) 0 ≡ plainMark (nameAt (lines bs) y)
-  pub nexts : (y : ℕ) → x ≤ y → y < m → getD work (8 * y + 5) 0 ≡ startOf (lines bs) (y + 1)
+  pub words : (y : ℕ) → y < x → getD work (markAt y) 0 ≡ plainMark (nameAt (lines bs) y)
+  pub nexts : (y : ℕ) → x ≤ y → y < m → getD work (markAt y) 0 ≡ startOf (lines bs) (y + 1)
   pub kept : WordsKept m 5 work₀ work
-  pub room : 8 * m ≤ length work
+  pub room : nameWords m ≤ length work
 
 pub spell-start : (bs : List ℕ) (m : ℕ) (work : List ℕ) → SpellAsked bs m work → Spelling bs m work work 0 0
 unfolding startOf
@@ -48,7 +49,7 @@ spell-start bs m work k =
     let l : lines bs ≡ a .0 = names-lines bs (a .0) (a .1) in
     record {
       names = rw l (names-iff bs (a .0) .0 (a .1));
-      count = rw l (a .2);
+      count = lines-counted bs m (k .names);
       place = refl;
       few = omega arith;
       words = λ y h. absurd (omega arith);
@@ -92,20 +93,20 @@ module _ {bs : List ℕ} {m : ℕ} {work₀ work : List ℕ} {at x : ℕ} (s : S
     name-is = rw (s .place) (stands bs ns (s .names) x here .from)
 
     -- the word is one more than the end of the name that begins here
-    word-next : getD work (8 * x + 5) 0 ≡ at + length (nameFrom bs at) + 1
+    word-next : getD work (markAt x) 0 ≡ at + length (nameFrom bs at) + 1
     word-next = s .nexts x (omega arith) (spell-more l) ∙ rw (s .place) (sym (next-start bs ns (s .names) x here))
 
-    pub more-than-none : 1 ≤ getD work (8 * x + 5) 0
+    pub more-than-none : 1 ≤ getD work (markAt x) 0
     more-than-none = omega (arith, word-next)
 
-    pub ended-here : Ended bs at (getD work (8 * x + 5) 0 - 1)
+    pub ended-here : Ended bs at (getD work (markAt x) 0 - 1)
     ended-here =
         record {
           ends = omega (arith, word-next);
           inside = omega (arith, word-next, s .place, ap length name-is, stands bs ns (s .names) x here .inside);
         }
 
-    pub spell-next : {end : ℕ} → Ended bs at end → (v : ℕ) → v ≡ plainMark (nameFrom bs at) → Spelling bs m work₀ (set work (8 * x + 5) v) (end + 1) (x + 1)
+    pub spell-next : {end : ℕ} → Ended bs at end → (v : ℕ) → v ≡ plainMark (nameFrom bs at) → Spelling bs m work₀ (set work (markAt x) v) (end + 1) (x + 1)
     spell-next {end} e v d =
         let q : x < m = spell-more l in
         record {
@@ -114,18 +115,18 @@ module _ {bs : List ℕ} {m : ℕ} {work₀ work : List ℕ} {at x : ℕ} (s : S
           place = ap (λ (k : ℕ). k + 1) (e .ends ∙ ap (λ (k : ℕ). k + length (nameFrom bs k)) (s .place)) ∙ next-start bs ns (s .names) x here;
           few = omega arith;
           words = λ y h. stored y h (eqb y x) refl;
-          nexts = λ y h k. getD-set-other work (8 * x + 5) (8 * y + 5) v 0 (λ z. omega arith) ∙ s .nexts y (omega arith) k;
-          kept = words-then (s .kept) (words-set x (8 * x + 5) v q refl);
-          room = omega (arith, s .room, length-set work (8 * x + 5) v);
+          nexts = λ y h k. getD-set-other work (markAt x) (markAt y) v 0 (λ z. omega arith) ∙ s .nexts y (omega arith) k;
+          kept = words-then (s .kept) (words-set x (markAt x) v q refl);
+          room = omega (arith, s .room, length-set work (markAt x) v);
         }
       where
-        stored : (y : ℕ) → y < x + 1 → (b : Bool) → eqb y x ≡ b → getD (set work (8 * x + 5) v) (8 * y + 5) 0 ≡ plainMark (nameAt ns y)
+        stored : (y : ℕ) → y < x + 1 → (b : Bool) → eqb y x ≡ b → getD (set work (markAt x) v) (markAt y) 0 ≡ plainMark (nameAt ns y)
         stored y h true f =
-            let r : 8 * x + 5 < length work = omega (arith, s .room, spell-more l) in
-            rw (eqb-true y x f) (getD-set-same work (8 * x + 5) v 0 r ∙ d ∙ ap plainMark name-is)
+            let r : markAt x < length work = omega (arith, s .room, spell-more l) in
+            rw (eqb-true y x f) (getD-set-same work (markAt x) v 0 r ∙ d ∙ ap plainMark name-is)
         stored y h false f =
             let n = eqb-false y x f in
-            getD-set-other work (8 * x + 5) (8 * y + 5) v 0 (λ z. n (omega arith)) ∙ s .words y (omega (arith, n))
+            getD-set-other work (markAt x) (markAt y) v 0 (λ z. n (omega arith)) ∙ s .words y (omega (arith, n))
 
 -- the word, from its class and its flag
 pub word-is : (bs : List ℕ) (at : ℕ) (class v : ℕ) (overflow : Bool) → class ≡ spelled (nameFrom bs at) → overflow ≡ hasOverflow (nameFrom bs at) → v ≡ withOverflow class overflow

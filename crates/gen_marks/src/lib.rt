@@ -1,6 +1,7 @@
 // Work word 5 of each name: how a global of that name is called. 2 for a name that starts `__uvm_`, 3 for `bcmp` and `memcmp`,
 // 1 for another that is defined here, else 0; and 4 more where the name contains `.with.overflow.`. Until this is placed, the word
 // holds where the next name starts, as the check has noted it.
+use book::entry;
 use book_types::shorter;
 use names_spelling::name_starts;
 ghost use mathlib.Core.Path.{_≡_};
@@ -103,7 +104,7 @@ fn spell_marks(names: &[u8], work: &mut [u64], count: u64)
     let mut at: usize = 0;
     let mut x: usize = 0;
     while at < names.len() {
-        let place = 8 * x + 5;
+        let place = book::work::WORDS * x + book::work::MARK;
         let end = work[place] as usize - 1;
         work[place] = with_overflow(spelled(names, at, end), overflows(names, at, end));
         x = x + 1;
@@ -115,7 +116,7 @@ fn spell_marks(names: &[u8], work: &mut [u64], count: u64)
 fn defines(kind: u64) -> bool
     ensures { λ r. ⌜ r ≡ definesOf kind ⌝ }
 {
-    (kind == 1) | (kind == 5)
+    (kind == entry::DEFINED) | (kind == entry::FUNCTION)
 }
 
 // The names that the book's marks and functions define.
@@ -127,7 +128,7 @@ fn define_marks(kinds: &[u64], words: &[u64], work: &mut [u64], count: u64)
     let mut at: usize = 0;
     while at < end {
         if defines(kinds[at]) {
-            let place = 8 * (words[at] as usize) + 5;
+            let place = book::work::WORDS * (words[at] as usize) + book::work::MARK;
             work[place] = defined(work[place]);
         }
         at = at + 1;

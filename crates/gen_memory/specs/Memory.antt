@@ -48,7 +48,7 @@ module _ (s : Reached) where
   pub mem-none : (n : ℕ) {t : Reached} → (n ≡ 1 → ⊥) → (n ≡ 2 → ⊥) → (n ≡ 4 → ⊥) → (n ≡ 8 → ⊥) → t ≡ madeRefused s 11 → MemAsked n s (record { number = 0; s = t })
   unfolding memOf memNumber okOr
   mem-none n a b d e h =
-      record { mem = Mem.m8; number = refl; asked = rw (ne-eqb n 1 a, ne-eqb n 2 b, ne-eqb n 4 d, ne-eqb n 8 e) (asked-err 11 s Mem.m8 h); few = omega arith }
+      record { mem = Mem.m8; number = refl; asked = rw (ne-eqb n 1 a, ne-eqb n 2 b, ne-eqb n 4 d, ne-eqb n 8 e) (asked-err 11 (omega arith) s Mem.m8 h); few = omega arith }
 
 -- ---- `load` and `store`
 module _ (c : FnCtx) (ty : Ty) {n : ℕ} {s s₁ : Reached} {r : Width} where

@@ -1,14 +1,16 @@
 // Loads and stores, and `freeze`, which measures its type too. The entries are lent from the type on.
+use assembly::line;
 use gen_fields::push_typed;
 use gen_lines::Reached;
 use gen_lines::put;
 use gen_lines::refuse;
 use gen_size::measured_size;
-use gen_values::int_width;
-use gen_values::push_at;
+use gen_values::push_value;
+use gen_values::width_of;
 use layout_memo::skip;
 ghost use mathlib.Core.Path.{_≡_};
-ghost use Prim.Native.Nat.{_≤_};
+ghost use Prim.Native.Nat.{_<_, _≤_};
+ghost use lib.ListN.{length, getD};
 ghost use Rattle.book.specs.Ast.{Ty};
 ghost use Rattle.book.specs.Entry.{entries};
 ghost use Rattle.book.specs.Kinds.{InstTag};
@@ -66,8 +68,10 @@ pub fn gen_load(
     let size = measured_size(kinds, words, book_kinds, book_words, work, names, s);
     let width = mem_of(size.bytes, size.s);
     let at = skip(kinds, words, names);
-    let address = push_at(kinds, words, at, 64, work, lines, operands, width.s);
-    put(lines, operands, address, 75 + width.number, 0)
+    let ptr_kinds = &kinds[at..];
+    let ptr_words = &words[at..];
+    let address = push_value(ptr_kinds, ptr_words, 64, work, lines, operands, width.s);
+    put(lines, operands, address, line::LOAD_U8 + width.number, 0)
 }
 
 // `store`: the address first, so that the value is popped first.
@@ -91,17 +95,21 @@ pub fn gen_store(
     let size = measured_size(kinds, words, book_kinds, book_words, work, names, s);
     let width = mem_of(size.bytes, size.s);
     let at = skip(kinds, words, names);
-    let address = push_at(kinds, words, at + 1, 64, work, lines, operands, width.s);
-    let value = push_typed(kinds, words, 0, at, work, lines, operands, address);
-    put(lines, operands, value, 79 + width.number, 0)
+    let ptr = at + 1;
+    let ptr_kinds = &kinds[ptr..];
+    let ptr_words = &words[ptr..];
+    let address = push_value(ptr_kinds, ptr_words, 64, work, lines, operands, width.s);
+    let value = push_typed(kinds, words, at, work, lines, operands, address);
+    put(lines, operands, value, line::STORE_U8 + width.number, 0)
 }
 
-// The width of the type that this entry begins, else 8 bits for each byte.
-fn width_or(kind: u64, word: u64, bytes: u64) -> u32
+// The width of the type at the front, else 8 bits for each byte.
+fn width_or(kinds: &[u64], words: &[u64], bytes: u64) -> u32
+    requires { ⌜ (0 < length (now kinds)) × (0 < length (now words)) ⌝ }
     requires { ⌜ bytes ≤ 16777216 ⌝ }
-    ensures { λ r. ⌜ ((t : Ty) → WidthSays (widthBy kind word) (intWidth t) → r ≡ widthOr (intWidth t) bytes) ⌝ }
+    ensures { λ r. ⌜ ((t : Ty) → WidthSays (widthBy (getD (now (kinds .entry)) 0 0) (getD (now (words .entry)) 0 0)) (intWidth t) → r ≡ widthOr (intWidth t) bytes) ⌝ }
 {
-    let width = int_width(kind, word);
+    let width = width_of(kinds, words);
     if width != 0 {
         return width;
     }
@@ -127,7 +135,9 @@ pub fn gen_freeze(
         s r (now (lines .entry)) (now (operands .entry)) (now (lines .exit)) (now (operands .exit))) ⌝ }
 {
     let size = measured_size(kinds, words, book_kinds, book_words, work, names, s);
-    let width = width_or(kinds[0], words[0], size.bytes);
+    let width = width_or(kinds, words, size.bytes);
     let at = skip(kinds, words, names);
-    push_at(kinds, words, at, width, work, lines, operands, size.s)
+    let val_kinds = &kinds[at..];
+    let val_words = &words[at..];
+    push_value(val_kinds, val_words, width, work, lines, operands, size.s)
 }

@@ -1,12 +1,10 @@
 -- One pass after the other: what each asks of the ones before it, and what they leave together.
-use Prim.Native.Nat.{ℕ, _+_, _-_, _*_, _<_, _≤_}
+use Prim.Native.Nat.{ℕ, _+_, _*_, _<_, _≤_}
 use mathlib.Core.Path.{_≡_, refl, sym, ap, _∙_, subst}
-use mathlib.Core.Bool.{Bool, true, false, cond}
 use mathlib.Core.Option.{some}
 use mathlib.Core.List.{List, [], _++_, append-nil}
 use native.Mathlib.Omega.{arith}
-use lib.ListN.{length, getD, take, drop, length-drop, length-append}
-use lib.Seq.{take-append-seam}
+use lib.ListN.{length, getD, drop, length-drop, length-append}
 use Rattle.names.specs.Name.{namesOf}
 use Rattle.names.specs.Lines.{accepted-iff}
 use Rattle.book.specs.Entry.{Entry, entries}
@@ -15,7 +13,8 @@ use Rattle.book.specs.Decode.{decode}
 use Rattle.book.specs.Encode.{closed, encBasicBlock}
 use Rattle.book.specs.Result.{Result, ok, err}
 use Rattle.book.specs.Shape.{allInsts}
-use Rattle.book_types.specs.Laws.{entries-drop, entries-take}
+use Rattle.book.specs.Work.{paramAt, slotAt, blockAt, placeAt, bodyAt, markAt, measuredAt}
+use Rattle.book_types.specs.Laws.{within-kinds, within-words}
 use Rattle.layout.specs.Frame.{Places, noFrame, framePass, framed}
 use Rattle.layout_memo.specs.Work.{Ready, settled-word, settled-first, tableAt, table-other, structsIn, structsOr}
 use Rattle.layout_memo.specs.Structs.{Blank, StructsPlaced}
@@ -23,12 +22,12 @@ use Rattle.lowering.specs.Context.{Codegen, codegenOf}
 use Rattle.lowering.specs.Function.{contextOf}
 use Rattle.gen_values.specs.Maps.{Maps, markWord}
 use Rattle.gen_blocks.specs.Words.{WordsKept}
-use Rattle.gen_blocks.specs.Function.{functionIn, behindIn, functionsIn, lastOf, FunctionAt, FunctionsAt}
+use Rattle.gen_blocks.specs.Function.{functionIn, behindIn, functionsIn, lastOf, FunctionsAt, between, between-is, between-part, cut-bounds}
 use Rattle.gen_blocks.specs.Blocks as passed
 use Rattle.gen_blocks.specs.Blocks.{FunctionAsked, FunctionPlaced}
 use Rattle.gen_blocks.specs.declared.Placed.{Placed}
 use Rattle.gen_marks.specs.Defined.{MarksAsked, MarksPlaced, marks-ready}
-use Rattle.gen_frame.specs.Pass.{BlocksAt, FrameAsk, FrameDone, says-ends}
+use Rattle.gen_frame.specs.Pass.{BlocksAt, FrameAsk, FrameDone}
 use Rattle.gen_frame.specs.Contexts.{Framed, frame-context, frame-refused}
 use Rattle.gen_frame.specs.declared.Frame.{Frame}
 use Rattle.gen_prepare.specs.Prepare.{preparedOf, Clean, Shared, BookAsk, BookDone, PrepareAsk, SetUp, PreparedAs, PrepareDone}
@@ -45,8 +44,8 @@ module _ {bs : List ℕ} {m : ℕ} (es : List Entry) {work : List ℕ} (k : Book
       record {
         book = k .book;
         room = omega (arith, k .room);
-        bodies = λ x l. k .words .blank (8 * x + 4) (λ y _ e. omega arith);
-        known = λ x l. k .words .blank (8 * x + 7) (λ y _ e. omega arith);
+        bodies = λ x l. k .words .blank (bodyAt x) (λ y _ e. omega arith);
+        known = λ x l. k .words .blank (measuredAt x) (λ y _ e. omega arith);
         table = λ i. k .words .blank (tableAt m i) (λ y ly. table-other m i y 5 (omega arith) (λ e. omega arith) ly);
       }
 
@@ -57,7 +56,7 @@ module _ {bs : List ℕ} {m : ℕ} (es : List Entry) {work : List ℕ} (k : Book
           names = k .names;
           book = k .book;
           room = omega (arith, k .room, s .kept .long);
-          nexts = λ x l. s .kept .same (8 * x + 5) (λ y _ e. omega arith) ∙ k .words .nexts x l (omega (arith, k .room));
+          nexts = λ x l. s .kept .same (markAt x) (λ y _ e. omega arith) ∙ k .words .nexts x l (omega (arith, k .room));
         }
 
     module _ {work₂ : List ℕ}
@@ -67,7 +66,7 @@ module _ {bs : List ℕ} {m : ℕ} (es : List Entry) {work : List ℕ} (k : Book
       marks-kept = let n = accepted-iff bs m .0 (k .names) in d (n .0) (k .book .book) (n .1) (k .book .says) .kept
 
       -- a word that is neither a body's nor a mark
-      still-blank : (i : ℕ) → ((x : ℕ) → x < m → i ≡ 8 * x + 4 → ⊥) → ((x : ℕ) → x < m → i ≡ 8 * x + 5 → ⊥) → getD work₂ i 0 ≡ 0
+      still-blank : (i : ℕ) → ((x : ℕ) → x < m → i ≡ bodyAt x → ⊥) → ((x : ℕ) → x < m → i ≡ markAt x → ⊥) → getD work₂ i 0 ≡ 0
       still-blank i p q = marks-kept .same i q ∙ s .kept .same i p ∙ k .words .blank i q
 
       pub book-done : {a : ℕ} → FunctionsAt m es (lastOf es) a (functionsIn m es) → BookDone bs m es work₂ a
@@ -75,10 +74,10 @@ module _ {bs : List ℕ} {m : ℕ} (es : List Entry) {work : List ℕ} (k : Book
           record {
             functions = f;
             clean = record {
-              params = λ x l. still-blank (8 * x) (λ y _ e. omega arith) (λ y _ e. omega arith);
-              slots = λ x l. still-blank (8 * x + 1) (λ y _ e. omega arith) (λ y _ e. omega arith);
-              blocks = λ x l. still-blank (8 * x + 2) (λ y _ e. omega arith) (λ y _ e. omega arith);
-              places = λ x l. still-blank (8 * x + 3) (λ y _ e. omega arith) (λ y _ e. omega arith);
+              params = λ x l. still-blank (paramAt x) (λ y _ e. omega arith) (λ y _ e. omega arith);
+              slots = λ x l. still-blank (slotAt x) (λ y _ e. omega arith) (λ y _ e. omega arith);
+              blocks = λ x l. still-blank (blockAt x) (λ y _ e. omega arith) (λ y _ e. omega arith);
+              places = λ x l. still-blank (placeAt x) (λ y _ e. omega arith) (λ y _ e. omega arith);
             };
             shared = λ ns b en eb. record {
               room = omega (arith, k .room, s .kept .long, marks-kept .long);
@@ -89,21 +88,15 @@ module _ {bs : List ℕ} {m : ℕ} (es : List Entry) {work : List ℕ} (k : Book
           }
 
 -- ---- a function
--- the slots of the answer: 0 where it refuses
-fewer : (b : Bool) (n l : ℕ) → n ≤ l → cond b 0 n ≤ l
-fewer true n l h = omega arith
-fewer false n l h = h
-
 -- the part of lent kinds and words that a function's blocks are
 abbrev pub part : (ks ws : List ℕ) → Placed → List Entry
-part ks ws p = entries (take (p .end - p .blocks) (drop (p .blocks) ks)) (take (p .end - p .blocks) (drop (p .blocks) ws))
+part ks ws p = between ks ws (p .blocks) (p .end)
 
 part-is : (ks ws : List ℕ) (p : Placed) (x y : List Entry) → drop (p .blocks) (entries ks ws) ≡ x ++ y → drop (p .end) (entries ks ws) ≡ y → p .blocks ≤ length (entries ks ws) → p .end ≤ length (entries ks ws)
     → part ks ws p ≡ x
 part-is ks ws p x y h k l n =
-    let many : p .end - p .blocks ≡ length x = omega (arith, ap length h, ap length k, length-append x y, length-drop (p .blocks) (entries ks ws), length-drop (p .end) (entries ks ws)) in
-    entries-take (p .end - p .blocks) (drop (p .blocks) ks) (drop (p .blocks) ws) ∙ ap (take (p .end - p .blocks)) (entries-drop (p .blocks) ks ws ∙ h)
-    ∙ ap (λ (j : ℕ). take j (x ++ y)) many ∙ take-append-seam x y
+    let many : p .end ≡ p .blocks + length x = omega (arith, ap length h, ap length k, length-append x y, length-drop (p .blocks) (entries ks ws), length-drop (p .end) (entries ks ws)) in
+    between-part ks ws (p .blocks) (p .end) x y h many
 
 module _ {m : ℕ} (ks ws : List ℕ) {last a : ℕ} {work : List ℕ} (k : PrepareAsk m (entries ks ws) last a work) where
   abbrev es : List Entry
@@ -112,8 +105,11 @@ module _ {m : ℕ} (ks ws : List ℕ) {last a : ℕ} {work : List ℕ} (k : Prep
   abbrev fn : Function
   fn = functionIn m (entries ks ws) a
 
-  pub function-ask : FunctionAsked m es last work a
-  function-ask = record { fn = k .fn; room = omega (arith, k .room); params = k .clean .params; blocks = k .clean .blocks }
+  pub function-within : (a ≤ last) × (last ≤ length ks) × (last ≤ length ws)
+  function-within = let b = cut-bounds (k .fn) in (b .0, within-kinds last ks ws (b .1), within-words last ks ws (b .1))
+
+  pub function-ask : FunctionAsked m es last (between ks ws a last) a work
+  function-ask = record { fn = k .fn; part = between-is ks ws a last; room = omega (arith, k .room); params = k .clean .params; blocks = k .clean .blocks }
 
   module _ {work₁ : List ℕ} {p : Placed} (w : FunctionPlaced m es a work work₁ p) where
     ready : Ready m es work₁
@@ -151,18 +147,15 @@ module _ {m : ℕ} (ks ws : List ℕ) {last a : ℕ} {work : List ℕ} (k : Prep
           at = blocks-at;
           ends = refl;
           ready = ready;
-          slots = λ x l. w .same (8 * x + 1) (λ y _ e. omega arith) (λ y _ e. omega arith) ∙ k .clean .slots x l;
-          places = λ x l. w .same (8 * x + 3) (λ y _ e. omega arith) (λ y _ e. omega arith) ∙ k .clean .places x l;
+          slots = λ x l. w .same (slotAt x) (λ y _ e. omega arith) (λ y _ e. omega arith) ∙ k .clean .slots x l;
+          places = λ x l. w .same (placeAt x) (λ y _ e. omega arith) (λ y _ e. omega arith) ∙ k .clean .places x l;
         }
 
     module _ {work₂ : List ℕ} {f : Frame} (r : FrameDone m (part ks ws p) es work₁ work₂ f) where
-      pub ends-within : f .refused ≡ false → f .off ≤ 2147483648
-      ends-within = says-ends m (framePass (structsIn m es) (allInsts (fn .blocks)) noFrame) work₂ f (r .places (fn .blocks) blocks-at)
-
       -- the context of the function among what the book's functions share
       module _ (g : Codegen) (sh : Shared m es g work) where
-        marks₁ : (x : ℕ) → x < m → getD work₁ (8 * x + 5) 0 ≡ markWord g x
-        marks₁ x l = w .same (8 * x + 5) (λ y _ e. omega arith) (λ y _ e. omega arith) ∙ sh .marks x l
+        marks₁ : (x : ℕ) → x < m → getD work₁ (markAt x) 0 ≡ markWord g x
+        marks₁ x l = w .same (markAt x) (λ y _ e. omega arith) (λ y _ e. omega arith) ∙ sh .marks x l
 
         maps : (fr : Places) → Framed m (contextOf g fn fr) fr work₂ f → Maps m es (contextOf g fn fr) work₂
         unfolding contextOf
@@ -170,12 +163,12 @@ module _ {m : ℕ} (ks ws : List ℕ) {last a : ℕ} {work : List ℕ} (k : Prep
             record {
               room = omega (arith, k .room, r .kept .long, w .long);
               locals = record {
-                params = λ x l. r .kept .same (8 * x) (λ y _ e. omega arith) (λ y _ e. omega arith) (settled-first x l) ∙ w .params x l;
+                params = λ x l. r .kept .same (paramAt x) (λ y _ e. omega arith) (λ y _ e. omega arith) (settled-first x l) ∙ w .params x l;
                 slots = h .slots;
               };
-              blocks = λ x l. rw (r .kept .same (8 * x + 2) (λ y _ e. omega arith) (λ y _ e. omega arith) (settled-word x 2 l (omega arith))) (w .blocks x l);
+              blocks = λ x l. rw (r .kept .same (blockAt x) (λ y _ e. omega arith) (λ y _ e. omega arith) (settled-word x 2 l (omega arith))) (w .blocks x l);
               places = h .places;
-              marks = λ x l. r .kept .same (8 * x + 5) (λ y _ e. omega arith) (λ y _ e. omega arith) (settled-word x 5 l (omega arith)) ∙ marks₁ x l;
+              marks = λ x l. r .kept .same (markAt x) (λ y _ e. omega arith) (λ y _ e. omega arith) (settled-word x 5 l (omega arith)) ∙ marks₁ x l;
               structs = sh .structs;
               measured = r .ready;
             }
@@ -186,9 +179,9 @@ module _ {m : ℕ} (ks ws : List ℕ) {last a : ℕ} {work : List ℕ} (k : Prep
             record {
               going = h .accepted;
               maps = maps fr h;
-              slots = rw (h .accepted) (sym (h .base));
-              size = rw (h .accepted, h .off) refl;
-              framed = rw (h .accepted, h .off, h .dynamic) refl;
+              slots = sym (h .base);
+              size = rw (h .off) refl;
+              framed = rw (h .off, h .dynamic) refl;
             }
 
         says : PreparedAs (framePass (g .structs) (allInsts (fn .blocks)) noFrame) g fn m es work₂ (preparedOf a p f)
@@ -196,9 +189,7 @@ module _ {m : ℕ} (ks ws : List ℕ) {last a : ℕ} {work : List ℕ} (k : Prep
           where
             go : (x : Result Places) → framePass (g .structs) (allInsts (fn .blocks)) noFrame ≡ x → PreparedAs x g fn m es work₂ (preparedOf a p f)
             go (ok fr) e = set-up fr (frame-context g fn (sh .structs) blocks-at r marks₁ e)
-            go (err n) e =
-                let h = frame-refused g fn (sh .structs) blocks-at r e in
-                (h .0, rw (h .0) (h .1))
+            go (err n) e = frame-refused g fn (sh .structs) blocks-at r e
 
       pub prepared : PrepareDone m es a work work₂ (preparedOf a p f)
       prepared =
@@ -208,6 +199,6 @@ module _ {m : ℕ} (ks ws : List ℕ) {last a : ℕ} {work : List ℕ} (k : Prep
             first-there = w .first-there;
             after = w .after;
             there = w .there;
-            few = fewer (f .refused) (f .slots) 2097152 (omega (arith, r .few, few-part, k .fn .few));
+            few = omega (arith, r .few, few-part, k .fn .few);
             says = says;
           }

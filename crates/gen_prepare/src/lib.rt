@@ -9,13 +9,12 @@ use gen_marks::place_marks;
 use layout_memo::structs::place_structs;
 use numbers::align::align_up;
 ghost use mathlib.Core.Path.{_≡_};
-ghost use mathlib.Core.Bool.{false};
 ghost use Prim.Native.Nat.{_≤_};
 ghost use Rattle.book.specs.Entry.{entries};
 ghost use Rattle.gen_prepare.specs.Prepare.{preparedOf, BookAsk, BookDone, PrepareAsk, PrepareDone};
 
 // Where a function stands, its list of blocks and its end; the number of its slots, which is the slot of the frame's base; the bytes
-// of its frame, and whether it has one. Or that a place was refused, and its number for the bytes.
+// of its frame, and whether it has one; and the refusal's number where a place was refused, 0 where none was.
 pub struct Prepared {
     pub at: usize,
     pub blocks: usize,
@@ -23,25 +22,14 @@ pub struct Prepared {
     pub slots: u64,
     pub size: u64,
     pub framed: bool,
-    pub refused: bool,
+    pub refused: u64,
 }
 
 // The answer, from that of the frame pass.
 fn framed(at: usize, placed: Placed, f: Frame) -> Prepared
-    requires { ⌜ (f .refused ≡ false → f .off ≤ 2147483648) ⌝ }
+    requires { ⌜ f .off ≤ 2147483648 ⌝ }
     ensures { λ r. ⌜ r ≡ preparedOf at placed f ⌝ }
 {
-    if f.refused {
-        return Prepared {
-            at,
-            blocks: placed.blocks,
-            end: placed.end,
-            slots: 0,
-            size: f.off,
-            framed: false,
-            refused: true,
-        };
-    }
     let size = align_up(f.off, 8);
     Prepared {
         at,
@@ -50,7 +38,7 @@ fn framed(at: usize, placed: Placed, f: Frame) -> Prepared
         slots: f.slots,
         size,
         framed: (0 < size) | f.dynamic,
-        refused: false,
+        refused: f.refused,
     }
 }
 
@@ -83,7 +71,7 @@ pub fn prepare(
     requires { ⌜ PrepareAsk count (entries (now kinds) (now words)) last at (now work) ⌝ }
     ensures { λ r. ⌜ PrepareDone count (entries (now (kinds .entry)) (now (words .entry))) at (now (work .entry)) (now (work .exit)) r ⌝ }
 {
-    let placed = place_function(kinds, words, work, count, at, last);
+    let placed = place_function(&kinds[at..last], &words[at..last], work, count, at);
     let from = placed.blocks;
     let end = placed.end;
     let f = frame_pass(

@@ -1,12 +1,13 @@
 -- What `gen_select` is lent, and the law that puts its lines together.
-use Prim.Native.Nat.{ℕ, _+_, _*_, _<_, _≤_, _%_, _^_}
-use mathlib.Core.Path.{_≡_, refl, _∙_}
+use Prim.Native.Nat.{ℕ, _+_, _<_, _%_, _^_}
+use mathlib.Core.Path.{_≡_, refl, ap, _∙_}
 use mathlib.Core.List.{List, [], _∷_}
 use native.Mathlib.Omega.{arith}
-use lib.ListN.{length, drop}
+use lib.ListN.{drop}
 use Rattle.book.specs.Ast.{Ty, Value}
 use Rattle.book.specs.Entry.{entries}
 use Rattle.book.specs.Fields.{Item, Field, Meanings}
+use Rattle.book_types.specs.Laws.{lentFrom, entries-part}
 use Rattle.assembly.specs.Line.{Line, Hint}
 use Rattle.assembly.specs.Number.{kindOf, operandOf, hintNumber}
 use Rattle.lowering.specs.Gen.{line}
@@ -17,7 +18,7 @@ use Rattle.layout_memo.specs.Front.{tyLen}
 use Rattle.gen_lines.specs.declared.Reached.{Reached}
 use Rattle.gen_lines.specs.Puts.{Puts, Lined, madeFresh, line-puts, then-puts}
 use Rattle.gen_lines.specs.Follow.{Asked, asked-puts, fresh-puts}
-use Rattle.gen_values.specs.Fields.{Fields, ValueAt, OperandAt, operand-at, value-at, behind-value, behind-type}
+use Rattle.gen_values.specs.Fields.{Fields, ValueAt, value-at, behind-value, behind-type}
 
 -- a value, a type and two values
 abbrev pub selected : List Field
@@ -30,16 +31,15 @@ module _ {m : ℕ} {p : Meanings selected} (ks ws : List ℕ) (f : Fields m sele
   pub typed : Fields m (Field.plain Item.type ∷ Field.plain Item.value ∷ Field.plain Item.value ∷ []) (p .1) (drop 1 (entries ks ws))
   typed = behind-value ks ws 0 f
 
-  module _ {n : ℕ} (e : n ≡ tyLen m (drop 1 (entries ks ws))) where
+  module _ {n : ℕ} (e : n ≡ tyLen m (lentFrom ks ws 1)) where
+    sides : Fields m (Field.plain Item.value ∷ Field.plain Item.value ∷ []) (p .1 .1) (drop (1 + n) (entries ks ws))
+    sides = behind-type ks ws 1 typed (e ∙ ap (tyLen m) (entries-part 1 ks ws))
+
     pub true-side : ValueAt m ks ws (1 + n) (p .1 .1 .0)
-    true-side = value-at ks ws (1 + n) (behind-type ks ws 1 typed e)
+    true-side = value-at ks ws (1 + n) sides
 
     pub false-side : ValueAt m ks ws (1 + n + 1) (p .1 .1 .1 .0)
-    false-side = value-at ks ws (1 + n + 1) (behind-value ks ws (1 + n) (behind-type ks ws 1 typed e))
-
--- a value of the fields is there
-pub there : {m : ℕ} {ks ws : List ℕ} {a : ℕ} {v : Value} (work : List ℕ) → 8 * m + 64 ≤ length work → ValueAt m ks ws a v → OperandAt ks ws a work
-there work r h = operand-at h (omega (arith, r))
+    false-side = value-at ks ws (1 + n + 1) (behind-value ks ws (1 + n) sides)
 
 -- ---- the lines
 module _ {s t : Reached} {ks os ks′ os′ : List ℕ} where

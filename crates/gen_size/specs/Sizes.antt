@@ -1,12 +1,13 @@
 -- Measurements as generators ask for them: `size_of` and `align_of`, each with 64 levels.
-use Prim.Native.Nat.{ℕ, _≤_}
+use Prim.Native.Nat.{ℕ, _<_, _≤_}
 use mathlib.Core.Path.{_≡_, sym}
 use mathlib.Core.List.{List}
 use native.Mathlib.Omega.{arith}
 use Rattle.book.specs.Ast.{Ty}
 use Rattle.book.specs.Entry.{Entry}
 use Rattle.book.specs.Result.{ok, err}
-use Rattle.layout.specs.Layout.{sizeOf, alignOf}
+use Rattle.layout.specs.Layout.{sizeOf, alignOf, sizeAt, alignAt}
+use Rattle.layout.specs.Refusals.{refusal-positive, refusing-err, size-refusing, align-refusing}
 use Rattle.layout_memo.specs.Front.{Starts, tyOf}
 use Rattle.layout_memo.specs.Measured.{Measures}
 use Rattle.layout_memo.specs.Work.{Ready, After, Ask, Outcome, structsIn, sizes, aligns, size-small, align-small}
@@ -38,6 +39,14 @@ pub record AlignAsked (m : ℕ) (es bs : List Entry) (work work′ : List ℕ) (
   pub after : After m bs work work′
 
 -- ---- by the answer of a measurement
+-- a refusal's number is not 0
+module _ {m : ℕ} {bs : List Entry} {work work′ : List ℕ} (ty : Ty) {e : ℕ} {q : Measured} where
+  pub size-number : Outcome m bs work work′ (sizes (structsIn m bs) ty) 64 q → q ≡ measured.Refused e → 0 < e
+  size-number o i = refusal-positive (refusing-err (sizeAt (structsIn m bs) 64 ty) (size-refusing (structsIn m bs) 64 ty) (rw i at (o .says)))
+
+  pub align-number : Outcome m bs work work′ (aligns (structsIn m bs) ty) 64 q → q ≡ measured.Refused e → 0 < e
+  align-number o i = refusal-positive (refusing-err (alignAt (structsIn m bs) 64 ty) (align-refusing (structsIn m bs) 64 ty) (rw i at (o .says)))
+
 module _ {m : ℕ} {es bs : List Entry} {work work′ : List ℕ} (s : Reached) where
   pub size-bytes : {n h : ℕ} {q : Measured} → Outcome m bs work work′ (sizes (structsIn m bs) (tyOf m es)) 64 q → q ≡ measured.Bytes n h
       → SizeAsked m es bs work work′ s (record { bytes = n; s = s })
@@ -56,7 +65,7 @@ module _ {m : ℕ} {es bs : List Entry} {work work′ : List ℕ} (s : Reached) 
   unfolding sizeOf
   size-refused {e} o i j =
       let a : sizeOf (structsIn m bs) (tyOf m es) ≡ err e = rw i at (o .says) in
-      record { asked = rw a (asked-err e s 0 j); small = omega arith; after = o .after }
+      record { asked = rw a (asked-err e (size-number (tyOf m es) o i) s 0 j); small = omega arith; after = o .after }
 
   pub align-bytes : {n h : ℕ} {q : Measured} → Outcome m bs work work′ (aligns (structsIn m bs) (tyOf m es)) 64 q → q ≡ measured.Bytes n h
       → AlignAsked m es bs work work′ s (record { bytes = n; s = s })
@@ -75,7 +84,7 @@ module _ {m : ℕ} {es bs : List Entry} {work work′ : List ℕ} (s : Reached) 
   unfolding alignOf
   align-refused {e} o i j =
       let a : alignOf (structsIn m bs) (tyOf m es) ≡ err e = rw i at (o .says) in
-      record { asked = rw a (asked-err e s 0 j); small = omega arith; after = o .after }
+      record { asked = rw a (asked-err e (align-number (tyOf m es) o i) s 0 j); small = omega arith; after = o .after }
 
 -- ---- in a context that the work words hold
 module _ {m : ℕ} {es bs : List Entry} {c : FnCtx} {work work′ : List ℕ} {s : Reached} {r : Bytes} {ty : Ty} (k : Maps m bs c work) (e : tyOf m es ≡ ty) where

@@ -52,7 +52,7 @@ pub fn lines_fit(counted: Reached, lines: usize, operands: usize) -> Fit
     ensures { λ r. ⌜ FitOf counted lines operands r ⌝ }
 {
     if counted.refused != 0 {
-        return Fit::Refused(counted.counter);
+        return Fit::Refused(counted.refused);
     }
     let many = counted.at;
     if lines < many {

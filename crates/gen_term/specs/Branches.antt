@@ -3,6 +3,7 @@ use Prim.Native.Nat.{ℕ, _<_, _^_}
 use mathlib.Core.Path.{_≡_, refl, subst, _∙_}
 use mathlib.Core.Option.{Option, none, some}
 use mathlib.Core.List.{List}
+use native.Mathlib.Omega.{arith}
 use lib.ListN.{drop}
 use Rattle.book.specs.Ast.{Value}
 use Rattle.book.specs.Entry.{Entry, entries}
@@ -61,7 +62,7 @@ module _ (c : FnCtx) (pred ifTrue : ℕ) (ifFalse : Option ℕ) where
   -- "condition without false target", before anything is pushed
   pub one-way-puts : (v : Value) → ifFalse ≡ none → (s : Reached) {t : Reached} (ks os : List ℕ) → t ≡ madeRefused s 19 → Puts (genCondBr c pred v ifTrue ifFalse) s t ks os ks os
   unfolding genCondBr okOr _>>=_ bind refuse
-  one-way-puts v e s ks os h = same-puts (λ n. rw e) (refuse-puts 19 s ks os h)
+  one-way-puts v e s ks os h = same-puts (λ n. rw e) (refuse-puts 19 (omega arith) s ks os h)
 
   module _ {s a b d e f g : Reached} {ks os k1 o1 k2 o2 k3 o3 k4 o4 k5 o5 : List ℕ} where
     pub both-ways-puts : (v : Value) (other : ℕ) {label : ℕ} → ifFalse ≡ some other → Puts (pushValue c v 1) s a ks os k1 o1 → b ≡ madeFresh a 1

@@ -1,5 +1,5 @@
 -- `ret` and `emit_frame_leave`, line by line.
-use Prim.Native.Nat.{ℕ, _*_, _+_, _<_, _≤_, _^_}
+use Prim.Native.Nat.{ℕ, _+_, _<_, _≤_, _^_}
 use mathlib.Core.Path.{_≡_, refl, sym, ap, _∙_}
 use mathlib.Core.Bool.{Bool, true, false}
 use mathlib.Core.Option.{Option, none, some}
@@ -10,6 +10,7 @@ use Rattle.book.specs.Ast.{TypedVal}
 use Rattle.book.specs.Entry.{entries}
 use Rattle.book.specs.Kinds.{TermTag}
 use Rattle.book.specs.Fields.{termFields}
+use Rattle.book.specs.Work.{nameWords}
 use Rattle.assembly.specs.Line.{Line}
 use Rattle.assembly.specs.Number.{kindOf, operandOf}
 use Rattle.lowering.specs.Gen.{line}
@@ -26,7 +27,7 @@ use Rattle.gen_values.specs.Fields.{Fields}
 pub record RetAsk (m : ℕ) (ks ws work : List ℕ) : Type 0 where
   pub val : Option TypedVal
   pub fields : Fields m (termFields TermTag.ret) (val, tt) (drop 1 (entries ks ws))
-  pub room : 8 * m + 64 ≤ length work
+  pub room : nameWords m + 64 ≤ length work
 
 wrong : {A : Type 0} {b : Bool} → b ≡ true → b ≡ false → A
 wrong {A} {b} p q = absurd (let z : true ≡ false = sym p ∙ q in let y : _≡_ {A = ℕ} 0 1 = cc in omega arith)

@@ -3,13 +3,15 @@ use Prim.Native.Nat.{ℕ, suc, _+_, _-_, _<_, _%_, _^_}
 use mathlib.Core.Path.{_≡_, refl, sym, ap, subst, _∙_}
 use mathlib.Core.List.{List, [], _∷_, append-assoc}
 use native.Mathlib.Omega.{arith}
-use lib.ListN.{length, take, drop, getD, length-drop}
+use native.Mathlib.Nat.{le-of-eq}
+use lib.ListN.{length, drop, getD, length-drop}
+use lib.Seq.{take-all}
 use Rattle.book.specs.Ast.{Ty, Value, Case, ICmpPred}
 use Rattle.book.specs.Entry.{Entry, entries}
 use Rattle.book.specs.Kinds.{TermTag}
-use Rattle.book.specs.Fields.{termFields}
+use Rattle.book.specs.Fields.{Item, Field, termFields}
 use Rattle.book.specs.Encode.{encCase, encFields, closed}
-use Rattle.book_types.specs.Laws.{entries-part}
+use Rattle.book_types.specs.Laws.{lentFrom, entries-part}
 use Rattle.layout_memo.specs.Front.{tyLen}
 use Rattle.assembly.specs.Line.{Line, Hint}
 use Rattle.assembly.specs.Number.{kindOf, operandOf, hintNumber, operation, icmpNumber}
@@ -23,8 +25,8 @@ use Rattle.gen_lines.specs.Puts.{Puts, Lined, madeFresh, line-puts, same-puts, 
 use Rattle.gen_lines.specs.Follow.{Asked, asked-puts, reserve-puts}
 use Rattle.gen_values.specs.Maps.{Maps}
 use Rattle.gen_values.specs.Push.{bare-puts}
-use Rattle.gen_values.specs.Values.{Reaches}
-use Rattle.gen_values.specs.Fields.{Fields, ValueAt, entry-at, behind-type, value-at, behind-value}
+use Rattle.gen_values.specs.Fields.{Fields, ValueAt, OperandAt, partFrom, fields-part, entry-at, value-at, behind-value}
+use Rattle.gen_fields.specs.Places.{past-type}
 use Rattle.gen_term.specs.Toward.{Toward, toward-none, toward-first, toward-skip, toward-then}
 use Rattle.gen_term.specs.Terms.{Cases, CaseAt, cases-in, cases-end, cases-next}
 
@@ -35,9 +37,9 @@ pub record CasesAsk (ks ws : List ℕ) : Type 0 where
   pub front : Cases names cases (entries ks ws)
 
 -- what the passes over cases are lent
-pub record TestsAsk (kind word : ℕ) (ks ws work : List ℕ) : Type 0 where
-  pub lent : CasesAsk ks ws
-  pub value : Reaches kind word work
+pub record TestsAsk (ks ws case-ks case-ws work : List ℕ) : Type 0 where
+  pub lent : CasesAsk case-ks case-ws
+  pub value : OperandAt ks ws 0 work
 
 pub record EdgesAsk (m : ℕ) (ks ws bks bws work : List ℕ) : Type 0 where
   pub ctx : FnCtx
@@ -162,35 +164,52 @@ pub record SwitchAsk (m : ℕ) (ks ws bks bws work : List ℕ) : Type 0 where
   pub cases : List Case
   pub fields : Fields m (termFields TermTag.switch) (ty, (val, (default, (cases, tt)))) (drop 1 (entries ks ws))
 
-pub record SwitchAt (m : ℕ) (ks ws : List ℕ) (a : ℕ) (val : Value) (default : ℕ) (cs : List Case) : Type 0 where
-  pub value : ValueAt m ks ws a val
-  pub default-is : getD ws (a + 1) 0 ≡ default
-  pub default-below : default < m
-  pub in-kinds : a + 2 < length ks
-  pub in-words : a + 2 < length ws
-  pub cases : Cases m cs (entries (take (length ks - (a + 2)) (drop (a + 2) ks)) (take (length ws - (a + 2)) (drop (a + 2) ws)))
+-- from the value on, behind the type
+abbrev pub valued : List Field
+valued = Field.plain Item.value ∷ Field.plain Item.block ∷ Field.list Item.case ∷ []
 
-module _ {m : ℕ} (ks ws : List ℕ) (ty : Ty) (val : Value) (default : ℕ) (cs : List Case) where
-  pub switch-at : (f : Fields m (termFields TermTag.switch) (ty, (val, (default, (cs, tt)))) (drop 1 (entries ks ws))) {n : ℕ} → n ≡ tyLen m (drop 1 (entries ks ws))
-      → SwitchAt m ks ws (1 + n) val default cs
+pub record SwitchAt (m : ℕ) (ks ws : List ℕ) (val : Value) (default : ℕ) (cs : List Case) : Type 0 where
+  pub value : ValueAt m ks ws 0 val
+  pub default-is : getD ws 1 0 ≡ default
+  pub default-below : default < m
+  pub in-kinds : 2 < length ks
+  pub in-words : 2 < length ws
+  pub cases : Cases m cs (lentFrom ks ws 2)
+
+module _ {m : ℕ} (ks ws : List ℕ) (val : Value) (default : ℕ) (cs : List Case) where
+  pub switch-at : Fields m valued (val, (default, (cs, tt))) (entries ks ws) → SwitchAt m ks ws val default cs
   unfolding encFields
-  switch-at f {n} e =
-      let g = behind-type ks ws 1 f e in
-      let h = behind-value ks ws (1 + n) g in
-      let q = entry-at ks ws (1 + n + 1) _ _ (h .here) in
-      let i : 1 + n + 1 + 1 ≡ 1 + n + 2 = omega arith in
-      let k : Cases m cs (drop (1 + n + 2) (entries ks ws)) = record {
+  switch-at f =
+      let h = behind-value ks ws 0 f in
+      let q = entry-at ks ws 1 _ _ (h .here) in
+      let k : Cases m cs (drop 2 (entries ks ws)) = record {
         rest = h .rest;
-        here = ap (λ j. drop j (entries ks ws)) (sym i) ∙ q .4 ∙ append-assoc (closed encCase cs) [] (h .rest);
+        here = q .4 ∙ append-assoc (closed encCase cs) [] (h .rest);
         keeps = h .keeps .1 .0;
-        few = omega (arith, f .few, length-drop 1 (entries ks ws), length-drop (1 + n + 2) (entries ks ws));
+        few = omega (arith, f .few, length-drop 2 (entries ks ws));
       } in
-      let inside = cases-in ks ws (1 + n + 2) cs k in
+      let inside = cases-in ks ws 2 cs k in
       record {
-        value = value-at ks ws (1 + n) g;
+        value = value-at ks ws 0 f;
         default-is = q .1;
         default-below = h .keeps .0;
         in-kinds = inside .0;
         in-words = inside .1;
-        cases = subst (λ (es : List Entry). Cases m cs es) (sym (entries-part (1 + n + 2) ks ws)) k;
+        cases = subst (λ (es : List Entry). Cases m cs es) (sym (entries-part 2 ks ws)) k;
       }
+
+pub part-length : (l : List ℕ) (a : ℕ) → length (partFrom l a) ≡ length l - a
+part-length l a = ap length (take-all (length l - a) (drop a l) (le-of-eq (length-drop a l))) ∙ length-drop a l
+
+-- the value behind the type at the front, and what is behind it
+pub record Valued (m : ℕ) (ks ws : List ℕ) (n : ℕ) (val : Value) (default : ℕ) (cs : List Case) : Type 0 where
+  pub in-kinds : n < length ks
+  pub in-words : n < length ws
+  pub at : SwitchAt m (partFrom ks n) (partFrom ws n) val default cs
+
+pub behind : {m n : ℕ} (ks ws : List ℕ) (ty : Ty) (val : Value) (default : ℕ) (cs : List Case) → Fields m (termFields TermTag.switch) (ty, (val, (default, (cs, tt)))) (entries ks ws)
+    → n ≡ tyLen m (entries ks ws) → Valued m ks ws n val default cs
+behind {n = n} ks ws ty val default cs f e =
+    let g = past-type ks ws f e in
+    let v = value-at ks ws n g in
+    record { in-kinds = v .in-kinds; in-words = v .in-words; at = switch-at (partFrom ks n) (partFrom ws n) val default cs (fields-part ks ws n g) }

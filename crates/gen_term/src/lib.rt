@@ -2,8 +2,10 @@
 mod switch;
 
 use crate::switch::gen_switch;
+use assembly::line;
+use book::entry;
 use gen_edge::edge;
-use gen_edge::push_typed;
+use gen_fields::push_typed;
 use gen_lines::Reached;
 use gen_lines::fresh;
 use gen_lines::put;
@@ -48,8 +50,8 @@ fn emit_frame_leave(base: Base, lines: &mut [u16], operands: &mut [u64], s: Reac
 {
     if base.framed {
         let slot = word(base.slot);
-        let got = put(lines, operands, s, 10, slot);
-        return put(lines, operands, got, 92, 0);
+        let got = put(lines, operands, s, line::GET_LOCAL, slot);
+        return put(lines, operands, got, line::THREAD_SET, 0);
     }
     s
 }
@@ -69,20 +71,13 @@ fn ret_value(
         → Locals c names (now (work .entry))
         → Puts (retValue c val) s r (now (lines .entry)) (now (operands .entry)) (now (lines .exit)) (now (operands .exit))) ⌝ }
 {
-    if kinds[1] == 21 {
-        return put(lines, operands, s, 8, 0);
+    if kinds[1] == entry::ABSENT {
+        return put(lines, operands, s, line::PUSH, 0);
     }
-    let at = 1 + skip(&kinds[1..], &words[1..], names);
-    push_typed(
-        kinds[1],
-        words[1],
-        kinds[at],
-        words[at],
-        work,
-        lines,
-        operands,
-        s,
-    )
+    let type_kinds = &kinds[1..];
+    let type_words = &words[1..];
+    let at = skip(type_kinds, type_words, names);
+    push_typed(type_kinds, type_words, at, work, lines, operands, s)
 }
 
 // `ret`: the value, the frame left, the line.
@@ -103,7 +98,7 @@ fn gen_ret(
 {
     let pushed = ret_value(kinds, words, names, work, lines, operands, s);
     let left = emit_frame_leave(base, lines, operands, pushed);
-    put(lines, operands, left, 89, 0)
+    put(lines, operands, left, line::RET, 0)
 }
 
 // `br` with a condition: a jump to the false edge's label, the true edge, the label, the false edge.
@@ -125,13 +120,13 @@ fn gen_cond_br(
         → Maps names (entries (now («book_kinds» .entry)) (now («book_words» .entry))) c (now (work .entry))
         → Puts (genCondBr c pred cond x y) s r (now (lines .entry)) (now (operands .entry)) (now (lines .exit)) (now (operands .exit))) ⌝ }
 {
-    if kinds[3] == 21 {
+    if kinds[3] == entry::ABSENT {
         return refuse(s, 19);
     }
-    let pushed = push_value(kinds[1], words[1], 1, work, lines, operands, s);
+    let pushed = push_value(&kinds[1..], &words[1..], 1, work, lines, operands, s);
     let label = word(pushed.counter);
     let made = fresh(pushed, 1);
-    let jumped = put(lines, operands, made, 19, label);
+    let jumped = put(lines, operands, made, line::JZ_BR_FALSE, label);
     let gone = edge(
         pred,
         words[2],
@@ -143,7 +138,7 @@ fn gen_cond_br(
         operands,
         jumped,
     );
-    let labelled = put(lines, operands, gone, 15, label);
+    let labelled = put(lines, operands, gone, line::BR_FALSE, label);
     edge(
         pred,
         words[3],
@@ -176,7 +171,7 @@ fn gen_br(
         → Maps names (entries (now («book_kinds» .entry)) (now («book_words» .entry))) c (now (work .entry))
         → Puts (genBr c pred cond x y) s r (now (lines .entry)) (now (operands .entry)) (now (lines .exit)) (now (operands .exit))) ⌝ }
 {
-    if kinds[1] == 21 {
+    if kinds[1] == entry::ABSENT {
         return edge(
             pred,
             words[2],
@@ -225,8 +220,8 @@ pub fn gen_term(
 {
     let kind = kinds[0];
     match kind {
-        90 => gen_ret(kinds, words, names, work, base, lines, operands, s),
-        91 => gen_br(
+        entry::RET => gen_ret(kinds, words, names, work, base, lines, operands, s),
+        entry::BR => gen_br(
             pred,
             kinds,
             words,
@@ -238,7 +233,7 @@ pub fn gen_term(
             operands,
             s,
         ),
-        92 => gen_switch(
+        entry::SWITCH => gen_switch(
             pred,
             kinds,
             words,
@@ -250,6 +245,6 @@ pub fn gen_term(
             operands,
             s,
         ),
-        _ => put(lines, operands, s, 90, 0),
+        _ => put(lines, operands, s, line::PANIC, 0),
     }
 }

@@ -1,11 +1,12 @@
 // `switch`: a test for each case, the default edge, then a label and an edge for each case.
 use crate::word;
+use assembly::line;
+use book::entry;
 use gen_edge::edge;
 use gen_lines::Reached;
 use gen_lines::fresh;
 use gen_lines::put;
-use gen_values::int_width;
-use gen_values::need;
+use gen_values::need_width;
 use gen_values::operation;
 use gen_values::push_int;
 use gen_values::push_value;
@@ -19,12 +20,10 @@ ghost use Rattle.book.specs.Ast.{Ty, Value, Case};
 ghost use Rattle.book.specs.Entry.{entries};
 ghost use Rattle.book.specs.Kinds.{TermTag};
 ghost use Rattle.book.specs.Fields.{termFields};
-ghost use Rattle.book.specs.Limits.{ValueLimits};
 ghost use Rattle.lowering.specs.Context.{FnCtx};
 ghost use Rattle.lowering.specs.Term.{caseTests, caseEdges, genSwitch};
 ghost use Rattle.gen_lines.specs.Puts.{Puts};
-ghost use Rattle.gen_values.specs.Values.{valueOf, Reaches};
-ghost use Rattle.gen_values.specs.Fields.{Fields};
+ghost use Rattle.gen_values.specs.Fields.{Fields, ValueAt, OperandAt};
 ghost use Rattle.gen_values.specs.Maps.{Locals, Maps};
 ghost use Rattle.gen_edge.specs.Edges.{EdgeAsk};
 ghost use Rattle.gen_term.specs.Toward.{Toward};
@@ -38,7 +37,7 @@ fn count_cases(kinds: &[u64], words: &[u64]) -> u64
 {
     let mut at: usize = 0;
     let mut cases: u64 = 0;
-    while kinds[at] != 0 {
+    while kinds[at] != entry::END {
         at += 2;
         cases += 1;
     }
@@ -52,10 +51,10 @@ fn next_label(label: u64) -> u64
     wrapping_add_u64(label, 1)
 }
 
-// The test of a case: the value, the case's number, equal, a jump to the case's label.
+// The test of a case: the value at the front, the case's number, equal, a jump to the case's label.
 fn case_test(
-    kind: u64,
-    word: u64,
+    kinds: &[u64],
+    words: &[u64],
     width: u32,
     value: u64,
     label: u64,
@@ -64,45 +63,45 @@ fn case_test(
     operands: &mut [u64],
     s: Reached,
 ) -> Reached
-    requires { ⌜ Reaches kind word (now work) ⌝ }
-    ensures { λ r. ⌜ ((m : ℕ) (c : FnCtx) (l : ℕ) (k : Case) (more : List Case) → ValueLimits m (valueOf kind word) → Locals c m (now (work .entry))
+    requires { ⌜ OperandAt (now kinds) (now words) 0 (now work) ⌝ }
+    ensures { λ r. ⌜ ((m : ℕ) (c : FnCtx) (v : Value) (l : ℕ) (k : Case) (more : List Case) → ValueAt m (now (kinds .entry)) (now (words .entry)) 0 v → Locals c m (now (work .entry))
         → label ≡ l % 2 ^ 64 → value ≡ k .value
-        → Toward (caseTests c width (valueOf kind word) l (k ∷ more)) (caseTests c width (valueOf kind word) (suc l) more) s r
+        → Toward (caseTests c width v l (k ∷ more)) (caseTests c width v (suc l) more) s r
         (now (lines .entry)) (now (operands .entry)) (now (lines .exit)) (now (operands .exit))) ⌝ }
 {
-    let pushed = push_value(kind, word, width, work, lines, operands, s);
+    let pushed = push_value(kinds, words, width, work, lines, operands, s);
     let both = push_int(value, width, lines, operands, pushed);
     let tested = put(lines, operands, both, operation(13, width), 0);
-    put(lines, operands, tested, 20, label)
+    put(lines, operands, tested, line::JNZ_SW_CASE, label)
 }
 
-// The tests of all cases, whose labels count up from the first.
+// The tests of all cases, whose labels count up from the first: the value is at the front of its part, the cases are in theirs.
 fn case_tests(
-    kind: u64,
-    word: u64,
-    width: u32,
-    first: u64,
     kinds: &[u64],
     words: &[u64],
+    width: u32,
+    first: u64,
+    case_kinds: &[u64],
+    case_words: &[u64],
     work: &[u64],
     lines: &mut [u16],
     operands: &mut [u64],
     s: Reached,
 ) -> Reached
-    requires { ⌜ TestsAsk kind word (now kinds) (now words) (now work) ⌝ }
-    ensures { λ r. ⌜ ((m : ℕ) (c : FnCtx) (l : ℕ) (cs : List Case) → ValueLimits m (valueOf kind word) → Locals c m (now (work .entry))
-        → Cases m cs (entries (now (kinds .entry)) (now (words .entry))) → first ≡ l % 2 ^ 64
-        → Puts (caseTests c width (valueOf kind word) l cs) s r (now (lines .entry)) (now (operands .entry)) (now (lines .exit)) (now (operands .exit))) ⌝ }
+    requires { ⌜ TestsAsk (now kinds) (now words) (now «case_kinds») (now «case_words») (now work) ⌝ }
+    ensures { λ r. ⌜ ((m : ℕ) (c : FnCtx) (v : Value) (l : ℕ) (cs : List Case) → ValueAt m (now (kinds .entry)) (now (words .entry)) 0 v → Locals c m (now (work .entry))
+        → Cases m cs (entries (now («case_kinds» .entry)) (now («case_words» .entry))) → first ≡ l % 2 ^ 64
+        → Puts (caseTests c width v l cs) s r (now (lines .entry)) (now (operands .entry)) (now (lines .exit)) (now (operands .exit))) ⌝ }
 {
     let mut reached = s;
     let mut label = first;
     let mut at: usize = 0;
-    while kinds[at] != 0 {
+    while case_kinds[at] != entry::END {
         reached = case_test(
-            kind,
-            word,
+            kinds,
+            words,
             width,
-            words[at],
+            case_words[at],
             label,
             work,
             lines,
@@ -134,7 +133,7 @@ fn case_edge(
         → Toward (caseEdges c pred l (k ∷ more)) (caseEdges c pred (suc l) more) s r
         (now (lines .entry)) (now (operands .entry)) (now (lines .exit)) (now (operands .exit))) ⌝ }
 {
-    let labelled = put(lines, operands, s, 16, label);
+    let labelled = put(lines, operands, s, line::SW_CASE, label);
     edge(
         pred,
         succ,
@@ -170,7 +169,7 @@ fn case_edges(
     let mut reached = s;
     let mut label = first;
     let mut at: usize = 0;
-    while kinds[at] != 0 {
+    while kinds[at] != entry::END {
         reached = case_edge(
             pred,
             words[at + 1],
@@ -208,17 +207,21 @@ pub fn gen_switch(
         → Maps names (entries (now («book_kinds» .entry)) (now («book_words» .entry))) c (now (work .entry))
         → Puts (genSwitch c pred ty val default cs) s r (now (lines .entry)) (now (operands .entry)) (now (lines .exit)) (now (operands .exit))) ⌝ }
 {
-    let at = 1 + skip(&kinds[1..], &words[1..], names);
-    let width = int_width(kinds[1], words[1]);
-    let wide = need(s, width != 0, 9);
-    let case_kinds = &kinds[at + 2..];
-    let case_words = &words[at + 2..];
-    let label = word(wide.counter);
-    let made = fresh(wide, count_cases(case_kinds, case_words));
+    let type_kinds = &kinds[1..];
+    let type_words = &words[1..];
+    let at = skip(type_kinds, type_words, names);
+    let wide = need_width(type_kinds, type_words, s);
+    let value_kinds = &type_kinds[at..];
+    let value_words = &type_words[at..];
+    let case_kinds = &value_kinds[2..];
+    let case_words = &value_words[2..];
+    let known = wide.s;
+    let label = word(known.counter);
+    let made = fresh(known, count_cases(case_kinds, case_words));
     let tested = case_tests(
-        kinds[at],
-        words[at],
-        width,
+        value_kinds,
+        value_words,
+        wide.width,
         label,
         case_kinds,
         case_words,
@@ -229,7 +232,7 @@ pub fn gen_switch(
     );
     let gone = edge(
         pred,
-        words[at + 1],
+        value_words[1],
         book_kinds,
         book_words,
         names,

@@ -1,23 +1,25 @@
 -- Fields of an instruction or terminator at a place of the lent entries, read one after the other.
-use Prim.Native.Nat.{ℕ, zero, suc, _+_, _*_, _<_, _≤_, _^_}
+use Prim.Native.Nat.{ℕ, zero, suc, _+_, _-_, _<_, _≤_, _^_}
 use mathlib.Core.Path.{_≡_, refl, sym, ap, subst, _∙_}
 use mathlib.Core.Bool.{Bool, true, false, not}
 use mathlib.Core.List.{List, [], _∷_, _++_, append-assoc}
 use native.Mathlib.Omega.{arith}
-use native.Mathlib.Numerals.{add-one}
 use borrow.Author.Tests.{le-leb, eq-eqb, ne-eqb}
-use lib.ListN.{length, drop, getD, length-drop, length-append}
-use lib.Seq.{drop-drop, drop-append-seam}
+use native.Mathlib.Nat.{le-of-eq}
+use lib.ListN.{length, take, drop, getD, length-drop}
+use lib.Seq.{drop-drop, drop-append-seam, getD-drop, take-all}
 use lib.Dec.{eqb, leb}
 use Rattle.numbers.specs.Width.{width-bounds}
 use Rattle.book.specs.Ast.{Ty, Value, Sizeless}
 use Rattle.book.specs.Entry.{Entry, entry, entries}
 use Rattle.book.specs.Fields.{Item, Field, Meanings}
+use Rattle.book.specs.Work.{nameWords}
 use Rattle.book.specs.Encode.{encTy, valueEntry, encFields}
-use Rattle.book.specs.Limits.{TyTo, Parts, ValueLimits, FieldsLimits}
+use Rattle.book.specs.Limits.{Parts, ValueLimits, FieldsLimits}
 use Rattle.book.specs.Result.{Result, ok, err}
+use Rattle.book_types.specs.Laws.{lentFrom, entries-part}
 use Rattle.lowering.specs.Operand.{intWidth}
-use Rattle.layout_memo.specs.Front.{Starts, tyOf, tyLen, ty-is, len-is, enc-pos}
+use Rattle.layout_memo.specs.Front.{Starts, tyOf, tyLen, ty-is, len-is}
 use Rattle.gen_lines.specs.declared.Reached.{Reached}
 use Rattle.gen_lines.specs.Puts.{orElse, madeRefused}
 use Rattle.gen_lines.specs.Follow.{Asked, asked-ok, asked-err}
@@ -47,6 +49,25 @@ entry-at (k ∷ ks) (w ∷ ws) (suc a) e tail h =
     let i : suc (a + 1) ≡ suc a + 1 = omega arith in
     (q .0, q .1, omega (arith, q .2), omega (arith, q .3), ap (λ n. drop n (entries (k ∷ ks) (w ∷ ws))) (sym i) ∙ q .4)
 
+-- ---- the part from a place on
+-- what `&l[a..]` lends
+abbrev pub partFrom : List ℕ → ℕ → List ℕ
+partFrom l a = take (length l - a) (drop a l)
+
+part-is : (l : List ℕ) (a : ℕ) → partFrom l a ≡ drop a l
+part-is l a = take-all (length l - a) (drop a l) (le-of-eq (length-drop a l))
+
+-- its front is the place
+pub part-front : (l : List ℕ) (a : ℕ) → getD (partFrom l a) 0 0 ≡ getD l a 0
+part-front l a = let e : a + 0 ≡ a = omega arith in rw (part-is l a) (getD-drop a l 0 0 ∙ ap (λ i. getD l i 0) e)
+
+pub part-there : (l : List ℕ) (a : ℕ) → a < length l → 0 < length (partFrom l a)
+part-there l a h = rw (part-is l a) (omega (arith, length-drop a l))
+
+-- fields at a place are at the front of the part
+pub fields-part : {m : ℕ} {fs : List Field} {p : Meanings fs} (ks ws : List ℕ) (a : ℕ) → Fields m fs p (drop a (entries ks ws)) → Fields m fs p (lentFrom ks ws a)
+fields-part {m} {fs} {p} ks ws a f = subst (Fields m fs p) (sym (entries-part a ks ws)) f
+
 -- ---- the entry that begins a type
 type-within : (t : Ty) (ks ws : List ℕ) (a : ℕ) (tail : List Entry) → drop a (entries ks ws) ≡ encTy t ++ tail → (a < length ks) × (a < length ws)
 unfolding encTy
@@ -62,6 +83,20 @@ type-within (Ty.struct p ts) ks ws a tail h = let q = entry-at ks ws a _ _ h in 
 abbrev pub WidthSays : ℕ → Result ℕ → Type 0
 WidthSays w (ok v) = (w ≡ v) × (v ≡ 0 → ⊥)
 WidthSays w (err e) = (w ≡ 0) × (e ≡ 9)
+
+-- what the entry says is asked for: a refusal where it says that there is none
+pub says-asked : (r : Result ℕ) (s : Reached) {t : Reached} {w x : ℕ} {b : Bool} → w ≡ x → WidthSays x r → b ≡ not (eqb w 0) → t ≡ orElse b s (madeRefused s 9) → Asked r s t w
+says-asked r s {t} {w} {x} {b} e says d h = at r (subst (λ (y : ℕ). WidthSays y r) (sym e) says)
+  where
+    at : (r : Result ℕ) → WidthSays w r → Asked r s t w
+    at (ok v) (i, z) =
+        let n : b ≡ true = d ∙ ap not (ne-eqb w 0 (λ y. z (sym i ∙ y))) in
+        let q : t ≡ s = h ∙ ap (λ y. orElse y s (madeRefused s 9)) n in
+        subst (λ (y : Reached). Asked (ok v) s y w) (sym q) (subst (λ (y : ℕ). Asked (ok y) s s w) i (asked-ok s w))
+    at (err n) (i, j) =
+        let n : b ≡ false = d ∙ ap not (eq-eqb w 0 i) in
+        let q : t ≡ madeRefused s 9 = h ∙ ap (λ y. orElse y s (madeRefused s 9)) n in
+        subst (λ (y : ℕ). Asked (err y) s t w) (sym j) (asked-err 9 (omega arith) s w q)
 
 type-width : (m : ℕ) (t : Ty) (ks ws : List ℕ) (a : ℕ) (tail : List Entry) → drop a (entries ks ws) ≡ encTy t ++ tail → Parts m t
     → WidthSays (widthBy (getD ks a 0) (getD ws a 0)) (intWidth t)
@@ -94,10 +129,29 @@ pub record OperandAt (ks ws : List ℕ) (a : ℕ) (work : List ℕ) : Type 0 whe
   pub in-words : a < length ws
   pub reaches : Reaches (getD ks a 0) (getD ws a 0) work
 
-local-below : (m w : ℕ) (v : Value) → ValueLimits m v → v ≡ Value.local w → w < m
+-- a value at a place is the one at the front of the part
+pub value-part : {m : ℕ} {ks ws : List ℕ} {a : ℕ} {v : Value} → ValueAt m ks ws a v → ValueAt m (partFrom ks a) (partFrom ws a) 0 v
+value-part {m} {ks} {ws} {a} q =
+    record {
+      is = rw (part-front ks a, part-front ws a) (q .is);
+      limits = q .limits;
+      in-kinds = part-there ks a (q .in-kinds);
+      in-words = part-there ws a (q .in-words);
+    }
+
+pub operand-part : {ks ws : List ℕ} {a : ℕ} {work : List ℕ} → OperandAt ks ws a work → OperandAt (partFrom ks a) (partFrom ws a) 0 work
+operand-part {ks} {ws} {a} q =
+    record {
+      in-kinds = part-there ks a (q .in-kinds);
+      in-words = part-there ws a (q .in-words);
+      reaches = rw (part-front ks a, part-front ws a) (q .reaches);
+    }
+
+-- a local is one of the names
+pub local-below : (m w : ℕ) (v : Value) → ValueLimits m v → v ≡ Value.local w → w < m
 local-below m w v l e = rw e at l
 
-pub operand-at : {m : ℕ} {ks ws : List ℕ} {a : ℕ} {v : Value} {work : List ℕ} → ValueAt m ks ws a v → 8 * m ≤ length work → OperandAt ks ws a work
+pub operand-at : {m : ℕ} {ks ws : List ℕ} {a : ℕ} {v : Value} {work : List ℕ} → ValueAt m ks ws a v → nameWords m ≤ length work → OperandAt ks ws a work
 operand-at {m} {ks} {ws} {a} {v} q room =
     record {
       in-kinds = q .in-kinds;
@@ -159,14 +213,4 @@ module _ {m : ℕ} {fs : List Field} where
 
     pub asked-width : (s : Reached) {t : Reached} {w : ℕ} {b : Bool} → w ≡ widthBy (getD ks a 0) (getD ws a 0) → b ≡ not (eqb w 0) → t ≡ orElse b s (madeRefused s 9)
         → Asked (intWidth (p .0)) s t w
-    asked-width s {t} {w} {b} e d h = says (intWidth (p .0)) (subst (λ (x : ℕ). WidthSays x (intWidth (p .0))) (sym e) width-is)
-      where
-        says : (r : Result ℕ) → WidthSays w r → Asked r s t w
-        says (ok v) (i, z) =
-            let n : b ≡ true = d ∙ ap not (ne-eqb w 0 (λ y. z (sym i ∙ y))) in
-            let q : t ≡ s = h ∙ ap (λ x. orElse x s (madeRefused s 9)) n in
-            subst (λ (x : Reached). Asked (ok v) s x w) (sym q) (subst (λ (x : ℕ). Asked (ok x) s s w) i (asked-ok s w))
-        says (err n) (i, j) =
-            let n : b ≡ false = d ∙ ap not (eq-eqb w 0 i) in
-            let q : t ≡ madeRefused s 9 = h ∙ ap (λ x. orElse x s (madeRefused s 9)) n in
-            subst (λ (x : ℕ). Asked (err x) s t w) (sym j) (asked-err 9 s w q)
+    asked-width s e d h = says-asked (intWidth (p .0)) s e width-is d h

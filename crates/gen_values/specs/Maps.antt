@@ -1,7 +1,7 @@
 -- What the work words hold for a function's context: the name x has the 8 words from 8 * x on (docs/DECISIONS.md 23). A number has 1 added, 0 is none.
 use Prim.Native.Nat.{ℕ, suc, _+_, _-_, _*_, _<_, _≤_}
 use mathlib.Core.Path.{_≡_, _∙_}
-use mathlib.Core.Bool.{Bool, cond, _||_}
+use mathlib.Core.Bool.{cond, _||_}
 use mathlib.Core.List.{List, _++_}
 use mathlib.Core.Option.{Option, none, some}
 use native.Mathlib.Omega.{arith}
@@ -10,6 +10,7 @@ use Rattle.names.specs.Name.{nameAt}
 use Rattle.names.specs.Spelling.{isSyscall, isBcmp, isMemcmp, hasOverflow}
 use Rattle.book.specs.Ast.{BasicBlock}
 use Rattle.book.specs.Entry.{Entry}
+use Rattle.book.specs.Work.{blockAt, markAt, nameWords, paramAt, placeAt, slotAt}
 use Rattle.book.specs.Encode.{ending, encInst, encTerm}
 use Rattle.book.specs.Limits.{Each, InstLimits, TermLimits}
 use Rattle.book.specs.Map.{Map, lookup}
@@ -26,8 +27,8 @@ numbered (some i) = suc i
 
 -- words 0 and 1: parameters and slots
 pub record Locals (c : FnCtx) (m : ℕ) (work : List ℕ) : Type 0 where
-  pub params : (x : ℕ) → x < m → getD work (8 * x) 0 ≡ numbered (lookup x (c .params))
-  pub slots : (x : ℕ) → x < m → getD work (8 * x + 1) 0 ≡ numbered (lookup x (c .slots))
+  pub params : (x : ℕ) → x < m → getD work (paramAt x) 0 ≡ numbered (lookup x (c .params))
+  pub slots : (x : ℕ) → x < m → getD work (slotAt x) 0 ≡ numbered (lookup x (c .slots))
 
 -- word 2: the place of a block's instructions among the book's entries
 pub record BlockAt (m : ℕ) (bs : List Entry) (bb : BasicBlock) (p : ℕ) : Type 0 where
@@ -53,11 +54,11 @@ markWord g x = callClass g x + cond (hasOverflow (nameAt (g .names) x)) 4 0
 
 -- all words; bs are the book's entries
 pub record Maps (m : ℕ) (bs : List Entry) (c : FnCtx) (work : List ℕ) : Type 0 where
-  pub room : 8 * m + 64 ≤ length work
+  pub room : nameWords m + 64 ≤ length work
   pub locals : Locals c m work
-  pub blocks : (x : ℕ) → x < m → BlockWord m bs (lookup x (c .blocks)) (getD work (8 * x + 2) 0)
-  pub places : (x : ℕ) → x < m → getD work (8 * x + 3) 0 ≡ numbered (lookup x (c .allocaOffsets))
-  pub marks : (x : ℕ) → x < m → getD work (8 * x + 5) 0 ≡ markWord (c .codegen) x
+  pub blocks : (x : ℕ) → x < m → BlockWord m bs (lookup x (c .blocks)) (getD work (blockAt x) 0)
+  pub places : (x : ℕ) → x < m → getD work (placeAt x) 0 ≡ numbered (lookup x (c .allocaOffsets))
+  pub marks : (x : ℕ) → x < m → getD work (markAt x) 0 ≡ markWord (c .codegen) x
   pub structs : c .codegen .structs ≡ structsIn m bs
   pub measured : Ready m bs work
 

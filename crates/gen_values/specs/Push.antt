@@ -1,5 +1,5 @@
 -- `push_value` by the work words.
-use Prim.Native.Nat.{ℕ, suc, _+_, _-_, _*_, _<_, _%_, _^_}
+use Prim.Native.Nat.{ℕ, _-_, _<_, _%_, _^_}
 use mathlib.Core.Path.{_≡_, refl, sym, ap, _∙_}
 use mathlib.Core.List.{List}
 use mathlib.Core.Option.{Option, none, some}
@@ -8,11 +8,12 @@ use native.Mathlib.Nat.{mod-eq-of-lt}
 use lib.ListN.{getD}
 use Rattle.numbers.specs.Width.{maskToWidth}
 use Rattle.book.specs.Ast.{Value, Zero}
+use Rattle.book.specs.Work.{paramAt, slotAt}
 use Rattle.book.specs.Map.{lookup}
-use Rattle.book.specs.Result.{Result, ok, err, bind}
+use Rattle.book.specs.Result.{ok, bind}
 use Rattle.assembly.specs.Line.{Line}
 use Rattle.assembly.specs.Number.{kindOf, operandOf}
-use Rattle.lowering.specs.Gen.{Gen, line, lines, refuse, _>>=_}
+use Rattle.lowering.specs.Gen.{line, lines, refuse, _>>=_}
 use Rattle.lowering.specs.Context.{FnCtx}
 use Rattle.lowering.specs.Operand.{pushInt, pushValue, localLine}
 use Rattle.gen_lines.specs.declared.Reached.{Reached}
@@ -67,13 +68,13 @@ module _ {s t : Reached} {ks os ks′ os′ : List ℕ} where
   local-puts c x width l e p = same-puts (λ n. rw e) p
 
 module _ (c : FnCtx) (m x width : ℕ) (work : List ℕ) (below : x < m) (k : Locals c m work) {s t : Reached} {ks os ks′ os′ : List ℕ} where
-  pub param-puts : {w : ℕ} → w ≡ getD work (8 * x) 0 → (w ≡ 0 → ⊥) → w < 2 ^ 64 → Lined 9 (w - 1) s t ks os ks′ os′ → Puts (pushValue c (Value.local x) width) s t ks os ks′ os′
+  pub param-puts : {w : ℕ} → w ≡ getD work (paramAt x) 0 → (w ≡ 0 → ⊥) → w < 2 ^ 64 → Lined 9 (w - 1) s t ks os ks′ os′ → Puts (pushValue c (Value.local x) width) s t ks os ks′ os′
   unfolding localLine
   param-puts {w} e z l h =
       let p = some-of (lookup x (c .params)) w (e ∙ k .params x below) z in
       local-puts c x width (Line.getArg (w - 1)) (rw p) (get-arg-puts (w - 1) (omega arith) h)
 
-  pub slot-puts : {v w : ℕ} → v ≡ getD work (8 * x) 0 → v ≡ 0 → w ≡ getD work (8 * x + 1) 0 → (w ≡ 0 → ⊥) → w < 2 ^ 64 → Lined 10 (w - 1) s t ks os ks′ os′
+  pub slot-puts : {v w : ℕ} → v ≡ getD work (paramAt x) 0 → v ≡ 0 → w ≡ getD work (slotAt x) 0 → (w ≡ 0 → ⊥) → w < 2 ^ 64 → Lined 10 (w - 1) s t ks os ks′ os′
       → Puts (pushValue c (Value.local x) width) s t ks os ks′ os′
   unfolding localLine
   slot-puts {v} {w} d y e z l h =
@@ -82,12 +83,12 @@ module _ (c : FnCtx) (m x width : ℕ) (work : List ℕ) (below : x < m) (k : Lo
       local-puts c x width (Line.getLocal (w - 1)) (rw (p, q)) (get-local-puts (w - 1) (omega arith) h)
 
 module _ (c : FnCtx) (m x width : ℕ) (work : List ℕ) (below : x < m) (k : Locals c m work) {s t : Reached} (ks os : List ℕ) where
-  pub unknown-puts : {v w : ℕ} → v ≡ getD work (8 * x) 0 → v ≡ 0 → w ≡ getD work (8 * x + 1) 0 → w ≡ 0 → t ≡ madeRefused s 10 → Puts (pushValue c (Value.local x) width) s t ks os ks os
+  pub unknown-puts : {v w : ℕ} → v ≡ getD work (paramAt x) 0 → v ≡ 0 → w ≡ getD work (slotAt x) 0 → w ≡ 0 → t ≡ madeRefused s 10 → Puts (pushValue c (Value.local x) width) s t ks os ks os
   unfolding localLine pushValue _>>=_ bind refuse
   unknown-puts {v} {w} d y e z h =
       let p = none-of (lookup x (c .params)) v (d ∙ k .params x below) y in
       let q = none-of (lookup x (c .slots)) w (e ∙ k .slots x below) z in
-      same-puts (λ n. rw (p, q)) (refuse-puts 10 s ks os h)
+      same-puts (λ n. rw (p, q)) (refuse-puts 10 (omega arith) s ks os h)
 
 module _ (c : FnCtx) (width : ℕ) {s t : Reached} {ks os ks′ os′ : List ℕ} where
   -- any width for a local
@@ -110,7 +111,7 @@ module _ (c : FnCtx) (width : ℕ) {s t : Reached} {ks os ks′ os′ : List ℕ
 module _ (c : FnCtx) (width : ℕ) {s t : Reached} (ks os : List ℕ) where
   pub other-puts : t ≡ madeRefused s 3 → Puts (pushValue c Value.other width) s t ks os ks os
   unfolding pushValue
-  other-puts h = refuse-puts 3 s ks os h
+  other-puts h = refuse-puts 3 (omega arith) s ks os h
 
 -- ---- lines without an operand
 module _ {s t : Reached} {ks os ks′ os′ : List ℕ} where

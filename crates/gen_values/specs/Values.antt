@@ -1,15 +1,16 @@
 -- What an entry says: a value, or the width of the type that it begins.
-use Prim.Native.Nat.{ℕ, _+_, _-_, _*_, _<_}
-use mathlib.Core.Path.{_≡_, refl, ap, sym, subst, _∙_}
+use Prim.Native.Nat.{ℕ, _+_, _-_, _<_}
+use mathlib.Core.Path.{_≡_, refl, ap, sym, subst}
 use mathlib.Core.List.{List}
 use mathlib.Core.Option.{Option, none, some}
-use mathlib.Core.Bool.{Bool, true, false, cond, _&&_}
+use mathlib.Core.Bool.{cond}
 use native.Mathlib.Omega.{arith}
 use borrow.Author.Tests.{ne-eqb}
 use lib.ListN.{length}
 use lib.Dec.{eqb, leb}
 use Rattle.book.specs.Ast.{Ty, Value, Zero}
-use Rattle.book.specs.Kinds.{ValTag, valTag, valKind}
+use Rattle.book.specs.Work.{slotAt}
+use Rattle.book.specs.Kinds.{ValTag, valTag}
 use Rattle.book.specs.Encode.{valueEntry, destWord}
 use Rattle.book.specs.AgreeTy.{val-found}
 use Rattle.book_values.specs.Items.{valueGroupOf}
@@ -34,7 +35,7 @@ widthBy k w = cond (eqb k 12) 64 (cond (eqb k 11) (cond (leb w 64) w 0) 0)
 
 -- the words of a local are there
 pub record Reaches (kind word : ℕ) (work : List ℕ) : Type 0 where
-  pub there : valueOf kind word ≡ Value.local word → 8 * word + 1 < length work
+  pub there : valueOf kind word ≡ Value.local word → slotAt word < length work
 
 -- the result's name of a result word
 unfoldable pub destOf : ℕ → Option ℕ
@@ -42,7 +43,7 @@ destOf d = cond (eqb d 0) none (some (d - 1))
 
 -- the words of a result are there
 pub record DestReaches (dest : ℕ) (work : List ℕ) : Type 0 where
-  pub there : (dest ≡ 0 → ⊥) → 8 * (dest - 1) + 1 < length work
+  pub there : (dest ≡ 0 → ⊥) → slotAt (dest - 1) < length work
 
 pub dest-is : (d : Option ℕ) → destOf (destWord d) ≡ d
 unfolding destOf

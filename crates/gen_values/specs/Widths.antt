@@ -1,11 +1,11 @@
 -- `emit_trunc_to` and `emit_sext` line by line, and where results go.
-use Prim.Native.Nat.{ℕ, suc, _+_, _-_, _*_, _<_, _≤_, _%_, _^_, min}
+use Prim.Native.Nat.{ℕ, zero, suc, _+_, _-_, _*_, _<_, _≤_, _%_, _^_, min}
 use mathlib.Core.Path.{_≡_, refl, sym, ap, _∙_}
 use mathlib.Core.Bool.{Bool, true, false, cond, not, _&&_}
 use mathlib.Core.List.{List, [], _∷_}
 use mathlib.Core.Option.{Option, none, some}
 use native.Mathlib.Omega.{arith}
-use native.Mathlib.Nat.{mul-sub, mul-one, mul-add-mod-self-left, mod-eq-of-lt}
+use native.Mathlib.Nat.{mul-sub, mul-add-mod-self-left, mod-eq-of-lt}
 use lib.Pow.{pow-add, pow-pos, pow-mono}
 use borrow.Author.Tests.{eq-eqb, ne-eqb, le-leb, lt-leb, leb-true, lt-ltb, le-ltb}
 use lib.ListN.{getD}
@@ -13,15 +13,16 @@ use lib.Dec.{eqb, leb, ltb}
 use Rattle.book.specs.Rule.{pick}
 use Rattle.numbers.specs.Width.{maskToWidth}
 use Rattle.book.specs.Ast.{BinOp}
+use Rattle.book.specs.Work.{slotAt}
 use Rattle.book.specs.Map.{lookup}
-use Rattle.book.specs.Result.{Result, ok, err, bind, okOr}
+use Rattle.book.specs.Result.{ok, err, bind, okOr}
 use Rattle.assembly.specs.Line.{Line, Work, Narrow}
 use Rattle.assembly.specs.Number.{kindOf, operandOf, operation, binNumber, narrowNumber}
-use Rattle.lowering.specs.Gen.{Gen, Out, lines, line, skip, refuse, after, _>>=_, _>>_, when, choose}
+use Rattle.lowering.specs.Gen.{Gen, lines, line, skip, refuse, after, _>>=_, _>>_, when, choose}
 use Rattle.lowering.specs.Context.{FnCtx, named, slotOf}
 use Rattle.lowering.specs.Operand.{workOf, workBits, truncLines, emitTruncTo, ones, sx32To, sxLine, sextBit, sextMore, emitSext, storeDest, storeOrPop}
 use Rattle.gen_lines.specs.declared.Reached.{Reached}
-use Rattle.gen_lines.specs.Puts.{Puts, Lined, madeRefused, line-puts, refuse-puts, skip-puts, same-puts, then-puts}
+use Rattle.gen_lines.specs.Puts.{Puts, Lined, madeRefused, refuse-puts, skip-puts, same-puts, then-puts}
 use Rattle.gen_lines.specs.Follow.{when-puts}
 use Rattle.gen_values.specs.Maps.{Locals, numbered}
 use Rattle.gen_values.specs.Values.{destOf}
@@ -29,25 +30,25 @@ use Rattle.gen_values.specs.Push.{some-of, none-of, push-puts, set-local
 
 -- ---- results
 module _ (c : FnCtx) (m dest : ℕ) (work : List ℕ) (below : dest ≤ m) (k : Locals c m work) where
-  found : (dest ≡ 0 → ⊥) → (o : Option ℕ) → getD work (8 * (dest - 1) + 1) 0 ≡ numbered o → lookup (dest - 1) (c .slots) ≡ o → slotOf c (destOf dest) ≡ okOr 5 o
+  found : (dest ≡ 0 → ⊥) → (o : Option ℕ) → getD work (slotAt (dest - 1)) 0 ≡ numbered o → lookup (dest - 1) (c .slots) ≡ o → slotOf c (destOf dest) ≡ okOr 5 o
   unfolding slotOf named destOf
   found z o e f = rw (ne-eqb dest 0 z, f)
 
   module _ {s t : Reached} (ks os : List ℕ) where
     pub nameless-puts : dest ≡ 0 → t ≡ madeRefused s 5 → Puts (storeDest c (destOf dest)) s t ks os ks os
     unfolding storeDest slotOf named destOf okOr _>>=_ bind refuse
-    nameless-puts z h = same-puts (λ n. rw (eq-eqb dest 0 z)) (refuse-puts 5 s ks os h)
+    nameless-puts z h = same-puts (λ n. rw (eq-eqb dest 0 z)) (refuse-puts 5 (omega arith) s ks os h)
 
-    pub slotless-puts : {w : ℕ} → (dest ≡ 0 → ⊥) → w ≡ getD work (8 * (dest - 1) + 1) 0 → w ≡ 0 → t ≡ madeRefused s 5 → Puts (storeDest c (destOf dest)) s t ks os ks os
+    pub slotless-puts : {w : ℕ} → (dest ≡ 0 → ⊥) → w ≡ getD work (slotAt (dest - 1)) 0 → w ≡ 0 → t ≡ madeRefused s 5 → Puts (storeDest c (destOf dest)) s t ks os ks os
     unfolding storeDest okOr _>>=_ bind refuse
     slotless-puts {w} z e y h =
         let q = k .slots (dest - 1) (omega arith) in
         let o = none-of (lookup (dest - 1) (c .slots)) w (e ∙ q) y in
         let f : slotOf c (destOf dest) ≡ err 5 = found z none (q ∙ ap numbered o) o in
-        same-puts (λ n. rw f) (refuse-puts 5 s ks os h)
+        same-puts (λ n. rw f) (refuse-puts 5 (omega arith) s ks os h)
 
   module _ {s t : Reached} {ks os ks′ os′ : List ℕ} where
-    pub stored-puts : {w : ℕ} → (dest ≡ 0 → ⊥) → w ≡ getD work (8 * (dest - 1) + 1) 0 → (w ≡ 0 → ⊥) → w < 2 ^ 64 → Lined 11 (w - 1) s t ks os ks′ os′
+    pub stored-puts : {w : ℕ} → (dest ≡ 0 → ⊥) → w ≡ getD work (slotAt (dest - 1)) 0 → (w ≡ 0 → ⊥) → w < 2 ^ 64 → Lined 11 (w - 1) s t ks os ks′ os′
         → Puts (storeDest c (destOf dest)) s t ks os ks′ os′
     unfolding storeDest okOr _>>=_ bind
     stored-puts {w} z e y l h =
@@ -66,6 +67,15 @@ module _ (c : FnCtx) (dest : ℕ) {s t : Reached} {ks os ks′ os′ : List ℕ}
   kept-puts z p = same-puts (λ n. rw (ne-eqb dest 0 z)) p
 
 -- ---- the kind of an operation
+-- none of the numbers below k, as the rows of a match leave it
+abbrev pub NotBelow : ℕ → ℕ → Type 0
+NotBelow zero n = Unit {0}
+NotBelow (suc k) n = NotBelow k n × (n ≡ k → ⊥)
+
+pub not-below : (k n : ℕ) → NotBelow k n → k ≤ n
+not-below zero n h = omega arith
+not-below (suc k) n (h, z) = omega (arith, not-below k n h, z)
+
 pub narrow-operation : (n w : ℕ) → w ≤ 32 → 21 + n ≡ operation n (workOf w)
 unfolding operation workOf
 narrow-operation n w l = rw (le-leb w 32 l)
@@ -164,7 +174,7 @@ module _ (from to : ℕ) (not-bit : from ≡ 1 → ⊥) {k : ℕ} (e : k ≡ sxK
     sext-none z h = at (sxLine from (workOf to)) refl (sx-kind from to)
       where
         at : (o : Option Line) → sxLine from (workOf to) ≡ o → SxSays (sxKind from to) o → Puts (emitSext from to) s t ks os ks os
-        at none f _ = same-puts (λ n. rw (ne-eqb from 1 not-bit, f)) (refuse-puts 13 s ks os h)
+        at none f _ = same-puts (λ n. rw (ne-eqb from 1 not-bit, f)) (refuse-puts 13 (omega arith) s ks os h)
         at (some l) f w = absurd (w .2 (sym e ∙ z))
 
   module _ {s t u : Reached} {ks os ks′ os′ ks″ os″ : List ℕ} where

@@ -1,5 +1,6 @@
 // From one instruction to the next, and from one block to the next, in the entries of a sound book: the fields of an
 // instruction or a terminator have kinds below 40 and no 7, so that nothing has to be read again.
+use book::entry;
 ghost use Prim.Native.Nat.{_≤_};
 ghost use lib.ListN.{length};
 ghost use Rattle.gen_walk.specs.Walk.{FirstHigh, FirstBlock};
@@ -11,7 +12,7 @@ pub fn next_inst(kinds: &[u64], at: usize) -> usize
 {
     let mut i = at;
     while i < kinds.len() {
-        if 40 <= kinds[i] {
+        if entry::ADD <= kinds[i] {
             return i;
         }
         i += 1;
@@ -26,7 +27,7 @@ pub fn next_block(kinds: &[u64], at: usize, end: usize) -> usize
 {
     let mut i = at;
     while i < end {
-        if kinds[i] == 7 {
+        if kinds[i] == entry::BLOCK {
             return i;
         }
         i += 1;

@@ -7,6 +7,7 @@ use Rattle.gen_size.specs.Lent as lent
 use Rattle.gen_fields.specs.Places as places
 use Rattle.gen_values.specs.Maps.{maps-after}
 use Rattle.gen_alloca.specs.Alloca as laws
+use Rattle.gen_alloca.specs.Alloca.{CountAt}
 use borrow.Author.Needs.{needs}
 use Rattle.gen_alloca.proofs.gen_dynamic_alloca.Statement.{statement}
 use Rattle.gen_alloca.proofs.gen_dynamic_alloca.Tie as tie
@@ -26,9 +27,43 @@ count-place-requires c κs =
     let ws = entry .args .words .now in
     laws.count-front (entry .args .names) _ ks ws (c .skip .result) (places.past-type ks ws (entry .pre .fields) (c .skip .ensures))
 
+-- the count is behind the type
+abbrev startOf : tie.After-count-place → tie.Start
+startOf c = c .before .before .before .before .before .before .before .before .before .before .before .before .before
+
+count-at : (c : tie.After-count-place)
+    → CountAt (startOf c .args .names) (startOf c .args .kinds .now) (startOf c .args .words .now) (c .count-place .result) (startOf c .pre .holds .1 .0)
+count-at c =
+    let entry = startOf c in
+    c .count-place .ensures _ (entry .pre .holds .1) (places.past-type (entry .args .kinds .now) (entry .args .words .now) (entry .pre .fields) (c .before .skip .ensures)) .at
+
+mul-count-kinds : tie.Need-mul-count-kinds
+mul-count-kinds c = omega (arith, count-at c .in-kinds)
+
+sub-count-kinds : tie.Need-sub-count-kinds
+sub-count-kinds c = omega (arith, count-at c .in-kinds)
+
+part-count-kinds-start : tie.Need-part-count-kinds-start
+part-count-kinds-start c = omega (arith, count-at c .in-kinds)
+
+part-count-kinds-end : tie.Need-part-count-kinds-end
+part-count-kinds-end c = search needs
+
+mul-count-words : tie.Need-mul-count-words
+mul-count-words c = omega (arith, count-at (c .before) .in-words)
+
+sub-count-words : tie.Need-sub-count-words
+sub-count-words c = omega (arith, count-at (c .before) .in-words)
+
+part-count-words-start : tie.Need-part-count-words-start
+part-count-words-start c = omega (arith, count-at (c .before) .in-words)
+
+part-count-words-end : tie.Need-part-count-words-end
+part-count-words-end c = search needs
+
 add-align-or : tie.Need-add-align-or
 add-align-or c =
-    let after-count-place = c .before in
+    let after-count-place = c .before .before .before in
     let after-skip = after-count-place .before in
     let entry = after-skip .before .before .before .before .before .before .before .before .before .before .before .before in
     let ks = entry .args .kinds .now in
@@ -39,7 +74,7 @@ add-align-or c =
 
 align-or-requires : tie.Need-align-or-requires
 align-or-requires c κs =
-    let after-count-place = c .before in
+    let after-count-place = c .before .before .before in
     let after-skip = after-count-place .before in
     let after-measured-size = after-skip .before .before .before in
     let entry = after-measured-size .before .before .before .before .before .before .before .before .before in
@@ -59,14 +94,14 @@ raised-requires c κs = search needs
 push-count-requires : tie.Need-push-count-requires
 push-count-requires c κs =
     let after-align-or = c .before .before .before .before .before .before .before .before .before .before .before .before .before in
-    let after-count-place = after-align-or .before .before in
+    let after-count-place = after-align-or .before .before .before .before in
     let after-skip = after-count-place .before in
     let entry = after-skip .before .before .before .before .before .before .before .before .before .before .before .before in
     let ks = entry .args .kinds .now in
     let ws = entry .args .words .now in
     let past = places.past-type ks ws (entry .pre .fields) (after-skip .skip .ensures) in
     let count = after-count-place .count-place .ensures _ (entry .pre .holds .1) past in
-    laws.count-there ks ws _ (count .at) (after-align-or .align-or .ensures .after .ready .room)
+    laws.count-there _ _ 0 (laws.count-part (count .at)) (after-align-or .align-or .ensures .after .ready .room)
 
 moved-requires : tie.Need-moved-requires
 moved-requires c κs = search needs
@@ -78,7 +113,7 @@ same-length c =
     let after-raised = after-push-count .before .before .before .before .before .before .before .before in
     let after-larger = after-raised .before .before .before in
     let after-align-or = after-larger .before .before .before in
-    let after-measured-size = after-align-or .before .before .before .before .before .before in
+    let after-measured-size = after-align-or .before .before .before .before .before .before .before .before in
     after-align-or .align-or .ensures .after .kept .long ∙ after-measured-size .measured-size .ensures .after .kept .long
 
 same-length-2 : tie.Need-same-length-2
@@ -94,7 +129,7 @@ returns c = λ p k fields maps.
     let after-raised = after-push-count .before .before .before .before .before .before .before .before in
     let after-larger = after-raised .before .before .before in
     let after-align-or = after-larger .before .before .before in
-    let after-count-place = after-align-or .before .before in
+    let after-count-place = after-align-or .before .before .before .before in
     let after-skip = after-count-place .before in
     let after-measured-size = after-skip .before .before .before in
     let entry = after-measured-size .before .before .before .before .before .before .before .before .before in
@@ -109,7 +144,7 @@ returns c = λ p k fields maps.
     record {
       puts = laws.dynamic-puts k (p .0) (p .1 .0) (p .1 .1 .0) (lent.size-asked ks ws fields maps size)
           (stated .asked _ p k (p .1 .1 .0) fields measured (align-at ks ws _ (count .behind))) (after-larger .larger .ensures)
-          (after-raised .raised .ensures _ _ _ _ (then-puts (after-push-count .push-count .ensures m k (p .1 .0) (count .at) (last .locals)) (after-moved .moved .ensures)));
+          (after-raised .raised .ensures _ _ _ _ (then-puts (after-push-count .push-count .ensures m k (p .1 .0) (laws.count-part (count .at)) (last .locals)) (after-moved .moved .ensures)));
       maps = last;
     }
 
@@ -120,6 +155,14 @@ gen-dynamic-alloca-spec =
     measured-size-requires
     skip-requires
     count-place-requires
+    mul-count-kinds
+    sub-count-kinds
+    part-count-kinds-start
+    part-count-kinds-end
+    mul-count-words
+    sub-count-words
+    part-count-words-start
+    part-count-words-end
     add-align-or
     align-or-requires
     larger-requires

@@ -4,9 +4,6 @@ use borrow.Author.Needs.{needs}
 use Rattle.gen_alloca.proofs.push_count.Statement.{statement}
 use Rattle.gen_alloca.proofs.push_count.Tie as tie
 
-mul-if1 : tie.Need-mul-if1
-mul-if1 c = search needs
-
 shared-slice-read-if1 : tie.Need-shared-slice-read-if1
 shared-slice-read-if1 c = search needs
 
@@ -26,10 +23,10 @@ returns c = λ m k o count maps.
     let entry = then1 .before .before .before .before .before .before .before in
     let ks = entry .args .kinds .now in
     let ws = entry .args .words .now in
-    laws.one-puts k m ks ws (entry .args .at) count (then1 .if1 .taken) (after-push-int .push-int .ensures)
+    laws.one-puts k m ks ws 0 count (then1 .if1 .taken) (after-push-int .push-int .ensures)
 
-push-at-requires : tie.Need-push-at-requires
-push-at-requires c κs =
+push-value-requires : tie.Need-push-value-requires
+push-value-requires c κs =
     let else1 = c .before .before in
     let entry = else1 .before .before .before .before .before .before .before in
     entry .pre .operand (else1 .if1 .left)
@@ -42,24 +39,23 @@ same-length-4 c = search needs
 
 returns-2 : tie.Need-returns-2
 returns-2 c = λ m k o count maps.
-    let after-push-at = c .before .before .before .before in
-    let else1 = after-push-at .before .before .before in
+    let after-push = c .before .before .before .before in
+    let else1 = after-push .before .before .before in
     let entry = else1 .before .before .before .before .before .before .before in
     let ks = entry .args .kinds .now in
     let ws = entry .args .words .now in
-    laws.count-puts k m ks ws (entry .args .at) count (else1 .if1 .left) (λ tv v. after-push-at .push-at .ensures m k (tv .val) v maps)
+    laws.count-puts k m ks ws 0 count (else1 .if1 .left) (λ tv v. after-push .push-value .ensures m k (tv .val) v maps)
 
 pub push-count-spec : {M : Type 1} → statement M
 push-count-spec =
     tie.close
     (tie.spec
-    mul-if1
     shared-slice-read-if1
     push-int-requires
     same-length
     same-length-2
     returns
-    push-at-requires
+    push-value-requires
     same-length-3
     same-length-4
     returns-2)

@@ -1,11 +1,19 @@
 -- `gen_atomic::gen_atomic_load` meets its contract.
+use native.Mathlib.Omega.{arith}
+use Rattle.gen_values.specs.Fields.{ValueAt, operand-at, operand-part, value-part}
 use Rattle.gen_size.specs.Lent as lent
 use Rattle.gen_fields.specs.Places as places
-use Rattle.gen_values.specs.Fields.{operand-at}
 use Rattle.gen_atomic.specs.Atomic as laws
 use borrow.Author.Needs.{needs}
 use Rattle.gen_atomic.proofs.gen_atomic_load.Statement.{statement}
 use Rattle.gen_atomic.proofs.gen_atomic_load.Tie as tie
+
+-- the address is behind the type
+abbrev startOf : tie.After-skip → tie.Start
+startOf c = c .before .before .before .before .before .before .before .before .before .before .before .before
+
+ptr : (c : tie.After-skip) → ValueAt (startOf c .args .names) (startOf c .args .kinds .now) (startOf c .args .words .now) (c .skip .result) (startOf c .pre .holds .1 .0)
+ptr c = places.typed-value (startOf c .args .kinds .now) (startOf c .args .words .now) 0 (startOf c .pre .fields) (places.from-front (c .skip .ensures))
 
 require-atomic-width-requires : tie.Need-require-atomic-width-requires
 require-atomic-width-requires c κs =
@@ -15,15 +23,35 @@ require-atomic-width-requires c κs =
 skip-requires : tie.Need-skip-requires
 skip-requires c κs = search needs
 
-push-at-requires : tie.Need-push-at-requires
-push-at-requires c κs =
-    let after-skip = c .before .before .before in
-    let after-require-atomic-width = after-skip .before .before .before in
-    let entry = after-require-atomic-width .before .before .before .before .before .before .before .before .before in
-    let ks = entry .args .kinds .now in
-    let ws = entry .args .words .now in
-    operand-at (places.typed-value ks ws 0 (entry .pre .fields) (places.from-front (after-skip .skip .ensures)))
-    (rw (after-require-atomic-width .require-atomic-width .kept .1 .1 .1 .1 .0) (entry .pre .ready .room))
+mul-ptr-kinds : tie.Need-mul-ptr-kinds
+mul-ptr-kinds c = omega (arith, ptr c .in-kinds)
+
+sub-ptr-kinds : tie.Need-sub-ptr-kinds
+sub-ptr-kinds c = omega (arith, ptr c .in-kinds)
+
+part-ptr-kinds-start : tie.Need-part-ptr-kinds-start
+part-ptr-kinds-start c = omega (arith, ptr c .in-kinds)
+
+part-ptr-kinds-end : tie.Need-part-ptr-kinds-end
+part-ptr-kinds-end c = search needs
+
+mul-ptr-words : tie.Need-mul-ptr-words
+mul-ptr-words c = omega (arith, ptr (c .before) .in-words)
+
+sub-ptr-words : tie.Need-sub-ptr-words
+sub-ptr-words c = omega (arith, ptr (c .before) .in-words)
+
+part-ptr-words-start : tie.Need-part-ptr-words-start
+part-ptr-words-start c = omega (arith, ptr (c .before) .in-words)
+
+part-ptr-words-end : tie.Need-part-ptr-words-end
+part-ptr-words-end c = search needs
+
+push-value-requires : tie.Need-push-value-requires
+push-value-requires c κs =
+    let after-skip = c .before .before .before .before .before in
+    let after-width = after-skip .before .before .before in
+    operand-part (operand-at (ptr after-skip) (rw (after-width .require-atomic-width .kept .1 .1 .1 .1 .0) (startOf after-skip .pre .ready .room)))
 
 put-requires : tie.Need-put-requires
 put-requires c κs = search needs
@@ -40,16 +68,16 @@ same-length-3 c = search needs
 returns : tie.Need-returns
 returns c = λ p k fields maps.
     let after-put = c .before .before .before .before in
-    let after-push-at = after-put .before .before .before .before .before .before .before in
-    let after-skip = after-push-at .before .before .before .before in
-    let after-require-atomic-width = after-skip .before .before .before in
-    let entry = after-require-atomic-width .before .before .before .before .before .before .before .before .before in
+    let after-push = after-put .before .before .before .before .before .before .before in
+    let after-skip = after-push .before .before .before .before .before .before in
+    let after-width = after-skip .before .before .before in
+    let entry = startOf after-skip in
     let ks = entry .args .kinds .now in
     let ws = entry .args .words .now in
-    let wide = after-require-atomic-width .require-atomic-width .ensures _ p k (entry .args .lines .now) (entry .args .operands .now) fields maps in
+    let wide = after-width .require-atomic-width .ensures _ p k (entry .args .lines .now) (entry .args .operands .now) fields maps in
     let address = places.typed-value ks ws 0 fields (places.from-front (after-skip .skip .ensures)) in
     record {
-      puts = laws.load-puts k (p .0) (p .1 .0) (wide .puts) (after-push-at .push-at .ensures (entry .args .names) k (p .1 .0) address (wide .maps .locals)) (after-put .put .ensures);
+      puts = laws.load-puts k (p .0) (p .1 .0) (wide .puts) (after-push .push-value .ensures (entry .args .names) k (p .1 .0) (value-part address) (wide .maps .locals)) (after-put .put .ensures);
       maps = wide .maps;
     }
 
@@ -59,7 +87,15 @@ gen-atomic-load-spec =
     (tie.spec
     require-atomic-width-requires
     skip-requires
-    push-at-requires
+    mul-ptr-kinds
+    sub-ptr-kinds
+    part-ptr-kinds-start
+    part-ptr-kinds-end
+    mul-ptr-words
+    sub-ptr-words
+    part-ptr-words-start
+    part-ptr-words-end
+    push-value-requires
     put-requires
     same-length
     same-length-2

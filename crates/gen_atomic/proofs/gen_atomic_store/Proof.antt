@@ -1,13 +1,27 @@
 -- `gen_atomic::gen_atomic_store` meets its contract.
 use native.Mathlib.Omega.{arith}
 use Prim.Native.Nat.{_+_}
-use Rattle.gen_values.specs.Fields.{operand-at, value-at, behind-value}
+use Rattle.gen_values.specs.Fields.{ValueAt, operand-at, operand-part, value-part, value-at, behind-value}
 use Rattle.gen_size.specs.Lent as lent
 use Rattle.gen_fields.specs.Places as places
 use Rattle.gen_atomic.specs.Atomic as laws
 use borrow.Author.Needs.{needs}
 use Rattle.gen_atomic.proofs.gen_atomic_store.Statement.{statement}
 use Rattle.gen_atomic.proofs.gen_atomic_store.Tie as tie
+
+-- the value is behind the type, and the address behind it
+abbrev startOf : tie.After-skip → tie.Start
+startOf c = c .before .before .before .before .before .before .before .before .before .before .before .before
+
+module _ (c : tie.After-skip) where
+  val : ValueAt (startOf c .args .names) (startOf c .args .kinds .now) (startOf c .args .words .now) (c .skip .result) (startOf c .pre .holds .1 .0)
+  val = places.typed-value (startOf c .args .kinds .now) (startOf c .args .words .now) 0 (startOf c .pre .fields) (places.from-front (c .skip .ensures))
+
+  ptr : ValueAt (startOf c .args .names) (startOf c .args .kinds .now) (startOf c .args .words .now) (c .skip .result + 1) (startOf c .pre .holds .1 .1 .0)
+  ptr =
+      let ks = startOf c .args .kinds .now in
+      let ws = startOf c .args .words .now in
+      value-at ks ws (c .skip .result + 1) (behind-value ks ws (c .skip .result) (places.behind ks ws 0 (startOf c .pre .fields) (places.from-front (c .skip .ensures))))
 
 require-atomic-width-requires : tie.Need-require-atomic-width-requires
 require-atomic-width-requires c κs =
@@ -17,33 +31,68 @@ require-atomic-width-requires c κs =
 skip-requires : tie.Need-skip-requires
 skip-requires c κs = search needs
 
-add-address : tie.Need-add-address
-add-address c =
-    let entry = c .before .before .before .before .before .before .before .before .before .before .before .before in
-    let ks = entry .args .kinds .now in
-    let ws = entry .args .words .now in
-    omega (arith, places.typed-value ks ws 0 (entry .pre .fields) (places.from-front (c .skip .ensures)) .in-kinds, entry .good)
+add-ptr : tie.Need-add-ptr
+add-ptr c = omega (arith, val c .in-kinds, startOf c .good)
 
-push-at-requires : tie.Need-push-at-requires
-push-at-requires c κs =
-    let after-skip = c .before .before .before in
-    let after-require-atomic-width = after-skip .before .before .before in
-    let entry = after-require-atomic-width .before .before .before .before .before .before .before .before .before in
-    let ks = entry .args .kinds .now in
-    let ws = entry .args .words .now in
-    let at = after-skip .skip .result in
-    let value = places.behind ks ws 0 (entry .pre .fields) (places.from-front (after-skip .skip .ensures)) in
-    operand-at (value-at ks ws (at + 1) (behind-value ks ws at value)) (rw (after-require-atomic-width .require-atomic-width .kept .1 .1 .1 .1 .0) (entry .pre .ready .room))
+mul-val-kinds : tie.Need-mul-val-kinds
+mul-val-kinds c = omega (arith, val c .in-kinds)
 
-push-at-requires-2 : tie.Need-push-at-requires-2
-push-at-requires-2 c κs =
-    let after-skip = c .before .before .before .before .before .before .before .before .before .before .before in
-    let after-require-atomic-width = after-skip .before .before .before in
-    let entry = after-require-atomic-width .before .before .before .before .before .before .before .before .before in
-    let ks = entry .args .kinds .now in
-    let ws = entry .args .words .now in
-    operand-at (places.typed-value ks ws 0 (entry .pre .fields) (places.from-front (after-skip .skip .ensures)))
-    (rw (after-require-atomic-width .require-atomic-width .kept .1 .1 .1 .1 .0) (entry .pre .ready .room))
+sub-val-kinds : tie.Need-sub-val-kinds
+sub-val-kinds c = omega (arith, val c .in-kinds)
+
+part-val-kinds-start : tie.Need-part-val-kinds-start
+part-val-kinds-start c = omega (arith, val c .in-kinds)
+
+part-val-kinds-end : tie.Need-part-val-kinds-end
+part-val-kinds-end c = search needs
+
+mul-val-words : tie.Need-mul-val-words
+mul-val-words c = omega (arith, val (c .before) .in-words)
+
+sub-val-words : tie.Need-sub-val-words
+sub-val-words c = omega (arith, val (c .before) .in-words)
+
+part-val-words-start : tie.Need-part-val-words-start
+part-val-words-start c = omega (arith, val (c .before) .in-words)
+
+part-val-words-end : tie.Need-part-val-words-end
+part-val-words-end c = search needs
+
+mul-ptr-kinds : tie.Need-mul-ptr-kinds
+mul-ptr-kinds c = omega (arith, ptr (c .before .before) .in-kinds)
+
+sub-ptr-kinds : tie.Need-sub-ptr-kinds
+sub-ptr-kinds c = omega (arith, ptr (c .before .before) .in-kinds)
+
+part-ptr-kinds-start : tie.Need-part-ptr-kinds-start
+part-ptr-kinds-start c = omega (arith, ptr (c .before .before) .in-kinds)
+
+part-ptr-kinds-end : tie.Need-part-ptr-kinds-end
+part-ptr-kinds-end c = search needs
+
+mul-ptr-words : tie.Need-mul-ptr-words
+mul-ptr-words c = omega (arith, ptr (c .before .before .before) .in-words)
+
+sub-ptr-words : tie.Need-sub-ptr-words
+sub-ptr-words c = omega (arith, ptr (c .before .before .before) .in-words)
+
+part-ptr-words-start : tie.Need-part-ptr-words-start
+part-ptr-words-start c = omega (arith, ptr (c .before .before .before) .in-words)
+
+part-ptr-words-end : tie.Need-part-ptr-words-end
+part-ptr-words-end c = search needs
+
+push-value-requires : tie.Need-push-value-requires
+push-value-requires c κs =
+    let after-skip = c .before .before .before .before .before .before .before in
+    let after-width = after-skip .before .before .before in
+    operand-part (operand-at (ptr after-skip) (rw (after-width .require-atomic-width .kept .1 .1 .1 .1 .0) (startOf after-skip .pre .ready .room)))
+
+push-value-requires-2 : tie.Need-push-value-requires-2
+push-value-requires-2 c κs =
+    let after-skip = c .before .before .before .before .before .before .before .before .before .before .before .before .before .before .before in
+    let after-width = after-skip .before .before .before in
+    operand-part (operand-at (val after-skip) (rw (after-width .require-atomic-width .kept .1 .1 .1 .1 .0) (startOf after-skip .pre .ready .room)))
 
 put-requires : tie.Need-put-requires
 put-requires c κs = search needs
@@ -51,11 +100,11 @@ put-requires c κs = search needs
 same-length : tie.Need-same-length
 same-length c =
     let after-put = c .before .before .before .before in
-    let after-push-at2 = after-put .before .before .before .before .before .before .before in
-    let after-push-at = after-push-at2 .before .before .before .before .before .before .before .before in
-    let after-skip = after-push-at .before .before .before .before in
-    let after-require-atomic-width = after-skip .before .before .before in
-    after-require-atomic-width .require-atomic-width .kept .1 .1 .1 .1 .0
+    let after-push2 = after-put .before .before .before .before .before .before .before in
+    let after-push = after-push2 .before .before .before .before .before .before .before .before in
+    let after-skip = after-push .before .before .before .before .before .before .before .before in
+    let after-width = after-skip .before .before .before in
+    after-width .require-atomic-width .kept .1 .1 .1 .1 .0
 
 same-length-2 : tie.Need-same-length-2
 same-length-2 c = search needs
@@ -66,20 +115,20 @@ same-length-3 c = search needs
 returns : tie.Need-returns
 returns c = λ p k fields maps.
     let after-put = c .before .before .before .before in
-    let after-push-at2 = after-put .before .before .before .before .before .before .before in
-    let after-push-at = after-push-at2 .before .before .before .before .before .before .before .before in
-    let after-skip = after-push-at .before .before .before .before in
-    let after-require-atomic-width = after-skip .before .before .before in
-    let entry = after-require-atomic-width .before .before .before .before .before .before .before .before .before in
+    let after-push2 = after-put .before .before .before .before .before .before .before in
+    let after-push = after-push2 .before .before .before .before .before .before .before .before in
+    let after-skip = after-push .before .before .before .before .before .before .before .before in
+    let after-width = after-skip .before .before .before in
+    let entry = startOf after-skip in
     let ks = entry .args .kinds .now in
     let ws = entry .args .words .now in
+    let wide = after-width .require-atomic-width .ensures _ p k (entry .args .lines .now) (entry .args .operands .now) fields maps in
     let at = after-skip .skip .result in
-    let wide = after-require-atomic-width .require-atomic-width .ensures _ p k (entry .args .lines .now) (entry .args .operands .now) fields maps in
     let value = places.behind ks ws 0 fields (places.from-front (after-skip .skip .ensures)) in
     record {
       puts = laws.store-puts k (p .0) (p .1 .0) (p .1 .1 .0) (wide .puts)
-          (after-push-at .push-at .ensures (entry .args .names) k (p .1 .1 .0) (value-at ks ws (at + 1) (behind-value ks ws at value)) (wide .maps .locals))
-          (after-push-at2 .push-at2 .ensures (entry .args .names) k (p .1 .0) (value-at ks ws at value) (wide .maps .locals)) (after-put .put .ensures);
+          (after-push .push-value .ensures (entry .args .names) k (p .1 .1 .0) (value-part (value-at ks ws (at + 1) (behind-value ks ws at value))) (wide .maps .locals))
+          (after-push2 .push-value2 .ensures (entry .args .names) k (p .1 .0) (value-part (value-at ks ws at value)) (wide .maps .locals)) (after-put .put .ensures);
       maps = wide .maps;
     }
 
@@ -89,9 +138,25 @@ gen-atomic-store-spec =
     (tie.spec
     require-atomic-width-requires
     skip-requires
-    add-address
-    push-at-requires
-    push-at-requires-2
+    add-ptr
+    mul-val-kinds
+    sub-val-kinds
+    part-val-kinds-start
+    part-val-kinds-end
+    mul-val-words
+    sub-val-words
+    part-val-words-start
+    part-val-words-end
+    mul-ptr-kinds
+    sub-ptr-kinds
+    part-ptr-kinds-start
+    part-ptr-kinds-end
+    mul-ptr-words
+    sub-ptr-words
+    part-ptr-words-start
+    part-ptr-words-end
+    push-value-requires
+    push-value-requires-2
     put-requires
     same-length
     same-length-2

@@ -8,24 +8,14 @@ use borrow.Author.Needs.{needs}
 use Rattle.gen_atomic.proofs.gen_extractvalue.Statement.{statement}
 use Rattle.gen_atomic.proofs.gen_extractvalue.Tie as tie
 
-shared-slice-read-agg-slot : tie.Need-shared-slice-read-agg-slot
-shared-slice-read-agg-slot c =
-    let entry = c .before .before .before .before .before .before in
-    value-at (entry .args .kinds .now) (entry .args .words .now) 0 (entry .pre .fields) .in-kinds
-
-shared-slice-read-agg-slot-2 : tie.Need-shared-slice-read-agg-slot-2
-shared-slice-read-agg-slot-2 c =
-    let entry = c .before .before .before .before .before .before .before in
-    value-at (entry .args .kinds .now) (entry .args .words .now) 0 (entry .pre .fields) .in-words
-
 agg-slot-requires : tie.Need-agg-slot-requires
 agg-slot-requires c κs =
-    let entry = c .before .before .before .before .before .before .before in
-    operand-at (value-at (entry .args .kinds .now) (entry .args .words .now) 0 (entry .pre .fields)) (entry .pre .room) .reaches
+    let entry = c .before .before .before .before .before in
+    operand-at (value-at (entry .args .kinds .now) (entry .args .words .now) 0 (entry .pre .fields)) (entry .pre .room)
 
 shared-slice-read-index : tie.Need-shared-slice-read-index
 shared-slice-read-index c =
-    let entry = c .before .before .before .before .before .before .before .before .before in
+    let entry = c .before .before .before .before .before .before .before in
     let ks = entry .args .kinds .now in
     let ws = entry .args .words .now in
     places.index-in ks ws 1 (behind-value ks ws 0 (entry .pre .fields))
@@ -45,7 +35,7 @@ store-dest-requires c κs =
     let after-wrapping-add-u64 = after-put .before in
     let after-need = after-wrapping-add-u64 .before .before .before in
     let after-agg-slot = after-need .before .before in
-    let entry = after-agg-slot .before .before .before .before .before .before .before .before in
+    let entry = after-agg-slot .before .before .before .before .before .before in
     given.dest-reaches (entry .pre)
 
 same-length : tie.Need-same-length
@@ -61,14 +51,13 @@ returns c = λ p k fields maps.
     let after-wrapping-add-u64 = after-put .before in
     let after-need = after-wrapping-add-u64 .before .before .before in
     let after-agg-slot = after-need .before .before in
-    let entry = after-agg-slot .before .before .before .before .before .before .before .before in
+    let entry = after-agg-slot .before .before .before .before .before .before in
     let ks = entry .args .kinds .now in
     let ws = entry .args .words .now in
     let m = entry .args .names in
-    let agg = value-at ks ws 0 fields in
     let index = places.index-is ks ws 1 (behind-value ks ws 0 fields) in
     rw (sym index)
-    (laws.extract-puts k (p .0) _ _ (rw (agg .is) at (after-agg-slot .agg-slot .ensures m k (rw (agg .is) (agg .limits)) maps))
+    (laws.extract-puts k (p .0) _ _ (after-agg-slot .agg-slot .ensures m k (p .0) (value-at ks ws 0 fields) maps)
     (after-need .need .ensures) (after-wrapping-add-u64 .wrapping-add-u64 .ensures) (after-put .put .ensures)
     (after-store-dest .store-dest .ensures m k (entry .pre .result) maps))
 
@@ -76,8 +65,6 @@ pub gen-extractvalue-spec : {M : Type 1} → statement M
 gen-extractvalue-spec =
     tie.close
     (tie.spec
-    shared-slice-read-agg-slot
-    shared-slice-read-agg-slot-2
     agg-slot-requires
     shared-slice-read-index
     need-requires

@@ -24,7 +24,7 @@ returns : tie.Need-returns
 returns c = λ m k below maps.
     let then1 = c .before in
     let entry = then1 .before .before .before in
-    laws.slot-missing k m (entry .args .name) (entry .args .number) (entry .args .work .now) below maps (entry .args .s) refl (then1 .if1 .taken) (c .refuse .ensures)
+    laws.slot-missing k m (entry .args .name) (entry .args .number) (entry .args .work .now) below maps (entry .args .s) refl (entry .pre .1) (then1 .if1 .taken) (c .refuse .ensures)
 
 sub-t11 : tie.Need-sub-t11
 sub-t11 c = search needs

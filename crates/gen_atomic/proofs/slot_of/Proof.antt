@@ -20,7 +20,7 @@ sub-name-slot c = search needs
 name-slot-requires : tie.Need-name-slot-requires
 name-slot-requires c κs =
     let entry = c .before .before in
-    entry .pre .there (c .if1 .left)
+    (entry .pre .there (c .if1 .left), omega arith)
 
 returns-2 : tie.Need-returns-2
 returns-2 c = λ m k below maps.

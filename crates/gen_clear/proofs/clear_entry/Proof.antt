@@ -1,14 +1,15 @@
 -- `gen_clear::clear_entry` meets its contract: one case for each of the kinds that say a name.
-use Prim.Native.Nat.{_*_, _-_}
+use Prim.Native.Nat.{_-_}
 use lib.ListN.{length-set}
 use native.Mathlib.Omega.{arith}
+use Rattle.book.specs.Work.{slotAt}
 use Rattle.gen_clear.specs.Clear as laws
 use borrow.Author.Needs.{needs}
 use Rattle.gen_clear.proofs.clear_entry.Statement.{statement}
 use Rattle.gen_clear.proofs.clear_entry.Tie as tie
 
-mul-place : tie.Need-mul-place
-mul-place c =
+sub-first : tie.Need-sub-first
+sub-first c =
     let then1 = c .before in
     let entry = then1 .before in
     let word = entry .pre .0 .inst (then1 .if1 .taken) in
@@ -16,8 +17,17 @@ mul-place c =
     let room = entry .pre .1 in
     search needs
 
-sub-work : tie.Need-sub-work
-sub-work c =
+mul-first : tie.Need-mul-first
+mul-first c =
+    let then1 = c .before in
+    let entry = then1 .before in
+    let word = entry .pre .0 .inst (then1 .if1 .taken) in
+    let positive = laws.positive-of _ (c .if2 .taken) in
+    let room = entry .pre .1 in
+    search needs
+
+add-work : tie.Need-add-work
+add-work c =
     let then1 = c .before in
     let entry = then1 .before in
     let word = entry .pre .0 .inst (then1 .if1 .taken) in
@@ -43,8 +53,8 @@ slice-write-work c =
     let room = entry .pre .1 in
     search needs
 
-sub-work-2 : tie.Need-sub-work-2
-sub-work-2 c =
+add-work-2 : tie.Need-add-work-2
+add-work-2 c =
     let then1 = c .before in
     let entry = then1 .before in
     let word = entry .pre .0 .inst (then1 .if1 .taken) in
@@ -68,7 +78,7 @@ slice-write-work-2 c =
     let word = entry .pre .0 .inst (then1 .if1 .taken) in
     let positive = laws.positive-of _ (c .if2 .taken) in
     let room = entry .pre .1 in
-    omega (arith, length-set (entry .args .work .now) (8 * entry .args .word - 7) 0)
+    omega (arith, length-set (entry .args .work .now) (slotAt (entry .args .word - 1)) 0)
 
 same-length : tie.Need-same-length
 same-length c = search needs
@@ -95,8 +105,8 @@ mul-work-3 c =
     let room = entry .pre .1 in
     search needs
 
-add-work : tie.Need-add-work
-add-work c =
+add-work-3 : tie.Need-add-work-3
+add-work-3 c =
     let entry = c .before .before in
     let word = entry .pre .0 .block (c .if3 .taken) in
     let room = entry .pre .1 in
@@ -126,8 +136,8 @@ returns-3 c =
     let room = entry .pre .1 in
     rw (c .if3 .taken) (laws.block-cleared _ _ _ word room)
 
-mul-work-5 : tie.Need-mul-work-5
-mul-work-5 c =
+sub-work : tie.Need-sub-work
+sub-work c =
     let then4 = c .before in
     let entry = then4 .before .before .before in
     let word = entry .pre .0 .param (then4 .if4 .taken) in
@@ -135,8 +145,8 @@ mul-work-5 c =
     let room = entry .pre .1 in
     search needs
 
-sub-work-3 : tie.Need-sub-work-3
-sub-work-3 c =
+mul-work-5 : tie.Need-mul-work-5
+mul-work-5 c =
     let then4 = c .before in
     let entry = then4 .before .before .before in
     let word = entry .pre .0 .param (then4 .if4 .taken) in
@@ -187,24 +197,25 @@ pub clear-entry-spec : {M : Type 1} → statement M
 clear-entry-spec =
     tie.close
     (tie.spec
-    mul-place
-    sub-work
+    sub-first
+    mul-first
+    add-work
     mul-work
     slice-write-work
-    sub-work-2
+    add-work-2
     mul-work-2
     slice-write-work-2
     same-length
     returns
     returns-2
     mul-work-3
-    add-work
+    add-work-3
     mul-work-4
     slice-write-work-3
     same-length-2
     returns-3
+    sub-work
     mul-work-5
-    sub-work-3
     mul-work-6
     slice-write-work-4
     same-length-3

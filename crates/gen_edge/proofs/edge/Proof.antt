@@ -3,10 +3,6 @@ use Rattle.gen_edge.specs.Edges.{edge-puts}
 use borrow.Author.Needs.{needs}
 use Rattle.gen_edge.proofs.edge.Statement.{statement}
 use Rattle.gen_edge.proofs.edge.Tie as tie
-use Rattle.gen_edge.proofs.edge.Reads as reads
-use Rattle.gen_edge.proofs.edge.Lts as lts
-use Rattle.gen_edge.proofs.emit_edge_copies.Reads as emit-edge-copies-reads
-use Rattle.gen_lines.proofs.put.Reads as put-reads
 
 -- src/lib.rt:292:9
 emit-edge-copies-requires : tie.Need-emit-edge-copies-requires

@@ -5,11 +5,6 @@ use Rattle.gen_edge.specs.Edges.{unknown-puts, target, copied-puts}
 use borrow.Author.Needs.{needs}
 use Rattle.gen_edge.proofs.emit_edge_copies.Statement.{statement}
 use Rattle.gen_edge.proofs.emit_edge_copies.Tie as tie
-use Rattle.gen_edge.proofs.emit_edge_copies.Reads as reads
-use Rattle.gen_edge.proofs.emit_edge_copies.Lts as lts
-use Rattle.gen_edge.proofs.push_copies.Reads as push-copies-reads
-use Rattle.gen_edge.proofs.set_slots.Reads as set-slots-reads
-use Rattle.gen_lines.proofs.refuse.Reads as refuse-reads
 
 -- src/lib.rt:264:22
 mul-place : tie.Need-mul-place

@@ -3,10 +3,6 @@ use mathlib.Core.Path.{_∙_}
 use borrow.Author.Needs.{needs}
 use Rattle.gen_edge.proofs.note.Statement.{statement}
 use Rattle.gen_edge.proofs.note.Tie as tie
-use Rattle.gen_edge.proofs.note.Reads as reads
-use Rattle.gen_edge.proofs.note.Lts as lts
-use Rattle.gen_edge.proofs.slot_word.Reads as slot-word-reads
-use Rattle.gen_values.proofs.need.Reads as need-reads
 
 -- src/lib.rt:50:27
 slot-word-requires : tie.Need-slot-word-requires

@@ -5,9 +5,6 @@ use Rattle.gen_values.specs.Push.{word-same}
 use borrow.Author.Needs.{needs}
 use Rattle.gen_edge.proofs.put_at.Statement.{statement}
 use Rattle.gen_edge.proofs.put_at.Tie as tie
-use Rattle.gen_edge.proofs.put_at.Reads as reads
-use Rattle.gen_edge.proofs.put_at.Lts as lts
-use Rattle.gen_lines.proofs.put.Reads as put-reads
 
 -- src/lib.rt:190:5
 put-requires : tie.Need-put-requires

@@ -5,8 +5,6 @@ use native.Mathlib.Omega.{arith}
 use borrow.Author.Needs.{needs}
 use Rattle.gen_edge.proofs.slot_word.Statement.{statement}
 use Rattle.gen_edge.proofs.slot_word.Tie as tie
-use Rattle.gen_edge.proofs.slot_word.Reads as reads
-use Rattle.gen_edge.proofs.slot_word.Lts as lts
 
 -- src/lib.rt:40:9
 returns : tie.Need-returns

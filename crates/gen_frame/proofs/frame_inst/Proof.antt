@@ -7,17 +7,17 @@ use Rattle.gen_frame.proofs.frame_inst.Tie as tie
 
 returns : tie.Need-returns
 returns c =
-    let entry = c .before .before .before .before .before .before in
+    let entry = c .before .before .before .before .before .before .before in
     laws.step-refused (entry .args .kinds .now) (entry .args .words .now) (entry .args .work .now) (entry .args .f) (entry .pre .ready) (c .if1 .taken)
 
 take-slots-requires : tie.Need-take-slots-requires
 take-slots-requires c κs =
-    let entry = c .before .before .before .before .before .before .before in
+    let entry = c .before .before .before .before .before .before .before .before in
     laws.take-ask (entry .args .kinds .now) (entry .args .words .now) (entry .args .work .now) (entry .args .f) (entry .pre)
 
 shared-slice-read-if2 : tie.Need-shared-slice-read-if2
 shared-slice-read-if2 c =
-    let entry = c .before .before .before .before .before .before .before .before .before .before .before in
+    let entry = c .before .before .before .before .before .before .before .before .before .before .before .before in
     let h = facts.inst-front (entry .args .kinds .now) (entry .args .words .now) (entry .pre .at) .in-kinds in
     search needs
 
@@ -28,19 +28,19 @@ returns-2 : tie.Need-returns-2
 returns-2 c =
     let after-take-slots = c .before .before .before .before in
     let else1 = after-take-slots .before .before in
-    let entry = else1 .before .before .before .before .before .before in
+    let entry = else1 .before .before .before .before .before .before .before in
     laws.step-plain (entry .args .kinds .now) (entry .args .words .now) (entry .args .work .now) (entry .args .f) (else1 .if1 .left)
     (after-take-slots .take-slots .ensures) (entry .pre .ready) (c .if2 .taken)
 
 sub-alloca : tie.Need-sub-alloca
 sub-alloca c =
-    let entry = c .before .before .before .before .before .before .before .before .before .before .before .before in
+    let entry = c .before .before .before .before .before .before .before .before .before .before .before .before .before in
     let h = facts.inst-front (entry .args .kinds .now) (entry .args .words .now) (entry .pre .at) .in-kinds in
     search needs
 
 part-alloca-start : tie.Need-part-alloca-start
 part-alloca-start c =
-    let entry = c .before .before .before .before .before .before .before .before .before .before .before .before in
+    let entry = c .before .before .before .before .before .before .before .before .before .before .before .before .before in
     let h = facts.inst-front (entry .args .kinds .now) (entry .args .words .now) (entry .pre .at) .in-kinds in
     search needs
 
@@ -49,13 +49,13 @@ part-alloca-end c = search needs
 
 sub-alloca-2 : tie.Need-sub-alloca-2
 sub-alloca-2 c =
-    let entry = c .before .before .before .before .before .before .before .before .before .before .before .before .before in
+    let entry = c .before .before .before .before .before .before .before .before .before .before .before .before .before .before in
     let h = facts.inst-front (entry .args .kinds .now) (entry .args .words .now) (entry .pre .at) .in-words in
     search needs
 
 part-alloca-start-2 : tie.Need-part-alloca-start-2
 part-alloca-start-2 c =
-    let entry = c .before .before .before .before .before .before .before .before .before .before .before .before .before in
+    let entry = c .before .before .before .before .before .before .before .before .before .before .before .before .before .before in
     let h = facts.inst-front (entry .args .kinds .now) (entry .args .words .now) (entry .pre .at) .in-words in
     search needs
 
@@ -64,7 +64,7 @@ part-alloca-end-2 c = search needs
 
 shared-slice-read-alloca : tie.Need-shared-slice-read-alloca
 shared-slice-read-alloca c =
-    let entry = c .before .before .before .before .before .before .before .before .before .before .before .before .before .before .before .before in
+    let entry = c .before .before .before .before .before .before .before .before .before .before .before .before .before .before .before .before .before in
     let h = facts.inst-front (entry .args .kinds .now) (entry .args .words .now) (entry .pre .at) .in-words in
     search needs
 
@@ -73,7 +73,7 @@ alloca-requires c κs =
     let else2 = c .before .before .before .before in
     let after-take-slots = else2 .before .before .before .before in
     let else1 = after-take-slots .before .before in
-    let entry = else1 .before .before .before .before .before .before in
+    let entry = else1 .before .before .before .before .before .before .before in
     laws.alloca-ask (entry .args .kinds .now) (entry .args .words .now) (entry .args .work .now) (entry .args .f) (else1 .if1 .left)
     (after-take-slots .take-slots .ensures) (else2 .if2 .left) (entry .pre)
 
@@ -85,7 +85,7 @@ returns-3 c =
     let else2 = c .before .before .before .before .before .before .before in
     let after-take-slots = else2 .before .before .before .before in
     let else1 = after-take-slots .before .before in
-    let entry = else1 .before .before .before .before .before .before in
+    let entry = else1 .before .before .before .before .before .before .before in
     laws.step-alloca (entry .args .kinds .now) (entry .args .words .now) (entry .args .work .now) (entry .args .f) (else1 .if1 .left)
     (after-take-slots .take-slots .ensures) (else2 .if2 .left) (entry .pre) (c .before .before .alloca .ensures)
 

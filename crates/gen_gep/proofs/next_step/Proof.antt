@@ -4,17 +4,17 @@ use borrow.Author.Needs.{needs}
 use Rattle.gen_gep.proofs.next_step.Statement.{statement}
 use Rattle.gen_gep.proofs.next_step.Tie as tie
 
-first-step-requires : tie.Need-first-step-requires
-first-step-requires c κs = search needs
+array-step-requires : tie.Need-array-step-requires
+array-step-requires c κs = search needs
 
 same-length : tie.Need-same-length
 same-length c = search needs
 
 returns : tie.Need-returns
 returns c =
-    let after-first-step = c .before .before in
-    let then1 = after-first-step .before .before in
-    first-outcome _ _ _ (then1 .if1 .taken) (after-first-step .first-step .ensures)
+    let after-array-step = c .before .before in
+    let then1 = after-array-step .before .before in
+    first-outcome _ _ _ (then1 .if1 .taken) (after-array-step .array-step .ensures)
 
 gep-step-requires : tie.Need-gep-step-requires
 gep-step-requires c κs = search needs
@@ -31,4 +31,4 @@ returns-2 c =
 pub next-step-spec : {M : Type 1} → statement M
 next-step-spec =
     tie.close
-    (tie.spec first-step-requires same-length returns gep-step-requires same-length-2 returns-2)
+    (tie.spec array-step-requires same-length returns gep-step-requires same-length-2 returns-2)

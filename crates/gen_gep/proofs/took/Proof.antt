@@ -4,7 +4,7 @@ use Rattle.book.specs.Entry.{entries}
 use Rattle.layout_step.specs.Steps.{Steps}
 use Rattle.layout_step.specs.declared.Step.{Step}
 use Rattle.gen_gep.specs.Indices.{indexIn}
-use Rattle.gen_gep.specs.Walks.{refused-went, constant-went, varying-went}
+use Rattle.gen_gep.specs.Walks.{Numbered, refused-went, constant-went, varying-went}
 use borrow.Author.Needs.{needs}
 use Rattle.gen_gep.proofs.took.Statement.{statement}
 use Rattle.gen_gep.proofs.took.Tie as tie
@@ -13,7 +13,10 @@ enum-known-step : tie.Need-enum-known-step
 enum-known-step c = search needs
 
 refuse-requires : tie.Need-refuse-requires
-refuse-requires c κs = search needs
+refuse-requires c κs =
+    let after-step = c .before in
+    let entry = after-step .before .before .before .before .before .before in
+    subst Numbered (after-step .step .given .1) (entry .pre .1)
 
 enum-known-step-2 : tie.Need-enum-known-step-2
 enum-known-step-2 c = search needs
@@ -34,7 +37,8 @@ returns c =
     let a = entry .args in
     let es = entries (a .book-kinds .now) (a .book-words .now) in
     λ p k answer f ready front says at.
-    refused-went (indexIn p) ready at front _ (subst (λ (t : Step). Steps (a .names) es answer t) (after-step .step .given .1) says) (c .refuse .ensures)
+    refused-went (indexIn p) ready at front _ (subst Numbered (after-step .step .given .1) (entry .pre .1))
+    (subst (λ (t : Step). Steps (a .names) es answer t) (after-step .step .given .1) says) (c .refuse .ensures)
 
 returns-2 : tie.Need-returns-2
 returns-2 c =

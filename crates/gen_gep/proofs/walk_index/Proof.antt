@@ -2,7 +2,7 @@
 use Rattle.book.specs.Entry.{entries}
 use Rattle.layout_memo.specs.Work.{structsIn}
 use Rattle.gen_gep.specs.Indices.{indexIn}
-use Rattle.gen_gep.specs.Walks.{take-value, take-took, same-step, walk-after, went-after}
+use Rattle.gen_gep.specs.Walks.{take-value, take-took, step-numbered, same-step, walk-after, went-after}
 use borrow.Author.Needs.{needs}
 use Rattle.gen_gep.proofs.walk_index.Statement.{statement}
 use Rattle.gen_gep.proofs.walk_index.Tie as tie
@@ -20,7 +20,8 @@ took-requires : tie.Need-took-requires
 took-requires c κs =
     let after-next-step = c .before .before .before in
     let entry = after-next-step .before .before .before .before .before .before in
-    take-took (entry .pre) (after-next-step .next-step .ensures .after)
+    let o = after-next-step .next-step .ensures in
+    (take-took (entry .pre) (o .after), step-numbered _ _ _ _ (after-next-step .next-step .result) o)
 
 same-length : tie.Need-same-length
 same-length c = search needs

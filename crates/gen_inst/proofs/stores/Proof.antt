@@ -9,22 +9,18 @@ use Rattle.gen_inst.proofs.stores.Tie as tie
 use Rattle.gen_inst.proofs.stores.Reads as reads
 use Rattle.gen_inst.proofs.stores.Lts as lts
 
--- src/lib.rt:34:9
 returns : tie.Need-returns
 returns c =
     (λ _. inl (omega (arith, c .if1 .taken)), λ e. absurd (let z : _≡_ {A = ℕ} 0 1 = cc in omega arith))
 
--- src/lib.rt:37:9
 returns-2 : tie.Need-returns-2
 returns-2 c =
     (λ _. inr (inl (c .if2 .taken)), λ e. absurd (let z : _≡_ {A = ℕ} 0 1 = cc in omega arith))
 
--- src/lib.rt:40:9
 returns-3 : tie.Need-returns-3
 returns-3 c =
     (λ _. inr (inr (inl (c .if3 .taken))), λ e. absurd (let z : _≡_ {A = ℕ} 0 1 = cc in omega arith))
 
--- src/lib.rt:30:1
 returns-4 : tie.Need-returns-4
 returns-4 c =
     let else2 = c .before in

@@ -2,14 +2,10 @@
 use borrow.Author.Tests.{ne-eqb}
 use Rattle.gen_lines.proofs.refuse.Statement.{statement}
 use Rattle.gen_lines.proofs.refuse.Tie as tie
-use Rattle.gen_lines.proofs.refuse.Reads as reads
-use Rattle.gen_lines.proofs.refuse.Lts as lts
 
--- src/lib.rt:49:1
 returns : tie.Need-returns
 returns c = rw (ne-eqb _ 0 (c .if1 .taken))
 
--- src/lib.rt:49:1
 returns-2 : tie.Need-returns-2
 returns-2 c = rw (c .if1 .left)
 

@@ -1,12 +1,20 @@
 -- `gen_memory::gen_load` meets its contract.
+use native.Mathlib.Omega.{arith}
+use Rattle.gen_values.specs.Fields.{ValueAt, operand-at, operand-part, value-part}
+use Rattle.gen_values.specs.Maps.{maps-after}
 use Rattle.gen_size.specs.Lent as lent
 use Rattle.gen_fields.specs.Places as places
-use Rattle.gen_values.specs.Fields.{operand-at}
-use Rattle.gen_values.specs.Maps.{maps-after}
 use Rattle.gen_memory.specs.Memory as laws
 use borrow.Author.Needs.{needs}
 use Rattle.gen_memory.proofs.gen_load.Statement.{statement}
 use Rattle.gen_memory.proofs.gen_load.Tie as tie
+
+-- the address is behind the type
+abbrev startOf : tie.After-skip → tie.Start
+startOf c = c .before .before .before .before .before .before .before .before .before .before .before .before .before
+
+ptr : (c : tie.After-skip) → ValueAt (startOf c .args .names) (startOf c .args .kinds .now) (startOf c .args .words .now) (c .skip .result) (startOf c .pre .holds .1 .0)
+ptr c = places.typed-value (startOf c .args .kinds .now) (startOf c .args .words .now) 0 (startOf c .pre .fields) (places.from-front (c .skip .ensures))
 
 measured-size-requires : tie.Need-measured-size-requires
 measured-size-requires c κs =
@@ -19,14 +27,35 @@ mem-of-requires c κs = search needs
 skip-requires : tie.Need-skip-requires
 skip-requires c κs = search needs
 
-push-at-requires : tie.Need-push-at-requires
-push-at-requires c κs =
-    let after-skip = c .before .before .before in
-    let after-measured-size = after-skip .before .before .before .before in
-    let entry = after-measured-size .before .before .before .before .before .before .before .before .before in
-    let ks = entry .args .kinds .now in
-    let ws = entry .args .words .now in
-    operand-at (places.typed-value ks ws 0 (entry .pre .fields) (places.from-front (after-skip .skip .ensures))) (after-measured-size .measured-size .ensures .after .ready .room)
+mul-ptr-kinds : tie.Need-mul-ptr-kinds
+mul-ptr-kinds c = omega (arith, ptr c .in-kinds, startOf c .good)
+
+sub-ptr-kinds : tie.Need-sub-ptr-kinds
+sub-ptr-kinds c = omega (arith, ptr c .in-kinds)
+
+part-ptr-kinds-start : tie.Need-part-ptr-kinds-start
+part-ptr-kinds-start c = omega (arith, ptr c .in-kinds)
+
+part-ptr-kinds-end : tie.Need-part-ptr-kinds-end
+part-ptr-kinds-end c = search needs
+
+mul-ptr-words : tie.Need-mul-ptr-words
+mul-ptr-words c = omega (arith, ptr (c .before) .in-words, startOf (c .before) .good)
+
+sub-ptr-words : tie.Need-sub-ptr-words
+sub-ptr-words c = omega (arith, ptr (c .before) .in-words)
+
+part-ptr-words-start : tie.Need-part-ptr-words-start
+part-ptr-words-start c = omega (arith, ptr (c .before) .in-words)
+
+part-ptr-words-end : tie.Need-part-ptr-words-end
+part-ptr-words-end c = search needs
+
+push-value-requires : tie.Need-push-value-requires
+push-value-requires c κs =
+    let after-skip = c .before .before .before .before .before in
+    let after-measured = after-skip .before .before .before .before in
+    operand-part (operand-at (ptr after-skip) (after-measured .measured-size .ensures .after .ready .room))
 
 add-put : tie.Need-add-put
 add-put c = search needs
@@ -46,18 +75,19 @@ same-length-3 c = search needs
 returns : tie.Need-returns
 returns c = λ p k fields maps.
     let after-put = c .before .before .before .before in
-    let after-push-at = after-put .before .before .before .before .before .before .before .before in
-    let after-skip = after-push-at .before .before .before .before in
+    let after-push = after-put .before .before .before .before .before .before .before .before in
+    let after-skip = after-push .before .before .before .before .before .before in
     let after-mem-of = after-skip .before in
-    let after-measured-size = after-mem-of .before .before .before in
-    let entry = after-measured-size .before .before .before .before .before .before .before .before .before in
+    let after-measured = after-mem-of .before .before .before in
+    let entry = startOf after-skip in
     let ks = entry .args .kinds .now in
     let ws = entry .args .words .now in
-    let size = after-measured-size .measured-size .ensures in
+    let size = after-measured .measured-size .ensures in
     let locals = maps-after maps (size .after) .locals in
     lent.did maps (size .after)
     (laws.load-puts k (p .0) (p .1 .0) (lent.size-asked ks ws fields maps size) (after-mem-of .mem-of .ensures)
-    (after-push-at .push-at .ensures (entry .args .names) k (p .1 .0) (places.typed-value ks ws 0 fields (places.from-front (after-skip .skip .ensures))) locals) (after-put .put .ensures))
+    (after-push .push-value .ensures (entry .args .names) k (p .1 .0) (value-part (places.typed-value ks ws 0 fields (places.from-front (after-skip .skip .ensures)))) locals)
+    (after-put .put .ensures))
 
 pub gen-load-spec : {M : Type 1} → statement M
 gen-load-spec =
@@ -66,7 +96,15 @@ gen-load-spec =
     measured-size-requires
     mem-of-requires
     skip-requires
-    push-at-requires
+    mul-ptr-kinds
+    sub-ptr-kinds
+    part-ptr-kinds-start
+    part-ptr-kinds-end
+    mul-ptr-words
+    sub-ptr-words
+    part-ptr-words-start
+    part-ptr-words-end
+    push-value-requires
     add-put
     put-requires
     same-length

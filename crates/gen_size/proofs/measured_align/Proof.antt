@@ -15,7 +15,9 @@ enum-known-e : tie.Need-enum-known-e
 enum-known-e c = search needs
 
 refuse-requires : tie.Need-refuse-requires
-refuse-requires c κs = search needs
+refuse-requires c κs =
+    let after-align-of = c .before .before .before .before .before in
+    laws.align-number _ (after-align-of .align-of .ensures) (c .before .e .given .1)
 
 same-length : tie.Need-same-length
 same-length c = search needs

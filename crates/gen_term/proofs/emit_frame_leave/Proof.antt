@@ -3,10 +3,6 @@ use Rattle.gen_term.specs.Returns as laws
 use borrow.Author.Needs.{needs}
 use Rattle.gen_term.proofs.emit_frame_leave.Statement.{statement}
 use Rattle.gen_term.proofs.emit_frame_leave.Tie as tie
-use Rattle.gen_term.proofs.emit_frame_leave.Reads as reads
-use Rattle.gen_term.proofs.emit_frame_leave.Lts as lts
-use Rattle.gen_lines.proofs.put.Reads as put-reads
-use Rattle.gen_term.proofs.word.Reads as word-reads
 
 -- src/lib.rt:48:13
 word-requires : tie.Need-word-requires

@@ -6,10 +6,6 @@ use Rattle.gen_term.specs.Branches as laws
 use borrow.Author.Needs.{needs}
 use Rattle.gen_term.proofs.gen_br.Statement.{statement}
 use Rattle.gen_term.proofs.gen_br.Tie as tie
-use Rattle.gen_term.proofs.gen_br.Reads as reads
-use Rattle.gen_term.proofs.gen_br.Lts as lts
-use Rattle.gen_edge.proofs.edge.Reads as edge-reads
-use Rattle.gen_term.proofs.gen_cond_br.Reads as gen-cond-br-reads
 
 -- src/lib.rt:147:8
 shared-slice-read-if1 : tie.Need-shared-slice-read-if1

@@ -3,11 +3,6 @@ use Rattle.gen_term.specs.Returns as laws
 use borrow.Author.Needs.{needs}
 use Rattle.gen_term.proofs.gen_ret.Statement.{statement}
 use Rattle.gen_term.proofs.gen_ret.Tie as tie
-use Rattle.gen_term.proofs.gen_ret.Reads as reads
-use Rattle.gen_term.proofs.gen_ret.Lts as lts
-use Rattle.gen_lines.proofs.put.Reads as put-reads
-use Rattle.gen_term.proofs.emit_frame_leave.Reads as emit-frame-leave-reads
-use Rattle.gen_term.proofs.ret_value.Reads as ret-value-reads
 
 -- src/lib.rt:88:9
 ret-value-requires : tie.Need-ret-value-requires

@@ -4,12 +4,6 @@ use Rattle.gen_term.specs.Whole as laws
 use borrow.Author.Needs.{needs}
 use Rattle.gen_term.proofs.gen_term.Statement.{statement}
 use Rattle.gen_term.proofs.gen_term.Tie as tie
-use Rattle.gen_term.proofs.gen_term.Reads as reads
-use Rattle.gen_term.proofs.gen_term.Lts as lts
-use Rattle.gen_lines.proofs.put.Reads as put-reads
-use Rattle.gen_term.proofs.gen_br.Reads as gen-br-reads
-use Rattle.gen_term.proofs.gen_ret.Reads as gen-ret-reads
-use Rattle.gen_term.proofs.switch.gen_switch.Reads as gen-switch-reads
 
 -- src/lib.rt:186:16
 shared-slice-read-kind : tie.Need-shared-slice-read-kind

@@ -1,15 +1,12 @@
 -- `gen_values::push_local` meets its contract: the words tell the line.
-use Prim.Native.Nat.{_+_, _*_}
+use Prim.Native.Nat.{_+_}
 use mathlib.Core.Path.{refl}
 use native.Mathlib.Omega.{arith}
 use Rattle.gen_values.specs.Push as laws
 use borrow.Author.Needs.{needs}
+use Rattle.book.specs.Work.{paramAt}
 use Rattle.gen_values.proofs.push_local.Statement.{statement}
 use Rattle.gen_values.proofs.push_local.Tie as tie
-use Rattle.gen_values.proofs.push_local.Reads as reads
-use Rattle.gen_values.proofs.push_local.Lts as lts
-use Rattle.gen_lines.proofs.put.Reads as put-reads
-use Rattle.gen_lines.proofs.refuse.Reads as refuse-reads
 
 -- src/lib.rt:54:14
 mul-at : tie.Need-mul-at
@@ -45,7 +42,7 @@ returns c = λ m k below maps.
     let after-put = c .before .before .before .before in
     let in-param = after-put .before .before .before in
     let entry = in-param .before .before .before .before .before in
-    let at = 8 * entry .args .name in
+    let at = paramAt (entry .args .name) in
     laws.param-puts k m (entry .args .name) 0 (entry .args .work .now) below maps refl (in-param .if1 .taken)
     (omega (arith, in-param .before .shared-slice-known2 .given at)) (after-put .put .ensures)
 
@@ -84,7 +81,7 @@ returns-2 c = λ m k below maps.
     let in-slot = after-put .before .before .before in
     let no-param = in-slot .before .before in
     let entry = no-param .before .before .before .before .before in
-    let at = 8 * entry .args .name in
+    let at = paramAt (entry .args .name) in
     laws.slot-puts k m (entry .args .name) 0 (entry .args .work .now) below maps refl (no-param .if1 .left) refl (in-slot .if2 .taken)
     (omega (arith, in-slot .before .shared-slice-known3 .given (at + 1))) (after-put .put2 .ensures)
 

@@ -1,15 +1,12 @@
 -- `gen_values::store_dest` meets its contract.
-use Prim.Native.Nat.{_+_, _-_, _*_}
+use Prim.Native.Nat.{_-_}
 use mathlib.Core.Path.{refl}
 use native.Mathlib.Omega.{arith}
 use Rattle.gen_values.specs.Widths as laws
 use borrow.Author.Needs.{needs}
+use Rattle.book.specs.Work.{slotAt}
 use Rattle.gen_values.proofs.store_dest.Statement.{statement}
 use Rattle.gen_values.proofs.store_dest.Tie as tie
-use Rattle.gen_values.proofs.store_dest.Reads as reads
-use Rattle.gen_values.proofs.store_dest.Lts as lts
-use Rattle.gen_lines.proofs.put.Reads as put-reads
-use Rattle.gen_lines.proofs.refuse.Reads as refuse-reads
 
 -- src/lib.rt:101:9
 refuse-requires : tie.Need-refuse-requires
@@ -87,7 +84,7 @@ returns-3 c = λ m k below maps.
     let is-named = has-slot .before .before in
     let entry = is-named .before .before .before .before in
     laws.stored-puts k m (entry .args .dest) (entry .args .work .now) below maps (is-named .if1 .left) refl (has-slot .if2 .left)
-    (omega (arith, has-slot .before .shared-slice-known2 .given (8 * (entry .args .dest - 1) + 1))) (after-put .put .ensures)
+    (omega (arith, has-slot .before .shared-slice-known2 .given (slotAt (entry .args .dest - 1)))) (after-put .put .ensures)
 
 pub store-dest-spec : {M : Type 1} → statement M
 store-dest-spec =

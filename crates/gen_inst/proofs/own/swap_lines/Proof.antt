@@ -10,33 +10,27 @@ use Rattle.gen_inst.proofs.own.swap_lines.Lts as lts
 use Rattle.gen_atomic.proofs.gen_cmpxchg.Reads as gen-cmpxchg-reads
 use Rattle.gen_atomic.proofs.require_atomic_width.Reads as require-atomic-width-reads
 
--- src/own.rt:44:9
 require-atomic-width-requires : tie.Need-require-atomic-width-requires
 require-atomic-width-requires c κs =
     let entry = c .before .before .before .before .before .before .before .before in
-    swap-measurable (entry .args .kinds .now) (entry .args .words .now) (entry .pre)
+    swap-measurable (entry .args .kinds .now) (entry .args .words .now) (entry .pre .0)
 
--- src/own.rt:45:5
 gen-cmpxchg-requires : tie.Need-gen-cmpxchg-requires
 gen-cmpxchg-requires c κs =
     let after-require-atomic-width = c .before .before .before .before .before in
     let entry = after-require-atomic-width .before .before .before .before .before .before .before .before .before in
-    let g = swap-given (entry .pre) refl in
+    let g = swap-given (entry .pre .0) (entry .pre .1) refl in
     record { holds = g .holds; fields = g .fields; result = g .result; room = omega (arith, g .room, after-require-atomic-width .require-atomic-width .kept .1 .1 .1 .1 .0) }
 
--- src/own.rt:24:1
 same-length : tie.Need-same-length
 same-length c = search needs
 
--- src/own.rt:24:1
 same-length-2 : tie.Need-same-length-2
 same-length-2 c = search needs
 
--- src/own.rt:24:1
 same-length-3 : tie.Need-same-length-3
 same-length-3 c = search needs
 
--- src/own.rt:24:1
 returns : tie.Need-returns
 returns c =
     let after-gen-cmpxchg = c .before .before .before .before in

@@ -3,10 +3,6 @@ use Rattle.gen_term.specs.Switches as laws
 use borrow.Author.Needs.{needs}
 use Rattle.gen_term.proofs.switch.case_edge.Statement.{statement}
 use Rattle.gen_term.proofs.switch.case_edge.Tie as tie
-use Rattle.gen_term.proofs.switch.case_edge.Reads as reads
-use Rattle.gen_term.proofs.switch.case_edge.Lts as lts
-use Rattle.gen_edge.proofs.edge.Reads as edge-reads
-use Rattle.gen_lines.proofs.put.Reads as put-reads
 
 -- src/switch.rt:121:9
 put-requires : tie.Need-put-requires

@@ -14,10 +14,6 @@ use Rattle.gen_values.specs.Maps.{Maps}
 use Rattle.gen_term.specs.Switches.{CaseWalk, CasesLeft, case-in, case-at, case-left, walk-start, walk-more, walk-end, no-edges}
 use Rattle.gen_term.proofs.switch.case_edges.Statement.{statement}
 use Rattle.gen_term.proofs.switch.case_edges.Tie as tie
-use Rattle.gen_term.proofs.switch.case_edges.Reads as reads
-use Rattle.gen_term.proofs.switch.case_edges.Lts as lts
-use Rattle.gen_term.proofs.switch.case_edge.Reads as case-edge-reads
-use Rattle.gen_term.proofs.switch.next_label.Reads as next-label-reads
 
 abbrev Inv-loop : tie.InvT-loop
 Inv-loop pred first kinds words book-kinds book-words names work lines₀ operands₀ reached₀ label₀ at₀ lines operands reached label at =

@@ -9,8 +9,6 @@ use Rattle.gen_term.specs.Terms.{Cases}
 use Rattle.gen_term.specs.Switches.{Counted, count-in, count-next, count-end}
 use Rattle.gen_term.proofs.switch.count_cases.Statement.{statement}
 use Rattle.gen_term.proofs.switch.count_cases.Tie as tie
-use Rattle.gen_term.proofs.switch.count_cases.Reads as reads
-use Rattle.gen_term.proofs.switch.count_cases.Lts as lts
 
 abbrev Inv-loop : tie.InvT-loop
 Inv-loop kinds words at₀ cases₀ at cases =

@@ -1,9 +1,10 @@
--- `gen_call::value_place` meets its contract.
-use native.Mathlib.Omega.{arith}
-use Rattle.gen_call.specs.Args as laws
+-- `gen_gep::skip_at` meets its contract.
+use mathlib.Core.Path.{ap, _∙_}
+use Rattle.layout_memo.specs.Front.{tyLen}
+use Rattle.book_types.specs.Laws.{entries-part}
 use borrow.Author.Needs.{needs}
-use Rattle.gen_call.proofs.value_place.Statement.{statement}
-use Rattle.gen_call.proofs.value_place.Tie as tie
+use Rattle.gen_gep.proofs.skip_at.Statement.{statement}
+use Rattle.gen_gep.proofs.skip_at.Tie as tie
 
 mul-skip : tie.Need-mul-skip
 mul-skip c = search needs
@@ -32,22 +33,13 @@ part-skip-end-2 c = search needs
 skip-requires : tie.Need-skip-requires
 skip-requires c κs = search needs
 
-add-result : tie.Need-add-result
-add-result c =
-    let entry = c .before .before .before .before .before in
-    let ks = entry .args .kinds .now in
-    let ws = entry .args .words .now in
-    omega (arith, entry .pre .fits, laws.part-len (entry .args .names) ks ws (entry .args .at) (c .skip .ensures), entry .good)
-
 returns : tie.Need-returns
 returns c =
     let entry = c .before .before .before .before .before in
-    let ks = entry .args .kinds .now in
-    let ws = entry .args .words .now in
-    laws.part-len (entry .args .names) ks ws (entry .args .at) (c .skip .ensures)
+    c .skip .ensures ∙ ap (tyLen (entry .args .names)) (entries-part (entry .args .at) (entry .args .book-kinds .now) (entry .args .book-words .now))
 
-pub value-place-spec : {M : Type 1} → statement M
-value-place-spec =
+pub skip-at-spec : {M : Type 1} → statement M
+skip-at-spec =
     tie.close
     (tie.spec
     mul-skip
@@ -59,5 +51,4 @@ value-place-spec =
     part-skip-start-2
     part-skip-end-2
     skip-requires
-    add-result
     returns)
