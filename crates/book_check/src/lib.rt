@@ -1,5 +1,7 @@
 // The whole check: whether a book slice, its names, a label counter and the length of a work slice are fit for
 // a translation, or the first of document 01's refusals 1 to 4. It passes once over the names and once over the entries.
+use book::work::MARK;
+use book::work::WORDS;
 use book_parts::parts_len;
 use book_types::Found;
 use names_check::Names;
@@ -11,7 +13,7 @@ ghost use Rattle.book.specs.Entry.{entries};
 ghost use Rattle.book.specs.Decode.{decode};
 ghost use Rattle.book.specs.Input.{bookIn};
 ghost use Rattle.book.specs.Check.{checked, refusalOf, workFor};
-ghost use Rattle.names_check.specs.Nexts.{Noted};
+ghost use Rattle.names_check.specs.Nexts.{NotedWhere};
 ghost use Rattle.book_check.specs.Whole.{there, readingOf, readingIn, barredRange};
 ghost use Rattle.book_check.specs.Verdict.{numberOf, verdictOf};
 
@@ -117,7 +119,8 @@ fn judged(book: Reading, named: bool, counter: u64, count: u64, work: usize) -> 
     }
 }
 
-// The first refusal of 1 to 4 that applies. Where the book is sound, it is noted in word 5 of each name's eight where the next name starts.
+// The first refusal of 1 to 4 that applies. Where the book is sound, it is noted in word 5 of each name's eight where the next name starts;
+// where it is not, the words are left free.
 pub fn check_noting(
     book: &[u64],
     names: &[u8],
@@ -126,10 +129,10 @@ pub fn check_noting(
     nexts: &mut [u64],
 ) -> Verdict
     ensures { λ r. ⌜ numberOf r ≡ refusalOf (checked (now (book .entry)) (now (names .entry)) counter work) ⌝ }
-    ensures { λ r. ⌜ (r ≡ Verdict.Sound → Noted 8 5 (now (names .entry)) (getD (now (book .entry)) 1 0) (now (nexts .entry)) (now (nexts .exit))) ⌝ }
+    ensures { λ r. ⌜ NotedWhere (r ≡ Verdict.Sound) 8 5 (now (names .entry)) (getD (now (book .entry)) 1 0) (now (nexts .entry)) (now (nexts .exit)) ⌝ }
 {
     let count = name_count(book);
-    match names_check::read_names(names, count, b"llvm.", nexts, 8, 5) {
+    match names_check::read_names(names, count, b"llvm.", nexts, WORDS, MARK) {
         Names::Sorted(from, to) => judged(read_book(book, from, to), true, counter, count, work),
         Names::Bad => judged(read_book(book, 0, 0), false, counter, count, work),
     }

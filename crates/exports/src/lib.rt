@@ -5,8 +5,10 @@ use print::passes::Printed;
 ghost use mathlib.Core.Path.{_≡_};
 ghost use Rattle.book.specs.Check.{checked, refusalOf};
 ghost use Rattle.book_check.specs.Verdict.{numberOf};
-ghost use Rattle.assembly.specs.Printer.{print, printedNumber, printedBytes};
-ghost use Rattle.lowering.specs.Translate.{translate, translationNumber, translationLines, translationCounter};
+ghost use Rattle.assembly.specs.Printer.{print};
+ghost use Rattle.lowering.specs.Translate.{translate};
+ghost use Rattle.translate.specs.Reply.{Answers};
+ghost use Rattle.print.specs.Reply.{PrintAnswers};
 
 // Document 01's number of an answer.
 fn number(verdict: Verdict) -> u64
@@ -43,12 +45,8 @@ pub extern "C" fn mivolanjy_translate(
     lines: &mut u64,
     next: &mut u64,
 ) -> u64
-    ensures { λ r. ⌜ r ≡ translationNumber (translate (now (book .entry)) (now (names .entry)) counter (now (work .entry)) (now (kinds .entry)) (now (operands .entry)) .reply) ⌝ }
-    ensures { λ r. ⌜ now (lines .exit) ≡ translationLines (translate (now (book .entry)) (now (names .entry)) counter (now (work .entry)) (now (kinds .entry)) (now (operands .entry)) .reply) ⌝ }
-    ensures { λ r. ⌜ now (next .exit) ≡ translationCounter counter (translate (now (book .entry)) (now (names .entry)) counter (now (work .entry)) (now (kinds .entry)) (now (operands .entry)) .reply) ⌝ }
-    ensures { λ r. ⌜ now (work .exit) ≡ translate (now (book .entry)) (now (names .entry)) counter (now (work .entry)) (now (kinds .entry)) (now (operands .entry)) .work ⌝ }
-    ensures { λ r. ⌜ now (kinds .exit) ≡ translate (now (book .entry)) (now (names .entry)) counter (now (work .entry)) (now (kinds .entry)) (now (operands .entry)) .kinds ⌝ }
-    ensures { λ r. ⌜ now (operands .exit) ≡ translate (now (book .entry)) (now (names .entry)) counter (now (work .entry)) (now (kinds .entry)) (now (operands .entry)) .operands ⌝ }
+    ensures { λ r. ⌜ Answers counter (translate (now (book .entry)) (now (names .entry)) counter (now (work .entry)) (now (kinds .entry)) (now (operands .entry)))
+        r (now (lines .exit)) (now (next .exit)) (now (work .exit)) (now (kinds .exit)) (now (operands .exit)) ⌝ }
 {
     match translate::translate(book, names, counter, work, kinds, operands) {
         Translation::Accepted(n, after) => {
@@ -75,9 +73,8 @@ pub extern "C" fn mivolanjy_print(
     text: &mut [u8],
     count: &mut u64,
 ) -> u64
-    ensures { λ r. ⌜ r ≡ printedNumber (print (now (book .entry)) (now (names .entry)) (now («line_kinds» .entry)) (now (operands .entry)) (now (text .entry)) .reply) ⌝ }
-    ensures { λ r. ⌜ now (count .exit) ≡ printedBytes (print (now (book .entry)) (now (names .entry)) (now («line_kinds» .entry)) (now (operands .entry)) (now (text .entry)) .reply) ⌝ }
-    ensures { λ r. ⌜ now (text .exit) ≡ print (now (book .entry)) (now (names .entry)) (now («line_kinds» .entry)) (now (operands .entry)) (now (text .entry)) .text ⌝ }
+    ensures { λ r. ⌜ PrintAnswers (print (now (book .entry)) (now (names .entry)) (now («line_kinds» .entry)) (now (operands .entry)) (now (text .entry)))
+        r (now (count .exit)) (now (text .exit)) ⌝ }
 {
     match print::print(book, names, line_kinds, operands, text) {
         Printed::Accepted(n) => {

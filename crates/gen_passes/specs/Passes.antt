@@ -105,11 +105,11 @@ module _ (g : Gen) (counter : ℕ) {t : Reached} {ks₀ os₀ ks₁ os₁ : List
   going e = ap not (eq-eqb (t .refused) 0 e)
 
   -- the count found a refusal
-  pass-refused : (t .refused ≡ 0 → ⊥) → Answered (fitted (g counter) (room ks os)) (Refused (t .counter)) ks os ks os
+  pass-refused : (t .refused ≡ 0 → ⊥) → Answered (fitted (g counter) (room ks os)) (Refused (t .refused)) ks os ks os
   unfolding bind
   pass-refused e = go (g counter) (pass-after counting)
     where
-      go : (r : Result Out) → After r 0 t ks₀ os₀ ks₁ os₁ → Answered (fitted r (room ks os)) (Refused (t .counter)) ks os ks os
+      go : (r : Result Out) → After r 0 t ks₀ os₀ ks₁ os₁ → Answered (fitted r (room ks os)) (Refused (t .refused)) ks os ks os
       go (ok out) w = never (ap not (ne-eqb (t .refused) 0 e)) (w .going)
       go (err n) b = record { reply = ap Refused (b .number); kinds = refl; operands = refl }
 

@@ -11,8 +11,8 @@ use gen_slices::lines_fit;
 ghost use mathlib.Core.Path.{_≡_};
 ghost use mathlib.Core.List.{List};
 ghost use mathlib.Core.Option.{some};
-ghost use Prim.Native.Nat.{ℕ, min, _<_};
-ghost use lib.ListN.{length, take};
+ghost use Prim.Native.Nat.{ℕ, min};
+ghost use lib.ListN.{length};
 ghost use Rattle.names.specs.Name.{namesOf};
 ghost use Rattle.book.specs.Ast.{Book};
 ghost use Rattle.book.specs.Decode.{decode};
@@ -99,225 +99,8 @@ fn pass_over(
     }
 }
 
-// The lines of a book's functions, by slices of our own of 256 lines.
-fn few_passes(
-    book_kinds: &[u64],
-    book_words: &[u64],
-    first: usize,
-    last: usize,
-    work: &mut [u64],
-    names: u64,
-    counter: u64,
-    lines: &mut [u16],
-    operands: &mut [u64],
-) -> Translation
-    requires { ⌜ PassAsk names (now «book_kinds») (now «book_words») first last (now work) ⌝ }
-    ensures { λ r. ⌜ Passed names (now («book_kinds» .entry)) (now («book_words» .entry)) first last counter (now (work .entry))
-        r (now (lines .entry)) (now (operands .entry)) (now (lines .exit)) (now (operands .exit)) ⌝ }
-{
-    let mut own_lines = [0u16; 256];
-    let mut own_operands = [0u64; 256];
-    pass_over(
-        book_kinds,
-        book_words,
-        first,
-        last,
-        work,
-        names,
-        counter,
-        lines,
-        operands,
-        &mut own_lines,
-        &mut own_operands,
-    )
-}
-
-// The same by slices of 512 lines.
-fn some_passes(
-    book_kinds: &[u64],
-    book_words: &[u64],
-    first: usize,
-    last: usize,
-    work: &mut [u64],
-    names: u64,
-    counter: u64,
-    lines: &mut [u16],
-    operands: &mut [u64],
-) -> Translation
-    requires { ⌜ PassAsk names (now «book_kinds») (now «book_words») first last (now work) ⌝ }
-    ensures { λ r. ⌜ Passed names (now («book_kinds» .entry)) (now («book_words» .entry)) first last counter (now (work .entry))
-        r (now (lines .entry)) (now (operands .entry)) (now (lines .exit)) (now (operands .exit)) ⌝ }
-{
-    let mut own_lines = [0u16; 512];
-    let mut own_operands = [0u64; 512];
-    pass_over(
-        book_kinds,
-        book_words,
-        first,
-        last,
-        work,
-        names,
-        counter,
-        lines,
-        operands,
-        &mut own_lines,
-        &mut own_operands,
-    )
-}
-
-// The same by slices of 2,048 lines.
-fn more_passes(
-    book_kinds: &[u64],
-    book_words: &[u64],
-    first: usize,
-    last: usize,
-    work: &mut [u64],
-    names: u64,
-    counter: u64,
-    lines: &mut [u16],
-    operands: &mut [u64],
-) -> Translation
-    requires { ⌜ PassAsk names (now «book_kinds») (now «book_words») first last (now work) ⌝ }
-    ensures { λ r. ⌜ Passed names (now («book_kinds» .entry)) (now («book_words» .entry)) first last counter (now (work .entry))
-        r (now (lines .entry)) (now (operands .entry)) (now (lines .exit)) (now (operands .exit)) ⌝ }
-{
-    let mut own_lines = [0u16; 2048];
-    let mut own_operands = [0u64; 2048];
-    pass_over(
-        book_kinds,
-        book_words,
-        first,
-        last,
-        work,
-        names,
-        counter,
-        lines,
-        operands,
-        &mut own_lines,
-        &mut own_operands,
-    )
-}
-
-// The same by slices of 16,384 lines.
-fn many_passes(
-    book_kinds: &[u64],
-    book_words: &[u64],
-    first: usize,
-    last: usize,
-    work: &mut [u64],
-    names: u64,
-    counter: u64,
-    lines: &mut [u16],
-    operands: &mut [u64],
-) -> Translation
-    requires { ⌜ PassAsk names (now «book_kinds») (now «book_words») first last (now work) ⌝ }
-    ensures { λ r. ⌜ Passed names (now («book_kinds» .entry)) (now («book_words» .entry)) first last counter (now (work .entry))
-        r (now (lines .entry)) (now (operands .entry)) (now (lines .exit)) (now (operands .exit)) ⌝ }
-{
-    let mut own_lines = [0u16; 16384];
-    let mut own_operands = [0u64; 16384];
-    pass_over(
-        book_kinds,
-        book_words,
-        first,
-        last,
-        work,
-        names,
-        counter,
-        lines,
-        operands,
-        &mut own_lines,
-        &mut own_operands,
-    )
-}
-
-// The same by slices that are as long as a book of this length is likely to need, since they are cleared at each call. Each
-// length stands in a function of its own, and this one calls itself with more room: so none is compiled into its caller, and a
-// short book does not pay for the pages of long slices.
-fn passes(
-    book_kinds: &[u64],
-    book_words: &[u64],
-    first: usize,
-    last: usize,
-    work: &mut [u64],
-    names: u64,
-    counter: u64,
-    lines: &mut [u16],
-    operands: &mut [u64],
-    room: usize,
-) -> Translation
-    requires { ⌜ 0 < room ⌝ }
-    requires { ⌜ PassAsk names (now «book_kinds») (now «book_words») first last (now work) ⌝ }
-    ensures { λ r. ⌜ Passed names (now («book_kinds» .entry)) (now («book_words» .entry)) first last counter (now (work .entry))
-        r (now (lines .entry)) (now (operands .entry)) (now (lines .exit)) (now (operands .exit)) ⌝ }
-{
-    if 2048 < room {
-        return many_passes(
-            book_kinds,
-            book_words,
-            first,
-            last,
-            work,
-            names,
-            counter,
-            lines,
-            operands,
-        );
-    }
-    if room < book_kinds.len() {
-        return passes(
-            book_kinds,
-            book_words,
-            first,
-            last,
-            work,
-            names,
-            counter,
-            lines,
-            operands,
-            4 * room,
-        );
-    }
-    if room <= 128 {
-        return few_passes(
-            book_kinds,
-            book_words,
-            first,
-            last,
-            work,
-            names,
-            counter,
-            lines,
-            operands,
-        );
-    }
-    if room <= 512 {
-        return some_passes(
-            book_kinds,
-            book_words,
-            first,
-            last,
-            work,
-            names,
-            counter,
-            lines,
-            operands,
-        );
-    }
-    more_passes(
-        book_kinds,
-        book_words,
-        first,
-        last,
-        work,
-        names,
-        counter,
-        lines,
-        operands,
-    )
-}
-
-// The lines of a sound book's functions. The work words are 0 but for the starts of names.
+// The lines of a sound book's functions. The work words are 0 but for the starts of names; the first pass goes into the slices of our
+// own, which are as long as each other.
 pub fn generate(
     book_kinds: &[u64],
     book_words: &[u64],
@@ -327,15 +110,18 @@ pub fn generate(
     work: &mut [u64],
     lines: &mut [u16],
     operands: &mut [u64],
+    own_lines: &mut [u16],
+    own_operands: &mut [u64],
 ) -> Translation
     requires { ⌜ GenerateAsk (now names) count (now «book_kinds») (now «book_words») (now work) ⌝ }
+    requires { ⌜ length (now «own_lines») ≡ length (now «own_operands») ⌝ }
     ensures { λ r. ⌜ ((ns : List (List ℕ)) (b : Book) → namesOf (now (names .entry)) ≡ some ns
         → decode count (entries (now («book_kinds» .entry)) (now («book_words» .entry))) ≡ some b
         → Answered (fitted (genFunctions (codegenOf ns b) (b .functions) counter) (min (length (now (lines .entry))) (length (now (operands .entry)))))
         r (now (lines .entry)) (now (operands .entry)) (now (lines .exit)) (now (operands .exit))) ⌝ }
 {
     let first = prepare_book(book_kinds, book_words, names, work, count);
-    passes(
+    pass_over(
         book_kinds,
         book_words,
         first,
@@ -345,6 +131,7 @@ pub fn generate(
         counter,
         lines,
         operands,
-        128,
+        own_lines,
+        own_operands,
     )
 }

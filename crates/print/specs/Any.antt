@@ -8,7 +8,7 @@ use Rattle.book.specs.Input.{Counted, bookIn, namesIn}
 use Rattle.book_check.specs.Whole as whole
 use Rattle.assembly.specs.Printer.{refusing, needed, printLines, print}
 use Rattle.print_forms.specs.Allowed.{isSome}
-use Rattle.print.specs.Passes.{printing}
+use Rattle.print.specs.Reply.{Prints}
 use Rattle.print.specs.Book.{Booked}
 use Rattle.print.specs.declared.passes.Printed.the-variants.{Refused}
 
@@ -20,11 +20,11 @@ module _ (book : List ℕ) (t : Bool) (e : t ≡ whole.there (bookIn book)) wher
       go none h = h
       go (some b) h = refl
 
-  pub no-book : (bs kinds operands text : List ℕ) → t ≡ false → printing (Refused 1) text ≡ print book bs kinds operands text
+  pub no-book : (bs kinds operands text : List ℕ) → t ≡ false → Prints (print book bs kinds operands text) (Refused 1) text
   unfolding print needed refusing
   no-book bs kinds operands text f = go (bookIn book) (sym e ∙ f)
     where
       go : (o : Option Counted) → whole.there o ≡ false
-          → printing (Refused 1) text ≡ needed 1 text o (λ b. needed 2 text (namesIn (b .count) bs) (λ ns. printLines ns (b .book) kinds operands text))
-      go none h = refl
+          → Prints (needed 1 text o (λ b. needed 2 text (namesIn (b .count) bs) (λ ns. printLines ns (b .book) kinds operands text))) (Refused 1) text
+      go none h = record { reply = refl; text = refl }
       go (some b) h = absurd (false≢true (sym h))

@@ -1,6 +1,6 @@
 -- The slice of a sound book: how many entries and names it has, its kinds and its words.
 use Prim.Native.Nat.{ℕ, suc, _+_, _-_, _*_, _≤_}
-use mathlib.Core.Path.{_≡_, refl, ap, _∙_}
+use mathlib.Core.Path.{_≡_, refl, ap, subst, _∙_}
 use mathlib.Core.Bool.{Bool, true, false, false≢true, _&&_}
 use mathlib.Core.Option.{Option, none, some}
 use mathlib.Core.List.{List, [], _∷_}
@@ -19,7 +19,9 @@ use Rattle.book.specs.Decode.{decode}
 use Rattle.assembly.specs.Printer.{Printing, needed, print}
 use Rattle.print_forms.specs.Allowed.{isSome}
 use Rattle.print.specs.Heads.{Decoded, bookAt, book-is}
+use Rattle.print.specs.Reply.{Prints}
 use Rattle.print.specs.Passes.{withNames}
+use Rattle.print.specs.declared.passes.Printed.{Printed}
 
 pub record Booked (book : List ℕ) : Type 0 where
   pub some : isSome (bookIn book) ≡ true
@@ -101,7 +103,8 @@ module _ (book : List ℕ) (d : Booked book) where
   pub book-short : length kindsPart ≤ 1048576
   book-short = rw kinds-is (omega (arith, length-take (getD book 0 0) (drop 2 book), s .short))
 
-  pub booked-printed : (bs kinds operands text : List ℕ) (g : Printing) → g ≡ withNames (getD book 1 0) bs (bookAt (getD book 1 0) kindsPart wordsPart) kinds operands text
-      → g ≡ print book bs kinds operands text
+  pub booked-printed : (bs kinds operands text : List ℕ) {r : Printed} {y : List ℕ} → Prints (withNames (getD book 1 0) bs (bookAt (getD book 1 0) kindsPart wordsPart) kinds operands text) r y
+      → Prints (print book bs kinds operands text) r y
   unfolding print withNames needed
-  booked-printed bs kinds operands text g p = p ∙ rw (book-is (getD book 1 0) kindsPart wordsPart theBook decoded-is, s .is)
+  booked-printed bs kinds operands text {r} {y} p =
+      subst (λ (g : Printing). Prints g r y) (rw (book-is (getD book 1 0) kindsPart wordsPart theBook decoded-is, s .is)) p

@@ -1,3 +1,4 @@
+pub mod Reply
 pub mod Function
 pub mod Heads
 pub mod Segments

@@ -8,7 +8,7 @@ use native.Mathlib.Omega.{arith}
 use lib.ListN.{length, set, length-set}
 use lib.Seq.{getD-set-same}
 use Rattle.names.specs.Name.{lines, namesOf, counts, accepted}
-use Rattle.names.specs.Lines.{accepted-iff, names-lines}
+use Rattle.names.specs.Lines.{accepted-iff, lines-counted, names-lines}
 use Rattle.names.specs.Text.{bytes}
 use Rattle.names.specs.Prefix.{firstWith, pastWith, PrefixRange}
 use Rattle.names_check.specs.Read.{namesRead, sorted-read, bad-read}
@@ -18,20 +18,22 @@ use Rattle.names_check.specs.declared.Names.the-variants as names
 use Rattle.book.specs.Ast.{Book}
 use Rattle.book.specs.Rule.{pick}
 use Rattle.book.specs.Input.{namesIn}
-use Rattle.assembly.specs.Printer.{Printing, refusing, needed, printLines}
+use Rattle.assembly.specs.Printer.{refusing, needed, printLines}
 use Rattle.print_types.specs.Starts.{Starts, sound, starts-noted}
-use Rattle.print.specs.Passes.{printing, withNames, Named}
+use Rattle.print.specs.Reply.{Prints}
+use Rattle.print.specs.Passes.{withNames, Named}
+use Rattle.print.specs.declared.passes.Printed.{Printed}
 use Rattle.print.specs.declared.passes.Printed.the-variants.{Refused}
 
 module _ (m : ℕ) (bs : List ℕ) (r : Names)
     (e : r ≡ namesRead (accepted bs m) (firstWith (bytes "__uvm_") (lines bs)) (pastWith (bytes "__uvm_") (lines bs))) where
-  pub names-barred : r ≡ names.Bad → (b : Book) (ks xs x : List ℕ) → printing (Refused 2) x ≡ withNames m bs b ks xs x
+  pub names-barred : r ≡ names.Bad → (b : Book) (ks xs x : List ℕ) → Prints (withNames m bs b ks xs x) (Refused 2) x
   unfolding withNames accepted namesIn needed refusing
   names-barred f b ks xs x = go (counts m (namesOf bs)) (bad-read _ _ _ (sym e ∙ f))
     where
-      go : (t : Bool) → t ≡ false → printing (Refused 2) x ≡ needed 2 x (pick t (namesOf bs) none) (λ ns. printLines ns b ks xs x)
+      go : (t : Bool) → t ≡ false → Prints (needed 2 x (pick t (namesOf bs) none) (λ ns. printLines ns b ks xs x)) (Refused 2) x
       go true e = absurd (false≢true (sym e))
-      go false e = refl
+      go false e = record { reply = refl; text = refl }
 
   module _ (from to : ℕ) (f : r ≡ names.Sorted from to) where
     sorted : (accepted bs m ≡ true) × (PrefixRange (bytes "__uvm_") (lines bs) from to)
@@ -43,7 +45,7 @@ module _ (m : ℕ) (bs : List ℕ) (r : Names)
     pub names-named : m ≤ 131072 → Named bs m from to
     names-named l = record {
       sound = sound bs (named .0) (named .1) (omega (arith, named .2));
-      count = sym (ap length (names-lines bs (named .0) (named .1)) ∙ named .2);
+      count = sym (lines-counted bs m (sorted .0));
       calls = sorted .1;
     }
 
@@ -54,6 +56,6 @@ module _ (m : ℕ) (bs : List ℕ) (r : Names)
         let some : 0 < length starts = omega arith in
         starts-noted (n (sorted .0)) (d .sound) (d .count) (omega (arith, length-set starts 0 0)) (getD-set-same starts 0 0 0 some)
 
-    pub names-printed : (b : Book) (ks xs x : List ℕ) (g : Printing) → g ≡ printLines (lines bs) b ks xs x → g ≡ withNames m bs b ks xs x
+    pub names-printed : (b : Book) (ks xs x : List ℕ) {r : Printed} {y : List ℕ} → Prints (printLines (lines bs) b ks xs x) r y → Prints (withNames m bs b ks xs x) r y
     unfolding withNames namesIn accepted needed
-    names-printed b ks xs x g p = p ∙ sym (rw (sorted .0, named .1 ∙ ap some (sym (names-lines bs (named .0) (named .1)))))
+    names-printed b ks xs x p = rw (sorted .0, named .1 ∙ ap some (sym (names-lines bs (named .0) (named .1)))) p

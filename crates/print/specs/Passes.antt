@@ -23,7 +23,6 @@ use Rattle.assembly.specs.Number.{isName, lineOf}
 use Rattle.assembly.specs.Laws.{number-of-line}
 use Rattle.assembly.specs.Text.{typeText, text}
 use Rattle.assembly.specs.Printer.{Printing, refusing, writing, needed, consed, linesOf, functionNamed, isComment, ofBlock, headed, heading, textsFrom, first, bookTexts, printLines}
-use Rattle.assembly.specs.Printer as printer
 use Rattle.print_types.specs.Starts.{Sound}
 use Rattle.print_types.specs.Types.{isGot, Typed, typeBytes}
 use Rattle.print_pen.specs.Write.{Wrote}
@@ -39,17 +38,9 @@ use Rattle.print_lines.specs.declared.weigh.Weight.{Weight}
 use Rattle.print_lines.specs.declared.weigh.Weight.the-variants.{Bytes, Short, Barred}
 use Rattle.print.specs.Heads.{Decoded, bookAt, isFn, fnNamed, firstOf, Standing, named-name, first-is, first-named}
 use Rattle.print.specs.Segments.{turned, printedFrom, standFrom, headedKinds}
+use Rattle.print.specs.Reply.{Prints}
 use Rattle.print.specs.declared.passes.Printed.{Printed}
 use Rattle.print.specs.declared.passes.Printed.the-variants.{Accepted, Refused}
-
--- the answer of the code as the definition has it
-abbrev pub replyOf : Printed → printer.Printed
-replyOf (Accepted n) = printer.Printed.accepted n
-replyOf (Refused e) = printer.Printed.refused e
-
--- the answer and the text after the call
-abbrev pub printing : Printed → List ℕ → Printing
-printing r y = record { reply = replyOf r; text = y }
 
 -- lines that may stand are written where they fit; others are refused with 21
 abbrev pub passed : Bool → (bytes text : List ℕ) → Printing
@@ -63,30 +54,27 @@ passes-count {t} {size} {x} {y} {r} w n e =
     (s .0, (s .1 .0, omega (arith, s .1 .0, s .1 .1, ap length (w .text))))
 
 module _ (bs : List ℕ) {t : Bool} {x y : List ℕ} {r : Weight} (w : Weighed t (length bs) x y r) where
-  pub passes-barred : r ≡ Barred → printing (Refused 21) y ≡ passed t bs x
+  pub passes-barred : r ≡ Barred → Prints (passed t bs x) (Refused 21) y
   unfolding refusing
-  passes-barred e = rw (is-barred t (length bs) (length x) (sym (w .is) ∙ e), w .text)
+  passes-barred e = rw (is-barred t (length bs) (length x) (sym (w .is) ∙ e), w .text) (record { reply = refl; text = refl })
 
-  pub passes-short : r ≡ Short → printing (Refused 20) y ≡ passed t bs x
+  pub passes-short : r ≡ Short → Prints (passed t bs x) (Refused 20) y
   unfolding writing refusing
   passes-short e =
       let s = is-short t (length bs) (length x) (sym (w .is) ∙ e) in
-      rw (s .0, lt-leb (length bs) (length x) (s .1), w .text)
+      rw (s .0, lt-leb (length bs) (length x) (s .1), w .text) (record { reply = refl; text = refl })
 
-  pub passes-done : (n : ℕ) (z : List ℕ) → r ≡ Bytes n → z ≡ bs ++ drop n y → printing (Accepted n) z ≡ passed t bs x
+  pub passes-done : (n : ℕ) (z : List ℕ) → r ≡ Bytes n → z ≡ bs ++ drop n y → Prints (passed t bs x) (Accepted n) z
   unfolding writing
   passes-done n z e f =
       let s = is-bytes t (length bs) (length x) n (sym (w .is) ∙ e) in
-      rw (s .0, le-leb (length bs) (length x) (s .1 .1), f, s .1 .0, w .text)
+      rw (s .0, le-leb (length bs) (length x) (s .1 .1), f, s .1 .0, w .text) (record { reply = refl; text = refl })
 
--- lines that are headed, and others
+-- lines that are not headed
 module _ (t u : Bool) (bs x : List ℕ) where
-  pub passes-headed : (g : Printing) → t ≡ true → g ≡ passed u bs x → g ≡ passed (t && u) bs x
-  passes-headed g e p = rw e p
-
-  pub passes-unheaded : t ≡ false → printing (Refused 21) x ≡ passed (t && u) bs x
+  pub passes-unheaded : t ≡ false → Prints (passed (t && u) bs x) (Refused 21) x
   unfolding refusing
-  passes-unheaded e = rw e
+  passes-unheaded e = rw e (record { reply = refl; text = refl })
 
 -- ---- from the numbers of lines to the definition
 -- the part behind the refusal 1, where m names are to be
@@ -251,15 +239,17 @@ module _ {bs : List ℕ} {m from to : ℕ} (d : Named bs m from to) where
 
 -- the same for the lines of slices that may differ in length
 pub known-printed : {bs : List ℕ} {m from to : ℕ} (d : Named bs m from to) (ks ws : List ℕ) → Decoded m ks ws → (own : ℕ) → own ≡ firstOf m ks ws
-    → (lk ops x : List ℕ) (n : ℕ) → n ≡ min (length lk) (length ops) → (g : Printing)
-    → g ≡ passed (headedKinds (take n lk) && standFrom (isFn m ks ws) m from to own (take n lk) (take n ops)) (printedFrom (oneOf bs m ks ws) own (take n lk) (take n ops)) x
-    → g ≡ printLines (lines bs) (bookAt m ks ws) lk ops x
+    → (lk ops x : List ℕ) (n : ℕ) → n ≡ min (length lk) (length ops) → {r : Printed} {y : List ℕ}
+    → Prints (passed (headedKinds (take n lk) && standFrom (isFn m ks ws) m from to own (take n lk) (take n ops)) (printedFrom (oneOf bs m ks ws) own (take n lk) (take n ops)) x) r y
+    → Prints (printLines (lines bs) (bookAt m ks ws) lk ops x) r y
 unfolding printLines
-known-printed {bs} {m} {from} {to} d ks ws e own f lk ops x n l g p =
+known-printed {bs} {m} {from} {to} d ks ws e own f lk ops x n l {r} {y} p =
     let b = bookAt m ks ws in
     let same : length (take n lk) ≡ length (take n ops) = omega (arith, length-take n lk, length-take n ops, l) in
     let is : isFn m ks ws own ≡ true = rw f (first-is m ks ws e) in
     let named : first (b .functions) ≡ fnNamed m ks ws own = rw f (first-named m ks ws e) in
-    p ∙ lines-passed d b own is named (take n lk) (take n ops) x same
+    subst (λ (g : Printing). Prints g r y)
+    (lines-passed d b own is named (take n lk) (take n ops) x same
     ∙ ap (λ (o : Option (List Line)). needed 21 x o (λ ls. cond (headed ls) (writing (bookTexts (lines bs) (b .functions) ls) x) (refusing 21 x)))
-    (lines-trimmed (lines bs) b n lk ops (omega (arith, l)))
+    (lines-trimmed (lines bs) b n lk ops (omega (arith, l))))
+    p

@@ -3,7 +3,7 @@ use crate::passes::Printed;
 use crate::rooms::print_sound;
 ghost use mathlib.Core.Path.{_≡_};
 ghost use Rattle.assembly.specs.Printer.{print};
-ghost use Rattle.print.specs.Passes.{printing};
+ghost use Rattle.print.specs.Reply.{Prints};
 ghost use Rattle.print.specs.Book.{Booked};
 
 // Prints the lines of a sound book: refuses with 2, 21 and 20 in this order.
@@ -15,7 +15,7 @@ pub fn print_booked(
     text: &mut [u8],
 ) -> Printed
     requires { ⌜ Booked (now book) ⌝ }
-    ensures { λ r. ⌜ printing r (now (text .exit)) ≡ print (now (book .entry)) (now (names .entry)) (now («line_kinds» .entry)) (now (operands .entry)) (now (text .entry)) ⌝ }
+    ensures { λ r. ⌜ Prints (print (now (book .entry)) (now (names .entry)) (now («line_kinds» .entry)) (now (operands .entry)) (now (text .entry))) r (now (text .exit)) ⌝ }
 {
     let count = book[1];
     let middle = book[0] as usize + 2;

@@ -8,9 +8,8 @@ pub mod segments;
 
 use crate::booked::print_booked;
 use crate::passes::Printed;
-ghost use mathlib.Core.Path.{_≡_};
 ghost use Rattle.assembly.specs.Printer.{print};
-ghost use Rattle.print.specs.Passes.{printing};
+ghost use Rattle.print.specs.Reply.{PrintAnswer, Numbered};
 
 // Prints the lines of a book as text: refuses with 1, 2, 21 and 20 in this order, and then changes nothing.
 pub fn print(
@@ -20,7 +19,8 @@ pub fn print(
     operands: &[u64],
     text: &mut [u8],
 ) -> Printed
-    ensures { λ r. ⌜ printing r (now (text .exit)) ≡ print (now (book .entry)) (now (names .entry)) (now («line_kinds» .entry)) (now (operands .entry)) (now (text .entry)) ⌝ }
+    ensures { λ r. ⌜ PrintAnswer (print (now (book .entry)) (now (names .entry)) (now («line_kinds» .entry)) (now (operands .entry)) (now (text .entry))) r (now (text .exit)) ⌝ }
+    ensures { λ r. ⌜ Numbered r ⌝ }
 {
     if !book_check::check_book(book) {
         return Printed::Refused(1);

@@ -14,7 +14,8 @@ ghost use Rattle.assembly.specs.Printer.{printLines};
 ghost use Rattle.print_types.specs.Starts.{Starts};
 ghost use Rattle.print.specs.Heads.{bookAt, isFn, firstOf, Indexed};
 ghost use Rattle.print.specs.Segments.{headedKinds, standFrom, printedFrom};
-ghost use Rattle.print.specs.Passes.{printing, passed, Named, oneOf};
+ghost use Rattle.print.specs.Reply.{Prints};
+ghost use Rattle.print.specs.Passes.{passed, Named, oneOf};
 
 // The bytes put from index 0 on, or a refusal's number.
 pub enum Printed {
@@ -42,8 +43,8 @@ fn put_twice(
     requires { ⌜ Named (now names) count from to ⌝ }
     requires { ⌜ Indexed count (now kinds) (now words) (now index) ⌝ }
     requires { ⌜ length (now «line_kinds») ≡ length (now operands) ⌝ }
-    ensures { λ r. ⌜ printing r (now (text .exit)) ≡ passed (headedKinds (now («line_kinds» .entry)) && standFrom (isFn count (now (kinds .entry)) (now (words .entry))) count from to first (now («line_kinds» .entry)) (now (operands .entry)))
-        (printedFrom (oneOf (now (names .entry)) count (now (kinds .entry)) (now (words .entry))) first (now («line_kinds» .entry)) (now (operands .entry))) (now (text .entry)) ⌝ }
+    ensures { λ r. ⌜ Prints (passed (headedKinds (now («line_kinds» .entry)) && standFrom (isFn count (now (kinds .entry)) (now (words .entry))) count from to first (now («line_kinds» .entry)) (now (operands .entry)))
+        (printedFrom (oneOf (now (names .entry)) count (now (kinds .entry)) (now (words .entry))) first (now («line_kinds» .entry)) (now (operands .entry))) (now (text .entry))) r (now (text .exit)) ⌝ }
 {
     if !headed(line_kinds) {
         return Printed::Refused(21);
@@ -123,7 +124,7 @@ pub fn print_known(
     requires { ⌜ Named (now names) count from to ⌝ }
     requires { ⌜ Indexed count (now kinds) (now words) (now index) ⌝ }
     requires { ⌜ first ≡ firstOf count (now kinds) (now words) ⌝ }
-    ensures { λ r. ⌜ printing r (now (text .exit)) ≡ printLines (lines (now (names .entry))) (bookAt count (now (kinds .entry)) (now (words .entry))) (now («line_kinds» .entry)) (now (operands .entry)) (now (text .entry)) ⌝ }
+    ensures { λ r. ⌜ Prints (printLines (lines (now (names .entry))) (bookAt count (now (kinds .entry)) (now (words .entry))) (now («line_kinds» .entry)) (now (operands .entry)) (now (text .entry))) r (now (text .exit)) ⌝ }
 {
     let n = line_count(line_kinds, operands);
     put_twice(

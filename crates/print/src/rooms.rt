@@ -12,7 +12,8 @@ ghost use Rattle.names.specs.Name.{lines};
 ghost use Rattle.assembly.specs.Printer.{printLines};
 ghost use Rattle.print_types.specs.Starts.{Starts};
 ghost use Rattle.print.specs.Heads.{bookAt, Decoded, Zeroed};
-ghost use Rattle.print.specs.Passes.{printing, Named, withNames};
+ghost use Rattle.print.specs.Reply.{Prints};
+ghost use Rattle.print.specs.Passes.{Named, withNames};
 
 // Prints lines with the starts of the names, notes the functions in the lent words. The names from `from` up to and without `to` start `__uvm_`.
 fn print_noted(
@@ -35,7 +36,7 @@ fn print_noted(
     requires { ⌜ Starts every (now names) (now starts) ⌝ }
     requires { ⌜ Zeroed (now index) ⌝ }
     requires { ⌜ count ≤ length (now index) ⌝ }
-    ensures { λ r. ⌜ printing r (now (text .exit)) ≡ printLines (lines (now (names .entry))) (bookAt count (now (kinds .entry)) (now (words .entry))) (now («line_kinds» .entry)) (now (operands .entry)) (now (text .entry)) ⌝ }
+    ensures { λ r. ⌜ Prints (printLines (lines (now (names .entry))) (bookAt count (now (kinds .entry)) (now (words .entry))) (now («line_kinds» .entry)) (now (operands .entry)) (now (text .entry))) r (now (text .exit)) ⌝ }
 {
     note_functions(kinds, words, index);
     let at = function_place(kinds);
@@ -76,7 +77,7 @@ fn print_every(
     requires { ⌜ count < length (now starts) ⌝ }
     requires { ⌜ Zeroed (now index) ⌝ }
     requires { ⌜ count ≤ length (now index) ⌝ }
-    ensures { λ r. ⌜ printing r (now (text .exit)) ≡ withNames count (now (names .entry)) (bookAt count (now (kinds .entry)) (now (words .entry))) (now («line_kinds» .entry)) (now (operands .entry)) (now (text .entry)) ⌝ }
+    ensures { λ r. ⌜ Prints (withNames count (now (names .entry)) (bookAt count (now (kinds .entry)) (now (words .entry))) (now («line_kinds» .entry)) (now (operands .entry)) (now (text .entry))) r (now (text .exit)) ⌝ }
 {
     starts[0] = 0;
     let Names::Sorted(from, to) = names_check::read_names(names, count, b"__uvm_", starts, 1, 1)
@@ -112,7 +113,7 @@ fn few_print(
     requires { ⌜ Decoded count (now kinds) (now words) ⌝ }
     requires { ⌜ length (now kinds) ≤ 1048576 ⌝ }
     requires { ⌜ count < 256 ⌝ }
-    ensures { λ r. ⌜ printing r (now (text .exit)) ≡ withNames count (now (names .entry)) (bookAt count (now (kinds .entry)) (now (words .entry))) (now («line_kinds» .entry)) (now (operands .entry)) (now (text .entry)) ⌝ }
+    ensures { λ r. ⌜ Prints (withNames count (now (names .entry)) (bookAt count (now (kinds .entry)) (now (words .entry))) (now («line_kinds» .entry)) (now (operands .entry)) (now (text .entry))) r (now (text .exit)) ⌝ }
 {
     let mut starts = [0u64; 256];
     let mut index = [0u16; 256];
@@ -142,7 +143,7 @@ fn some_print(
     requires { ⌜ Decoded count (now kinds) (now words) ⌝ }
     requires { ⌜ length (now kinds) ≤ 1048576 ⌝ }
     requires { ⌜ count < 2048 ⌝ }
-    ensures { λ r. ⌜ printing r (now (text .exit)) ≡ withNames count (now (names .entry)) (bookAt count (now (kinds .entry)) (now (words .entry))) (now («line_kinds» .entry)) (now (operands .entry)) (now (text .entry)) ⌝ }
+    ensures { λ r. ⌜ Prints (withNames count (now (names .entry)) (bookAt count (now (kinds .entry)) (now (words .entry))) (now («line_kinds» .entry)) (now (operands .entry)) (now (text .entry))) r (now (text .exit)) ⌝ }
 {
     let mut starts = [0u64; 2048];
     let mut index = [0u16; 2048];
@@ -172,7 +173,7 @@ fn many_print(
     requires { ⌜ Decoded count (now kinds) (now words) ⌝ }
     requires { ⌜ length (now kinds) ≤ 1048576 ⌝ }
     requires { ⌜ count ≤ 131072 ⌝ }
-    ensures { λ r. ⌜ printing r (now (text .exit)) ≡ withNames count (now (names .entry)) (bookAt count (now (kinds .entry)) (now (words .entry))) (now («line_kinds» .entry)) (now (operands .entry)) (now (text .entry)) ⌝ }
+    ensures { λ r. ⌜ Prints (withNames count (now (names .entry)) (bookAt count (now (kinds .entry)) (now (words .entry))) (now («line_kinds» .entry)) (now (operands .entry)) (now (text .entry))) r (now (text .exit)) ⌝ }
 {
     let mut none = [0u64; 0];
     let Names::Sorted(from, to) = names_check::read_names(names, count, b"__uvm_", &mut none, 1, 1)
@@ -215,7 +216,7 @@ pub fn print_sound(
     requires { ⌜ length (now kinds) ≤ 1048576 ⌝ }
     requires { ⌜ count ≤ 131072 ⌝ }
     requires { ⌜ 0 < room ⌝ }
-    ensures { λ r. ⌜ printing r (now (text .exit)) ≡ withNames count (now (names .entry)) (bookAt count (now (kinds .entry)) (now (words .entry))) (now («line_kinds» .entry)) (now (operands .entry)) (now (text .entry)) ⌝ }
+    ensures { λ r. ⌜ Prints (withNames count (now (names .entry)) (bookAt count (now (kinds .entry)) (now (words .entry))) (now («line_kinds» .entry)) (now (operands .entry)) (now (text .entry))) r (now (text .exit)) ⌝ }
 {
     if 2048 < room {
         return many_print(kinds, words, count, names, line_kinds, operands, text);

@@ -1,4 +1,5 @@
 // Which form a line's kind has: what its operand may be, and what is put for it.
+use assembly::line;
 ghost use mathlib.Core.Path.{_≡_};
 ghost use mathlib.Core.Bool.{cond};
 ghost use Prim.Native.Nat.{ℕ, _<_, _≤_};
@@ -24,13 +25,13 @@ pub enum Form {
 pub fn form_of(kind: u16) -> Form
     ensures { λ r. ⌜ r ≡ formOf kind ⌝ }
 {
-    if 21 <= kind {
+    if line::ADD_U32 <= kind {
         return if kind < 94 { Form::Bare } else { Form::Unknown };
     }
-    if 13 <= kind {
+    if line::SEL_FALSE <= kind {
         return Form::Any;
     }
-    if 7 <= kind {
+    if line::PUSH_0N <= kind {
         return number_form(kind);
     }
     name_form(kind)
@@ -40,32 +41,40 @@ pub fn form_of(kind: u16) -> Form
 fn number_form(kind: u16) -> Form
     ensures { λ r. ⌜ r ≡ numberForm kind ⌝ }
 {
-    if kind == 7 {
+    if kind == line::PUSH_0N {
         return Form::Count;
     }
-    if kind < 10 {
+    if kind < line::GET_LOCAL {
         return Form::Any;
     }
-    if kind < 12 { Form::Slot } else { Form::Args }
+    if kind < line::CALL_FP {
+        Form::Slot
+    } else {
+        Form::Args
+    }
 }
 
 // Kinds 0 to 6.
 fn name_form(kind: u16) -> Form
     ensures { λ r. ⌜ r ≡ nameForm kind ⌝ }
 {
-    if kind == 0 {
+    if kind == line::COMMENT {
         return Form::Comment;
     }
-    if kind == 5 {
+    if kind == line::CALL {
         return Form::Call;
     }
-    if kind == 6 {
+    if kind == line::SYSCALL {
         return Form::Syscall;
     }
-    if kind == 1 {
+    if kind == line::FN_LABEL {
         return Form::Name;
     }
-    if kind == 4 { Form::Name } else { Form::Block }
+    if kind == line::PUSH_NAME {
+        Form::Name
+    } else {
+        Form::Block
+    }
 }
 
 // Whether a line may stand: its kind is known and its operand allowed. `names` is the number of names, `function` the function's
@@ -100,11 +109,15 @@ fn most(kind: u16) -> u64
     ensures { λ r. ⌜ r ≡ mostOf kind ⌝ }
 {
     let slot = pick(
-        (kind == 7) | (kind == 10) | (kind == 11),
+        (kind == line::PUSH_0N) | (kind == line::GET_LOCAL) | (kind == line::SET_LOCAL),
         65535,
         18446744073709551615,
     );
-    pick(21 <= kind, 0, pick(kind == 12, 255, slot))
+    pick(
+        line::ADD_U32 <= kind,
+        0,
+        pick(kind == line::CALL_FP, 255, slot),
+    )
 }
 
 // Whether a line of kind 1 to 6, which names something, may stand: its name lies in the range that is allowed for it.
@@ -113,8 +126,8 @@ pub fn name_allowed(kind: u16, x: u64, names: u64, from: u64, to: u64) -> bool
     requires { ⌜ kind < 7 ⌝ }
     ensures { λ r. ⌜ ((function : ℕ) → r ≡ allowedBy (formOf kind) x names function from to) ⌝ }
 {
-    let name = pick(kind == 5, x / 256, x);
-    (pick(kind == 6, from, 0) <= name) & (name < pick(kind == 6, to, names))
+    let name = pick(kind == line::CALL, x / 256, x);
+    (pick(kind == line::SYSCALL, from, 0) <= name) & (name < pick(kind == line::SYSCALL, to, names))
 }
 
 // Whether a line of kind 7 or more may stand, whose operand is a number or none: without a branch, since these are most lines and which
@@ -123,7 +136,7 @@ pub fn number_allowed(kind: u16, x: u64) -> bool
     requires { ⌜ 7 ≤ kind ⌝ }
     ensures { λ r. ⌜ ((names function from to : ℕ) → r ≡ allowedBy (formOf kind) x names function from to) ⌝ }
 {
-    (kind < 94) & ((8 <= kind) | (1 <= x)) & (x <= most(kind))
+    (kind < 94) & ((line::PUSH <= kind) | (1 <= x)) & (x <= most(kind))
 }
 
 // Whether every line may stand, of as many as both slices hold. `names` is the number of names, `function` the function's name; the

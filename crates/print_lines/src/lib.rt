@@ -1,6 +1,7 @@
 // The text of a line: the word of its kind, what stands for its operand, and its end.
 pub mod weigh;
 
+use assembly::line;
 use print_forms::Form;
 use print_forms::form_of;
 use print_pen::Pen;
@@ -131,7 +132,7 @@ fn put_line(
     requires { ⌜ kind < 7 ⌝ }
     ensures { λ r. ⌜ Put (printed (lines (now (names .entry))) (now (function .entry)) (typeBytes (lines (now (names .entry))) (typeTo (length (lines (now (names .entry)))) 64 (entries (now (kinds .entry)) (now (words .entry))))) params kind x) pen (now (text .entry)) (now (text .exit)) r ⌝ }
 {
-    if kind == 0 {
+    if kind == line::COMMENT {
         return put_comment(
             text,
             pen,
@@ -184,7 +185,7 @@ fn write_line(
     requires { ⌜ end ≤ length (now text) ⌝ }
     ensures { λ r. ⌜ Wrote (printed (lines (now (names .entry))) (now (function .entry)) (typeBytes (lines (now (names .entry))) (typeTo (length (lines (now (names .entry)))) 64 (entries (now (kinds .entry)) (now (words .entry))))) params kind x) at end (now (text .entry)) (now (text .exit)) r ⌝ }
 {
-    if 7 <= kind {
+    if line::PUSH_0N <= kind {
         return write_plain(text, at, end, letters, places, kind, x);
     }
     match put_line(

@@ -1,5 +1,6 @@
 // What lines weigh before any is written: whether every one may stand (21), and how many bytes they have (20), in one pass.
 use crate::put_comment;
+use assembly::line;
 use names_spelling::clean_len;
 use numbers::digits::decimal_len;
 use print_forms::check_lines;
@@ -66,7 +67,7 @@ fn spelled_len(name: &[u8], kind: u16) -> usize
     requires { ⌜ (kind ≡ 6 → 6 ≤ length (now name)) ⌝ }
     ensures { λ r. ⌜ r ≡ spelled kind (now (name .entry)) ⌝ }
 {
-    if kind == 6 {
+    if kind == line::SYSCALL {
         return name.len() - 6;
     }
     clean_len(name)
@@ -81,9 +82,13 @@ fn around_len(places: &[u16], label: usize, kind: u16, x: u64) -> usize
     ensures { λ r. ⌜ r ≡ around label kind x ⌝ }
 {
     let word = word_len(places, kind);
-    let block = pick_len((2 <= kind) & (kind <= 3), label + 2, 0);
-    let digits = decimal_len(pick(kind == 5, x % 256, 0));
-    let args = pick_len(kind == 5, digits + 2, 0);
+    let block = pick_len(
+        (line::BLOCK_LABEL <= kind) & (kind <= line::JMP_BLOCK),
+        label + 2,
+        0,
+    );
+    let digits = decimal_len(pick(kind == line::CALL, x % 256, 0));
+    let args = pick_len(kind == line::CALL, digits + 2, 0);
     word + block + args + 2
 }
 
@@ -114,7 +119,7 @@ fn weigh_named(
     if !name_allowed(kind, x, count, from, to) {
         return Weight::Barred;
     }
-    let name = name_of(names, starts, every, pick(kind == 5, x / 256, x));
+    let name = name_of(names, starts, every, pick(kind == line::CALL, x / 256, x));
     let spelled = spelled_len(name, kind);
     let rest = around_len(places, label, kind, x);
     let left = room - n;
@@ -156,10 +161,10 @@ fn weigh_line(
     requires { ⌜ label ≡ length (sanitize (now function)) ⌝ }
     ensures { λ r. ⌜ Weighed (allowedBy (formOf kind) x count own from to) (n + length (printed (lines (now (names .entry))) (now (function .entry)) (typeBytes (lines (now (names .entry))) (typeTo (length (lines (now (names .entry)))) 64 (entries (now (kinds .entry)) (now (words .entry))))) params kind x)) (now (text .entry)) (now (text .exit)) r ⌝ }
 {
-    if 7 <= kind {
+    if line::PUSH_0N <= kind {
         return weigh_number(places, n, text.len(), kind, x);
     }
-    if 1 <= kind {
+    if line::FN_LABEL <= kind {
         return weigh_named(
             places,
             names,

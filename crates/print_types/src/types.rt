@@ -5,12 +5,11 @@ use book_types::types::type_group;
 use print_pen::Pen;
 use print_pen::put_bytes;
 use print_pen::put_number;
-ghost use mathlib.Core.Path.{_≡_};
 ghost use mathlib.Core.List.{_++_};
 ghost use Prim.Native.Nat.{_<_};
 ghost use lib.ListN.{length};
 ghost use Rattle.names.specs.Text.{bytes};
-ghost use Rattle.names.specs.Name.{lines, nameAt};
+ghost use Rattle.names.specs.Name.{lines};
 ghost use Rattle.numbers.specs.Digits.{decimal};
 ghost use Rattle.book.specs.Entry.{entries};
 ghost use Rattle.book.specs.Decode.{typeTo};
@@ -67,10 +66,10 @@ fn put_named(text: &mut [u8], pen: Pen, name: &[u8]) -> Pen
 fn put_sizeless(text: &mut [u8], pen: Pen, kind: u64) -> Pen
     ensures { λ r. ⌜ Put (sizelessText kind) pen (now (text .entry)) (now (text .exit)) r ⌝ }
 {
-    if kind == 18 {
+    if kind == book::entry::FUNC {
         return put_bytes(text, pen, b"fn");
     }
-    if kind == 19 {
+    if kind == book::entry::LABEL {
         return put_bytes(text, pen, b"label");
     }
     put_bytes(text, pen, b"metadata")

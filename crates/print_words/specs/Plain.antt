@@ -1,5 +1,5 @@
 -- The text of a line of kind 7 to 93: its word, and where it has an operand, the number and the end.
-use Prim.Native.Nat.{ℕ, suc, _+_, _-_, _/_, _%_, _≤_, _<_}
+use Prim.Native.Nat.{ℕ, suc, _+_, _-_, _≤_, _<_}
 use mathlib.Core.Path.{_≡_, refl, sym, ap, _∙_}
 use mathlib.Core.Bool.{Bool, true, false, _&&_}
 use mathlib.Core.List.{List, [], _∷_, _++_, append-assoc}
@@ -7,8 +7,8 @@ use native.Mathlib.Omega.{arith}
 use borrow.Author.Tests.{ltb-true, leb-true, le-leb, lt-leb}
 use lib.Dec.{leb, ltb}
 use lib.ListN.{length, take, set, length-append}
-use lib.Seq.{sets, set-set, take-take, take-at, length-take-le}
-use Rattle.numbers.specs.Digits.{decimal, decimal-small, decimal-two, length-le, length-small, length-two}
+use lib.Seq.{sets, take-take, take-at, length-take-le}
+use Rattle.numbers.specs.Digits.{decimal, length-le}
 use Rattle.names.specs.Tests.{both}
 use Rattle.print_pen.specs.Pen.{pickBytes}
 use Rattle.print_pen.specs.Write.{Wrote, wrote-sets, then-wrote, wrote-same}
@@ -79,19 +79,6 @@ short-room k x at end q h t e =
     let w = both (ltb x 100) (leb 32 (end - at)) t in
     let few = ltb-true x 100 (w .0) in
     (few, omega (arith, length-le 1 x few, word-short k h, leb-true 32 (end - at) (w .1)))
-
--- a number below 100: two digits are stored, the last one at a place of its own or over the first
-module _ (x at n : ℕ) (t : List ℕ) where
-  pub short-one : x < 10 → n ≡ 0 → (at + n + 1 ≡ at + length (decimal x)) × (set (set t at (48 + x / 10)) (at + n) (48 + x % 10) ≡ sets t at (decimal x))
-  short-one h e =
-      let here : at + n ≡ at = omega arith in
-      let same : 48 + x % 10 ≡ 48 + x = omega arith in
-      (omega (arith, length-small x h), rw (here, set-set t at (48 + x / 10) (48 + x % 10), same, decimal-small x h))
-
-  pub short-two : 10 ≤ x → x < 100 → n ≡ 1 → (at + n + 1 ≡ at + length (decimal x)) × (set (set t at (48 + x / 10)) (at + n) (48 + x % 10) ≡ sets t at (decimal x))
-  short-two h g e =
-      let next : at + n ≡ suc at = omega arith in
-      (omega (arith, length-two x h g), rw (next, decimal-two x h g))
 
 -- the end of a line: two bytes
 module _ (k at b : ℕ) (t : List ℕ) where

@@ -1,6 +1,7 @@
 // The pieces of a line: its word, which is the whole line where there is no operand, what names a block or a call, and its end.
 pub mod plain;
 
+use assembly::line;
 use print_pen::Pen;
 use print_pen::put_bytes;
 use print_pen::put_clean;
@@ -153,7 +154,8 @@ pub fn put_word(text: &mut [u8], pen: Pen, letters: &[u8], places: &[u16], kind:
 fn is_label(kind: u16) -> bool
     ensures { λ r. ⌜ r ≡ isLabel kind ⌝ }
 {
-    ((1 <= kind) & (kind <= 2)) | ((13 <= kind) & (kind <= 16))
+    ((line::FN_LABEL <= kind) & (kind <= line::BLOCK_LABEL))
+        | ((line::SEL_FALSE <= kind) & (kind <= line::SW_CASE))
 }
 
 // Puts what ends a line with an operand.

@@ -1,14 +1,15 @@
 // Lines of kind 7 to 93, whose operand is a number or none: how many bytes they have, and writing them where it is known that they fit.
 use crate::is_label;
 use crate::place;
+use assembly::line;
 use numbers::digits::decimal_len;
 use numbers::digits::put_decimal;
+use numbers::digits::put_short;
 use print_pen::copy;
 ghost use mathlib.Core.Path.{_≡_};
 ghost use Prim.Native.Nat.{_+_, _<_, _≤_};
 ghost use lib.ListN.{length};
 ghost use lib.Seq.{sets};
-ghost use Rattle.numbers.specs.Digits.{decimal};
 ghost use Rattle.print_pen.specs.Write.{Wrote};
 ghost use Rattle.print_words.specs.Words.{word, wordPlaces, Tables};
 ghost use Rattle.print_words.specs.Ends.{ending};
@@ -32,7 +33,7 @@ pub fn plain_len(places: &[u16], kind: u16, x: u64) -> usize
 {
     let letters = word_len(places, kind);
     let number = decimal_len(x) + 2;
-    if 21 <= kind {
+    if line::ADD_U32 <= kind {
         letters
     } else {
         letters + number
@@ -68,18 +69,6 @@ fn write_word(
     at + both % 32
 }
 
-// Writes the digits of a number below 100. It takes no branch: a first digit of 0 is stored too, and the last one over it.
-fn write_short(x: u64, text: &mut [u8], at: usize) -> usize
-    requires { ⌜ x < 100 ⌝ }
-    requires { ⌜ at + length (decimal x) ≤ length (now text) ⌝ }
-    ensures { λ r. ⌜ (r ≡ at + length (decimal x)) × (now (text .exit) ≡ sets (now (text .entry)) at (decimal x)) ⌝ }
-{
-    let last = at + (if x < 10 { 0 } else { 1 });
-    text[at] = 48 + (x / 10) as u8;
-    text[last] = 48 + (x % 10) as u8;
-    last + 1
-}
-
 // Writes what ends a line with an operand.
 fn write_end(text: &mut [u8], at: usize, kind: u16) -> usize
     requires { ⌜ at + 2 ≤ length (now text) ⌝ }
@@ -109,11 +98,11 @@ pub fn write_plain(
 {
     let next = write_word(text, at, end, letters, places, kind);
     if (x < 100) & (32 <= end - at) {
-        let number = write_short(x, text, next);
+        let number = put_short(x, text, next);
         let behind = write_end(text, number, kind);
-        return if 21 <= kind { next } else { behind };
+        return if line::ADD_U32 <= kind { next } else { behind };
     }
-    if 21 <= kind {
+    if line::ADD_U32 <= kind {
         return next;
     }
     let number = put_decimal(x, text, next);

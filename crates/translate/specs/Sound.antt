@@ -18,13 +18,14 @@ use Rattle.book.specs.Encode.{encode}
 use Rattle.book.specs.AgreeBook.{decode-complete}
 use Rattle.book.specs.Forbidden.{forbidden}
 use Rattle.book.specs.Input.{Counted, bookIn, namesIn}
-use Rattle.book.specs.Result.{Result, ok, err, bind, okOr, given, require, bind-ok, given-ok}
+use Rattle.book.specs.Result.{Result, ok, err, bind, okOr, require, bind-ok, given-ok}
 use Rattle.book.specs.Check.{Sound, workFor, checked, refusalOf}
 use Rattle.book_types.specs.Laws.{length-entries}
 use Rattle.book_check.specs.Whole.{Holds, slice-holds, slice-parts}
 use Rattle.lowering.specs.Gen.{Out}
 use Rattle.lowering.specs.Context.{codegenOf}
 use Rattle.lowering.specs.Function.{genFunctions}
+use Rattle.lowering.specs.Numbers.{refusal-range, checked-numbered}
 use Rattle.lowering.specs.Printable.{Lent, checked-lent, names-counted}
 use Rattle.lowering.specs.Translate.{generated}
 use Rattle.gen_passes.specs.Passes.{fitted, Answered}
@@ -33,33 +34,8 @@ use Rattle.gen_passes.specs.declared.Translation.{Translation}
 use Rattle.gen_passes.specs.declared.Translation.the-variants.{Refused}
 use Rattle.gen_slices.specs.Clear.{Blank, clear-blank}
 
--- ---- a refusal has a number that is not 0
-module _ {A B : Type 0} where
-  bind-some : (r : Result A) (f : A → Result B) → (r ≡ err 0 → ⊥) → ((a : A) → f a ≡ err 0 → ⊥) → bind r f ≡ err 0 → ⊥
-  unfolding bind
-  bind-some (ok a) f p q h = q a h
-  bind-some (err e) f p q h = p (let z : e ≡ 0 = cc in ap err z)
-
-module _ {A : Type 0} where
-  okOr-some : (n : ℕ) → 1 ≤ n → (o : Option A) → okOr n o ≡ err 0 → ⊥
-  unfolding okOr
-  okOr-some n l none h = let z : n ≡ 0 = cc in omega arith
-  okOr-some n l (some a) h = let z : _≡_ {A = ℕ} 0 1 = cc in omega arith
-
-  given-some : (b : Bool) (n : ℕ) → 1 ≤ n → (a : A) → given b n a ≡ err 0 → ⊥
-  unfolding given
-  given-some true n l a h = let z : _≡_ {A = ℕ} 0 1 = cc in omega arith
-  given-some false n l a h = let z : n ≡ 0 = cc in omega arith
-
+-- ---- the check's refusals
 module _ (book names : List ℕ) (counter work : ℕ) where
-  never-0 : checked book names counter work ≡ err 0 → ⊥
-  unfolding checked require
-  never-0 =
-      bind-some _ _ (okOr-some 1 (omega arith) (bookIn book))
-      (λ b. bind-some _ _ (given-some (leb counter (2 ^ 32)) 1 (omega arith) tt)
-      (λ _. bind-some _ _ (okOr-some 2 (omega arith) (namesIn (b .count) names))
-      (λ ns. bind-some _ _ (given-some (not (forbidden ns (b .book))) 3 (omega arith) tt) (λ _. given-some (leb (workFor (b .count)) work) 4 (omega arith) _))))
-
   -- a refusal by its number
   refused-by : (n : ℕ) → n ≡ refusalOf (checked book names counter work) → 1 ≤ n → checked book names counter work ≡ err n
   unfolding refusalOf
@@ -81,7 +57,7 @@ module _ (book names : List ℕ) (counter work : ℕ) where
     where
       go : (r : Result Sound) → checked book names counter work ≡ r → (s : Sound) × (checked book names counter work ≡ ok s)
       go (ok s) i = (s, i)
-      go (err x) i = let z : x ≡ 0 = sym (e ∙ ap refusalOf i) in absurd (never-0 (i ∙ ap err z))
+      go (err x) i = let z : x ≡ 0 = sym (e ∙ ap refusalOf i) in absurd (let l = refusal-range x (checked-numbered book names counter work .numbered x i) in omega arith)
 
 -- ---- a sound book, for a work slice of so many words
 module _ (book names : List ℕ) (counter lent : ℕ) (e : 0 ≡ refusalOf (checked book names counter lent)) where
@@ -98,7 +74,7 @@ module _ (book names : List ℕ) (counter lent : ℕ) (e : 0 ≡ refusalOf (chec
   sound-holds = slice-holds book (sound-lent .counted) (sound-lent .read)
 
   -- they are enough for its names
-  sound-room : 8 * getD book 1 0 + 64 ≤ lent
+  sound-room : workFor (getD book 1 0) ≤ lent
   unfolding checked okOr
   sound-room =
       let b = bind-ok (okOr 1 (bookIn book)) _ sound sound-is in
@@ -107,7 +83,7 @@ module _ (book names : List ℕ) (counter lent : ℕ) (e : 0 ≡ refusalOf (chec
       let f = bind-ok (require (not (forbidden (n .0) (b .0 .book))) 3) _ sound (n .2) in
       let w = given-ok (leb (workFor (b .0 .count)) lent) 4 _ sound (f .2) in
       let e : b .0 ≡ sound-lent .counted = found (bookIn book) (b .1) (sound-lent .read) in
-      let r : 8 * sound-lent .counted .count + 64 ≤ lent = subst (λ (x : Counted). 8 * x .count + 64 ≤ lent) e (leb-true _ _ (w .0)) in
+      let r : workFor (sound-lent .counted .count) ≤ lent = subst (λ (x : Counted). workFor (x .count) ≤ lent) e (leb-true _ _ (w .0)) in
       omega (arith, r, sound-holds .count)
     where
       found : (o : Option Counted) {x y : Counted} → okOr 1 o ≡ ok x → o ≡ some y → x ≡ y
@@ -117,7 +93,7 @@ module _ (book names : List ℕ) (counter lent : ℕ) (e : 0 ≡ refusalOf (chec
 -- ---- the call of a sound book: a slice of `lent` words was lent, and the words that are used are enough
 pub record SoundAsk (book names : List ℕ) (counter lent : ℕ) (work : List ℕ) : Type 0 where
   pub sound : 0 ≡ refusalOf (checked book names counter lent)
-  pub room : 8 * getD book 1 0 + 64 ≤ length work
+  pub room : workFor (getD book 1 0) ≤ length work
   pub words : NextsAlone 8 5 names (getD book 1 0) work
 
 module _ {book names : List ℕ} {counter lent : ℕ} {work : List ℕ} (a : SoundAsk book names counter lent work) where
@@ -197,14 +173,14 @@ module _ {book names : List ℕ} {counter lent : ℕ} {work : List ℕ} (a : Sou
 -- ---- words that are 0, and enough of them where those that were lent are enough
 pub record BlankAsk (book : List ℕ) (lent : ℕ) (work : List ℕ) : Type 0 where
   pub blank : Blank work
-  pub enough : 8 * getD book 1 0 + 64 ≤ lent → 8 * getD book 1 0 + 64 ≤ length work
+  pub enough : workFor (getD book 1 0) ≤ lent → workFor (getD book 1 0) ≤ length work
 
 -- the lent words themselves
 pub blank-lent : (book : List ℕ) {work : List ℕ} → Blank work → BlankAsk book (length work) work
 blank-lent book z = record { blank = z; enough = λ l. l }
 
 -- words of our own
-pub blank-own : (book : List ℕ) (lent n : ℕ) → 8 * getD book 1 0 + 64 ≤ n → BlankAsk book lent (replicate n 0)
+pub blank-own : (book : List ℕ) (lent n : ℕ) → workFor (getD book 1 0) ≤ n → BlankAsk book lent (replicate n 0)
 blank-own book lent n l = record { blank = clear-blank n (replicate n 0) refl; enough = λ _. omega (arith, l, length-replicate {A = ℕ} n 0) }
 
 -- after the check

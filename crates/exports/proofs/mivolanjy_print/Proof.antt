@@ -18,13 +18,13 @@ same-length : tie.Need-same-length
 same-length c = search needs
 
 returns : tie.Need-returns
-returns c = accepted-is _ _ _ (c .before .before .before .before .before .print .ensures) _ (c .before .n .given .1)
+returns c = accepted-is _ _ _ (c .before .before .before .before .before .print .ensures .0) _ (c .before .n .given .1)
 
 same-length-2 : tie.Need-same-length-2
 same-length-2 c = search needs
 
 returns-2 : tie.Need-returns-2
-returns-2 c = refused-is _ _ _ (c .before .before .before .before .before .print .ensures) _ (c .before .e .given .1)
+returns-2 c = refused-is _ _ _ (c .before .before .before .before .before .print .ensures .0) _ (c .before .e .given .1)
 
 pub mivolanjy-print-spec : {M : Type 1} → statement M
 mivolanjy-print-spec =

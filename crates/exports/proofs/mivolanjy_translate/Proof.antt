@@ -25,7 +25,7 @@ same-length-3 c = search needs
 returns : tie.Need-returns
 returns c =
     let called = c .before .before .before .before .before .before .before .before .before in
-    accepted-is _ _ _ _ _ _ (called .translate .ensures) _ _ (c .before .n .given .1)
+    accepted-is _ _ _ _ _ _ (called .translate .ensures .0) _ _ (c .before .n .given .1)
 
 same-length-4 : tie.Need-same-length-4
 same-length-4 c = search needs
@@ -39,7 +39,7 @@ same-length-6 c = search needs
 returns-2 : tie.Need-returns-2
 returns-2 c =
     let called = c .before .before .before .before .before .before .before .before .before in
-    refused-is _ _ _ _ _ _ (called .translate .ensures) _ (c .before .e .given .1)
+    refused-is _ _ _ _ _ _ (called .translate .ensures .0) _ (c .before .e .given .1)
 
 pub mivolanjy-translate-spec : {M : Type 1} → statement M
 mivolanjy-translate-spec =

@@ -63,7 +63,7 @@ returns : tie.Need-returns
 returns c =
     let after-print-sound = c .before .before in
     let entry = after-print-sound .before .before .before .before .before .before .before .before .before .before .before in
-    booked-printed (entry .args .book .now) (entry .pre) _ _ _ _ _ (after-print-sound .print-sound .ensures)
+    booked-printed (entry .args .book .now) (entry .pre) _ _ _ _ (after-print-sound .print-sound .ensures)
 
 pub print-booked-spec : {M : Type 1} → statement M
 print-booked-spec =

@@ -39,7 +39,7 @@ returns c =
     let after-count = c .before .before .before .before .before .before in
     let entry = after-count .before .before .before .before .before .before .before .before .before in
     let p = entry .pre in
-    known-printed (p .1 .0) (entry .args .kinds .now) (entry .args .words .now) (p .1 .1 .0 .book) _ (p .1 .1 .1) (entry .args .line-kinds .now) (entry .args .operands .now) _ _ (after-count .line-count .ensures) _
+    known-printed (p .1 .0) (entry .args .kinds .now) (entry .args .words .now) (p .1 .1 .0 .book) _ (p .1 .1 .1) (entry .args .line-kinds .now) (entry .args .operands .now) _ _ (after-count .line-count .ensures)
     (c .before .before .put-twice .ensures)
 
 pub print-known-spec : {M : Type 1} → statement M

@@ -66,7 +66,7 @@ unfolding bytes
 returns-2 c =
     let after-from = c .before .before .before .before .before .before .before .before .before .before .before in
     let after-read-names = after-from .before .before .before in
-    names-printed _ _ _ (after-read-names .read-names .ensures .0) _ _ (after-from .from .given .1) _ _ _ _ _ (c .before .before .before .print-noted .ensures)
+    names-printed _ _ _ (after-read-names .read-names .ensures .0) _ _ (after-from .from .given .1) _ _ _ _ (c .before .before .before .print-noted .ensures)
 
 pub many-print-spec : {M : Type 1} → statement M
 many-print-spec =

@@ -65,7 +65,7 @@ returns-2 c =
     let after-print-noted = c .before .before .before .before in
     let after-from = after-print-noted .before .before .before .before .before in
     let after-read-names = after-from .before .before .before .before in
-    names-printed _ _ _ (after-read-names .read-names .ensures .0) _ _ (after-from .from .given .1) _ _ _ _ _ (after-print-noted .print-noted .ensures)
+    names-printed _ _ _ (after-read-names .read-names .ensures .0) _ _ (after-from .from .given .1) _ _ _ _ (after-print-noted .print-noted .ensures)
 
 pub print-every-spec : {M : Type 1} → statement M
 print-every-spec =

@@ -9,8 +9,8 @@ use borrow.Author.Needs.{needs}
 use Rattle.print_words.proofs.plain.write_plain.Statement.{statement}
 use Rattle.print_words.proofs.plain.write_plain.Tie as tie
 use Rattle.numbers.proofs.digits.put_decimal.Reads as put-decimal-reads
+use Rattle.numbers.proofs.digits.put_short.Reads as put-short-reads
 use Rattle.print_words.proofs.plain.write_end.Reads as write-end-reads
-use Rattle.print_words.proofs.plain.write_short.Reads as write-short-reads
 use Rattle.print_words.proofs.plain.write_word.Reads as write-word-reads
 
 write-word-requires : tie.Need-write-word-requires
@@ -21,8 +21,8 @@ write-word-requires c κs =
 sub-if1 : tie.Need-sub-if1
 sub-if1 c = search needs
 
-write-short-requires : tie.Need-write-short-requires
-write-short-requires c κs =
+put-short-requires : tie.Need-put-short-requires
+put-short-requires c κs =
     let then1 = c .before in
     let after-word = then1 .before .before .before in
     let entry = after-word .before .before .before .before .before in
@@ -37,7 +37,7 @@ write-end-requires c κs =
     let after-word = then1 .before .before .before in
     let entry = after-word .before .before .before .before .before in
     let w = after-word .write-word .ensures in
-    let d = after-short .write-short .ensures in
+    let d = after-short .put-short .ensures in
     let l = simp length-sets at (ap length (d .1)) in
     let room = short-room (entry .args .kind) (entry .args .x) (entry .args .at) (entry .args .end) _ (entry .pre .1 .0) (then1 .if1 .taken) (w .place) in
     omega (arith, w .long, d .0, room .1, entry .pre .1 .1 .1)
@@ -54,7 +54,7 @@ returns c =
     let entry = after-word .before .before .before .before .before in
     let w = after-word .write-word .ensures in
     let room = short-room _ _ _ _ _ (entry .pre .1 .0) (then1 .if1 .taken) (w .place) .1 in
-    bare-wrote _ _ w (after-short .write-short .ensures) (after-end .write-end .ensures) room (entry .pre .1 .1 .1) (c .if2 .taken)
+    bare-wrote _ _ w (after-short .put-short .ensures) (after-end .write-end .ensures) room (entry .pre .1 .1 .1) (c .if2 .taken)
 
 same-length-2 : tie.Need-same-length-2
 same-length-2 c = search needs
@@ -68,7 +68,7 @@ returns-2 c =
     let entry = after-word .before .before .before .before .before in
     let w = after-word .write-word .ensures in
     let room = short-room _ _ _ _ _ (entry .pre .1 .0) (then1 .if1 .taken) (w .place) .1 in
-    number-wrote _ _ w (after-short .write-short .ensures) (after-end .write-end .ensures) room (entry .pre .1 .1 .1) (c .if2 .left)
+    number-wrote _ _ w (after-short .put-short .ensures) (after-end .write-end .ensures) room (entry .pre .1 .1 .1) (c .if2 .left)
 
 same-length-3 : tie.Need-same-length-3
 same-length-3 c = search needs
@@ -116,7 +116,7 @@ write-plain-spec =
     (tie.spec
     write-word-requires
     sub-if1
-    write-short-requires
+    put-short-requires
     write-end-requires
     same-length
     returns
