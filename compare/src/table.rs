@@ -43,7 +43,7 @@ pub fn write(seed: u64, count: u64, file: &str) -> Result<(), String> {
             rows.push(Row { title: index.to_string(), slices: lent.slices, says });
         }
     }
-    std::fs::write(file, named(&head(seed, count), "vectors", &rows)).map_err(|error| format!("{file}: {error}"))
+    std::fs::write(file, named(&head(seed, count), "vectors", &rows, &[])).map_err(|error| format!("{file}: {error}"))
 }
 
 fn head(seed: u64, count: u64) -> String {
@@ -73,22 +73,32 @@ pub fn says(answer: &Expected) -> Option<String> {
     }
 }
 
-/// A file with one table of this name and one theorem; `head` stands over it.
-pub fn named(head: &str, name: &str, rows: &[Row]) -> String {
-    let mut table = format!(
-        "{head}use mathlib.Core.Path.{{_≡_, refl}}
+/// A file with one table of this name and one theorem, and the same again for books at the largest counter, if there are any; `head` stands
+/// over it.
+pub fn named(head: &str, name: &str, rows: &[Row], largest: &[Row]) -> String {
+    let power = if largest.is_empty() { "" } else { "use Prim.Native.Nat.{_^_}\n" };
+    let at = if largest.is_empty() { "" } else { " answersAt," };
+    let file = format!(
+        "{head}{power}use mathlib.Core.Path.{{_≡_, refl}}
 use mathlib.Core.List.{{List, [], _∷_, map}}
 use Rattle.assembly.specs.Cases.{{unlines}}
-use Rattle.lowering.specs.Sheet.{{Sheet, Answer, answers, saysOf, openSheet}}
-
-unfoldable pub {name} : List Sheet
-{name} =
+use Rattle.lowering.specs.Sheet.{{Sheet, Answer,{at} answers, saysOf, openSheet}}
 "
     );
+    let first = theorem(name, "answers", rows);
+    if largest.is_empty() {
+        return file + &first;
+    }
+    file + &first + "\n-- at the largest counter, so that only a later function begins above it" + &theorem("largest", "(answersAt (2 ^ 32))", largest)
+}
+
+/// A table, and the theorem that its books have these answers.
+fn theorem(name: &str, answers: &str, rows: &[Row]) -> String {
+    let mut table = format!("\nunfoldable pub {name} : List Sheet\n{name} =\n");
     rows.iter().for_each(|row| sheet(&mut table, &row.title, &row.slices, &row.says));
     let _ = write!(
         table,
-        "    []\n\npub {name}-hold : map answers {name} ≡ map saysOf {name}\nunfolding openSheet {name}\n{name}-hold = refl\n"
+        "    []\n\npub {name}-hold : map {answers} {name} ≡ map saysOf {name}\nunfolding openSheet {name}\n{name}-hold = refl\n"
     );
     table
 }

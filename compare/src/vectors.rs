@@ -58,23 +58,32 @@ struct Call {
     lines: Lines,
     next: u64,
     text: String,
+    /// What each work word is afterwards, and what stands behind the kinds, the operands and the text.
+    rest: [u64; 4],
+    /// The printer's refusal of a text slice that is a byte short.
+    short: u64,
 }
+
+/// No work word is left, and the rest of each slice stays: kinds and operands are lent full of 43690, the text full of `!`.
+const REST: [u64; 4] = [0, 43690, 43690, b'!' as u64];
 
 impl Call {
     /// The same with other line slices, of which one is too short.
     fn short(&self, room: [usize; 2]) -> Call {
         let lent = self.lent.clone();
-        Call { room, refusal: 20, lines: Lines::default(), next: lent.counter, text: String::new(), lent }
+        Call { room, refusal: 20, lines: Lines::default(), next: lent.counter, text: String::new(), lent, ..self.clone() }
     }
 }
 
 /// A case as a line of numbers; one that comes three times or more in a row as TIMES*NUMBER.
 fn numbers(call: &Call) -> String {
-    let Call { lent, room, refusal, lines, next, text } = call;
+    let Call { lent, room, refusal, lines, next, text, rest, short } = call;
     let (words, names) = (&lent.slices.book, &lent.slices.names);
     let lengths = [words.len(), names.len(), text.len()].map(|length| length as u64);
     let count = lines.kinds.len() as u64;
     let mut all = vec![lent.counter, lent.work as u64, room[0] as u64, room[1] as u64, *refusal, count, *next];
+    all.extend(rest);
+    all.push(*short);
     all.extend(lengths);
     all.extend(words);
     all.extend(names.iter().map(|byte| *byte as u64));
@@ -104,7 +113,7 @@ fn owed(lent: Lent) -> Result<Option<Call>, String> {
         _ => return Ok(None),
     };
     let room = [lines.kinds.len(); 2];
-    Ok(Some(Call { lent, room, refusal, lines, next, text }))
+    Ok(Some(Call { lent, room, refusal, lines, next, text, rest: REST, short: 20 }))
 }
 
 /// The same with line slices that are exactly full, longer, or too short.
@@ -151,11 +160,44 @@ fn fixed() -> Result<Vec<Call>, String> {
     Ok(calls)
 }
 
+/// A call recorded wrong in one of the things that are compared: each line differs from a right one in one thing alone, and a program that compares names it.
+fn wrong(right: &Call) -> Vec<Call> {
+    let count = right.room[0];
+    // The rest of each slice is there to be looked at.
+    let right = Call { room: [count + 1, count + 2], ..right.clone() };
+    let refused = right.short([count, count - 1]);
+    let mut calls = vec![];
+    let mut change = |right: &Call, change: &dyn Fn(&mut Call)| {
+        let mut call = right.clone();
+        change(&mut call);
+        calls.push(call);
+    };
+    change(&right, &|call| call.refusal = 20);
+    // A line more, which is what the slices hold there.
+    change(&right, &|call| call.lines.push(REST[1] as u16, REST[2]));
+    change(&right, &|call| call.next += 1);
+    change(&right, &|call| *call.lines.kinds.last_mut().expect("lines") += 1);
+    change(&right, &|call| *call.lines.operands.last_mut().expect("lines") += 1);
+    for slice in 0..REST.len() {
+        change(&right, &|call| call.rest[slice] += 1);
+    }
+    change(&right, &|call| call.text.replace_range(..1, "!"));
+    // A byte more, which is what the slice holds there.
+    change(&right, &|call| call.text.push('!'));
+    change(&right, &|call| call.short = 21);
+    change(&refused, &|call| call.refusal = 19);
+    change(&refused, &|call| call.refusal = 0);
+    for slice in 0..REST.len() - 1 {
+        change(&refused, &|call| call.rest[slice] += 1);
+    }
+    [vec![right, refused], calls].concat()
+}
+
 /// Books that are looked at for each that is written.
 const LOOKED_AT: u64 = 2000;
 
 /// Writes the books that are always the same and COUNT small ones: of each refusal the first that come, a fortieth of all, and for the rest
-/// accepted ones.
+/// accepted ones. Last come two right calls, and the same recorded wrong.
 pub fn write_numbers(seed: u64, count: u64, file: &str, most: u64) -> Result<(), String> {
     let share = (count / 40).max(1);
     let mut written = [0u64; 21];
@@ -187,9 +229,11 @@ pub fn write_numbers(seed: u64, count: u64, file: &str, most: u64) -> Result<(),
             break;
         }
     }
-    let text = fixed.iter().map(numbers).chain(rows).collect::<String>();
+    let first = fixed.iter().find(|call| call.refusal == 0).ok_or("no book is accepted")?;
+    let wrong = wrong(first);
+    let text = fixed.iter().map(numbers).chain(rows).chain(wrong.iter().map(numbers)).collect::<String>();
     std::fs::write(file, &text).map_err(|error| format!("{file}: {error}"))?;
-    for call in &fixed {
+    for call in fixed.iter().chain(&wrong) {
         written[call.refusal as usize] += 1;
     }
     let met = written.iter().enumerate().filter(|(_, count)| **count > 0);

@@ -13,12 +13,16 @@ pub mod faulty;
 pub mod notation;
 mod pieces;
 
-/// A book, and the refusal that it gets: 0 for none.
+/// A book, the counter that it is lent, and the refusal that it gets: 0 for none.
 struct Written {
     title: String,
     text: String,
+    counter: u64,
     refusal: u8,
 }
+
+/// The largest counter that is taken.
+const LARGEST: u64 = 1 << 32;
 
 /// The tables: file, name, what stands over it, books.
 fn tables() -> [(&'static str, &'static str, &'static str, Vec<Written>); 8] {
@@ -53,11 +57,12 @@ const PIECES: &str = "-- Books of several functions: what each has of its own, w
 /// Writes the tables to a folder.
 pub fn write(folder: &str) -> Result<(), String> {
     for (file, name, head, books) in tables() {
-        let rows = books.iter().map(row).collect::<Result<Vec<_>, _>>()?;
+        let rows = |counter: u64| books.iter().filter(|book| book.counter == counter).map(row).collect::<Result<Vec<_>, _>>();
         let path = format!("{folder}/{file}.antt");
-        let text = table::named(head, name, &rows);
+        let (first, largest) = (rows(0)?, rows(LARGEST)?);
+        let text = table::named(head, name, &first, &largest);
         std::fs::write(&path, text).map_err(|error| format!("{path}: {error}"))?;
-        println!("{path}: {} books, {} refused", rows.len(), books.iter().filter(|book| book.refusal > 0).count());
+        println!("{path}: {} books, {} refused", books.len(), books.iter().filter(|book| book.refusal > 0).count());
     }
     Ok(())
 }
@@ -78,7 +83,7 @@ pub fn books() -> Vec<(String, Slices)> {
 fn row(book: &Written) -> Result<Row, String> {
     let wrong = |what: String| format!("{}: {}: {what}", book.title, book.text);
     let slices = notation::read(&book.text).map_err(&wrong)?;
-    let answer = expected(&Lent { slices: slices.clone(), counter: 0, work: usize::MAX }).map_err(&wrong)?;
+    let answer = expected(&Lent { slices: slices.clone(), counter: book.counter, work: usize::MAX }).map_err(&wrong)?;
     let number = match &answer {
         Expected::Accepted(_) => 0,
         Expected::Refused(number) => *number,

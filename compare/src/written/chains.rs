@@ -25,7 +25,7 @@ pub fn blocks_and_edges() -> Vec<Written> {
 
 fn written(chains: &[Chain], whole: fn(&str) -> String) -> Vec<Written> {
     let rows = chains.iter().flat_map(|(title, rows)| rows.iter().map(move |row| (title, row)));
-    rows.map(|(title, (refusal, text))| Written { title: title.to_string(), text: whole(text), refusal: *refusal }).collect()
+    rows.map(|(title, (refusal, text))| Written { title: title.to_string(), text: whole(text), counter: 0, refusal: *refusal }).collect()
 }
 
 // Instructions of the one block. `%p` is a parameter, `%u` is nothing, `%%o` is no struct; `@g` is not defined.

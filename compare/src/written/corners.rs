@@ -23,7 +23,7 @@ fn written(corners: &[Corner], whole: fn(&str) -> String) -> Vec<Written> {
 }
 
 fn one(title: &str, refusal: u8, text: String) -> Written {
-    Written { title: title.to_string(), text, refusal }
+    Written { title: title.to_string(), text, counter: 0, refusal }
 }
 
 // Instructions of the one block of `void @f(ptr %p)`.

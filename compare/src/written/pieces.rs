@@ -1,12 +1,15 @@
 //! Books of several functions: what each function has of its own, what they share, and which refusal of several comes first.
-use super::Written;
+use super::{Written, LARGEST};
 
 /// A book under its title, with the refusal that it gets, 0 for none.
 type Row = (&'static str, u8, &'static str);
 
 pub fn pieces() -> Vec<Written> {
+    let at = |counter: u64| {
+        move |(title, refusal, text): &Row| Written { title: title.to_string(), text: text.to_string(), counter, refusal: *refusal }
+    };
     let all = SHARED.iter().chain(OWN).chain(BROKEN).chain(ORDER);
-    all.map(|(title, refusal, text)| Written { title: title.to_string(), text: text.to_string(), refusal: *refusal }).collect()
+    all.map(at(0)).chain(FAR.iter().map(at(LARGEST))).collect()
 }
 
 /// All functions of the book count as defined; the structs are everybody's; labels are counted on.
@@ -122,4 +125,12 @@ const ORDER: &[Row] = &[
         "func:f void . . func:g void . block:e ret - . func:h void . block:e br 1 :e - . func:i void . block:e ret label 1 . ."),
     ("the same, mended", 9,
         "func:f void . . func:g void . block:e ret - . func:h void . block:e br 1 :e :e . func:i void . block:e ret label 1 . ."),
+];
+
+/// The counter given is the largest, and the first function has labels: only the later ones begin above it, which is no fault.
+const FAR: &[Row] = &[
+    ("labels are counted on above 2^32", 0,
+        "func:f i8 . block:e q=select 1 i8 1 2 ret i8 %q . func:g void . block:e br 1 :e :e . func:h void . block:e ret - . ."),
+    ("a fault in a function that begins above 2^32", 10,
+        "func:f i8 . block:e q=select 1 i8 1 2 ret i8 %q . func:g i8 . block:e ret i8 %u . ."),
 ];

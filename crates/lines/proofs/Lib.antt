@@ -1,3 +1,4 @@
 mod Words
 mod Room
+mod Text
 mod Showing

@@ -8,23 +8,17 @@ use native.Mathlib.Omega.{arith}
 use borrow.Author.Tests.{le-leb}
 use lib.ListN.{length, drop, length-drop, length-replicate}
 use Rattle.names.specs.Name.{namesOf, counts, accepted, lines}
-use Rattle.names.specs.Lines.{accepted-iff, accepted-long, names-lines}
+use Rattle.names.specs.Lines.{accepted-long, lines-counted}
 use Rattle.book.specs.Rule.{pick}
-use Rattle.book.specs.Result.{Result, ok, err, bind, okOr, err-no-ok}
+use Rattle.book.specs.Result.{Result, ok, err, okOr, bind-same, err-no-ok}
 use Rattle.book.specs.Input.{bookIn, namesIn}
 use Rattle.book.specs.Check.{workFor, checked}
 use Rattle.assembly.specs.Printer.{Printing}
 use Rattle.lowering.specs.Gen.{Out}
 use Rattle.lowering.specs.Translate.{generated, replied, translate}
-use Rattle.lines.specs.Shown.{words, printed, translated, size, enough}
+use Rattle.lines.specs.Shown.{zeros, words, printed, translated, size, enough}
 
 -- ---- the check
-
--- a chain is the same where what follows its first part is
-bind-same : {A B : Type 0} (r : Result A) (f g : A → Result B) → ((a : A) → r ≡ ok a → f a ≡ g a) → bind r f ≡ bind r g
-unfolding bind
-bind-same (ok a) f g h = h a refl
-bind-same (err e) f g h = refl
 
 names-there : (m : ℕ) (names : List ℕ) (ns : List (List ℕ)) → okOr 2 (namesIn m names) ≡ ok ns → accepted names m ≡ true
 unfolding okOr namesIn accepted
@@ -68,14 +62,10 @@ module _ (book names kinds operands text : List ℕ) where
 
 -- ---- the program's own work words
 
--- names are as many as their lines
-lines-counted : (names : List ℕ) (m : ℕ) → accepted names m ≡ true → length (lines names) ≡ m
-lines-counted names m h = let x = accepted-iff names m .0 h in ap length (names-lines names (x .0) (x .1)) ∙ x .2
-
 pub roomy : (input work kinds operands text : List ℕ) → length input ≤ 65536 → 262144 ≤ length work
     → translated (words (size input) input) (drop (8 * size input) input) work kinds operands text
     ≡ translated (words (size input) input) (drop (8 * size input) input) (enough (drop (8 * size input) input)) kinds operands text
-unfolding size enough
+unfolding size enough zeros
 roomy input work kinds operands text l w =
     let names = drop (8 * size input) input in
     translated-same (words (size input) input) names kinds operands text work (enough names)

@@ -1,5 +1,6 @@
 // Measures the types of a book and prints, for each parameter of its function, the size and the alignment; a refusal is
 // printed as r and its number.
+use book::entry;
 use book_types::Length;
 use book_types::types::type_len;
 use layout_align::align_of;
@@ -1949,7 +1950,7 @@ fn measure_all(kinds: &[u64], words: &[u64], work: &mut [u64], names: u64, first
 {
     let mut at = first;
     while at < kinds.len() {
-        if kinds[at] != 6 {
+        if kinds[at] != entry::PARAM {
             return;
         }
         at = measure_one(kinds, words, work, names, at + 1);

@@ -1,5 +1,7 @@
 // Prints one line of every kind for a function `i32 @f(i32)`, then what else is accepted or refused: the answer, and the text slice
 // after the call.
+use assembly::line;
+use book::entry;
 use print::passes::Printed;
 use print::print;
 use print_pen::Pen;
@@ -9,15 +11,15 @@ use print_pen::put_number;
 const BOOK: [u64; 20] = [
     9,
     4,
-    5,
-    11,
-    6,
-    11,
-    0,
-    7,
-    93,
-    0,
-    0,
+    entry::FUNCTION,
+    entry::INT,
+    entry::PARAM,
+    entry::INT,
+    entry::END,
+    entry::BLOCK,
+    entry::UNREACHABLE,
+    entry::END,
+    entry::END,
     2,
     32,
     0,
@@ -281,35 +283,35 @@ fn every_kind() {
 
 // Operands that are names.
 fn names() {
-    show_line(0, 1);
-    show_line(1, 3);
-    show_line(1, 4);
-    show_line(2, 4);
-    show_line(3, 4);
-    show_line(4, 4);
-    show_line(5, 1024);
-    show_line(5, 1023);
-    show_line(6, 0);
-    show_line(6, 1);
-    show_line(6, 4);
+    show_line(line::COMMENT, 1);
+    show_line(line::FN_LABEL, 3);
+    show_line(line::FN_LABEL, 4);
+    show_line(line::BLOCK_LABEL, 4);
+    show_line(line::JMP_BLOCK, 4);
+    show_line(line::PUSH_NAME, 4);
+    show_line(line::CALL, 1024);
+    show_line(line::CALL, 1023);
+    show_line(line::SYSCALL, 0);
+    show_line(line::SYSCALL, 1);
+    show_line(line::SYSCALL, 4);
 }
 
 // Operands that are numbers.
 fn numbers() {
-    show_line(7, 0);
-    show_line(7, 65535);
-    show_line(7, 65536);
-    show_line(10, 65536);
-    show_line(11, 65536);
-    show_line(12, 255);
-    show_line(12, 256);
-    show_line(21, 1);
-    show_line(93, 1);
+    show_line(line::PUSH_0N, 0);
+    show_line(line::PUSH_0N, 65535);
+    show_line(line::PUSH_0N, 65536);
+    show_line(line::GET_LOCAL, 65536);
+    show_line(line::SET_LOCAL, 65536);
+    show_line(line::CALL_FP, 255);
+    show_line(line::CALL_FP, 256);
+    show_line(line::ADD_U32, 1);
+    show_line(line::BLANK, 1);
 }
 
 // Kinds that are none.
 fn kinds() {
-    show_line(93, 0);
+    show_line(line::BLANK, 0);
     show_line(94, 0);
     show_line(65535, 0);
 }
@@ -317,13 +319,13 @@ fn kinds() {
 // A text of one byte too few, one that is full, and no text.
 fn rooms() {
     let mut short = [b'!'; 7];
-    show(&[8], &[5], &mut short);
+    show(&[line::PUSH], &[5], &mut short);
     let mut full = [b'!'; 8];
-    show(&[8], &[5], &mut full);
+    show(&[line::PUSH], &[5], &mut full);
     let mut none = [b'!'; 0];
-    show(&[93], &[0], &mut none);
+    show(&[line::BLANK], &[0], &mut none);
     let mut two = [b'!'; 16];
-    show(&[8, 94], &[5], &mut two);
+    show(&[line::PUSH, 94], &[5], &mut two);
 }
 
 // One line of a text without room, for what may be no book and no names: 1 before 2 before 21 before 20.
@@ -336,17 +338,42 @@ fn orders() {
     show_order(&BOOK[..19], b"b\nf", 94);
     show_order(&BOOK, b"b\nf", 94);
     show_order(&BOOK, &NAMES, 94);
-    show_order(&BOOK, &NAMES, 8);
+    show_order(&BOOK, &NAMES, line::PUSH);
 }
 
 // A name of every byte from 32 to 126, and a syscall's: where a name prints by `sanitize` and where as it is.
 fn every_byte() {
-    let book: [u64; 16] = [7, 2, 5, 10, 0, 7, 93, 0, 0, 0, 0, 0, 0, 0, 0, 0];
+    let book: [u64; 16] = [
+        7,
+        2,
+        entry::FUNCTION,
+        entry::VOID,
+        entry::END,
+        entry::BLOCK,
+        entry::UNREACHABLE,
+        entry::END,
+        entry::END,
+        0,
+        0,
+        0,
+        0,
+        0,
+        0,
+        0,
+    ];
     let mut text = [b'!'; 915];
     show_lent(
         &book,
         b" !\"#$%&'()*+,-./0123456789:;<=>?@ABCDEFGHIJKLMNOPQRSTUVWXYZ[\\]^_`abcdefghijklmnopqrstuvwxyz{|}~\n__uvm_ !\"#$%&'()*+,-./0123456789:;<=>?@ABCDEFGHIJKLMNOPQRSTUVWXYZ[\\]^_`abcdefghijklmnopqrstuvwxyz{|}~\n",
-        &[0, 1, 2, 3, 4, 5, 6],
+        &[
+            line::COMMENT,
+            line::FN_LABEL,
+            line::BLOCK_LABEL,
+            line::JMP_BLOCK,
+            line::PUSH_NAME,
+            line::CALL,
+            line::SYSCALL,
+        ],
         &[0, 0, 0, 0, 0, 1, 1],
         &mut text,
     );
@@ -354,12 +381,41 @@ fn every_byte() {
 
 // Names with characters of one to four bytes, of a struct, a function that is its own block, and a syscall.
 fn every_length() {
-    let book: [u64; 20] = [9, 3, 3, 4, 5, 15, 0, 7, 93, 0, 0, 2, 0, 1, 2, 0, 1, 0, 0, 0];
+    let book: [u64; 20] = [
+        9,
+        3,
+        entry::NAMED_STRUCT,
+        entry::OPAQUE,
+        entry::FUNCTION,
+        entry::NAMED,
+        entry::END,
+        entry::BLOCK,
+        entry::UNREACHABLE,
+        entry::END,
+        entry::END,
+        2,
+        0,
+        1,
+        2,
+        0,
+        1,
+        0,
+        0,
+        0,
+    ];
     let mut text = [b'!'; 115];
     show_lent(
         &book,
         b"__uvm_a\xc4\x8d\xe2\x82\xac\xf0\x9f\x8e\xad\na\xc5\xb1\xe2\x82\xac\xf0\x9f\x8e\xad\n\xc5\xa0\xc3\xa1rka\n",
-        &[0, 1, 2, 3, 4, 5, 6],
+        &[
+            line::COMMENT,
+            line::FN_LABEL,
+            line::BLOCK_LABEL,
+            line::JMP_BLOCK,
+            line::PUSH_NAME,
+            line::CALL,
+            line::SYSCALL,
+        ],
         &[1, 1, 1, 1, 2, 513, 0],
         &mut text,
     );
@@ -373,11 +429,17 @@ fn show_lines(line_kinds: &[u16], operands: &[u64]) {
 
 // Before the first comment line a block label or a jump may not stand, but other lines may; the comment may stand twice, and names a function.
 fn heads() {
-    show_lines(&[2, 0], &[1, 2]);
-    show_lines(&[8, 3, 0], &[7, 1, 2]);
-    show_lines(&[8, 14, 0, 2], &[7, 7, 2, 1]);
-    show_lines(&[0, 0, 3], &[2, 2, 1]);
-    show_lines(&[0, 2, 0], &[2, 1, 1]);
+    show_lines(&[line::BLOCK_LABEL, line::COMMENT], &[1, 2]);
+    show_lines(&[line::PUSH, line::JMP_BLOCK, line::COMMENT], &[7, 1, 2]);
+    show_lines(
+        &[line::PUSH, line::SEL_DONE, line::COMMENT, line::BLOCK_LABEL],
+        &[7, 7, 2, 1],
+    );
+    show_lines(&[line::COMMENT, line::COMMENT, line::JMP_BLOCK], &[2, 2, 1]);
+    show_lines(
+        &[line::COMMENT, line::BLOCK_LABEL, line::COMMENT],
+        &[2, 1, 1],
+    );
 }
 
 fn main() {

@@ -1,5 +1,6 @@
 // Replays recorded calls of the translator and the printer, each a line of standard input, and writes how many there were of each refusal.
-// A line whose call has another answer than the recorded one, or leaves a slice other than it must, is named.
+// A line whose call has another answer than the recorded one, or leaves a slice other than it must, is named. The last lines are recorded wrong, each
+// in one of the things that are compared: these and no others are named.
 //
 // A line is numbers with a space between, a repeated one as TIMES*NUMBER: those below, and then the book, the bytes of its names, the kinds of
 // the lines, their operands, and the bytes of the text.
@@ -26,15 +27,27 @@ const LINES: usize = 5;
 
 const NEXT: usize = 6;
 
+// What is owed of the slices: what each work word is, and what stands behind the kinds, the operands and the text.
+const WORK_REST: usize = 7;
+
+const KINDS_REST: usize = 8;
+
+const OPERANDS_REST: usize = 9;
+
+const TEXT_REST: usize = 10;
+
+// The printer's refusal of a text slice that is a byte short.
+const SHORT: usize = 11;
+
 // The lengths of the book, of its names and of the text.
-const WORDS: usize = 7;
+const WORDS: usize = 12;
 
-const BYTES: usize = 8;
+const BYTES: usize = 13;
 
-const TEXT: usize = 9;
+const TEXT: usize = 14;
 
 // How many these are.
-const HEAD: u64 = 10;
+const HEAD: u64 = 15;
 
 // What stands in a slice before it is lent.
 const RUBBISH: u64 = 43690;
@@ -90,38 +103,38 @@ fn holds_words(slice: &[u64], front: &[u64], rest: u64) -> bool {
     front.len() <= slice.len()
 }
 
-fn holds_kinds(slice: &[u16], front: &[u64]) -> bool {
+fn holds_kinds(slice: &[u16], front: &[u64], rest: u64) -> bool {
     for i in 0..slice.len() {
-        if wide_kind(slice[i]) != wanted(front, i, RUBBISH) {
+        if wide_kind(slice[i]) != wanted(front, i, rest) {
             return false;
         }
     }
     front.len() <= slice.len()
 }
 
-fn holds_bytes(slice: &[u8], front: &[u64]) -> bool {
+fn holds_bytes(slice: &[u8], front: &[u64], rest: u64) -> bool {
     for i in 0..slice.len() {
-        if wide(slice[i]) != wanted(front, i, 33) {
+        if wide(slice[i]) != wanted(front, i, rest) {
             return false;
         }
     }
     front.len() <= slice.len()
 }
 
-// Whether the printer gives a text, or 20 where the slice is too short for it; the rest of the slice stays.
+// Whether the printer gives a text, or the refusal that is owed where that is not 0; the rest of the slice stays.
 fn prints_into(
     book: &[u64],
     names: &[u8],
     kinds: &[u16],
     operands: &[u64],
     text: &[u64],
+    rest: u64,
+    owed: u64,
     slice: &mut [u8],
 ) -> bool {
     match print::print(book, names, kinds, operands, slice) {
-        Printed::Accepted(n) => (n == text.len()) & holds_bytes(slice, text),
-        Printed::Refused(e) => {
-            (e == 20) & (slice.len() < text.len()) & holds_bytes(slice, front(text, 0))
-        }
+        Printed::Accepted(n) => { (owed == 0) & (n == text.len()) & holds_bytes(slice, text, rest) }
+        Printed::Refused(e) => { (e != 0) & (e == owed) & holds_bytes(slice, front(text, 0), rest) }
     }
 }
 
@@ -132,19 +145,47 @@ fn prints(
     kinds: &[u16],
     operands: &[u64],
     text: &[u64],
+    rest: u64,
+    owed: u64,
     room: usize,
 ) -> bool {
     let mut slice = [b'!'; 4096];
     let end = least(room, 4096);
-    prints_into(book, names, kinds, operands, text, &mut slice[0..end])
+    prints_into(
+        book,
+        names,
+        kinds,
+        operands,
+        text,
+        rest,
+        owed,
+        &mut slice[0..end],
+    )
 }
 
 // The same in a slice that is longer, one that is exactly full, and one that is a byte short.
-fn prints_all(book: &[u64], names: &[u8], kinds: &[u16], operands: &[u64], text: &[u64]) -> bool {
+fn prints_all(
+    book: &[u64],
+    names: &[u8],
+    kinds: &[u16],
+    operands: &[u64],
+    text: &[u64],
+    rest: u64,
+    short: u64,
+) -> bool {
     let full = least(text.len(), 4000);
-    prints(book, names, kinds, operands, text, full + 7)
-        & prints(book, names, kinds, operands, text, full)
-        & prints(book, names, kinds, operands, text, full - least(full, 1))
+    prints(book, names, kinds, operands, text, rest, 0, full + 7)
+        & prints(book, names, kinds, operands, text, rest, 0, full)
+        & prints(
+            book,
+            names,
+            kinds,
+            operands,
+            text,
+            rest,
+            short,
+            full - least(full, 1),
+        )
 }
 
 // Whether a reply is the recorded one.
@@ -159,13 +200,17 @@ fn replied(row: &[u64], reply: Translation) -> bool {
     }
 }
 
-// Whether the slices hold what they must after the translator's call: no work word, the recorded lines, and behind them what stood there.
+// Whether the slices hold what they must after the translator's call: the work words, the recorded lines, and behind them what stood there.
 // `lines` is what a row has behind the names: kinds, operands, text.
 fn leaves(row: &[u64], lines: &[u64], work: &[u64], kinds: &[u16], operands: &[u64]) -> bool {
     let n = number(row, LINES);
-    holds_words(work, front(row, 0), 0)
-        & holds_kinds(kinds, front(lines, n))
-        & holds_words(operands, front(behind(lines, n), n), RUBBISH)
+    holds_words(work, front(row, 0), number(row, WORK_REST))
+        & holds_kinds(kinds, front(lines, n), number(row, KINDS_REST))
+        & holds_words(
+            operands,
+            front(behind(lines, n), n),
+            number(row, OPERANDS_REST),
+        )
 }
 
 // Whether the printer gives the recorded text for accepted lines.
@@ -174,16 +219,25 @@ fn shows(
     book: &[u64],
     names: &[u8],
     lines: &[u64],
+    reply: Translation,
     kinds: &[u16],
     operands: &[u64],
 ) -> bool {
-    if number(row, REFUSAL) != 0 {
+    let Translation::Accepted(count, _) = reply else {
         return true;
-    }
+    };
     let n = number(row, LINES);
-    let end = least(n as usize, least(kinds.len(), operands.len()));
+    let end = least(count, least(kinds.len(), operands.len()));
     let text = front(behind(behind(lines, n), n), number(row, TEXT));
-    prints_all(book, names, &kinds[0..end], &operands[0..end], text)
+    prints_all(
+        book,
+        names,
+        &kinds[0..end],
+        &operands[0..end],
+        text,
+        number(row, TEXT_REST),
+        number(row, SHORT),
+    )
 }
 
 // Whether the translator's reply is the recorded one, and all else with it.
@@ -199,7 +253,7 @@ fn translates_into(
     let reply = translate(book, names, number(row, COUNTER), work, kinds, operands);
     replied(row, reply)
         & leaves(row, lines, work, kinds, operands)
-        & shows(row, book, names, lines, kinds, operands)
+        & shows(row, book, names, lines, reply, kinds, operands)
 }
 
 // The same with slices of the recorded lengths.

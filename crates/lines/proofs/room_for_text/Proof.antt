@@ -1,12 +1,12 @@
--- A repeat has the length that it says.
-use Prim.Native.Nat.{ℕ}
-use mathlib.Core.Path.{sym}
-use lib.ListN.{length-replicate}
+-- A repeat is as many zeros as it says.
+use mathlib.Core.Path.{refl}
+use Rattle.lines.specs.Shown.{zeros}
 use Rattle.lines.proofs.room_for_text.Statement.{statement}
 use Rattle.lines.proofs.room_for_text.Tie as tie
 
 returns : tie.Need-returns
-returns c = sym (length-replicate {A = ℕ} 1048576 0)
+unfolding zeros
+returns c = refl
 
 pub room-for-text-spec : {M : Type 1} → statement M
 room-for-text-spec = tie.close (tie.spec returns)
