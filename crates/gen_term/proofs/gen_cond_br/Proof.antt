@@ -126,7 +126,11 @@ put-requires-2 c κs = search needs
 
 shared-slice-read-edge-2 : tie.Need-shared-slice-read-edge-2
 shared-slice-read-edge-2 c =
-    let entry = c .before .before .before .before .before .before .before .before .before .before .before .before .before .before .before .before .before .before .before .before .before .before .before .before .before .before .before .before .before .before .before .before .before .before .before .before .before .before .before .before .before .before .before in
+    let labelled = c .before .before .before .before .before in
+    let first = labelled .before .before .before .before .before .before .before in
+    let jumped = first .before .before .before .before .before .before .before .before in
+    let pushed = jumped .before .before .before .before .before .before .before .before .before in
+    let entry = pushed .before .before .before .before .before .before .before .before .before .before .before .before .before .before in
     let a = entry .args in
     let ks = a .kinds .now in
     let ws = a .words .now in
@@ -135,7 +139,11 @@ shared-slice-read-edge-2 c =
 
 edge-requires-2 : tie.Need-edge-requires-2
 edge-requires-2 c κs =
-    let both = c .before .before .before .before .before .before .before .before .before .before .before .before .before .before .before .before .before .before .before .before .before .before .before .before .before .before .before .before .before .before .before .before .before .before .before .before in
+    let labelled = c .before .before .before .before .before .before .before in
+    let first = labelled .before .before .before .before .before .before .before in
+    let jumped = first .before .before .before .before .before .before .before .before in
+    let pushed = jumped .before .before .before .before .before .before .before .before .before in
+    let both = pushed .before .before .before .before .before in
     let entry = both .before .before .before .before .before .before .before .before .before in
     let a = entry .args in
     let ks = a .kinds .now in
