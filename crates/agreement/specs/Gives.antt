@@ -74,10 +74,10 @@ pub record Made (g : Gen) (L : List Line) : Type 0 where
   pub counter : ℕ
   pub out : Out
   pub made : g counter ≡ ok out
-  pub lines-eq : out.lines ≡ L
+  pub lines_eq : out.lines ≡ L
 
 pub G-self : (g : Gen) → Gives g (Made g)
-G-self g = record { made = λ c. H-map (H-self (g c)) (λ p e. record { counter = c; out = p; made = e; lines-eq = refl }) }
+G-self g = record { made = λ c. H-map (H-self (g c)) (λ p e. record { counter = c; out = p; made = e; lines_eq = refl }) }
 
 pub G-use : {g : Gen} {P : List Line → Type 0} (L : List Line) → Made g L → Gives g P → P L
-G-use {g} {P} L m a = subst P m.lines-eq (H-use m.out m.made (a.made m.counter))
+G-use {g} {P} L m a = subst P m.lines_eq (H-use m.out m.made (a.made m.counter))

@@ -5,27 +5,27 @@ use Rattle.std.proofs.Math.Option.{some}
 use Rattle.book.specs.Ast.{BasicBlock}
 use Rattle.book.specs.Rule.{find, pick}
 use Rattle.machine.specs.State.{cell_at}
-use Rattle.lowering.specs.Context.{blockMap}
-use Rattle.lowering.specs.Places.{lookup-cons}
+use Rattle.lowering.specs.Context.{block_map}
+use Rattle.lowering.specs.Places.{lookup_cons}
 use Rattle.manual.specs.Run.{go}
-use Rattle.agreement.specs.Lists.{none-some, In, here, there}
-use Rattle.agreement.specs.Names.{Stands, stands-left, stands-right, apart, distinct-right}
+use Rattle.agreement.specs.Lists.{none_some, In, here, there}
+use Rattle.agreement.specs.Names.{Stands, stands_left, stands_right, apart, distinct_right}
 use Rattle.agreement.specs.Naming.{Distinct}
 use Rattle.book.specs.Map.{Map, lookup}
 
 -- ---- a block that is found is one of them
-pub block-found : (b : ℕ) (k : BasicBlock) (bs : List BasicBlock) (m : Map BasicBlock) → lookup b (blockMap bs m) ≡ some k → (In k bs × (k.label ≡ b)) ⊎ (lookup b m ≡ some k)
-unfolding blockMap
-block-found b k [] m h = inr h
-block-found b k (x ∷ bs) m h =
+pub block_found : (b : ℕ) (k : BasicBlock) (bs : List BasicBlock) (m : Map BasicBlock) → lookup b (block_map bs m) ≡ some k → (In k bs × (k.label ≡ b)) ⊎ (lookup b m ≡ some k)
+unfolding block_map
+block_found b k [] m h = inr h
+block_found b k (x ∷ bs) m h =
     ⊎_elim (λ q. inl (there q.0, q.1))
-    (λ q. ⊎_elim (λ e. inl (subst (λ y. In y (x ∷ bs)) e.1 here, sym (e.0 ∙ ap (λ (y : BasicBlock). y.label) e.1))) inr (lookup-cons b x.label x k m q))
-    (block-found b k bs ((x.label, x) ∷ m) h)
+    (λ q. ⊎_elim (λ e. inl (subst (λ y. In y (x ∷ bs)) e.1 here, sym (e.0 ∙ ap (λ (y : BasicBlock). y.label) e.1))) inr (lookup_cons b x.label x k m q))
+    (block_found b k bs ((x.label, x) ∷ m) h)
 
 -- ---- labels of blocks
 pub distinct_nil : Distinct []
 unfolding Distinct cell_at
-distinct_nil i j x p q = none-some x p
+distinct_nil i j x p q = none_some x p
 
 pub distinct_cons : (y : ℕ) (l : List ℕ) → Distinct l → (Stands y l → ⊥) → Distinct (y ∷ l)
 unfolding Distinct cell_at
@@ -34,32 +34,32 @@ distinct_cons y l d n zero (suc j) x p q = absurd (n (record { place = j; stands
 distinct_cons y l d n (suc i) zero x p q = absurd (n (record { place = i; stands = p ∙ sym q }))
 distinct_cons y l d n (suc i) (suc j) x p q = ap suc (d i j x p q)
 
-stands-first : (x : ℕ) → Stands x (x ∷ [])
+stands_first : (x : ℕ) → Stands x (x ∷ [])
 unfolding cell_at
-stands-first x = record { place = 0; stands = refl }
+stands_first x = record { place = 0; stands = refl }
 
-unfoldable pub labelsOf : List BasicBlock → List ℕ
-labelsOf [] = []
-labelsOf (k ∷ ks) = (k.label ∷ []) ++ labelsOf ks
+unfoldable pub labels_of : List BasicBlock → List ℕ
+labels_of [] = []
+labels_of (k ∷ ks) = (k.label ∷ []) ++ labels_of ks
 
-label-in : {k : BasicBlock} {bs : List BasicBlock} → In k bs → Stands k.label (labelsOf bs)
-unfolding labelsOf
-label-in {bs = k ∷ bs} here = stands-left (k.label ∷ []) (labelsOf bs) (stands-first k.label)
-label-in {bs = j ∷ bs} (there h) = stands-right (j.label ∷ []) (labelsOf bs) (label-in h)
+label_in_lem : {k : BasicBlock} {bs : List BasicBlock} → In k bs → Stands k.label (labels_of bs)
+unfolding labels_of
+label_in_lem {bs = k ∷ bs} here = stands_left (k.label ∷ []) (labels_of bs) (stands_first k.label)
+label_in_lem {bs = j ∷ bs} (there h) = stands_right (j.label ∷ []) (labels_of bs) (label_in_lem h)
 
 -- where labels are distinct, a block is the first with its label
-pub find-in : {k : BasicBlock} (bs : List BasicBlock) → Distinct (labelsOf bs) → In k bs → find (λ (x : BasicBlock). x.label) k.label bs ≡ some k
-unfolding labelsOf find
-find-in (k ∷ bs) d here = rw (eq-eqb k.label k.label refl) refl
-find-in {k} (j ∷ bs) d (there h) =
-    let n : eqb j.label k.label ≡ false = ne_eqb j.label k.label (λ e. apart (j.label ∷ []) (labelsOf bs) d (rw e (stands-first k.label)) (label-in h)) in
-    rw n (find-in bs (distinct-right (j.label ∷ []) (labelsOf bs) d) h)
+pub find_in : {k : BasicBlock} (bs : List BasicBlock) → Distinct (labels_of bs) → In k bs → find (λ (x : BasicBlock). x.label) k.label bs ≡ some k
+unfolding labels_of find
+find_in (k ∷ bs) d here = rw (eq-eqb k.label k.label refl) refl
+find_in {k} (j ∷ bs) d (there h) =
+    let n : eqb j.label k.label ≡ false = ne_eqb j.label k.label (λ e. apart (j.label ∷ []) (labels_of bs) d (rw e (stands_first k.label)) (label_in_lem h)) in
+    rw n (find_in bs (distinct_right (j.label ∷ []) (labels_of bs) d) h)
 
 -- what is found is one of them
-pub find-some : (b : ℕ) (k : BasicBlock) (bs : List BasicBlock) → find (λ (x : BasicBlock). x.label) b bs ≡ some k → In k bs × (k.label ≡ b)
+pub find_some : (b : ℕ) (k : BasicBlock) (bs : List BasicBlock) → find (λ (x : BasicBlock). x.label) b bs ≡ some k → In k bs × (k.label ≡ b)
 unfolding find
-find-some b k [] h = none-some k h
-find-some b k (x ∷ bs) h = go (eqb x.label b) refl (find-some b k bs) h
+find_some b k [] h = none_some k h
+find_some b k (x ∷ bs) h = go (eqb x.label b) refl (find_some b k bs) h
   where
     go : (t : Bool) → eqb x.label b ≡ t → (find (λ (y : BasicBlock). y.label) b bs ≡ some k → In k bs × (k.label ≡ b)) → pick t (some x) (find (λ (y : BasicBlock). y.label) b bs) ≡ some k → In k (x ∷ bs) × (k.label ≡ b)
     go true t ih h = let z : x ≡ k = cc in (subst (λ y. In y (x ∷ bs)) z here, ap (λ (y : BasicBlock). y.label) (sym z) ∙ eqb-true x.label b t)

@@ -3,7 +3,7 @@
 use Rattle.std.specs.Prelude.{ℕ, ◌≡◌, List, [], ◌∷◌, ◌++◌, drop}
 use Rattle.std.proofs.Math.Option.{Option, none, some}
 use Rattle.book.specs.Ast.{Ty, Value, InstKind, Inst, Param, Function}
-use Rattle.book.specs.Shape.{allInsts}
+use Rattle.book.specs.Shape.{all_insts}
 use Rattle.assembly.specs.Line.{Line}
 use Rattle.machine.specs.State.{cell_at}
 use Rattle.machine.specs.Labels.{Placed, placed, label_of}
@@ -13,13 +13,13 @@ unfoldable pub optional : Option ℕ → List ℕ
 optional none = []
 optional (some x) = x ∷ []
 
-unfoldable pub paramNames : List Param → List ℕ
-paramNames [] = []
-paramNames (p ∷ ps) = optional p.name ++ paramNames ps
+unfoldable pub param_names : List Param → List ℕ
+param_names [] = []
+param_names (p ∷ ps) = optional p.name ++ param_names ps
 
-unfoldable pub resultNames : List Inst → List ℕ
-resultNames [] = []
-resultNames (i ∷ is) = optional i.dest ++ resultNames is
+unfoldable pub result_names : List Inst → List ℕ
+result_names [] = []
+result_names (i ∷ is) = optional i.dest ++ result_names is
 
 -- no two positions hold one name
 unfoldable pub Distinct : List ℕ → Type 0
@@ -35,6 +35,6 @@ NoSelf is = (x : ℕ) (ty : Ty) (p c n : Value) → In (record { dest = some x; 
 
 -- of a function, and of the lines that it runs in
 pub record Naming (names : List (List ℕ)) (f : Function) (lines : List Line) : Type 0 where
-  pub distinct : Distinct (paramNames f.params ++ resultNames (allInsts f.blocks))
+  pub distinct : Distinct (param_names f.params ++ result_names (all_insts f.blocks))
   pub labels : LabelsOnce names (placed lines)
-  pub self : NoSelf (allInsts f.blocks)
+  pub self : NoSelf (all_insts f.blocks)

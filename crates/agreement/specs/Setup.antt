@@ -4,7 +4,7 @@ use Rattle.numbers.specs.Align.{align_up}
 use Rattle.book.specs.Ast.{Function}
 use Rattle.assembly.specs.Line.{Line}
 use Rattle.machine.specs.State.{World}
-use Rattle.lowering.specs.Context.{Codegen, FnCtx, paramMap, blockMap}
+use Rattle.lowering.specs.Context.{Codegen, FnCtx, param_map, block_map}
 use Rattle.lowering.specs.Function.{slots_of}
 use Rattle.manual.specs.State.{Given}
 use Rattle.layout.specs.Frame.{Places, framed}
@@ -24,13 +24,13 @@ abbrev pub ctx : Setup → FnCtx
 ctx s =
     record {
       codegen = s.codegen;
-      params = paramMap 0 s.function.params [];
+      params = param_map 0 s.function.params [];
       slots = (slots_of s.codegen s.function).slots;
-      blocks = blockMap s.function.blocks [];
-      allocaOffsets = s.frame.offsets;
-      frameSize = align_up s.frame.off 8;
-      hasFrame = framed s.frame;
-      bpSlot = (slots_of s.codegen s.function).num;
+      blocks = block_map s.function.blocks [];
+      alloca_offsets = s.frame.offsets;
+      frame_size = align_up s.frame.off 8;
+      has_frame = framed s.frame;
+      bp_slot = (slots_of s.codegen s.function).num;
     }
 
 abbrev pub given : Setup → Given

@@ -11,18 +11,18 @@ use Rattle.machine.specs.Labels.{Placed, placed}
 use Rattle.machine.specs.Run.{Outcome, state, running, returned, steps, start}
 use Rattle.lowering.specs.Gen.{Out}
 use Rattle.lowering.specs.Context.{Codegen}
-use Rattle.lowering.specs.Function.{genFunction}
+use Rattle.lowering.specs.Function.{gen_function}
 use Rattle.manual.specs.State.{Cell, Source}
 use Rattle.manual.specs.Term.{Stand}
-use Rattle.manual.specs.Run.{argsFit, sourceRun}
-use Rattle.agreement.specs.Where.{readAt, argCell, first_slot}
+use Rattle.manual.specs.Run.{args_fit, source_run}
+use Rattle.agreement.specs.Where.{read_at, arg_cell, first_slot}
 use Rattle.agreement.specs.Naming.{Naming}
 
 -- from a position on stand the lines that the translator makes of a function, at some counter: in a piece between other functions' lines, or by themselves
 pub record LinesAt (g : Codegen) (f : Function) (lines : List Line) (from : ℕ) : Type 0 where
   pub counter : ℕ
   pub own : Out
-  pub made : genFunction g f counter ≡ ok own
+  pub made : gen_function g f counter ≡ ok own
   pub before : List Line
   pub after : List Line
   pub parts : lines ≡ before ++ (own.lines ++ after)
@@ -30,7 +30,7 @@ pub record LinesAt (g : Codegen) (f : Function) (lines : List Line) (from : ℕ)
 
 -- "Each named value, unsigned, is compared with its argument cell or slot, a cmpxchg's two with both."
 abbrev pub SameValue : (names : List (List ℕ)) → Function → Frame → (name : ℕ) → Cell → Type 0
-SameValue names f e x (Cell.one w v) = (readAt (argCell f x) (first_slot names f x) e.args e.slots ≡ some v) × (v < 2 ^ w)
+SameValue names f e x (Cell.one w v) = (read_at (arg_cell f x) (first_slot names f x) e.args e.slots ≡ some v) × (v < 2 ^ w)
 SameValue names f e x (Cell.two w v t) = (i : ℕ) × (first_slot names f x ≡ some i) × (cell_at e.slots i ≡ some v) × (cell_at e.slots (suc i) ≡ some t) × (v < 2 ^ w) × (t < 2)
 
 -- a function, lines and the position of its first one, and what they are given
@@ -47,12 +47,12 @@ module _ (names : List (List ℕ)) (f : Function) (lines : List Line) (from : �
     pub frame : Frame
     -- at the label line of the function's block, with n block labels passed before it and no operand
     pub stands : after number ≡ running (state position frame [] n)
-    pub label : drop position (placed lines) ≡ record { function = some f.name; line = Line.blockLabel block } ∷ rest
+    pub label : drop position (placed lines) ≡ record { function = some f.name; line = Line.block_label block } ∷ rest
     pub same_args : frame.args ≡ args
-    pub same-values : (x : ℕ) (c : Cell) → σ.env x ≡ some c → SameValue names f frame x c
+    pub same_values : (x : ℕ) (c : Cell) → σ.env x ≡ some c → SameValue names f frame x c
     pub same_memory : frame.memory ≡ σ.memory
-    pub same-stack : frame.sp ≡ σ.sp
-    pub same-calls : frame.calls ≡ σ.calls
+    pub same_stack : frame.sp ≡ σ.sp
+    pub same_calls : frame.calls ≡ σ.calls
 
   pub record Returned (n value : ℕ) (σ : Source) : Type 0 where
     pub number : ℕ
@@ -62,9 +62,9 @@ module _ (names : List (List ℕ)) (f : Function) (lines : List Line) (from : �
     pub within : labels ≤ n
     pub returns : after number ≡ returned value frame labels
     pub same_memory : frame.memory ≡ σ.memory
-    pub same-calls : frame.calls ≡ σ.calls
+    pub same_calls : frame.calls ≡ σ.calls
     -- the stack pointer is the one found at entry
-    pub stack-restored : frame.sp ≡ sp
+    pub stack_restored : frame.sp ≡ sp
 
   abbrev pub Agrees : (n : ℕ) → Stand → Type 0
   Agrees n (Stand.at block σ) = AtLabel n block σ
@@ -75,8 +75,8 @@ module _ (names : List (List ℕ)) (f : Function) (lines : List Line) (from : �
 -- premise; the source run then comes nowhere.)
 abbrev pub RunsAs : (names : List (List ℕ)) → List StructType → Function → (lines : List Line) → (from : ℕ) → Type 0
 RunsAs names structs f lines from =
-    Naming names f lines → (world : World) (args : List ℕ) (memory : Memory) (sp : ℕ) → argsFit f.params args ≡ true → sp < 2 ^ 64
-    → (n : ℕ) (t : Stand) → sourceRun names structs f world args memory sp n ≡ ok t → Agrees names f lines from world args memory sp n t
+    Naming names f lines → (world : World) (args : List ℕ) (memory : Memory) (sp : ℕ) → args_fit f.params args ≡ true → sp < 2 ^ 64
+    → (n : ℕ) (t : Stand) → source_run names structs f world args memory sp n ≡ ok t → Agrees names f lines from world args memory sp n t
 
 -- its comment line stands at a position
 abbrev pub BeginsAt : Function → (lines : List Line) → (from : ℕ) → Type 0

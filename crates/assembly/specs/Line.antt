@@ -16,15 +16,15 @@ pub data Narrow : Type 0 where
 
 -- `fresh_label`: what a numbered label is for
 pub data Hint : Type 0 where
-  selFalse selDone brFalse swCase : Hint
+  sel_false sel_done br_false sw_case : Hint
 
 pub data Line : Type 0 where
   -- over a name: `# .. @name(..)`, `name:`, `function__name:`, `jmp function__name;`, `push name;`, `syscall name;`
-  comment fnLabel blockLabel jmpBlock pushName syscall : (name : ℕ) → Line
+  comment fn_label block_label jmp_block push_name syscall : (name : ℕ) → Line
   -- `call name, args;`
   call : (name args : ℕ) → Line
   -- over a number
-  push0n push getArg getLocal setLocal callFp : ℕ → Line
+  push0n push get_arg get_local set_local call_fp : ℕ → Line
   -- a numbered label, and the one jump that goes there
   label jump : Hint → (number : ℕ) → Line
   -- `bin_mnemonic`, `icmp_mnemonic`
@@ -36,6 +36,6 @@ pub data Line : Type 0 where
   sx32 : Line
   -- memory
   load store : Mem → Line
-  atomicLoad atomicStore atomicCas : Line
+  atomic_load atomic_store atomic_cas : Line
   -- the others; `thread_get 0`, `thread_set 0` are the stack pointer; the empty line ends a function
-  sysMemcmp dup pop ret panic threadGet threadSet blank : Line
+  sys_memcmp dup pop ret panic thread_get thread_set blank : Line

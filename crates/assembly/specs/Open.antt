@@ -1,9 +1,9 @@
 -- opens every definition that a book, its names and its text are computed by: an example says `unfolding openAssembly`
-use Rattle.book.specs.Open.{openBook}
-use Rattle.assembly.specs.Number.{openNumber}
-use Rattle.assembly.specs.Text.{openText}
-use Rattle.assembly.specs.Printer.{openPrinter}
+use Rattle.book.specs.Open.{open_book}
+use Rattle.assembly.specs.Number.{open_number}
+use Rattle.assembly.specs.Text.{open_text}
+use Rattle.assembly.specs.Printer.{open_printer}
 
-unfoldable pub openAssembly : Unit {0}
-unfolding openBook openNumber openText openPrinter
-openAssembly = tt
+unfoldable pub open_assembly : Unit {0}
+unfolding open_book open_number open_text open_printer
+open_assembly = tt

@@ -13,7 +13,7 @@ mutual
     sizeless : Sizeless → Ty
     int : (width : ℕ) → Ty
     array : (packed : Bool) → (len : ℕ) → (elem : Ty) → Ty
-    namedStruct : (name : ℕ) → Ty
+    named_struct : (name : ℕ) → Ty
     struct : (packed : Bool) → (fields : Tys) → Ty
 
   -- a list of types
@@ -23,7 +23,7 @@ mutual
 
 -- values that are 0 as operands
 pub data Zero : Type 0 where
-  null undef poison zeroInit : Zero
+  null undef poison zero_init : Zero
 
 pub data Value : Type 0 where
   local global int : ℕ → Value
@@ -38,7 +38,7 @@ pub data BinOp : Type 0 where
   add sub mul udiv sdiv urem srem and or xor shl lshr ashr : BinOp
 
 pub data ConvOp : Type 0 where
-  trunc zext sext ptrToInt intToPtr bitCast : ConvOp
+  trunc zext sext ptr_to_int int_to_ptr bit_cast : ConvOp
 
 pub data ICmpPred : Type 0 where
   eq ne ugt uge ult ule sgt sge slt sle : ICmpPred
@@ -59,14 +59,14 @@ pub data InstKind : Type 0 where
   load : (ty : Ty) → (ptr : Value) → (align : Option ℕ) → InstKind
   store : (ty : Ty) → (val ptr : Value) → (align : Option ℕ) → InstKind
   alloca : (ty : Ty) → (count : Option TypedVal) → (align : Option ℕ) → InstKind
-  getElementPtr : (baseTy : Ty) → (ptr : Value) → (indices : List TypedVal) → InstKind
+  get_element_ptr : (baseTy : Ty) → (ptr : Value) → (indices : List TypedVal) → InstKind
   phi : (ty : Ty) → (incoming : List Incoming) → InstKind
-  call : (retTy : Ty) → (callee : Value) → (args : List TypedVal) → InstKind
+  call : (ret_ty : Ty) → (callee : Value) → (args : List TypedVal) → InstKind
   freeze : (ty : Ty) → (val : Value) → InstKind
-  atomicLoad : (ty : Ty) → (ptr : Value) → InstKind
-  atomicStore : (ty : Ty) → (val ptr : Value) → InstKind
+  atomic_load : (ty : Ty) → (ptr : Value) → InstKind
+  atomic_store : (ty : Ty) → (val ptr : Value) → InstKind
   cmpxchg : (ty : Ty) → (ptr cmp new : Value) → InstKind
-  extractValue : (agg : Value) → (index : ℕ) → InstKind
+  extract_value : (agg : Value) → (index : ℕ) → InstKind
   fence : InstKind
 
 pub record Inst : Type 0 where
@@ -75,7 +75,7 @@ pub record Inst : Type 0 where
 
 pub data Terminator : Type 0 where
   ret : (val : Option TypedVal) → Terminator
-  br : (cond : Option Value) → (ifTrue : ℕ) → (ifFalse : Option ℕ) → Terminator
+  br : (cond : Option Value) → (if_true : ℕ) → (if_false : Option ℕ) → Terminator
   switch : (ty : Ty) → (val : Value) → (default : ℕ) → (cases : List Case) → Terminator
   unreachable : Terminator
 
@@ -90,7 +90,7 @@ pub record Param : Type 0 where
 
 pub record Function : Type 0 where
   pub name : ℕ
-  pub retTy : Ty
+  pub ret_ty : Ty
   pub params : List Param
   pub blocks : List BasicBlock
 

@@ -4,8 +4,8 @@ use Rattle.std.proofs.Math.Option.{Option, none, some}
 use Rattle.std.proofs.Common.{arith}
 use Rattle.book.specs.Entry.{Entry, entry}
 use Rattle.book.specs.Ast.{Ty, Tys, Value, TypedVal, Incoming, Case, Inst, Terminator, BasicBlock, Param, Function, StructBody, StructType, Mark, Book}
-use Rattle.book.specs.Kinds.{TyTag, ValTag, tyKind, val_kind, instKind, termKind}
-use Rattle.book.specs.Fields.{Item, Field, ItemMeaning, Meaning, Meanings, instFields, termFields, instTagOf, termTagOf, instArgs, termArgs}
+use Rattle.book.specs.Kinds.{TyTag, ValTag, ty_kind, val_kind, inst_kind, term_kind}
+use Rattle.book.specs.Fields.{Item, Field, ItemMeaning, Meaning, Meanings, inst_fields, term_fields, inst_tag_of, term_tag_of, inst_args, term_args}
 
 module _ {A : Type 0} (write : A → List Entry) where
   -- items, then the end
@@ -18,23 +18,23 @@ module _ {A : Type 0} (write : A → List Entry) where
   closed = ending (entry 0 0 ∷ [])
 
   -- None is 21
-  abbrev pub orAbsent : Option A → List Entry
-  orAbsent none = entry 21 0 ∷ []
-  orAbsent (some a) = write a
+  abbrev pub or_absent : Option A → List Entry
+  or_absent none = entry 21 0 ∷ []
+  or_absent (some a) = write a
 
 unfoldable mutual
-  pub encTy : Ty → List Entry
-  encTy Ty.void = entry 10 0 ∷ []
-  encTy Ty.ptr = entry 12 0 ∷ []
-  encTy (Ty.sizeless s) = entry (tyKind (TyTag.sizeless s)) 0 ∷ []
-  encTy (Ty.int w) = entry 11 w ∷ []
-  encTy (Ty.array p n t) = entry (tyKind (TyTag.array p)) n ∷ encTy t
-  encTy (Ty.namedStruct x) = entry 15 x ∷ []
-  encTy (Ty.struct p ts) = entry (tyKind (TyTag.struct p)) 0 ∷ encTys ts
+  pub enc_ty : Ty → List Entry
+  enc_ty Ty.void = entry 10 0 ∷ []
+  enc_ty Ty.ptr = entry 12 0 ∷ []
+  enc_ty (Ty.sizeless s) = entry (ty_kind (TyTag.sizeless s)) 0 ∷ []
+  enc_ty (Ty.int w) = entry 11 w ∷ []
+  enc_ty (Ty.array p n t) = entry (ty_kind (TyTag.array p)) n ∷ enc_ty t
+  enc_ty (Ty.named_struct x) = entry 15 x ∷ []
+  enc_ty (Ty.struct p ts) = entry (ty_kind (TyTag.struct p)) 0 ∷ enc_tys ts
 
-  pub encTys : Tys → List Entry
-  encTys Tys.nil = entry 0 0 ∷ []
-  encTys (Tys.cons t ts) = encTy t ++ encTys ts
+  pub enc_tys : Tys → List Entry
+  enc_tys Tys.nil = entry 0 0 ∷ []
+  enc_tys (Tys.cons t ts) = enc_ty t ++ enc_tys ts
 
 -- levels: a type is one, each part one more
 unfoldable mutual
@@ -44,103 +44,103 @@ unfoldable mutual
   depth (Ty.sizeless s) = 1
   depth (Ty.int w) = 1
   depth (Ty.array p n t) = suc (depth t)
-  depth (Ty.namedStruct x) = 1
+  depth (Ty.named_struct x) = 1
   depth (Ty.struct p ts) = suc (depths ts)
 
   pub depths : Tys → ℕ
   depths Tys.nil = 0
   depths (Tys.cons t ts) = max (depth t) (depths ts)
 
-unfoldable pub valueEntry : Value → Entry
-valueEntry (Value.local x) = entry 30 x
-valueEntry (Value.global x) = entry 31 x
-valueEntry (Value.int c) = entry 32 c
-valueEntry (Value.zero z) = entry (val_kind (ValTag.zero z)) 0
-valueEntry Value.other = entry 37 0
+unfoldable pub value_entry : Value → Entry
+value_entry (Value.local x) = entry 30 x
+value_entry (Value.global x) = entry 31 x
+value_entry (Value.int c) = entry 32 c
+value_entry (Value.zero z) = entry (val_kind (ValTag.zero z)) 0
+value_entry Value.other = entry 37 0
 
-abbrev pub encValue : Value → List Entry
-encValue v = valueEntry v ∷ []
+abbrev pub enc_value : Value → List Entry
+enc_value v = value_entry v ∷ []
 
-abbrev pub encTyped : TypedVal → List Entry
-encTyped v = encTy v.ty ++ encValue v.val
+abbrev pub enc_typed : TypedVal → List Entry
+enc_typed v = enc_ty v.ty ++ enc_value v.val
 
-abbrev pub encBlock : ℕ → List Entry
-encBlock x = entry 23 x ∷ []
+abbrev pub enc_block : ℕ → List Entry
+enc_block x = entry 23 x ∷ []
 
 -- a number: an align, an index
-abbrev pub encNumber : ℕ → List Entry
-encNumber n = entry 22 n ∷ []
+abbrev pub enc_number : ℕ → List Entry
+enc_number n = entry 22 n ∷ []
 
-abbrev pub encIncoming : Incoming → List Entry
-encIncoming i = encValue i.val ++ encBlock i.label
+abbrev pub enc_incoming : Incoming → List Entry
+enc_incoming i = enc_value i.val ++ enc_block i.label
 
-abbrev pub encCase : Case → List Entry
-encCase c = entry 32 c.value ∷ encBlock c.label
+abbrev pub enc_case : Case → List Entry
+enc_case c = entry 32 c.value ∷ enc_block c.label
 
 -- result name + 1, or 0
-abbrev pub destWord : Option ℕ → ℕ
-destWord none = 0
-destWord (some x) = x + 1
+abbrev pub dest_word : Option ℕ → ℕ
+dest_word none = 0
+dest_word (some x) = x + 1
 
-unfoldable pub encParam : Param → List Entry
-encParam p = entry 6 (destWord p.name) ∷ encTy p.ty
+unfoldable pub enc_param : Param → List Entry
+enc_param p = entry 6 (dest_word p.name) ∷ enc_ty p.ty
 
-abbrev pub encItem : (i : Item) → ItemMeaning i → List Entry
-encItem Item.type = encTy
-encItem Item.value = encValue
-encItem Item.block = encBlock
-encItem Item.index = encNumber
-encItem Item.align = encNumber
-encItem Item.typed = encTyped
-encItem Item.gepIndex = encTyped
-encItem Item.incoming = encIncoming
-encItem Item.case = encCase
-encItem Item.param = encParam
+abbrev pub enc_item : (i : Item) → ItemMeaning i → List Entry
+enc_item Item.type = enc_ty
+enc_item Item.value = enc_value
+enc_item Item.block = enc_block
+enc_item Item.index = enc_number
+enc_item Item.align = enc_number
+enc_item Item.typed = enc_typed
+enc_item Item.gep_index = enc_typed
+enc_item Item.incoming = enc_incoming
+enc_item Item.case = enc_case
+enc_item Item.param = enc_param
 
-abbrev pub encField : (f : Field) → Meaning f → List Entry
-encField (Field.plain i) = encItem i
-encField (Field.optional i) = orAbsent (encItem i)
-encField (Field.list i) = closed (encItem i)
-encField (Field.up_to n i) = closed (encItem i)
+abbrev pub enc_field : (f : Field) → Meaning f → List Entry
+enc_field (Field.plain i) = enc_item i
+enc_field (Field.optional i) = or_absent (enc_item i)
+enc_field (Field.list i) = closed (enc_item i)
+enc_field (Field.up_to n i) = closed (enc_item i)
 
-unfoldable pub encFields : (fs : List Field) → Meanings fs → List Entry
-encFields [] p = []
-encFields (f ∷ fs) p = encField f p.0 ++ encFields fs p.1
+unfoldable pub enc_fields : (fs : List Field) → Meanings fs → List Entry
+enc_fields [] p = []
+enc_fields (f ∷ fs) p = enc_field f p.0 ++ enc_fields fs p.1
 
-unfoldable pub encInst : Inst → List Entry
-encInst i = entry (instKind (instTagOf i.kind)) (destWord i.dest) ∷ encFields (instFields (instTagOf i.kind)) (instArgs i.kind)
+unfoldable pub enc_inst : Inst → List Entry
+enc_inst i = entry (inst_kind (inst_tag_of i.kind)) (dest_word i.dest) ∷ enc_fields (inst_fields (inst_tag_of i.kind)) (inst_args i.kind)
 
-unfoldable pub encTerm : Terminator → List Entry
-encTerm t = entry (termKind (termTagOf t)) 0 ∷ encFields (termFields (termTagOf t)) (termArgs t)
+unfoldable pub enc_term : Terminator → List Entry
+enc_term t = entry (term_kind (term_tag_of t)) 0 ∷ enc_fields (term_fields (term_tag_of t)) (term_args t)
 
 -- instructions, then the terminator
-unfoldable pub encBasicBlock : BasicBlock → List Entry
-encBasicBlock b = entry 7 b.label ∷ ending encInst (encTerm b.term) b.insts
+unfoldable pub enc_basic_block : BasicBlock → List Entry
+enc_basic_block b = entry 7 b.label ∷ ending enc_inst (enc_term b.term) b.insts
 
-unfoldable pub encFunction : Function → List Entry
-encFunction f = entry 5 f.name ∷ (encTy f.retTy ++ (closed encParam f.params ++ closed encBasicBlock f.blocks))
+unfoldable pub enc_function : Function → List Entry
+enc_function f = entry 5 f.name ∷ (enc_ty f.ret_ty ++ (closed enc_param f.params ++ closed enc_basic_block f.blocks))
 
 -- which has one entry at least
-pub function-long : (f : Function) → 1 ≤ length (encFunction f)
-unfolding encFunction
-function-long f = omega arith
+pub function_long : (f : Function) → 1 ≤ length (enc_function f)
+unfolding enc_function
+function_long f = omega arith
 
-unfoldable pub markEntry : Mark → Entry
-markEntry (Mark.defined x) = entry 1 x
-markEntry (Mark.reserved x) = entry 2 x
+unfoldable pub mark_entry : Mark → Entry
+mark_entry (Mark.defined x) = entry 1 x
+mark_entry (Mark.reserved x) = entry 2 x
 
-abbrev pub encMark : Mark → List Entry
-encMark k = markEntry k ∷ []
+abbrev pub enc_mark : Mark → List Entry
+enc_mark k = mark_entry k ∷ []
 
-abbrev pub encBody : Option StructBody → List Entry
-encBody none = entry 4 0 ∷ []
-encBody (some b) = encTy (Ty.struct b.packed b.fields)
+abbrev pub enc_body : Option StructBody → List Entry
+enc_body none = entry 4 0 ∷ []
+enc_body (some b) = enc_ty (Ty.struct b.packed b.fields)
 
-unfoldable pub encStruct : StructType → List Entry
-encStruct s = entry 3 s.name ∷ encBody s.body
+unfoldable pub enc_struct : StructType → List Entry
+enc_struct s = entry 3 s.name ∷ enc_body s.body
 
-abbrev pub encFunctions : List Function → List Entry
-encFunctions = closed encFunction
+abbrev pub enc_functions : List Function → List Entry
+enc_functions = closed enc_function
 
 unfoldable pub encode : Book → List Entry
-encode b = ending encMark (ending encStruct (encFunctions b.functions) b.structs) b.marks
+encode b = ending enc_mark (ending enc_struct (enc_functions b.functions) b.structs) b.marks

@@ -14,9 +14,9 @@ entries [] ws = []
 entries (k ∷ ks) [] = []
 entries (k ∷ ks) (w ∷ ws) = entry k w ∷ entries ks ws
 
-unfoldable pub kindsOf : List Entry → List ℕ
-kindsOf [] = []
-kindsOf (e ∷ es) = e.kind ∷ kindsOf es
+unfoldable pub kinds_of : List Entry → List ℕ
+kinds_of [] = []
+kinds_of (e ∷ es) = e.kind ∷ kinds_of es
 
 unfoldable pub words_of : List Entry → List ℕ
 words_of [] = []

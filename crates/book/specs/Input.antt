@@ -17,26 +17,26 @@ counted m none = none
 counted m (some b) = some (record { count = m; book = b })
 
 -- "entry count N (at most 1,048,576), name count (at most 131,072)"
-abbrev pub entriesFit : ℕ → Bool
-entriesFit n = leb n 1048576
+abbrev pub entries_fit : ℕ → Bool
+entries_fit n = leb n 1048576
 
-abbrev pub namesFit : ℕ → Bool
-namesFit m = leb m 131072
+abbrev pub names_fit : ℕ → Bool
+names_fit m = leb m 131072
 
 -- "entry count N (at most 1,048,576), name count (at most 131,072), N kinds, N words, nothing after"
-unfoldable pub bookIn : List ℕ → Option Counted
-bookIn [] = none
-bookIn (n ∷ []) = none
-bookIn (n ∷ m ∷ es) =
-    pick (entriesFit n && (namesFit m && eqb (length es) (2 * n)))
+unfoldable pub book_in : List ℕ → Option Counted
+book_in [] = none
+book_in (n ∷ []) = none
+book_in (n ∷ m ∷ es) =
+    pick (entries_fit n && (names_fit m && eqb (length es) (2 * n)))
     (counted m (decode m (entries (take n es) (drop n es))))
     none
 
 -- the names, as many as the book says
-unfoldable pub namesIn : ℕ → List ℕ → Option (List (List ℕ))
-namesIn m bs = pick (counts m (names_of bs)) (names_of bs) none
+unfoldable pub names_in : ℕ → List ℕ → Option (List (List ℕ))
+names_in m bs = pick (counts m (names_of bs)) (names_of bs) none
 
 -- opens every definition of this file, for an example that computes
-unfoldable pub openInput : Unit {0}
-unfolding counted bookIn namesIn
-openInput = tt
+unfoldable pub open_input : Unit {0}
+unfolding counted book_in names_in
+open_input = tt

@@ -12,21 +12,21 @@ pub data TyTag : Type 0 where
   struct : (packed : Bool) → TyTag
   sizeless : Sizeless → TyTag
 
-abbrev pub tyKind : TyTag → ℕ
-tyKind void = 10
-tyKind int = 11
-tyKind ptr = 12
-tyKind (array false) = 13
-tyKind (array true) = 14
-tyKind named = 15
-tyKind (struct false) = 16
-tyKind (struct true) = 17
-tyKind (sizeless Sizeless.func) = 18
-tyKind (sizeless Sizeless.label) = 19
-tyKind (sizeless Sizeless.metadata) = 20
+abbrev pub ty_kind : TyTag → ℕ
+ty_kind void = 10
+ty_kind int = 11
+ty_kind ptr = 12
+ty_kind (array false) = 13
+ty_kind (array true) = 14
+ty_kind named = 15
+ty_kind (struct false) = 16
+ty_kind (struct true) = 17
+ty_kind (sizeless Sizeless.func) = 18
+ty_kind (sizeless Sizeless.label) = 19
+ty_kind (sizeless Sizeless.metadata) = 20
 
-unfoldable pub tyTags : List TyTag
-tyTags = void ∷ int ∷ ptr ∷ array false ∷ array true ∷ named ∷ struct false ∷ struct true ∷ sizeless Sizeless.func ∷ sizeless Sizeless.label ∷ sizeless Sizeless.metadata ∷ []
+unfoldable pub ty_tags : List TyTag
+ty_tags = void ∷ int ∷ ptr ∷ array false ∷ array true ∷ named ∷ struct false ∷ struct true ∷ sizeless Sizeless.func ∷ sizeless Sizeless.label ∷ sizeless Sizeless.metadata ∷ []
 
 -- 30 to 37: values
 pub data ValTag : Type 0 where
@@ -41,93 +41,93 @@ val_kind int = 32
 val_kind (zero Zero.null) = 33
 val_kind (zero Zero.undef) = 34
 val_kind (zero Zero.poison) = 35
-val_kind (zero Zero.zeroInit) = 36
+val_kind (zero Zero.zero_init) = 36
 val_kind other = 37
 
-unfoldable pub valTags : List ValTag
-valTags = local ∷ global ∷ int ∷ zero Zero.null ∷ zero Zero.undef ∷ zero Zero.poison ∷ zero Zero.zeroInit ∷ other ∷ []
+unfoldable pub val_tags : List ValTag
+val_tags = local ∷ global ∷ int ∷ zero Zero.null ∷ zero Zero.undef ∷ zero Zero.poison ∷ zero Zero.zero_init ∷ other ∷ []
 
 -- 40 to 82: instructions
 pub data InstTag : Type 0 where
   bin : BinOp → InstTag
   conv : ConvOp → InstTag
   icmp : ICmpPred → InstTag
-  select load store alloca getElementPtr phi call freeze atomicLoad atomicStore cmpxchg extractValue fence : InstTag
+  select load store alloca get_element_ptr phi call freeze atomic_load atomic_store cmpxchg extract_value fence : InstTag
 
-abbrev pub instKind : InstTag → ℕ
-instKind (bin BinOp.add) = 40
-instKind (bin BinOp.sub) = 41
-instKind (bin BinOp.mul) = 42
-instKind (bin BinOp.udiv) = 43
-instKind (bin BinOp.sdiv) = 44
-instKind (bin BinOp.urem) = 45
-instKind (bin BinOp.srem) = 46
-instKind (bin BinOp.and) = 47
-instKind (bin BinOp.or) = 48
-instKind (bin BinOp.xor) = 49
-instKind (bin BinOp.shl) = 50
-instKind (bin BinOp.lshr) = 51
-instKind (bin BinOp.ashr) = 52
-instKind (conv ConvOp.trunc) = 53
-instKind (conv ConvOp.zext) = 54
-instKind (conv ConvOp.sext) = 55
-instKind (conv ConvOp.ptrToInt) = 56
-instKind (conv ConvOp.intToPtr) = 57
-instKind (conv ConvOp.bitCast) = 58
-instKind (icmp ICmpPred.eq) = 60
-instKind (icmp ICmpPred.ne) = 61
-instKind (icmp ICmpPred.ugt) = 62
-instKind (icmp ICmpPred.uge) = 63
-instKind (icmp ICmpPred.ult) = 64
-instKind (icmp ICmpPred.ule) = 65
-instKind (icmp ICmpPred.sgt) = 66
-instKind (icmp ICmpPred.sge) = 67
-instKind (icmp ICmpPred.slt) = 68
-instKind (icmp ICmpPred.sle) = 69
-instKind select = 70
-instKind load = 71
-instKind store = 72
-instKind alloca = 73
-instKind getElementPtr = 74
-instKind phi = 75
-instKind call = 76
-instKind freeze = 77
-instKind atomicLoad = 78
-instKind atomicStore = 79
-instKind cmpxchg = 80
-instKind extractValue = 81
-instKind fence = 82
+abbrev pub inst_kind : InstTag → ℕ
+inst_kind (bin BinOp.add) = 40
+inst_kind (bin BinOp.sub) = 41
+inst_kind (bin BinOp.mul) = 42
+inst_kind (bin BinOp.udiv) = 43
+inst_kind (bin BinOp.sdiv) = 44
+inst_kind (bin BinOp.urem) = 45
+inst_kind (bin BinOp.srem) = 46
+inst_kind (bin BinOp.and) = 47
+inst_kind (bin BinOp.or) = 48
+inst_kind (bin BinOp.xor) = 49
+inst_kind (bin BinOp.shl) = 50
+inst_kind (bin BinOp.lshr) = 51
+inst_kind (bin BinOp.ashr) = 52
+inst_kind (conv ConvOp.trunc) = 53
+inst_kind (conv ConvOp.zext) = 54
+inst_kind (conv ConvOp.sext) = 55
+inst_kind (conv ConvOp.ptr_to_int) = 56
+inst_kind (conv ConvOp.int_to_ptr) = 57
+inst_kind (conv ConvOp.bit_cast) = 58
+inst_kind (icmp ICmpPred.eq) = 60
+inst_kind (icmp ICmpPred.ne) = 61
+inst_kind (icmp ICmpPred.ugt) = 62
+inst_kind (icmp ICmpPred.uge) = 63
+inst_kind (icmp ICmpPred.ult) = 64
+inst_kind (icmp ICmpPred.ule) = 65
+inst_kind (icmp ICmpPred.sgt) = 66
+inst_kind (icmp ICmpPred.sge) = 67
+inst_kind (icmp ICmpPred.slt) = 68
+inst_kind (icmp ICmpPred.sle) = 69
+inst_kind select = 70
+inst_kind load = 71
+inst_kind store = 72
+inst_kind alloca = 73
+inst_kind get_element_ptr = 74
+inst_kind phi = 75
+inst_kind call = 76
+inst_kind freeze = 77
+inst_kind atomic_load = 78
+inst_kind atomic_store = 79
+inst_kind cmpxchg = 80
+inst_kind extract_value = 81
+inst_kind fence = 82
 
-unfoldable pub instTags : List InstTag
-instTags =
+unfoldable pub inst_tags : List InstTag
+inst_tags =
     bin BinOp.add ∷ bin BinOp.sub ∷ bin BinOp.mul ∷ bin BinOp.udiv ∷ bin BinOp.sdiv ∷ bin BinOp.urem ∷ bin BinOp.srem
     ∷ bin BinOp.and ∷ bin BinOp.or ∷ bin BinOp.xor ∷ bin BinOp.shl ∷ bin BinOp.lshr ∷ bin BinOp.ashr
-    ∷ conv ConvOp.trunc ∷ conv ConvOp.zext ∷ conv ConvOp.sext ∷ conv ConvOp.ptrToInt ∷ conv ConvOp.intToPtr ∷ conv ConvOp.bitCast
+    ∷ conv ConvOp.trunc ∷ conv ConvOp.zext ∷ conv ConvOp.sext ∷ conv ConvOp.ptr_to_int ∷ conv ConvOp.int_to_ptr ∷ conv ConvOp.bit_cast
     ∷ icmp ICmpPred.eq ∷ icmp ICmpPred.ne ∷ icmp ICmpPred.ugt ∷ icmp ICmpPred.uge ∷ icmp ICmpPred.ult ∷ icmp ICmpPred.ule
     ∷ icmp ICmpPred.sgt ∷ icmp ICmpPred.sge ∷ icmp ICmpPred.slt ∷ icmp ICmpPred.sle
-    ∷ select ∷ load ∷ store ∷ alloca ∷ getElementPtr ∷ phi ∷ call ∷ freeze ∷ atomicLoad ∷ atomicStore ∷ cmpxchg ∷ extractValue ∷ fence ∷ []
+    ∷ select ∷ load ∷ store ∷ alloca ∷ get_element_ptr ∷ phi ∷ call ∷ freeze ∷ atomic_load ∷ atomic_store ∷ cmpxchg ∷ extract_value ∷ fence ∷ []
 
 -- 90 to 93: terminators
 pub data TermTag : Type 0 where
   ret br switch unreachable : TermTag
 
-abbrev pub termKind : TermTag → ℕ
-termKind ret = 90
-termKind br = 91
-termKind switch = 92
-termKind unreachable = 93
+abbrev pub term_kind : TermTag → ℕ
+term_kind ret = 90
+term_kind br = 91
+term_kind switch = 92
+term_kind unreachable = 93
 
-unfoldable pub termTags : List TermTag
-termTags = ret ∷ br ∷ switch ∷ unreachable ∷ []
+unfoldable pub term_tags : List TermTag
+term_tags = ret ∷ br ∷ switch ∷ unreachable ∷ []
 
-unfoldable pub tyTag : ℕ → Option TyTag
-tyTag k = find tyKind k tyTags
+unfoldable pub ty_tag : ℕ → Option TyTag
+ty_tag k = find ty_kind k ty_tags
 
-unfoldable pub valTag : ℕ → Option ValTag
-valTag k = find val_kind k valTags
+unfoldable pub val_tag : ℕ → Option ValTag
+val_tag k = find val_kind k val_tags
 
-unfoldable pub instTag : ℕ → Option InstTag
-instTag k = find instKind k instTags
+unfoldable pub inst_tag : ℕ → Option InstTag
+inst_tag k = find inst_kind k inst_tags
 
-unfoldable pub termTag : ℕ → Option TermTag
-termTag k = find termKind k termTags
+unfoldable pub term_tag : ℕ → Option TermTag
+term_tag k = find term_kind k term_tags

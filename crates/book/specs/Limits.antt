@@ -1,11 +1,11 @@
 -- "The book": the limits that a book with m names keeps.
 use Rattle.std.specs.Prelude.{ℕ, ◌<◌, ◌≤◌, ◌^◌, ◌≡◌, true, List, [], ◌∷◌, length}
 use Rattle.std.proofs.Math.Option.{Option, none, some}
-use Rattle.numbers.specs.Width.{widthOk}
-use Rattle.numbers.specs.Align.{isAlign}
+use Rattle.numbers.specs.Width.{width_ok}
+use Rattle.numbers.specs.Align.{is_align}
 use Rattle.book.specs.Ast.{Ty, Tys, Value, TypedVal, Incoming, Case, Inst, Terminator, BasicBlock, Param, Function, StructBody, StructType, Book}
-use Rattle.book.specs.Fields.{Item, Field, ItemMeaning, Meaning, Meanings, instFields, termFields, instTagOf, termTagOf, instArgs, termArgs}
-use Rattle.book.specs.Decode.{indexFits, onceEach, markName}
+use Rattle.book.specs.Fields.{Item, Field, ItemMeaning, Meaning, Meanings, inst_fields, term_fields, inst_tag_of, term_tag_of, inst_args, term_args}
+use Rattle.book.specs.Decode.{index_fits, once_each, mark_name}
 use Rattle.book.specs.Encode.{depth}
 
 module _ {A : Type 0} (P : A → Type 0) where
@@ -20,7 +20,7 @@ module _ {A : Type 0} (P : A → Type 0) where
   Maybe (some a) = P a
 
 abbrev pub AlignLimits : ℕ → Type 0
-AlignLimits a = isAlign a ≡ true
+AlignLimits a = is_align a ≡ true
 
 module _ (m : ℕ) where
   unfoldable mutual
@@ -29,9 +29,9 @@ module _ (m : ℕ) where
     Parts Ty.void = Unit {0}
     Parts Ty.ptr = Unit {0}
     Parts (Ty.sizeless s) = Unit {0}
-    Parts (Ty.int w) = widthOk w ≡ true
+    Parts (Ty.int w) = width_ok w ≡ true
     Parts (Ty.array p n t) = Parts t
-    Parts (Ty.namedStruct x) = x < m
+    Parts (Ty.named_struct x) = x < m
     Parts (Ty.struct p ts) = PartsOf ts
 
     pub PartsOf : Tys → Type 0
@@ -60,7 +60,7 @@ module _ (m : ℕ) where
   TypedLimits v = TyLimits v.ty × ValueLimits v.val
 
   abbrev pub IndexLimits : TypedVal → Type 0
-  IndexLimits i = TypedLimits i × (indexFits i.val ≡ true)
+  IndexLimits i = TypedLimits i × (index_fits i.val ≡ true)
 
   abbrev pub IncomingLimits : Incoming → Type 0
   IncomingLimits i = ValueLimits i.val × (i.label < m)
@@ -78,7 +78,7 @@ module _ (m : ℕ) where
   ItemLimits Item.index = λ i. i < 2 ^ 32
   ItemLimits Item.align = AlignLimits
   ItemLimits Item.typed = TypedLimits
-  ItemLimits Item.gepIndex = IndexLimits
+  ItemLimits Item.gep_index = IndexLimits
   ItemLimits Item.incoming = IncomingLimits
   ItemLimits Item.case = CaseLimits
   ItemLimits Item.param = ParamLimits
@@ -94,16 +94,16 @@ module _ (m : ℕ) where
   FieldsLimits (f ∷ fs) p = FieldLimits f p.0 × FieldsLimits fs p.1
 
   abbrev pub InstLimits : Inst → Type 0
-  InstLimits i = Maybe NameLimits i.dest × FieldsLimits (instFields (instTagOf i.kind)) (instArgs i.kind)
+  InstLimits i = Maybe NameLimits i.dest × FieldsLimits (inst_fields (inst_tag_of i.kind)) (inst_args i.kind)
 
   abbrev pub TermLimits : Terminator → Type 0
-  TermLimits t = FieldsLimits (termFields (termTagOf t)) (termArgs t)
+  TermLimits t = FieldsLimits (term_fields (term_tag_of t)) (term_args t)
 
   abbrev pub BlockLimits : BasicBlock → Type 0
   BlockLimits b = (b.label < m) × (Each InstLimits b.insts × TermLimits b.term)
 
   abbrev pub FunctionLimits : Function → Type 0
-  FunctionLimits f = (f.name < m) × (TyLimits f.retTy × (Each ParamLimits f.params × Each BlockLimits f.blocks))
+  FunctionLimits f = (f.name < m) × (TyLimits f.ret_ty × (Each ParamLimits f.params × Each BlockLimits f.blocks))
 
   abbrev pub BodyLimits : Option StructBody → Type 0
   BodyLimits = Maybe (λ b. TyLimits (Ty.struct b.packed b.fields))
@@ -116,7 +116,7 @@ module _ (m : ℕ) where
   FunctionsLimits fs = (1 ≤ length fs) × Each FunctionLimits fs
 
   pub record Limits (b : Book) : Type 0 where
-    pub marks : Each (λ k. markName k < m) b.marks
+    pub marks : Each (λ k. mark_name k < m) b.marks
     pub structs : Each StructLimits b.structs
     pub functions : FunctionsLimits b.functions
-    pub once : onceEach b ≡ true
+    pub once : once_each b ≡ true

@@ -15,6 +15,6 @@ insert none a m = m
 insert (some x) a m = (x, a) ∷ m
 
 -- opens every definition of this file, for an example that computes
-unfoldable pub openMap : Unit {0}
+unfoldable pub open_map : Unit {0}
 unfolding lookup insert
-openMap = tt
+open_map = tt

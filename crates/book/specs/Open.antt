@@ -1,20 +1,20 @@
 -- opens every definition that a book is decoded, encoded and checked by: an example says `unfolding openBook`
-use Rattle.numbers.specs.Open.{openNumbers}
-use Rattle.names.specs.Text.{openText}
-use Rattle.names.specs.Name.{openName}
-use Rattle.names.specs.Spelling.{openSpelling}
+use Rattle.numbers.specs.Open.{open_numbers}
+use Rattle.names.specs.Text.{open_text}
+use Rattle.names.specs.Name.{open_name}
+use Rattle.names.specs.Spelling.{open_spelling}
 use Rattle.book.specs.Rule.{find}
-use Rattle.book.specs.Entry.{entries, kindsOf, words_of}
-use Rattle.book.specs.Kinds.{tyTags, valTags, instTags, termTags, tyTag, valTag, instTag, termTag}
+use Rattle.book.specs.Entry.{entries, kinds_of, words_of}
+use Rattle.book.specs.Kinds.{ty_tags, val_tags, inst_tags, term_tags, ty_tag, val_tag, inst_tag, term_tag}
 use Rattle.book.specs.Read.{one, filtered, optional, stops, mapped, both, until, word, closing, list_of, many}
-use Rattle.book.specs.Decode.{tys, indexFits, typeAs, typeTo, valueAs, value, typedVal, block, index, align, gepIndex, incoming, case, param, item, field, fields, taggedAs, tagged, inst, term, body, basicBlock, function, markAs, mark, body_of, structBody, structType, functions, structsAndFunctions, parts, member, distinct, onceEach, decode}
-use Rattle.book.specs.Encode.{ending, encTy, depth, valueEntry, encParam, encFields, encInst, encTerm, encBasicBlock, encFunction, markEntry, encStruct, encode}
-use Rattle.book.specs.Shape.{openShape}
-use Rattle.book.specs.Result.{openResult}
-use Rattle.book.specs.Input.{openInput}
-use Rattle.book.specs.Forbidden.{openForbidden}
-use Rattle.book.specs.Check.{openCheck}
+use Rattle.book.specs.Decode.{tys, index_fits, type_as, type_to, value_as, value, typed_val, block, index, align, gep_index, incoming, case, param, item, field, fields, tagged_as, tagged, inst, term, body, basic_block, function, mark_as, mark, body_of, struct_body, struct_type, functions, structs_and_functions, parts, member, distinct, once_each, decode}
+use Rattle.book.specs.Encode.{ending, enc_ty, depth, value_entry, enc_param, enc_fields, enc_inst, enc_term, enc_basic_block, enc_function, mark_entry, enc_struct, encode}
+use Rattle.book.specs.Shape.{open_shape}
+use Rattle.book.specs.Result.{open_result}
+use Rattle.book.specs.Input.{open_input}
+use Rattle.book.specs.Forbidden.{open_forbidden}
+use Rattle.book.specs.Check.{open_check}
 
-unfoldable pub openBook : Unit {0}
-unfolding openNumbers openText openName openSpelling find entries kindsOf words_of tyTags valTags instTags termTags tyTag valTag instTag termTag one filtered optional stops mapped both until word closing list_of many tys indexFits typeAs typeTo valueAs value typedVal block index align gepIndex incoming case param item field fields taggedAs tagged inst term body basicBlock function markAs mark body_of structBody structType functions structsAndFunctions parts member distinct onceEach decode ending encTy depth valueEntry encParam encFields encInst encTerm encBasicBlock encFunction markEntry encStruct encode openShape openResult openInput openForbidden openCheck
-openBook = tt
+unfoldable pub open_book : Unit {0}
+unfolding open_numbers open_text open_name open_spelling find entries kinds_of words_of ty_tags val_tags inst_tags term_tags ty_tag val_tag inst_tag term_tag one filtered optional stops mapped both until word closing list_of many tys index_fits type_as type_to value_as value typed_val block index align gep_index incoming case param item field fields tagged_as tagged inst term body basic_block function mark_as mark body_of struct_body struct_type functions structs_and_functions parts member distinct once_each decode ending enc_ty depth value_entry enc_param enc_fields enc_inst enc_term enc_basic_block enc_function mark_entry enc_struct encode open_shape open_result open_input open_forbidden open_check
+open_book = tt

@@ -79,13 +79,13 @@ word k rule = one (λ e. pick (eqb e.kind k) (rule e.word) none)
 unfoldable pub closing : Reader (Unit {0})
 closing = word 0 unmentioned
 
-abbrev pub isClosing : ℕ → Bool
-isClosing k = eqb k 0
+abbrev pub is_closing : ℕ → Bool
+is_closing k = eqb k 0
 
 module _ {A : Type 0} where
   -- at most n items
   unfoldable pub list_of : ℕ → Reader A → Reader (List A)
-  list_of n p = mapped (λ r. r.0) (until isClosing p closing n)
+  list_of n p = mapped (λ r. r.0) (until is_closing p closing n)
 
   -- as many as there are: an item takes an entry at least
   unfoldable pub many : Reader A → Reader (List A)

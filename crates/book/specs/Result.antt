@@ -16,9 +16,9 @@ module _ {A B : Type 0} where
 
 module _ {A : Type 0} where
   -- `ok_or`
-  unfoldable pub okOr : ℕ → Option A → Result A
-  okOr e none = err e
-  okOr e (some a) = ok a
+  unfoldable pub ok_or : ℕ → Option A → Result A
+  ok_or e none = err e
+  ok_or e (some a) = ok a
 
   -- the value where a test holds
   unfoldable pub given : Bool → ℕ → A → Result A
@@ -30,36 +30,36 @@ unfoldable pub require : Bool → ℕ → Result (Unit {0})
 require b e = given b e tt
 
 -- opens every definition of this file, for an example that computes
-unfoldable pub openResult : Unit {0}
-unfolding bind okOr given require
-openResult = tt
+unfoldable pub open_result : Unit {0}
+unfolding bind ok_or given require
+open_result = tt
 
 -- ---- what an accepted answer says
 module _ {A : Type 0} where
   -- no refusal is an answer
-  pub err-no-ok : {X : Type 0} (e : ℕ) (a : A) → err e ≡ ok a → X
-  err-no-ok e a p = absurd (let z : ◌≡◌ {A = ℕ} 0 1 = cc in omega arith)
+  pub err_no_ok : {X : Type 0} (e : ℕ) (a : A) → err e ≡ ok a → X
+  err_no_ok e a p = absurd (let z : ◌≡◌ {A = ℕ} 0 1 = cc in omega arith)
 
 module _ {A B : Type 0} where
   -- an accepted chain: what its first part gave
   pub bind_ok : (r : Result A) (f : A → Result B) (b : B) → bind r f ≡ ok b → (a : A) × (r ≡ ok a) × (f a ≡ ok b)
   unfolding bind
   bind_ok (ok a) f b p = (a, refl, p)
-  bind_ok (err e) f b p = err-no-ok e b p
+  bind_ok (err e) f b p = err_no_ok e b p
 
   -- and the other way round
-  pub bind-step : (r : Result A) (f : A → Result B) {a : A} {b : B} → r ≡ ok a → f a ≡ ok b → bind r f ≡ ok b
+  pub bind_step : (r : Result A) (f : A → Result B) {a : A} {b : B} → r ≡ ok a → f a ≡ ok b → bind r f ≡ ok b
   unfolding bind
-  bind-step r f p q = rw p q
+  bind_step r f p q = rw p q
 
   -- a chain is the same where what follows its first part is
-  pub bind-same : (r : Result A) (f g : A → Result B) → ((a : A) → r ≡ ok a → f a ≡ g a) → bind r f ≡ bind r g
+  pub bind_same : (r : Result A) (f g : A → Result B) → ((a : A) → r ≡ ok a → f a ≡ g a) → bind r f ≡ bind r g
   unfolding bind
-  bind-same (ok a) f g h = h a refl
-  bind-same (err e) f g h = refl
+  bind_same (ok a) f g h = h a refl
+  bind_same (err e) f g h = refl
 
 module _ {A : Type 0} where
-  pub given-ok : (b : Bool) (e : ℕ) (a c : A) → given b e a ≡ ok c → (b ≡ true) × (a ≡ c)
+  pub given_ok : (b : Bool) (e : ℕ) (a c : A) → given b e a ≡ ok c → (b ≡ true) × (a ≡ c)
   unfolding given
-  given-ok true e a c p = (refl, cc)
-  given-ok false e a c p = err-no-ok e c p
+  given_ok true e a c p = (refl, cc)
+  given_ok false e a c p = err_no_ok e c p

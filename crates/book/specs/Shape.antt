@@ -13,7 +13,7 @@ pub data Shape : Type 0 where
 unfoldable pub shape : InstKind → Shape
 shape (InstKind.alloca ty count align) = Shape.alloca ty count
 shape (InstKind.phi ty incoming) = Shape.phi ty incoming
-shape (InstKind.call retTy callee args) = Shape.call callee
+shape (InstKind.call ret_ty callee args) = Shape.call callee
 shape (InstKind.cmpxchg ty ptr cmp new) = Shape.cmpxchg
 shape (InstKind.bin op ty lhs rhs) = Shape.plain
 shape (InstKind.conv op fromTy val toTy) = Shape.plain
@@ -21,19 +21,19 @@ shape (InstKind.icmp pred ty lhs rhs) = Shape.plain
 shape (InstKind.select cond ty tval fval) = Shape.plain
 shape (InstKind.load ty ptr align) = Shape.plain
 shape (InstKind.store ty val ptr align) = Shape.plain
-shape (InstKind.getElementPtr baseTy ptr indices) = Shape.plain
+shape (InstKind.get_element_ptr baseTy ptr indices) = Shape.plain
 shape (InstKind.freeze ty val) = Shape.plain
-shape (InstKind.atomicLoad ty ptr) = Shape.plain
-shape (InstKind.atomicStore ty val ptr) = Shape.plain
-shape (InstKind.extractValue agg index) = Shape.plain
+shape (InstKind.atomic_load ty ptr) = Shape.plain
+shape (InstKind.atomic_store ty val ptr) = Shape.plain
+shape (InstKind.extract_value agg index) = Shape.plain
 shape InstKind.fence = Shape.plain
 
 -- the instructions of all blocks, in order
-unfoldable pub allInsts : List BasicBlock → List Inst
-allInsts [] = []
-allInsts (b ∷ bs) = b.insts ++ allInsts bs
+unfoldable pub all_insts : List BasicBlock → List Inst
+all_insts [] = []
+all_insts (b ∷ bs) = b.insts ++ all_insts bs
 
 -- opens every definition of this file, for an example that computes
-unfoldable pub openShape : Unit {0}
-unfolding shape allInsts
-openShape = tt
+unfoldable pub open_shape : Unit {0}
+unfolding shape all_insts
+open_shape = tt

@@ -3,8 +3,8 @@
 use Rattle.std.specs.Prelude.{ℕ, ◌+◌, ◌*◌}
 
 -- the words of all names end here
-abbrev pub nameWords : ℕ → ℕ
-nameWords m = 8 * m
+abbrev pub name_words : ℕ → ℕ
+name_words m = 8 * m
 
 -- those of name x: its parameter, its slot, its block, its fixed place, its struct's body, how a global of that name is called, a word
 -- of the table of fields, its measurement
@@ -17,20 +17,20 @@ slot_at x = 8 * x + 1
 abbrev pub block_at : ℕ → ℕ
 block_at x = 8 * x + 2
 
-abbrev pub placeAt : ℕ → ℕ
-placeAt x = 8 * x + 3
+abbrev pub place_at : ℕ → ℕ
+place_at x = 8 * x + 3
 
 abbrev pub body_at : ℕ → ℕ
 body_at x = 8 * x + 4
 
-abbrev pub markAt : ℕ → ℕ
-markAt x = 8 * x + 5
+abbrev pub mark_at : ℕ → ℕ
+mark_at x = 8 * x + 5
 
-abbrev pub factAt : ℕ → ℕ
-factAt x = 8 * x + 6
+abbrev pub fact_at : ℕ → ℕ
+fact_at x = 8 * x + 6
 
-abbrev pub measuredAt : ℕ → ℕ
-measuredAt x = 8 * x + 7
+abbrev pub measured_at : ℕ → ℕ
+measured_at x = 8 * x + 7
 
 -- one of them by its number
 abbrev pub word_at : ℕ → ℕ → ℕ

@@ -2,14 +2,14 @@
 ghost use Rattle.std.specs.Prelude.{◌≡◌};
 ghost use Rattle.numbers.specs.Bits.{bit_at};
 ghost use Rattle.book.specs.Entry.{entries};
-ghost use Rattle.book_blocks.specs.Calls.{calleeBarred, behindCall};
+ghost use Rattle.book_blocks.specs.Calls.{callee_barred, behind_call};
 
 use book_types::types::type_len;
 use book_types::{Front, Length, first_entry};
 
 // Whether the entry is a global whose bit is set.
 fn callee_barred(entry: Front, barred: &[u64]) -> bool
-    ensures { result ≡ calleeBarred (bit_at barred.now) entry }
+    ensures { result ≡ callee_barred (bit_at barred.now) entry }
 {
     let Front::Entry(kind, word) = entry else {
         return false;
@@ -23,7 +23,7 @@ fn callee_barred(entry: Front, barred: &[u64]) -> bool
 
 // Whether a call is of such a global: behind the call's own entry stand its return type and then its callee.
 pub fn call_barred(kinds: &[u64], words: &[u64], names: u64, barred: &[u64]) -> bool
-    ensures { result ≡ behindCall (bit_at barred.now) names (entries kinds.now words.now) }
+    ensures { result ≡ behind_call (bit_at barred.now) names (entries kinds.now words.now) }
 {
     let Length::Entries(n) = type_len(kinds, words, names, 64) else {
         return false;

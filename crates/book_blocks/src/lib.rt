@@ -7,10 +7,10 @@ ghost use Rattle.numbers.specs.Bits.{bit_at};
 ghost use Rattle.book.specs.Entry.{entries};
 ghost use Rattle.book.specs.Read.{many, both};
 ghost use Rattle.book.specs.Fields.{Item as BookItem};
-ghost use Rattle.book.specs.Decode.{type as typeReader, item, basicBlock, function};
-ghost use Rattle.book.specs.Forbidden.{any, otherItem, forbiddenBlock, forbiddenFunction};
-ghost use Rattle.book_types.specs.Found.{foundOf, pairTest, never};
-ghost use Rattle.book_insts.specs.Rules.{rulesOf};
+ghost use Rattle.book.specs.Decode.{type as typeReader, item, basic_block, function};
+ghost use Rattle.book.specs.Forbidden.{any, other_item, forbidden_block, forbidden_function};
+ghost use Rattle.book_types.specs.Found.{found_of, pair_test, never};
+ghost use Rattle.book_insts.specs.Rules.{rules_of};
 
 use crate::calls::call_barred;
 use book::entry;
@@ -22,8 +22,8 @@ use book_values::{Item, list_len, word_len};
 // The list of blocks, its closing entry with it, in one loop over the entries. `need` has the digits of the fields that the last
 // instruction or terminator still wants, `inside` says whether a block still lacks its terminator.
 fn scan_blocks(kinds: &[u64], words: &[u64], names: u64, barred: &[u64], rule: &[u64]) -> Found
-    requires { rule.now ≡ rulesOf names }
-    ensures { result ≡ foundOf (any (forbiddenBlock (bit_at barred.now))) (many (basicBlock names) (entries kinds.now words.now)) }
+    requires { rule.now ≡ rules_of names }
+    ensures { result ≡ found_of (any (forbidden_block (bit_at barred.now))) (many (basic_block names) (entries kinds.now words.now)) }
 {
     let end = shorter(kinds, words);
     let mut at: usize = 0;
@@ -75,14 +75,14 @@ fn scan_blocks(kinds: &[u64], words: &[u64], names: u64, barred: &[u64], rule: &
 
 // The list of blocks, its closing entry with it.
 fn blocks_len(kinds: &[u64], words: &[u64], names: u64, barred: &[u64]) -> Found
-    ensures { result ≡ foundOf (any (forbiddenBlock (bit_at barred.now))) (many (basicBlock names) (entries kinds.now words.now)) }
+    ensures { result ≡ found_of (any (forbidden_block (bit_at barred.now))) (many (basic_block names) (entries kinds.now words.now)) }
 {
     scan_blocks(kinds, words, names, barred, &rules(names))
 }
 
 // A function's parameters and blocks.
 fn params_and_blocks_len(kinds: &[u64], words: &[u64], names: u64, barred: &[u64]) -> Found
-    ensures { result ≡ foundOf (pairTest (any (otherItem BookItem.param)) (any (forbiddenBlock (bit_at barred.now)))) (both (many (item names BookItem.param)) (many (basicBlock names)) (entries kinds.now words.now)) }
+    ensures { result ≡ found_of (pair_test (any (other_item BookItem.param)) (any (forbidden_block (bit_at barred.now)))) (both (many (item names BookItem.param)) (many (basic_block names)) (entries kinds.now words.now)) }
 {
     let Found::Entries(n, seen) = list_len(kinds, words, names, Item::Param, shorter(kinds, words))
     else {
@@ -93,7 +93,7 @@ fn params_and_blocks_len(kinds: &[u64], words: &[u64], names: u64, barred: &[u64
 
 // A function's return type, parameters and blocks.
 fn signature_and_blocks_len(kinds: &[u64], words: &[u64], names: u64, barred: &[u64]) -> Found
-    ensures { result ≡ foundOf (pairTest never (pairTest (any (otherItem BookItem.param)) (any (forbiddenBlock (bit_at barred.now))))) (both (typeReader names) (both (many (item names BookItem.param)) (many (basicBlock names))) (entries kinds.now words.now)) }
+    ensures { result ≡ found_of (pair_test never (pair_test (any (other_item BookItem.param)) (any (forbidden_block (bit_at barred.now))))) (both (typeReader names) (both (many (item names BookItem.param)) (many (basic_block names))) (entries kinds.now words.now)) }
 {
     let Found::Entries(n, seen) = plain(type_len(kinds, words, names, 64)) else {
         return Found::Bad;
@@ -107,7 +107,7 @@ fn signature_and_blocks_len(kinds: &[u64], words: &[u64], names: u64, barred: &[
 
 // The function at the front.
 pub fn function_len(kinds: &[u64], words: &[u64], names: u64, barred: &[u64]) -> Found
-    ensures { result ≡ foundOf (forbiddenFunction (bit_at barred.now)) (function names (entries kinds.now words.now)) }
+    ensures { result ≡ found_of (forbidden_function (bit_at barred.now)) (function names (entries kinds.now words.now)) }
 {
     let Found::Entries(n, seen) = plain(word_len(first_entry(kinds, words), entry::FUNCTION, names))
     else {

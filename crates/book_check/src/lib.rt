@@ -3,11 +3,11 @@
 ghost use Rattle.std.specs.Prelude.{◌≡◌, ◌≤◌, leb, get_or};
 ghost use Rattle.book.specs.Entry.{entries};
 ghost use Rattle.book.specs.Decode.{decode};
-ghost use Rattle.book.specs.Input.{bookIn};
-ghost use Rattle.book.specs.Check.{checked, refusalOf, workFor};
+ghost use Rattle.book.specs.Input.{book_in};
+ghost use Rattle.book.specs.Check.{checked, refusal_of, work_for};
 ghost use Rattle.names_check.specs.Nexts.{NotedWhere};
-ghost use Rattle.book_check.specs.Whole.{there, reading_of, readingIn, barredRange};
-ghost use Rattle.book_check.specs.Verdict.{number_of, verdictOf};
+ghost use Rattle.book_check.specs.Whole.{there, reading_of, reading_in, barred_range};
+ghost use Rattle.book_check.specs.Verdict.{number_of, verdict_of};
 
 use book::work::{MARK, WORDS};
 use book_parts::parts_len;
@@ -34,7 +34,7 @@ enum Reading {
 // The book of the entries. The names from `from` up to and without `to` may not be called, nor may the reserved ones.
 fn read_entries(kinds: &[u64], words: &[u64], names: u64, from: u64, to: u64) -> Reading
     requires { names ≤ 131072 }
-    ensures { result ≡ reading_of (barredRange from to) (decode names (entries kinds.now words.now)) }
+    ensures { result ≡ reading_of (barred_range from to) (decode names (entries kinds.now words.now)) }
 {
     let Found::Entries(n, forbidden) = parts_len(kinds, words, names, from, to) else {
         return Reading::Bad;
@@ -48,7 +48,7 @@ fn read_entries(kinds: &[u64], words: &[u64], names: u64, from: u64, to: u64) ->
 
 // The book of the slice.
 fn read_book(book: &[u64], from: u64, to: u64) -> Reading
-    ensures { result ≡ readingIn (barredRange from to) (bookIn book.now) }
+    ensures { result ≡ reading_in (barred_range from to) (book_in book.now) }
 {
     if book.len() < 2 {
         return Reading::Bad;
@@ -70,7 +70,7 @@ fn read_book(book: &[u64], from: u64, to: u64) -> Reading
 
 // Whether the slice is a book: refusal 1, but for the counter.
 pub fn check_book(book: &[u64]) -> bool
-    ensures { result ≡ there (bookIn book.now) }
+    ensures { result ≡ there (book_in book.now) }
 {
     match read_book(book, 0, 0) {
         Reading::Book(_) => true,
@@ -87,7 +87,7 @@ fn name_count(book: &[u64]) -> u64
 
 // Whether a work slice is long enough for so many names.
 fn work_fits(count: u64, work: usize) -> bool
-    ensures { result ≡ leb (workFor count) work }
+    ensures { result ≡ leb (work_for count) work }
 {
     if work < 64 {
         return false;
@@ -97,7 +97,7 @@ fn work_fits(count: u64, work: usize) -> bool
 
 // The first refusal of 1 to 4, from what was read and whether the names are a list.
 fn judged(book: Reading, named: bool, counter: u64, count: u64, work: usize) -> Verdict
-    ensures { result ≡ verdictOf book named counter count work }
+    ensures { result ≡ verdict_of book named counter count work }
 {
     let Reading::Book(forbidden) = book else {
         return Verdict::BadBook;
@@ -127,7 +127,7 @@ pub fn check_noting(
     work: usize,
     nexts: &mut [u64],
 ) -> Verdict
-    ensures result_value { number_of result ≡ refusalOf (checked book.now names.now counter work) }
+    ensures result_value { number_of result ≡ refusal_of (checked book.now names.now counter work) }
     ensures noted_where { NotedWhere (result ≡ Verdict.Sound) 8 5 names.now (get_or book.now 1 0) nexts.old nexts.new }
 {
     let count = name_count(book);
@@ -139,7 +139,7 @@ pub fn check_noting(
 
 // The first refusal of 1 to 4 that applies, by itself.
 pub fn check(book: &[u64], names: &[u8], counter: u64, work: usize) -> Verdict
-    ensures { number_of result ≡ refusalOf (checked book.now names.now counter work) }
+    ensures { number_of result ≡ refusal_of (checked book.now names.now counter work) }
 {
     let mut nexts = [0u64; 0];
     check_noting(book, names, counter, work, &mut nexts)

@@ -5,53 +5,53 @@ use Rattle.std.proofs.Math.Bool.{false}
 use Rattle.std.proofs.Math.Option.{some}
 use Rattle.std.proofs.Common.{arith}
 use borrow.Author.Tests.{lt-ltb, leb-true, le-leb, lt-leb, eq-eqb}
-use Rattle.numbers.specs.Width.{widthOk}
+use Rattle.numbers.specs.Width.{width_ok}
 use Rattle.names.specs.Tests.{both}
 use Rattle.book.specs.Entry.{Entry, entry}
 use Rattle.book.specs.Fields as book
 use Rattle.book.specs.Read.{Read, got, bad, optional, and_then}
 use Rattle.book.specs.Decode.{item, field}
-use Rattle.book.specs.Forbidden.{otherItem, anyThere}
-use Rattle.book.specs.Open.{openBook}
-use Rattle.book_types.specs.Found.{foundOf}
-use Rattle.book_types.specs.Tables.{From, in-range}
+use Rattle.book.specs.Forbidden.{other_item, any_there}
+use Rattle.book.specs.Open.{open_book}
+use Rattle.book_types.specs.Found.{found_of}
+use Rattle.book_types.specs.Tables.{From, in_range_lem}
 use Rattle.book_types.specs.declared.Found.TheVariants as found
-use Rattle.book_insts.specs.Insts.{digitFields, field_of}
-use Rattle.book_insts.specs.InstLaws.{fieldFound}
+use Rattle.book_insts.specs.Insts.{digit_fields, field_of}
+use Rattle.book_insts.specs.InstLaws.{field_found}
 
 -- the entry is the field of the digit by itself, whatever follows; kind 37 is the forbidden value
 abbrev pub Alone : ℕ → ℕ → ℕ → ℕ → Type 0
-Alone m k w d = (es : List Entry) → fieldFound m (field_of d) (entry k w ∷ es) ≡ found.Entries 1 (eqb k 37)
+Alone m k w d = (es : List Entry) → field_found m (field_of d) (entry k w ∷ es) ≡ found.Entries 1 (eqb k 37)
 
 -- by the kinds below 40 the largest word, and behind these the digits, a bit for each; m is the number of names
-unfoldable pub rulesOf : ℕ → List ℕ
-rulesOf m =
+unfoldable pub rules_of : ℕ → List ℕ
+rules_of m =
     0 ∷ 0 ∷ 0 ∷ 0 ∷ 0 ∷ 0 ∷ 0 ∷ 0 ∷ 0 ∷ 0 ∷ 0 ∷ 64 ∷ 0 ∷ 0 ∷ 0 ∷ (m - 1) ∷ 0 ∷ 0 ∷ 0 ∷ 0
     ∷ 0 ∷ 0 ∷ 4294967295 ∷ (m - 1) ∷ 0 ∷ 0 ∷ 0 ∷ 0 ∷ 0 ∷ 0 ∷ (m - 1) ∷ (m - 1) ∷ 18446744073709551615 ∷ 0 ∷ 0 ∷ 0 ∷ 0 ∷ 0 ∷ 0 ∷ 0
     ∷ 0 ∷ 0 ∷ 0 ∷ 0 ∷ 0 ∷ 0 ∷ 0 ∷ 0 ∷ 0 ∷ 0 ∷ 2 ∷ 2 ∷ 2 ∷ 0 ∷ 0 ∷ 2 ∷ 0 ∷ 0 ∷ 2 ∷ 2
     ∷ 2 ∷ 480 ∷ 16 ∷ 264 ∷ 0 ∷ 0 ∷ 0 ∷ 0 ∷ 0 ∷ 0 ∷ 132 ∷ 132 ∷ 132 ∷ 132 ∷ 132 ∷ 132 ∷ 132 ∷ 132 ∷ 0 ∷ 0 ∷ []
 
-pub rules-length : (m : ℕ) → length (rulesOf m) ≡ 80
-unfolding rulesOf
-rules-length m = refl
+pub rules_length : (m : ℕ) → length (rules_of m) ≡ 80
+unfolding rules_of
+rules_length m = refl
 
 -- whether by such rules an entry is the field of a digit by itself: its kind is below 40, its word is not too large, the digit's bit is set, and
 -- an integer has one of the widths
 abbrev bit : ℕ → ℕ → Bool
 bit n d = eqb (n / 2 ^ d % 2) 1
 
-unfoldable pub aloneBy : (rule : List ℕ) (k w d : ℕ) → Bool
-aloneBy rule k w d = leb k 39 && ((leb w (get_or rule k 0) && bit (get_or rule (k + 40) 0) d) && (not (eqb k 11) || widthOk w))
+unfoldable pub alone_by : (rule : List ℕ) (k w d : ℕ) → Bool
+alone_by rule k w d = leb k 39 && ((leb w (get_or rule k 0) && bit (get_or rule (k + 40) 0) d) && (not (eqb k 11) || width_ok w))
 
 module _ (rule : List ℕ) (k w d : ℕ) where
-  pub alone-beyond : 39 < k → false ≡ aloneBy rule k w d
-  unfolding aloneBy
-  alone-beyond h = rw (lt-leb k 39 h) refl
+  pub alone_beyond : 39 < k → false ≡ alone_by rule k w d
+  unfolding alone_by
+  alone_beyond h = rw (lt-leb k 39 h) refl
 
-  pub alone-below : k ≤ 39 → (t : Bool) → t ≡ widthOk w
-      → ((leb w (get_or rule k 0) && bit (get_or rule (k + 40) 0) d) && (not (eqb k 11) || t)) ≡ aloneBy rule k w d
-  unfolding aloneBy
-  alone-below h t e = rw (le-leb k 39 h, e) refl
+  pub alone_below : k ≤ 39 → (t : Bool) → t ≡ width_ok w
+      → ((leb w (get_or rule k 0) && bit (get_or rule (k + 40) 0) d) && (not (eqb k 11) || t)) ≡ alone_by rule k w d
+  unfolding alone_by
+  alone_below h t e = rw (le-leb k 39 h, e) refl
 
 -- ---- what the rules say is so
 -- rows are put together one by one
@@ -64,9 +64,9 @@ abbrev If : Bool → Type 0 → Type 0
 If true A = A
 If false A = Unit {0}
 
-if-true : {A : Type 0} (b : Bool) → b ≡ true → If b A → A
-if-true true e a = a
-if-true false e a = absurd (let z : ◌≡◌ {A = ℕ} 0 1 = cc in omega arith)
+if_true_lem : {A : Type 0} (b : Bool) → b ≡ true → If b A → A
+if_true_lem true e a = a
+if_true_lem false e a = absurd (let z : ◌≡◌ {A = ℕ} 0 1 = cc in omega arith)
 
 module _ (m w : ℕ) where
   -- for each bit of a number, which is a digit from 0 to 15
@@ -80,28 +80,28 @@ module _ (m w : ℕ) where
   types k a = tt & a & tt & tt & tt & tt & tt & tt & tt & tt & tt & tt & tt & tt & tt & tt & tt
 
   -- an item that may be absent
-  there : (i : book.Item) (k : ℕ) (b : Bool) → eqb k 21 ≡ false → (es : List Entry) → fieldFound m (book.Field.plain i) (entry k w ∷ es) ≡ found.Entries 1 b
-      → fieldFound m (book.Field.optional i) (entry k w ∷ es) ≡ found.Entries 1 b
-  unfolding field optional anyThere
+  there : (i : book.Item) (k : ℕ) (b : Bool) → eqb k 21 ≡ false → (es : List Entry) → field_found m (book.Field.plain i) (entry k w ∷ es) ≡ found.Entries 1 b
+      → field_found m (book.Field.optional i) (entry k w ∷ es) ≡ found.Entries 1 b
+  unfolding field optional any_there
   there i k b d es h = rw d (go (item m i (entry k w ∷ es)) h)
     where
-      go : (r : Read (book.ItemMeaning i)) → foundOf (otherItem i) r ≡ found.Entries 1 b → foundOf (anyThere (otherItem i)) (and_then r (λ a n. got (some a) n)) ≡ found.Entries 1 b
+      go : (r : Read (book.ItemMeaning i)) → found_of (other_item i) r ≡ found.Entries 1 b → found_of (any_there (other_item i)) (and_then r (λ a n. got (some a) n)) ≡ found.Entries 1 b
       go (got a n) h = h
       go bad h = h
 
   values : (k : ℕ) → eqb k 21 ≡ false → Alone m k w 2 → Digits 132 k
-  unfolding digitFields
+  unfolding digit_fields
   values k d a = tt & tt & a & tt & tt & tt & tt & (λ es. there book.Item.value k (eqb k 37) d es (a es)) & tt & tt & tt & tt & tt & tt & tt & tt & tt
 
   indices : Alone m 22 w 4 → Digits 16 22
   indices a = tt & tt & tt & tt & a & tt & tt & tt & tt & tt & tt & tt & tt & tt & tt & tt & tt
 
   blocks : Alone m 23 w 3 → Digits 264 23
-  unfolding digitFields
+  unfolding digit_fields
   blocks a = tt & tt & tt & a & tt & tt & tt & tt & (λ es. there book.Item.block 23 false refl es (a es)) & tt & tt & tt & tt & tt & tt & tt & tt
 
   absents : w ≡ 0 → Digits 480 21
-  unfolding openBook digitFields
+  unfolding open_book digit_fields
   absents z = tt & tt & tt & tt & tt & (λ es. rw z) & (λ es. rw z) & (λ es. rw z) & (λ es. rw z) & tt & tt & tt & tt & tt & tt & tt & tt
 
   module _ (named : 1 ≤ m) where
@@ -113,10 +113,10 @@ module _ (m w : ℕ) where
 
     -- kind by kind
     abbrev Kind : ℕ → Type 0
-    Kind k = w ≤ get_or (rulesOf m) k 0 → (k ≡ 11 → widthOk w ≡ true) → Digits (get_or (rulesOf m) (k + 40) 0) k
+    Kind k = w ≤ get_or (rules_of m) k 0 → (k ≡ 11 → width_ok w ≡ true) → Digits (get_or (rules_of m) (k + 40) 0) k
 
     kinds : From Kind 0 40
-    unfolding openBook digitFields rulesOf
+    unfolding open_book digit_fields rules_of
     kinds =
         (λ h i. nothing 0)
         & (λ h i. nothing 1)
@@ -159,16 +159,16 @@ module _ (m w : ℕ) where
         & (λ h i. nothing 38)
         & (λ h i. nothing 39) & tt
 
-    rules-hold : (k d : ℕ) → k < 40 → d < 16 → w ≤ get_or (rulesOf m) k 0 → bit (get_or (rulesOf m) (k + 40) 0) d ≡ true → (k ≡ 11 → widthOk w ≡ true) → Alone m k w d
-    rules-hold k d hk hd h t i =
-        if-true _ t
-        (in-range (λ d. If (bit (get_or (rulesOf m) (k + 40) 0) d) (Alone m k w d)) 0 16 (in-range Kind 0 40 kinds k (omega arith) (omega arith) h i) d (omega arith) (omega arith))
+    rules_hold : (k d : ℕ) → k < 40 → d < 16 → w ≤ get_or (rules_of m) k 0 → bit (get_or (rules_of m) (k + 40) 0) d ≡ true → (k ≡ 11 → width_ok w ≡ true) → Alone m k w d
+    rules_hold k d hk hd h t i =
+        if_true_lem _ t
+        (in_range_lem (λ d. If (bit (get_or (rules_of m) (k + 40) 0) d) (Alone m k w d)) 0 16 (in_range_lem Kind 0 40 kinds k (omega arith) (omega arith) h i) d (omega arith) (omega arith))
 
     -- the same as one test
-    pub rules-tell : (rule : List ℕ) → rule ≡ rulesOf m → (k d : ℕ) → d < 16 → aloneBy rule k w d ≡ true → Alone m k w d
-    unfolding aloneBy
-    rules-tell rule er k d hd h =
+    pub rules_tell : (rule : List ℕ) → rule ≡ rules_of m → (k d : ℕ) → d < 16 → alone_by rule k w d ≡ true → Alone m k w d
+    unfolding alone_by
+    rules_tell rule er k d hd h =
         let s = both (leb k 39) _ h in
-        let q = both (leb w (get_or rule k 0) && bit (get_or rule (k + 40) 0) d) (not (eqb k 11) || widthOk w) s.1 in
+        let q = both (leb w (get_or rule k 0) && bit (get_or rule (k + 40) 0) d) (not (eqb k 11) || width_ok w) s.1 in
         let p = both (leb w (get_or rule k 0)) (bit (get_or rule (k + 40) 0) d) q.0 in
-        rules-hold k d (omega (arith, leb-true k 39 s.0)) hd (leb-true _ _ (rw er at p.0)) (rw er at p.1) (λ e. rw (eq-eqb k 11 e) at q.1)
+        rules_hold k d (omega (arith, leb-true k 39 s.0)) hd (leb-true _ _ (rw er at p.0)) (rw er at p.1) (λ e. rw (eq-eqb k 11 e) at q.1)

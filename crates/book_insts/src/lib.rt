@@ -1,12 +1,12 @@
 // Instructions, kinds 40 to 82, and terminators, kinds 90 to 93: an entry and the fields of its kind.
 ghost use Rattle.std.specs.Prelude.{◌≡◌, ◌-◌, ◌≤◌, ◌<◌, length};
 ghost use Rattle.book.specs.Entry.{entries};
-ghost use Rattle.book.specs.Kinds.{instTag, termTag};
+ghost use Rattle.book.specs.Kinds.{inst_tag, term_tag};
 ghost use Rattle.book.specs.Decode.{field as fieldReader};
-ghost use Rattle.book.specs.Forbidden.{otherField};
-ghost use Rattle.book_types.specs.Found.{foundOf};
-ghost use Rattle.book_insts.specs.Insts.{instGroupOf, termGroupOf, instShape, termShape, shapeFields, field_of, fieldsBehind};
-ghost use Rattle.book_insts.specs.Rules.{rulesOf, aloneBy};
+ghost use Rattle.book.specs.Forbidden.{other_field};
+ghost use Rattle.book_types.specs.Found.{found_of};
+ghost use Rattle.book_insts.specs.Insts.{inst_group_of, term_group_of, inst_shape, term_shape, shape_fields, field_of, fields_behind};
+ghost use Rattle.book_insts.specs.Rules.{rules_of, alone_by};
 
 use book::entry;
 use book_types::types::type_len;
@@ -36,7 +36,7 @@ pub enum InstGroup {
 }
 
 pub fn inst_group(kind: u64) -> InstGroup
-    ensures { result ≡ instGroupOf (instTag kind) }
+    ensures { result ≡ inst_group_of (inst_tag kind) }
 {
     match kind {
         entry::ADD..=entry::ASHR => InstGroup::Bin(kind - entry::ADD),
@@ -51,7 +51,7 @@ pub fn inst_group(kind: u64) -> InstGroup
 fn single_group(kind: u64) -> InstGroup
     requires le_kind { 70 ≤ kind }
     requires kind_bound { kind ≤ 82 }
-    ensures { result ≡ instGroupOf (instTag kind) }
+    ensures { result ≡ inst_group_of (inst_tag kind) }
 {
     match kind {
         entry::SELECT => InstGroup::Select,
@@ -81,7 +81,7 @@ pub enum TermGroup {
 }
 
 pub fn term_group(kind: u64) -> TermGroup
-    ensures { result ≡ termGroupOf (termTag kind) }
+    ensures { result ≡ term_group_of (term_tag kind) }
 {
     if kind < entry::RET {
         return TermGroup::Other;
@@ -107,7 +107,7 @@ pub enum Shape {
 }
 
 pub fn inst_fields(group: InstGroup) -> Shape
-    ensures { shapeFields result ≡ instShape group }
+    ensures { shape_fields result ≡ inst_shape group }
 {
     match group {
         InstGroup::Bin(_) => Shape::Known(0x221),
@@ -131,7 +131,7 @@ pub fn inst_fields(group: InstGroup) -> Shape
 }
 
 pub fn term_fields(group: TermGroup) -> Shape
-    ensures { shapeFields result ≡ termShape group }
+    ensures { shape_fields result ≡ term_shape group }
 {
     match group {
         TermGroup::Ret => Shape::Known(0x6),
@@ -145,7 +145,7 @@ pub fn term_fields(group: TermGroup) -> Shape
 // The field of a digit; a digit that is none of these stands for a type. Types and values, which most fields are, are read without a
 // call of `item_len`.
 pub fn field_len(kinds: &[u64], words: &[u64], names: u64, digit: u64) -> Found
-    ensures { result ≡ foundOf (otherField (field_of digit)) (fieldReader names (field_of digit) (entries kinds.now words.now)) }
+    ensures { result ≡ found_of (other_field (field_of digit)) (fieldReader names (field_of digit) (entries kinds.now words.now)) }
 {
     match digit {
         2 => atom_len(first_entry(kinds, words), names, Atom::Value),
@@ -165,7 +165,7 @@ pub fn field_len(kinds: &[u64], words: &[u64], names: u64, digit: u64) -> Found
 
 // The fields that follow an entry in a block: those of an instruction, whose word is a name + 1 or 0, or of a terminator, whose word is 0.
 pub fn fields_behind(kind: u64, word: u64, names: u64) -> Shape
-    ensures { shapeFields result ≡ fieldsBehind names kind word }
+    ensures { shape_fields result ≡ fields_behind names kind word }
 {
     if entry::RET <= kind {
         if word != 0 {
@@ -189,7 +189,7 @@ fn last_name(names: u64) -> u64
 // For each kind below 40 the largest word that an entry of it has where it is a field by itself, and behind these the digits of such
 // fields, a bit for each. The table is made once in a call and lent on.
 pub fn rules(names: u64) -> [u64; 80]
-    ensures { result ≡ rulesOf names }
+    ensures { result ≡ rules_of names }
 {
     let last = last_name(names);
     let mut rule = [0u64; 80];
@@ -228,7 +228,7 @@ pub fn rules(names: u64) -> [u64; 80]
 pub fn one_entry(kind: u64, word: u64, digit: u64, rule: &[u64]) -> bool
     requires rule_len { length rule.now ≡ 80 }
     requires digit_bound { digit < 16 }
-    ensures { result ≡ aloneBy rule.now kind word digit }
+    ensures { result ≡ alone_by rule.now kind word digit }
 {
     if entry::ADD <= kind {
         return false;

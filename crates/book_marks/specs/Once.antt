@@ -4,21 +4,21 @@ use Rattle.std.proofs.Common.{ap, sym, ◌∙◌, eqb-true, lt-ltb}
 use Rattle.std.proofs.Math.Bool.{and-true}
 use Rattle.std.proofs.lemmas.Bool.{eqb-false}
 use Rattle.std.proofs.lemmas.List.{length-replicate}
-use Rattle.numbers.specs.Bits.{bit_at, setBitAt, length-set-bit, bit-set-same, bit-set-other, bit-none}
+use Rattle.numbers.specs.Bits.{bit_at, set_bit_at, length_set_bit, bit_set_same, bit_set_other, bit_none}
 use Rattle.book.specs.Decode.{member, distinct}
 
 -- whether a number has a bit in the map that is not set yet
-abbrev pub isNew : List ℕ → ℕ → Bool
-isNew m x = ltb (x / 64) (length m) && not (bit_at m x)
+abbrev pub is_new : List ℕ → ℕ → Bool
+is_new m x = ltb (x / 64) (length m) && not (bit_at m x)
 
-abbrev pub setIf : Bool → List ℕ → ℕ → List ℕ
-setIf true m x = setBitAt m x
-setIf false m x = m
+abbrev pub set_if : Bool → List ℕ → ℕ → List ℕ
+set_if true m x = set_bit_at m x
+set_if false m x = m
 
 -- each number is new where it stands, its bit then set
-unfoldable pub allNew : List ℕ → List ℕ → Bool
-allNew m [] = true
-allNew m (x ∷ xs) = isNew m x && allNew (setBitAt m x) xs
+unfoldable pub all_new : List ℕ → List ℕ → Bool
+all_new m [] = true
+all_new m (x ∷ xs) = is_new m x && all_new (set_bit_at m x) xs
 
 -- ---- in a map large enough that is the same as no number occurring twice, nor being marked before
 abbrev pub AllBelow : ℕ → List ℕ → Type 0
@@ -30,12 +30,12 @@ apart m [] = true
 apart m (x ∷ xs) = not (bit_at m x) && apart m xs
 
 -- the bits that are set afterwards are those that were, and x
-pub bit-set : (m : List ℕ) (x y : ℕ) → x / 64 < length m → bit_at (setBitAt m x) y ≡ (eqb x y || bit_at m y)
-bit-set m x y h = go (eqb x y) refl
+pub bit_set : (m : List ℕ) (x y : ℕ) → x / 64 < length m → bit_at (set_bit_at m x) y ≡ (eqb x y || bit_at m y)
+bit_set m x y h = go (eqb x y) refl
   where
-    go : (b : Bool) → eqb x y ≡ b → bit_at (setBitAt m x) y ≡ (b || bit_at m y)
-    go true e = ap (bit_at (setBitAt m x)) (sym (eqb-true x y e)) ∙ bit-set-same m x h
-    go false e = bit-set-other m x y (λ z. eqb-false x y e (sym z))
+    go : (b : Bool) → eqb x y ≡ b → bit_at (set_bit_at m x) y ≡ (b || bit_at m y)
+    go true e = ap (bit_at (set_bit_at m x)) (sym (eqb-true x y e)) ∙ bit_set_same m x h
+    go false e = bit_set_other m x y (λ z. eqb-false x y e (sym z))
 
 -- sums of tests
 swap : (a b c d : Bool) → (a && (b && (c && d))) ≡ ((c && b) && (a && d))
@@ -48,10 +48,10 @@ swap false true false d = refl
 swap false false true d = refl
 swap false false false d = refl
 
-apart-set : (m : List ℕ) (x : ℕ) → x / 64 < length m → (xs : List ℕ) → apart (setBitAt m x) xs ≡ (not (member x xs) && apart m xs)
+apart_set : (m : List ℕ) (x : ℕ) → x / 64 < length m → (xs : List ℕ) → apart (set_bit_at m x) xs ≡ (not (member x xs) && apart m xs)
 unfolding apart member
-apart-set m x h [] = refl
-apart-set m x h (y ∷ ys) = rw (bit-set m x y h, apart-set m x h ys) (go (eqb x y) (bit_at m y) (member x ys) (apart m ys))
+apart_set m x h [] = refl
+apart_set m x h (y ∷ ys) = rw (bit_set m x y h, apart_set m x h ys) (go (eqb x y) (bit_at m y) (member x ys) (apart m ys))
   where
     go : (a b c d : Bool) → (not (a || b) && (not c && d)) ≡ (not (a || c) && (not b && d))
     go true b c d = refl
@@ -60,18 +60,18 @@ apart-set m x h (y ∷ ys) = rw (bit-set m x y h, apart-set m x h ys) (go (eqb x
     go false false true d = refl
     go false false false d = refl
 
-all_new : (m : List ℕ) (xs : List ℕ) → AllBelow (length m) xs → allNew m xs ≡ (distinct xs && apart m xs)
-unfolding allNew distinct apart
-all_new m [] h = refl
-all_new m (x ∷ xs) h =
-    let ih : allNew (setBitAt m x) xs ≡ (distinct xs && apart (setBitAt m x) xs) = all_new (setBitAt m x) xs (rw (length-set-bit m x) h.1) in
-    rw (lt-ltb (x / 64) (length m) h.0, ih, apart-set m x h.0 xs) (swap (not (bit_at m x)) (distinct xs) (not (member x xs)) (apart m xs))
+all_new_lem : (m : List ℕ) (xs : List ℕ) → AllBelow (length m) xs → all_new m xs ≡ (distinct xs && apart m xs)
+unfolding all_new distinct apart
+all_new_lem m [] h = refl
+all_new_lem m (x ∷ xs) h =
+    let ih : all_new (set_bit_at m x) xs ≡ (distinct xs && apart (set_bit_at m x) xs) = all_new_lem (set_bit_at m x) xs (rw (length_set_bit m x) h.1) in
+    rw (lt-ltb (x / 64) (length m) h.0, ih, apart_set m x h.0 xs) (swap (not (bit_at m x)) (distinct xs) (not (member x xs)) (apart m xs))
 
 apart_none : (n : ℕ) (xs : List ℕ) → apart (replicate n 0) xs ≡ true
 unfolding apart
 apart_none n [] = refl
-apart_none n (x ∷ xs) = rw (bit-none n x, apart_none n xs)
+apart_none n (x ∷ xs) = rw (bit_none n x, apart_none n xs)
 
 -- from an empty map
-pub new-distinct : (n : ℕ) (xs : List ℕ) → AllBelow n xs → allNew (replicate n 0) xs ≡ distinct xs
-new-distinct n xs h = all_new (replicate n 0) xs (rw (length-replicate {A = ℕ} n 0) h) ∙ rw (apart_none n xs) (and-true (distinct xs))
+pub new_distinct : (n : ℕ) (xs : List ℕ) → AllBelow n xs → all_new (replicate n 0) xs ≡ distinct xs
+new_distinct n xs h = all_new_lem (replicate n 0) xs (rw (length-replicate {A = ℕ} n 0) h) ∙ rw (apart_none n xs) (and-true (distinct xs))

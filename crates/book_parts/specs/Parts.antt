@@ -10,34 +10,34 @@ use mathlib.Core.List.{List, [], ◌∷◌, ◌++◌}
 use borrow.Author.Tests.{eqb-true, eqb-false, eq-eqb, ne_eqb, le-leb, lt-leb, le-ltb, lt-ltb}
 use Rattle.std.proofs.Math.ListN.{drop, drop_of_length-le}
 use Rattle.std.proofs.Math.Dec.{ltb}
-use Rattle.numbers.specs.Bits.{bit_at, setBitAt}
+use Rattle.numbers.specs.Bits.{bit_at, set_bit_at}
 use Rattle.book.specs.Entry.{Entry, entry, entries}
 use Rattle.book.specs.Ast.{Ty, Mark, StructBody, StructType, Function}
 use Rattle.book.specs.Rule.{when, unmentioned}
-use Rattle.book.specs.Kinds.{TyTag, tyTag}
-use Rattle.book.specs.Read.{Read, got, bad, Reader, and_then, taking, one, filtered, stops, mapped, until, word, closing, isClosing, list_of, many}
-use Rattle.book.specs.Decode.{type, markAs, mark, body_of, structBody, structType, function, functions, structsAndFunctions, parts}
-use Rattle.book.specs.Encode.{encTy, encStruct, encFunction}
-use Rattle.book.specs.Forbidden.{forbiddenFunction}
+use Rattle.book.specs.Kinds.{TyTag, ty_tag}
+use Rattle.book.specs.Read.{Read, got, bad, Reader, and_then, taking, one, filtered, stops, mapped, until, word, closing, is_closing, list_of, many}
+use Rattle.book.specs.Decode.{type, mark_as, mark, body_of, struct_body, struct_type, function, functions, structs_and_functions, parts}
+use Rattle.book.specs.Encode.{enc_ty, enc_struct, enc_function}
+use Rattle.book.specs.Forbidden.{forbidden_function}
 use Rattle.book.specs.Agree.{Agrees}
-use Rattle.book.specs.AgreeTy.{agrees-type, ty-found}
-use Rattle.book.specs.AgreeBook.{agrees-function, agrees-structType, agrees-functions, agrees-structs}
-use Rattle.book_types.specs.Length.{len_of, lenIf, frontOf}
-use Rattle.book_types.specs.Groups.{typeGroupOf}
-use Rattle.book_values.specs.Items.{pickLen}
-use Rattle.book_types.specs.Laws.{length-entries, entry_at, entries-part, lentFrom, len-fits}
+use Rattle.book.specs.AgreeTy.{agrees_type, ty_found}
+use Rattle.book.specs.AgreeBook.{agrees_function, agrees_struct_type, agrees_functions, agrees_structs}
+use Rattle.book_types.specs.Length.{len_of, len_if, front_of}
+use Rattle.book_types.specs.Groups.{type_group_of}
+use Rattle.book_values.specs.Items.{pick_len}
+use Rattle.book_types.specs.Laws.{length_entries, entry_at, entries_part, lent_from, len_fits}
 use Rattle.book_types.specs.declared.Length.{Length}
 use Rattle.book_types.specs.declared.Length.TheVariants as len
 use Rattle.book_types.specs.declared.Front.{Front}
 use Rattle.book_types.specs.declared.Front.TheVariants as front
 use Rattle.book_types.specs.declared.types.TypeGroup.{TypeGroup}
 use Rattle.book_types.specs.declared.types.TypeGroup.TheVariants as group
-use Rattle.book_marks.specs.Once.{isNew, setIf}
-use Rattle.book_types.specs.Found.{foundOf, joined, FoundRoom, never}
+use Rattle.book_marks.specs.Once.{is_new, set_if}
+use Rattle.book_types.specs.Found.{found_of, joined, FoundRoom, never}
 use Rattle.book_types.specs.declared.Found.{Found}
 use Rattle.book_types.specs.declared.Found.TheVariants as found
-use Rattle.book_parts.specs.Reading.{answered, folded, endFound, allFound, functionTaken, functionsClosed, functionsEnded, functionsFound, structTaken, structsClosed, namedFound, markedBy, structsEnded, marksFound, markTaken}
-use Rattle.book_parts.specs.Folds.{Fold, fold_start, fold_end, fold-bad, fold-full, fold-refused, fold_next, NameFirst, ItemAt, item-none, item-at}
+use Rattle.book_parts.specs.Reading.{answered, folded, end_found, all_found, function_taken, functions_closed, functions_ended, functions_found, struct_taken, structs_closed, named_found, marked_by, structs_ended, marks_found, mark_taken}
+use Rattle.book_parts.specs.Folds.{Fold, fold_start, fold_end, fold_bad, fold_full, fold_refused, fold_next, NameFirst, ItemAt, item_none, item_at}
 
 no : false ≡ true → ⊥
 no e = let z : ◌≡◌ {A = ℕ} 0 1 = cc in omega arith
@@ -45,44 +45,44 @@ no e = let z : ◌≡◌ {A = ℕ} 0 1 = cc in omega arith
 yes : true ≡ false → ⊥
 yes e = let z : ◌≡◌ {A = ℕ} 0 1 = cc in omega arith
 
-abbrev pub isStructGroup : TypeGroup → Bool
-isStructGroup group.Void = false
-isStructGroup group.Int = false
-isStructGroup group.Ptr = false
-isStructGroup (group.Array p) = false
-isStructGroup group.Named = false
-isStructGroup (group.Struct p) = true
-isStructGroup group.Sizeless = false
-isStructGroup group.Other = false
+abbrev pub is_struct_group : TypeGroup → Bool
+is_struct_group group.Void = false
+is_struct_group group.Int = false
+is_struct_group group.Ptr = false
+is_struct_group (group.Array p) = false
+is_struct_group group.Named = false
+is_struct_group (group.Struct p) = true
+is_struct_group group.Sizeless = false
+is_struct_group group.Other = false
 
-kind-is : (k w : ℕ) (e : Entry) (es rs : List Entry) → entry k w ∷ es ≡ e ∷ rs → k ≡ e.kind
-kind-is k w e es rs h = let z : entry k w ≡ e = cc in ap (λ x. x.kind) z
+kind_is : (k w : ℕ) (e : Entry) (es rs : List Entry) → entry k w ∷ es ≡ e ∷ rs → k ≡ e.kind
+kind_is k w e es rs h = let z : entry k w ≡ e = cc in ap (λ x. x.kind) z
 
 -- a type that was read is a struct exactly where its kind is a struct's
-body-len : (m : ℕ) (t : Ty) (n k w : ℕ) (es r : List Entry) → entry k w ∷ es ≡ encTy t ++ r → len_of (body_of m t n) ≡ pickLen (isStructGroup (typeGroupOf (tyTag k))) (len.Entries n) len.Bad
-unfolding body_of encTy
-body-len m Ty.void n k w es r e = sym (rw (kind-is k w _ es _ e, ty-found TyTag.void))
-body-len m Ty.ptr n k w es r e = sym (rw (kind-is k w _ es _ e, ty-found TyTag.ptr))
-body-len m (Ty.sizeless s) n k w es r e = sym (rw (kind-is k w _ es _ e, ty-found (TyTag.sizeless s)))
-body-len m (Ty.int v) n k w es r e = sym (rw (kind-is k w _ es _ e, ty-found TyTag.int))
-body-len m (Ty.array p l t) n k w es r e = sym (rw (kind-is k w _ es _ e, ty-found (TyTag.array p)))
-body-len m (Ty.namedStruct x) n k w es r e = sym (rw (kind-is k w _ es _ e, ty-found TyTag.named))
-body-len m (Ty.struct p ts) n k w es r e = sym (rw (kind-is k w _ es _ e, ty-found (TyTag.struct p)))
+body_len : (m : ℕ) (t : Ty) (n k w : ℕ) (es r : List Entry) → entry k w ∷ es ≡ enc_ty t ++ r → len_of (body_of m t n) ≡ pick_len (is_struct_group (type_group_of (ty_tag k))) (len.Entries n) len.Bad
+unfolding body_of enc_ty
+body_len m Ty.void n k w es r e = sym (rw (kind_is k w _ es _ e, ty_found TyTag.void))
+body_len m Ty.ptr n k w es r e = sym (rw (kind_is k w _ es _ e, ty_found TyTag.ptr))
+body_len m (Ty.sizeless s) n k w es r e = sym (rw (kind_is k w _ es _ e, ty_found (TyTag.sizeless s)))
+body_len m (Ty.int v) n k w es r e = sym (rw (kind_is k w _ es _ e, ty_found TyTag.int))
+body_len m (Ty.array p l t) n k w es r e = sym (rw (kind_is k w _ es _ e, ty_found (TyTag.array p)))
+body_len m (Ty.named_struct x) n k w es r e = sym (rw (kind_is k w _ es _ e, ty_found TyTag.named))
+body_len m (Ty.struct p ts) n k w es r e = sym (rw (kind_is k w _ es _ e, ty_found (TyTag.struct p)))
 
 -- the arms of the code
-module _ (m : ℕ) (es : List Entry) (f : Front) (ef : f ≡ frontOf es) where
-  pub body-none : f ≡ front.Nothing → len.Bad ≡ len_of (structBody m es)
-  unfolding structBody frontOf
-  body-none h = go es (sym ef ∙ h)
+module _ (m : ℕ) (es : List Entry) (f : Front) (ef : f ≡ front_of es) where
+  pub body_none : f ≡ front.Nothing → len.Bad ≡ len_of (struct_body m es)
+  unfolding struct_body front_of
+  body_none h = go es (sym ef ∙ h)
     where
-      go : (es : List Entry) → frontOf es ≡ front.Nothing → len.Bad ≡ len_of (structBody m es)
+      go : (es : List Entry) → front_of es ≡ front.Nothing → len.Bad ≡ len_of (struct_body m es)
       go [] e = refl
       go (e ∷ es) i = absurd (let z : ◌≡◌ {A = ℕ} 0 1 = cc in omega arith)
 
   module _ (k w : ℕ) (h : f ≡ front.Entry k w) where
     -- the entries, with the entry in front taken apart
-    apart : (es : List Entry) → frontOf es ≡ front.Entry k w → (rs : List Entry) × (es ≡ entry k w ∷ rs)
-    unfolding frontOf
+    apart : (es : List Entry) → front_of es ≡ front.Entry k w → (rs : List Entry) × (es ≡ entry k w ∷ rs)
+    unfolding front_of
     apart [] i = absurd (let z : ◌≡◌ {A = ℕ} 0 1 = cc in omega arith)
     apart (e ∷ es) i = (es, ap (λ x. x ∷ es) (λ j. record { kind = ik j; word = iw j }))
       where
@@ -92,272 +92,272 @@ module _ (m : ℕ) (es : List Entry) (f : Front) (ef : f ≡ frontOf es) where
         iw : e.word ≡ w
         iw = cc
 
-    pub body-opaque : k ≡ 4 → (r : Length) → r ≡ lenIf (eqb w 0) → r ≡ len_of (structBody m es)
-    unfolding structBody
-    body-opaque e4 r er = let a = apart es (sym ef ∙ h) in er ∙ sym (rw (a.1, eq-eqb k 4 e4) (go (eqb w 0)))
+    pub body_opaque : k ≡ 4 → (r : Length) → r ≡ len_if (eqb w 0) → r ≡ len_of (struct_body m es)
+    unfolding struct_body
+    body_opaque e4 r er = let a = apart es (sym ef ∙ h) in er ∙ sym (rw (a.1, eq-eqb k 4 e4) (go (eqb w 0)))
       where
-        go : (b : Bool) → len_of (taking {A = Option StructBody} 1 (when b none)) ≡ lenIf b
+        go : (b : Bool) → len_of (taking {A = Option StructBody} 1 (when b none)) ≡ len_if b
         go true = refl
         go false = refl
 
     module _ (d : k ≡ 4 → ⊥) where
-      typed : (rs : List Entry) (r : Read Ty) → type m (entry k w ∷ rs) ≡ r → len_of (and_then r (body_of m)) ≡ pickLen (isStructGroup (typeGroupOf (tyTag k))) (len_of r) len.Bad
-      typed rs (got t n) er = body-len m t n k w rs _ ((agrees-type m).sound (entry k w ∷ rs) t n er).here
-      typed rs bad er = go (isStructGroup (typeGroupOf (tyTag k)))
+      typed : (rs : List Entry) (r : Read Ty) → type m (entry k w ∷ rs) ≡ r → len_of (and_then r (body_of m)) ≡ pick_len (is_struct_group (type_group_of (ty_tag k))) (len_of r) len.Bad
+      typed rs (got t n) er = body_len m t n k w rs _ ((agrees_type m).sound (entry k w ∷ rs) t n er).here
+      typed rs bad er = go (is_struct_group (type_group_of (ty_tag k)))
         where
-          go : (b : Bool) → len.Bad ≡ pickLen b len.Bad len.Bad
+          go : (b : Bool) → len.Bad ≡ pick_len b len.Bad len.Bad
           go true = refl
           go false = refl
 
-      body_is : len_of (structBody m es) ≡ pickLen (isStructGroup (typeGroupOf (tyTag k))) (len_of (type m es)) len.Bad
-      unfolding structBody
+      body_is : len_of (struct_body m es) ≡ pick_len (is_struct_group (type_group_of (ty_tag k))) (len_of (type m es)) len.Bad
+      unfolding struct_body
       body_is = let a = apart es (sym ef ∙ h) in rw (a.1, ne_eqb k 4 d) (typed a.0 (type m (entry k w ∷ a.0)) refl)
 
-      module _ (g : TypeGroup) (t : Bool) (eg : g ≡ typeGroupOf (tyTag k)) (et : t ≡ isStructGroup g) where
-        test-is : isStructGroup (typeGroupOf (tyTag k)) ≡ t
-        test-is = sym (et ∙ ap isStructGroup eg)
+      module _ (g : TypeGroup) (t : Bool) (eg : g ≡ type_group_of (ty_tag k)) (et : t ≡ is_struct_group g) where
+        test_is : is_struct_group (type_group_of (ty_tag k)) ≡ t
+        test_is = sym (et ∙ ap is_struct_group eg)
 
-        pub body-struct : t ≡ true → (r : Length) → r ≡ len_of (type m es) → r ≡ len_of (structBody m es)
-        body-struct e r er = er ∙ sym (body_is ∙ rw (test-is, e))
+        pub body_struct : t ≡ true → (r : Length) → r ≡ len_of (type m es) → r ≡ len_of (struct_body m es)
+        body_struct e r er = er ∙ sym (body_is ∙ rw (test_is, e))
 
-        pub body-other : t ≡ false → len.Bad ≡ len_of (structBody m es)
-        body-other e = sym (body_is ∙ rw (test-is, e))
+        pub body_other : t ≡ false → len.Bad ≡ len_of (struct_body m es)
+        body_other e = sym (body_is ∙ rw (test_is, e))
 
-pub no-functions : (m : ℕ) → functions m [] ≡ bad
+pub no_functions : (m : ℕ) → functions m [] ≡ bad
 unfolding functions filtered many list_of mapped until stops closing word one
-no-functions m = refl
+no_functions m = refl
 
-pub no-structs : (m : ℕ) → structsAndFunctions m [] ≡ bad
-unfolding structsAndFunctions until stops mapped
-no-structs m = rw (no-functions m)
+pub no_structs : (m : ℕ) → structs_and_functions m [] ≡ bad
+unfolding structs_and_functions until stops mapped
+no_structs m = rw (no_functions m)
 
 -- ---- functions
 -- what is found of the functions is what is found of the items that close with kind 0
-functions-found : (barred defined : List ℕ) (m : ℕ) (es : List Entry)
-    → functionsFound barred defined (functions m es) ≡ allFound (functionTaken barred) (functionsClosed barred) (defined, (false, false)) (until isClosing (function m) closing (length es) es)
+functions_found_lem : (barred defined : List ℕ) (m : ℕ) (es : List Entry)
+    → functions_found barred defined (functions m es) ≡ all_found (function_taken barred) (functions_closed barred) (defined, (false, false)) (until is_closing (function m) closing (length es) es)
 unfolding functions filtered many list_of mapped folded
-functions-found barred defined m es = go (until isClosing (function m) closing (length es) es)
+functions_found_lem barred defined m es = go (until is_closing (function m) closing (length es) es)
   where
     go : (r : Read (List Function × Unit {0}))
-        → functionsFound barred defined (and_then (and_then r (λ a n. got a.0 n)) (λ fs n. taking n (when (leb 1 (length fs)) fs)))
-        ≡ allFound (functionTaken barred) (functionsClosed barred) (defined, (false, false)) r
+        → functions_found barred defined (and_then (and_then r (λ a n. got a.0 n)) (λ fs n. taking n (when (leb 1 (length fs)) fs)))
+        ≡ all_found (function_taken barred) (functions_closed barred) (defined, (false, false)) r
     go (got ([], u) n) = refl
     go (got (f ∷ fs, u) n) = rw (le-leb 1 (length (f ∷ fs)) (omega arith))
     go bad = refl
 
-function-first : (f : Function) → NameFirst (encFunction f) f.name
-unfolding encFunction
-function-first f = (5, (_, refl))
+function_first : (f : Function) → NameFirst (enc_function f) f.name
+unfolding enc_function
+function_first f = (5, (_, refl))
 
 -- the loop, at the place a: the names that occurred, whether there was one, and whether something was forbidden
 abbrev pub FunctionsFold : (barred defined : List ℕ) (m : ℕ) (ks ws : List ℕ) (a left : ℕ) (now : List ℕ) (seen : Bool) → Type 0
 FunctionsFold barred defined m ks ws a left now seen =
-    Fold (functionTaken barred) (functionsClosed barred) isClosing (function m) closing (defined, (false, false)) (length (entries ks ws)) ks ws a left (now, (ltb 0 a, seen))
+    Fold (function_taken barred) (functions_closed barred) is_closing (function m) closing (defined, (false, false)) (length (entries ks ws)) ks ws a left (now, (ltb 0 a, seen))
 
-pub functions-start : (barred defined : List ℕ) (m : ℕ) (ks ws : List ℕ) (left : ℕ) → left ≡ length (entries ks ws) → FunctionsFold barred defined m ks ws 0 left defined false
-functions-start barred defined m ks ws left e =
-    fold_start (functionTaken barred) (functionsClosed barred) isClosing (function m) closing (defined, (false, false)) (length (entries ks ws)) ks ws left e
+pub functions_start : (barred defined : List ℕ) (m : ℕ) (ks ws : List ℕ) (left : ℕ) → left ≡ length (entries ks ws) → FunctionsFold barred defined m ks ws 0 left defined false
+functions_start barred defined m ks ws left e =
+    fold_start (function_taken barred) (functions_closed barred) is_closing (function m) closing (defined, (false, false)) (length (entries ks ws)) ks ws left e
 
 module _ (barred defined : List ℕ) (m : ℕ) (ks ws : List ℕ) (a left : ℕ) (now : List ℕ) (seen : Bool) (l : FunctionsFold barred defined m ks ws a left now seen) where
-  abbrev functionsWhole : Found
-  functionsWhole = functionsFound barred defined (functions m (entries ks ws))
+  abbrev functions_whole : Found
+  functions_whole = functions_found barred defined (functions m (entries ks ws))
 
-  abbrev functionsRest : List Entry
-  functionsRest = drop a (entries ks ws)
+  abbrev functions_rest : List Entry
+  functions_rest = drop a (entries ks ws)
 
-  functions-end : stops isClosing functionsRest ≡ true → (r x : Found) → r ≡ endFound (functionsClosed barred) (now, (ltb 0 a, seen)) (closing functionsRest)
-      → x ≡ joined a false r → x ≡ functionsWhole
-  functions-end t r x er ex =
-      fold_end (functionTaken barred) (functionsClosed barred) isClosing (function m) closing (defined, (false, false)) (length (entries ks ws)) ks ws a left _ l t r x er ex
-      ∙ sym (functions-found barred defined m (entries ks ws))
+  functions_end : stops is_closing functions_rest ≡ true → (r x : Found) → r ≡ end_found (functions_closed barred) (now, (ltb 0 a, seen)) (closing functions_rest)
+      → x ≡ joined a false r → x ≡ functions_whole
+  functions_end t r x er ex =
+      fold_end (function_taken barred) (functions_closed barred) is_closing (function m) closing (defined, (false, false)) (length (entries ks ws)) ks ws a left _ l t r x er ex
+      ∙ sym (functions_found_lem barred defined m (entries ks ws))
 
-  pub functions-over : length (entries ks ws) ≤ a → found.Bad ≡ functionsWhole
+  pub functions_over : length (entries ks ws) ≤ a → found.Bad ≡ functions_whole
   unfolding stops closing word one
-  functions-over h =
-      let e : functionsRest ≡ [] = drop_of_length-le (entries ks ws) h in
-      functions-end (rw e) found.Bad _ (rw e) refl
+  functions_over h =
+      let e : functions_rest ≡ [] = drop_of_length-le (entries ks ws) h in
+      functions_end (rw e) found.Bad _ (rw e) refl
 
   module _ (h : a < length (entries ks ws)) where
-    functions-front : functionsRest ≡ entry (get_or ks a 0) (get_or ws a 0) ∷ drop (a + 1) (entries ks ws)
-    functions-front = entry_at ks ws a h
+    functions_front : functions_rest ≡ entry (get_or ks a 0) (get_or ws a 0) ∷ drop (a + 1) (entries ks ws)
+    functions_front = entry_at ks ws a h
 
     -- the entry that closes them
     module _ (z : get_or ks a 0 ≡ 0) where
-      closing-stops : stops isClosing functionsRest ≡ true
+      closing_stops : stops is_closing functions_rest ≡ true
       unfolding stops
-      closing-stops = rw functions-front (eq-eqb (get_or ks a 0) 0 z)
+      closing_stops = rw functions_front (eq-eqb (get_or ks a 0) 0 z)
 
-      closing-is : closing functionsRest ≡ taking 1 (unmentioned (get_or ws a 0))
+      closing_is : closing functions_rest ≡ taking 1 (unmentioned (get_or ws a 0))
       unfolding closing word one
-      closing-is = rw (functions-front, eq-eqb (get_or ks a 0) 0 z)
+      closing_is = rw (functions_front, eq-eqb (get_or ks a 0) 0 z)
 
-      pub functions-none : (eqb a 0 || not (eqb (get_or ws a 0) 0)) ≡ true → found.Bad ≡ functionsWhole
-      functions-none d = functions-end closing-stops found.Bad _ (sym (ap (endFound (functionsClosed barred) (now, (ltb 0 a, seen))) closing-is ∙ go (eqb a 0) refl (eqb (get_or ws a 0) 0) d)) refl
+      pub functions_none : (eqb a 0 || not (eqb (get_or ws a 0) 0)) ≡ true → found.Bad ≡ functions_whole
+      functions_none d = functions_end closing_stops found.Bad _ (sym (ap (end_found (functions_closed barred) (now, (ltb 0 a, seen))) closing_is ∙ go (eqb a 0) refl (eqb (get_or ws a 0) 0) d)) refl
         where
-          go : (t : Bool) → eqb a 0 ≡ t → (u : Bool) → (t || not u) ≡ true → endFound (functionsClosed barred) (now, (ltb 0 a, seen)) (taking 1 (when u tt)) ≡ found.Bad
+          go : (t : Bool) → eqb a 0 ≡ t → (u : Bool) → (t || not u) ≡ true → end_found (functions_closed barred) (now, (ltb 0 a, seen)) (taking 1 (when u tt)) ≡ found.Bad
           go true e true q = rw (eqb-true a 0 e)
           go true e false q = refl
           go false e true q = absurd (no q)
           go false e false q = refl
 
-      pub functions-done : (eqb a 0 || not (eqb (get_or ws a 0) 0)) ≡ false → found.Entries (a + 1) seen ≡ functionsWhole
-      functions-done d = functions-end closing-stops (found.Entries 1 seen) _ (sym (ap (endFound (functionsClosed barred) (now, (ltb 0 a, seen))) closing-is ∙ go (eqb a 0) refl (eqb (get_or ws a 0) 0) d)) refl
+      pub functions_done : (eqb a 0 || not (eqb (get_or ws a 0) 0)) ≡ false → found.Entries (a + 1) seen ≡ functions_whole
+      functions_done d = functions_end closing_stops (found.Entries 1 seen) _ (sym (ap (end_found (functions_closed barred) (now, (ltb 0 a, seen))) closing_is ∙ go (eqb a 0) refl (eqb (get_or ws a 0) 0) d)) refl
         where
-          go : (t : Bool) → eqb a 0 ≡ t → (u : Bool) → (t || not u) ≡ false → endFound (functionsClosed barred) (now, (ltb 0 a, seen)) (taking 1 (when u tt)) ≡ found.Entries 1 seen
+          go : (t : Bool) → eqb a 0 ≡ t → (u : Bool) → (t || not u) ≡ false → end_found (functions_closed barred) (now, (ltb 0 a, seen)) (taking 1 (when u tt)) ≡ found.Entries 1 seen
           go true e u q = absurd (yes q)
           go false e true q = rw (lt-ltb 0 a (omega (arith, eqb-false a 0 e)))
           go false e false q = absurd (yes q)
 
     -- a function
-    module _ (z : get_or ks a 0 ≡ 0 → ⊥) (f : Found) (ef : f ≡ foundOf (forbiddenFunction (bit_at barred)) (function m (lentFrom ks ws a))) where
-      function-more : stops isClosing functionsRest ≡ false
+    module _ (z : get_or ks a 0 ≡ 0 → ⊥) (f : Found) (ef : f ≡ found_of (forbidden_function (bit_at barred)) (function m (lent_from ks ws a))) where
+      function_more : stops is_closing functions_rest ≡ false
       unfolding stops
-      function-more = rw functions-front (ne_eqb (get_or ks a 0) 0 z)
+      function_more = rw functions_front (ne_eqb (get_or ks a 0) 0 z)
 
-      pub functions-bad : f ≡ found.Bad → found.Bad ≡ functionsWhole
-      functions-bad e =
-          fold-bad (functionTaken barred) (functionsClosed barred) isClosing (function m) closing (defined, (false, false)) (length (entries ks ws)) ks ws a left _ l function-more
-          (item-none (agrees-function m) (forbiddenFunction (bit_at barred)) (λ x. x.name) function-first ks ws a l.there f ef e)
-          ∙ sym (functions-found barred defined m (entries ks ws))
+      pub functions_bad : f ≡ found.Bad → found.Bad ≡ functions_whole
+      functions_bad e =
+          fold_bad (function_taken barred) (functions_closed barred) is_closing (function m) closing (defined, (false, false)) (length (entries ks ws)) ks ws a left _ l function_more
+          (item_none (agrees_function m) (forbidden_function (bit_at barred)) (λ x. x.name) function_first ks ws a l.there f ef e)
+          ∙ sym (functions_found_lem barred defined m (entries ks ws))
 
-      pub functions-full : left ≡ 0 → found.Bad ≡ functionsWhole
-      functions-full e =
-          fold-full (functionTaken barred) (functionsClosed barred) isClosing (function m) closing (defined, (false, false)) (length (entries ks ws)) ks ws a left _ l function-more e
-          ∙ sym (functions-found barred defined m (entries ks ws))
+      pub functions_full : left ≡ 0 → found.Bad ≡ functions_whole
+      functions_full e =
+          fold_full (function_taken barred) (functions_closed barred) is_closing (function m) closing (defined, (false, false)) (length (entries ks ws)) ks ws a left _ l function_more e
+          ∙ sym (functions_found_lem barred defined m (entries ks ws))
 
       module _ (k : ℕ) (b : Bool) (eh : f ≡ found.Entries k b) where
-        pub function-at : ItemAt (function m) (forbiddenFunction (bit_at barred)) (λ x. x.name) ks ws a k b
-        function-at = item-at (agrees-function m) (forbiddenFunction (bit_at barred)) (λ x. x.name) function-first ks ws a l.there f ef k b eh
+        pub function_at : ItemAt (function m) (forbidden_function (bit_at barred)) (λ x. x.name) ks ws a k b
+        function_at = item_at (agrees_function m) (forbidden_function (bit_at barred)) (λ x. x.name) function_first ks ws a l.there f ef k b eh
 
-        module _ (r : Bool) (er : r ≡ isNew now (get_or ws a 0)) where
-          function-new : isNew now function-at.value.name ≡ r
-          function-new = ap (isNew now) function-at.name ∙ sym er
+        module _ (r : Bool) (er : r ≡ is_new now (get_or ws a 0)) where
+          function_new : is_new now function_at.value.name ≡ r
+          function_new = ap (is_new now) function_at.name ∙ sym er
 
-          pub functions-repeated : r ≡ false → found.Bad ≡ functionsWhole
-          functions-repeated t =
-              fold-refused (functionTaken barred) (functionsClosed barred) isClosing (function m) closing (defined, (false, false)) (length (entries ks ws)) ks ws a left _ l function-more
-              function-at.value k function-at.read (rw (function-new, t))
-              ∙ sym (functions-found barred defined m (entries ks ws))
+          pub functions_repeated : r ≡ false → found.Bad ≡ functions_whole
+          functions_repeated t =
+              fold_refused (function_taken barred) (functions_closed barred) is_closing (function m) closing (defined, (false, false)) (length (entries ks ws)) ks ws a left _ l function_more
+              function_at.value k function_at.read (rw (function_new, t))
+              ∙ sym (functions_found_lem barred defined m (entries ks ws))
 
-          pub functions-next : r ≡ true → (later : List ℕ) → later ≡ setIf r now (get_or ws a 0) → (left ≡ 0 → ⊥) → FunctionsFold barred defined m ks ws (a + k) (left - 1) later (seen || b)
-          functions-next t later el y =
-              let u : ◌≡◌ {A = List ℕ × (Bool × Bool)} (setBitAt now function-at.value.name, (true, seen || forbiddenFunction (bit_at barred) function-at.value)) (later, (ltb 0 (a + k), seen || b)) =
-              λ i. ((ap (setBitAt now) function-at.name ∙ sym (el ∙ ap (λ x. setIf x now (get_or ws a 0)) t)) i, (sym (lt-ltb 0 (a + k) (omega (arith, function-at.long))) i, seen || function-at.tested i)) in
-              fold_next (functionTaken barred) (functionsClosed barred) isClosing (function m) closing (defined, (false, false)) (length (entries ks ws)) ks ws a left _ l function-more
-              function-at.value k function-at.read _ (rw (function-new, t) (ap some u)) y function-at.there
+          pub functions_next : r ≡ true → (later : List ℕ) → later ≡ set_if r now (get_or ws a 0) → (left ≡ 0 → ⊥) → FunctionsFold barred defined m ks ws (a + k) (left - 1) later (seen || b)
+          functions_next t later el y =
+              let u : ◌≡◌ {A = List ℕ × (Bool × Bool)} (set_bit_at now function_at.value.name, (true, seen || forbidden_function (bit_at barred) function_at.value)) (later, (ltb 0 (a + k), seen || b)) =
+              λ i. ((ap (set_bit_at now) function_at.name ∙ sym (el ∙ ap (λ x. set_if x now (get_or ws a 0)) t)) i, (sym (lt-ltb 0 (a + k) (omega (arith, function_at.long))) i, seen || function_at.tested i)) in
+              fold_next (function_taken barred) (functions_closed barred) is_closing (function m) closing (defined, (false, false)) (length (entries ks ws)) ks ws a left _ l function_more
+              function_at.value k function_at.read _ (rw (function_new, t) (ap some u)) y function_at.there
 
 -- what the code finds leaves room for what stands before it
-found-room : {S A : Type 0} {p : Reader A} {write : A → List Entry} {Keeps : A → Type 0} → Agrees p write Keeps → (ended : S → A → Option Bool) (s : S) (ks ws : List ℕ) (a : ℕ) (x : Found)
-    → x ≡ endFound ended s (p (lentFrom ks ws a)) → a ≤ length ks → length ks < 2 ^ 64 → FoundRoom a x
-found-room {S} {A} {p} agrees ended s ks ws a x ex f g = subst (FoundRoom a) (sym ex) (go (p (lentFrom ks ws a)) refl)
+found_room : {S A : Type 0} {p : Reader A} {write : A → List Entry} {Keeps : A → Type 0} → Agrees p write Keeps → (ended : S → A → Option Bool) (s : S) (ks ws : List ℕ) (a : ℕ) (x : Found)
+    → x ≡ end_found ended s (p (lent_from ks ws a)) → a ≤ length ks → length ks < 2 ^ 64 → FoundRoom a x
+found_room {S} {A} {p} agrees ended s ks ws a x ex f g = subst (FoundRoom a) (sym ex) (go (p (lent_from ks ws a)) refl)
   where
-    sized : (k : ℕ) (o : Option Bool) → k ≤ length (lentFrom ks ws a) → FoundRoom a (answered k o)
+    sized : (k : ℕ) (o : Option Bool) → k ≤ length (lent_from ks ws a) → FoundRoom a (answered k o)
     sized k none h = tt
-    sized k (some b) h = omega (arith, length-entries (take (length ks - a) (drop a ks)) (take (length ws - a) (drop a ws)), length-take (length ks - a) (drop a ks))
+    sized k (some b) h = omega (arith, length_entries (take (length ks - a) (drop a ks)) (take (length ws - a) (drop a ws)), length-take (length ks - a) (drop a ks))
 
-    go : (r : Read A) → p (lentFrom ks ws a) ≡ r → FoundRoom a (endFound ended s r)
-    go (got y k) e = sized k (ended s y) (len-fits agrees (lentFrom ks ws a) k (ap len_of e))
+    go : (r : Read A) → p (lent_from ks ws a) ≡ r → FoundRoom a (end_found ended s r)
+    go (got y k) e = sized k (ended s y) (len_fits agrees (lent_from ks ws a) k (ap len_of e))
     go bad e = tt
 
-pub functions-room : (barred defined : List ℕ) (m : ℕ) (ks ws : List ℕ) (a : ℕ) (x : Found) → x ≡ functionsFound barred defined (functions m (lentFrom ks ws a))
+pub functions_room : (barred defined : List ℕ) (m : ℕ) (ks ws : List ℕ) (a : ℕ) (x : Found) → x ≡ functions_found barred defined (functions m (lent_from ks ws a))
     → a ≤ length ks → length ks < 2 ^ 64 → FoundRoom a x
-functions-room barred defined m = found-room (agrees-functions m) (functionsEnded barred) defined
+functions_room barred defined m = found_room (agrees_functions m) (functions_ended barred) defined
 
 -- ---- named structs
-struct-first : (s : StructType) → NameFirst (encStruct s) s.name
-unfolding encStruct
-struct-first s = (3, (_, refl))
+struct_first : (s : StructType) → NameFirst (enc_struct s) s.name
+unfolding enc_struct
+struct_first s = (3, (_, refl))
 
 -- the loop, at the place a
 abbrev pub NamedFold : (barred defined named : List ℕ) (m : ℕ) (ks ws : List ℕ) (a left : ℕ) (now : List ℕ) → Type 0
 NamedFold barred defined named m ks ws a left now =
-    Fold structTaken (structsClosed barred defined) (leb 4) (structType m) (functions m) named (length (entries ks ws)) ks ws a left now
+    Fold struct_taken (structs_closed barred defined) (leb 4) (struct_type m) (functions m) named (length (entries ks ws)) ks ws a left now
 
 pub named_start : (barred defined named : List ℕ) (m : ℕ) (ks ws : List ℕ) (left : ℕ) → left ≡ length (entries ks ws) → NamedFold barred defined named m ks ws 0 left named
 named_start barred defined named m ks ws left e =
-    fold_start structTaken (structsClosed barred defined) (leb 4) (structType m) (functions m) named (length (entries ks ws)) ks ws left e
+    fold_start struct_taken (structs_closed barred defined) (leb 4) (struct_type m) (functions m) named (length (entries ks ws)) ks ws left e
 
 module _ (barred defined named : List ℕ) (m : ℕ) (ks ws : List ℕ) (a left : ℕ) (now : List ℕ) (l : NamedFold barred defined named m ks ws a left now) where
-  abbrev namedWhole : Found
-  namedWhole = namedFound barred defined named (structsAndFunctions m (entries ks ws))
+  abbrev named_whole : Found
+  named_whole = named_found barred defined named (structs_and_functions m (entries ks ws))
 
-  abbrev namedRest : List Entry
-  namedRest = drop a (entries ks ws)
+  abbrev named_rest : List Entry
+  named_rest = drop a (entries ks ws)
 
-  functions-closed : (r : Read (List Function)) → endFound (structsClosed barred defined) now r ≡ functionsFound barred defined r
-  functions-closed (got fs n) = refl
-  functions-closed bad = refl
+  functions_closed_lem : (r : Read (List Function)) → end_found (structs_closed barred defined) now r ≡ functions_found barred defined r
+  functions_closed_lem (got fs n) = refl
+  functions_closed_lem bad = refl
 
-  pub named-over : length (entries ks ws) ≤ a → found.Bad ≡ namedWhole
-  unfolding structsAndFunctions stops
-  named-over h =
-      let e : namedRest ≡ [] = drop_of_length-le (entries ks ws) h in
-      fold_end structTaken (structsClosed barred defined) (leb 4) (structType m) (functions m) named (length (entries ks ws)) ks ws a left now l (rw e) found.Bad _ (rw (e, no-functions m)) refl
+  pub named_over : length (entries ks ws) ≤ a → found.Bad ≡ named_whole
+  unfolding structs_and_functions stops
+  named_over h =
+      let e : named_rest ≡ [] = drop_of_length-le (entries ks ws) h in
+      fold_end struct_taken (structs_closed barred defined) (leb 4) (struct_type m) (functions m) named (length (entries ks ws)) ks ws a left now l (rw e) found.Bad _ (rw (e, no_functions m)) refl
 
   module _ (h : a < length (entries ks ws)) where
-    named-front : namedRest ≡ entry (get_or ks a 0) (get_or ws a 0) ∷ drop (a + 1) (entries ks ws)
-    named-front = entry_at ks ws a h
+    named_front : named_rest ≡ entry (get_or ks a 0) (get_or ws a 0) ∷ drop (a + 1) (entries ks ws)
+    named_front = entry_at ks ws a h
 
-    pub named_end : 4 ≤ get_or ks a 0 → (r x : Found) → r ≡ functionsFound barred defined (functions m (lentFrom ks ws a)) → x ≡ joined a false r → x ≡ namedWhole
-    unfolding structsAndFunctions stops
+    pub named_end : 4 ≤ get_or ks a 0 → (r x : Found) → r ≡ functions_found barred defined (functions m (lent_from ks ws a)) → x ≡ joined a false r → x ≡ named_whole
+    unfolding structs_and_functions stops
     named_end t r x er ex =
-        fold_end structTaken (structsClosed barred defined) (leb 4) (structType m) (functions m) named (length (entries ks ws)) ks ws a left now l (rw named-front (le-leb 4 (get_or ks a 0) t)) r x
-        (er ∙ ap (λ es. functionsFound barred defined (functions m es)) (entries-part a ks ws) ∙ sym (functions-closed (functions m namedRest))) ex
+        fold_end struct_taken (structs_closed barred defined) (leb 4) (struct_type m) (functions m) named (length (entries ks ws)) ks ws a left now l (rw named_front (le-leb 4 (get_or ks a 0) t)) r x
+        (er ∙ ap (λ es. functions_found barred defined (functions m es)) (entries_part a ks ws) ∙ sym (functions_closed_lem (functions m named_rest))) ex
 
     -- a struct
-    module _ (t : get_or ks a 0 < 4) (f : Found) (ef : f ≡ foundOf never (structType m (lentFrom ks ws a))) where
-      struct-more : stops (leb 4) namedRest ≡ false
+    module _ (t : get_or ks a 0 < 4) (f : Found) (ef : f ≡ found_of never (struct_type m (lent_from ks ws a))) where
+      struct_more : stops (leb 4) named_rest ≡ false
       unfolding stops
-      struct-more = rw named-front (lt-leb 4 (get_or ks a 0) t)
+      struct_more = rw named_front (lt-leb 4 (get_or ks a 0) t)
 
-      pub named-bad : f ≡ found.Bad → found.Bad ≡ namedWhole
-      unfolding structsAndFunctions
-      named-bad e =
-          fold-bad structTaken (structsClosed barred defined) (leb 4) (structType m) (functions m) named (length (entries ks ws)) ks ws a left now l struct-more
-          (item-none (agrees-structType m) never (λ x. x.name) struct-first ks ws a l.there f ef e)
+      pub named_bad : f ≡ found.Bad → found.Bad ≡ named_whole
+      unfolding structs_and_functions
+      named_bad e =
+          fold_bad struct_taken (structs_closed barred defined) (leb 4) (struct_type m) (functions m) named (length (entries ks ws)) ks ws a left now l struct_more
+          (item_none (agrees_struct_type m) never (λ x. x.name) struct_first ks ws a l.there f ef e)
 
-      pub named-full : left ≡ 0 → found.Bad ≡ namedWhole
-      unfolding structsAndFunctions
-      named-full e = fold-full structTaken (structsClosed barred defined) (leb 4) (structType m) (functions m) named (length (entries ks ws)) ks ws a left now l struct-more e
+      pub named_full : left ≡ 0 → found.Bad ≡ named_whole
+      unfolding structs_and_functions
+      named_full e = fold_full struct_taken (structs_closed barred defined) (leb 4) (struct_type m) (functions m) named (length (entries ks ws)) ks ws a left now l struct_more e
 
       module _ (k : ℕ) (b : Bool) (eh : f ≡ found.Entries k b) where
-        pub struct_at : ItemAt (structType m) never (λ x. x.name) ks ws a k b
-        struct_at = item-at (agrees-structType m) never (λ x. x.name) struct-first ks ws a l.there f ef k b eh
+        pub struct_at : ItemAt (struct_type m) never (λ x. x.name) ks ws a k b
+        struct_at = item_at (agrees_struct_type m) never (λ x. x.name) struct_first ks ws a l.there f ef k b eh
 
-        module _ (r : Bool) (er : r ≡ isNew now (get_or ws a 0)) where
-          struct-new : isNew now struct_at.value.name ≡ r
-          struct-new = ap (isNew now) struct_at.name ∙ sym er
+        module _ (r : Bool) (er : r ≡ is_new now (get_or ws a 0)) where
+          struct_new : is_new now struct_at.value.name ≡ r
+          struct_new = ap (is_new now) struct_at.name ∙ sym er
 
-          pub named-repeated : r ≡ false → found.Bad ≡ namedWhole
-          unfolding structsAndFunctions
-          named-repeated e =
-              fold-refused structTaken (structsClosed barred defined) (leb 4) (structType m) (functions m) named (length (entries ks ws)) ks ws a left now l struct-more
-              struct_at.value k struct_at.read (rw (struct-new, e))
+          pub named_repeated : r ≡ false → found.Bad ≡ named_whole
+          unfolding structs_and_functions
+          named_repeated e =
+              fold_refused struct_taken (structs_closed barred defined) (leb 4) (struct_type m) (functions m) named (length (entries ks ws)) ks ws a left now l struct_more
+              struct_at.value k struct_at.read (rw (struct_new, e))
 
-          pub named-next : r ≡ true → (later : List ℕ) → later ≡ setIf r now (get_or ws a 0) → (left ≡ 0 → ⊥) → NamedFold barred defined named m ks ws (a + k) (left - 1) later
-          named-next e later el y =
-              fold_next structTaken (structsClosed barred defined) (leb 4) (structType m) (functions m) named (length (entries ks ws)) ks ws a left now l struct-more
+          pub named_next : r ≡ true → (later : List ℕ) → later ≡ set_if r now (get_or ws a 0) → (left ≡ 0 → ⊥) → NamedFold barred defined named m ks ws (a + k) (left - 1) later
+          named_next e later el y =
+              fold_next struct_taken (structs_closed barred defined) (leb 4) (struct_type m) (functions m) named (length (entries ks ws)) ks ws a left now l struct_more
               struct_at.value k struct_at.read later
-              (rw (struct-new, e) (ap some (ap (setBitAt now) struct_at.name ∙ sym (el ∙ ap (λ x. setIf x now (get_or ws a 0)) e)))) y struct_at.there
+              (rw (struct_new, e) (ap some (ap (set_bit_at now) struct_at.name ∙ sym (el ∙ ap (λ x. set_if x now (get_or ws a 0)) e)))) y struct_at.there
 
 -- ---- marks
-structs-ended : (named defined marked barred : List ℕ) (r : Read (List StructType × List Function)) → endFound (structsEnded named defined) (marked, barred) r ≡ namedFound barred defined named r
-structs-ended named defined marked barred (got p n) = refl
-structs-ended named defined marked barred bad = refl
+structs_ended_lem : (named defined marked barred : List ℕ) (r : Read (List StructType × List Function)) → end_found (structs_ended named defined) (marked, barred) r ≡ named_found barred defined named r
+structs_ended_lem named defined marked barred (got p n) = refl
+structs_ended_lem named defined marked barred bad = refl
 
-pub structs-room : (named defined barred : List ℕ) (m : ℕ) (ks ws : List ℕ) (a : ℕ) (x : Found) → x ≡ namedFound barred defined named (structsAndFunctions m (lentFrom ks ws a))
+pub structs_room : (named defined barred : List ℕ) (m : ℕ) (ks ws : List ℕ) (a : ℕ) (x : Found) → x ≡ named_found barred defined named (structs_and_functions m (lent_from ks ws a))
     → a ≤ length ks → length ks < 2 ^ 64 → FoundRoom a x
-structs-room named defined barred m ks ws a x ex =
-    found-room (agrees-structs m) (structsEnded named defined) ([], barred) ks ws a x (ex ∙ sym (structs-ended named defined [] barred (structsAndFunctions m (lentFrom ks ws a))))
+structs_room named defined barred m ks ws a x ex =
+    found_room (agrees_structs m) (structs_ended named defined) ([], barred) ks ws a x (ex ∙ sym (structs_ended_lem named defined [] barred (structs_and_functions m (lent_from ks ws a))))
 
 module _ (m : ℕ) (marked barred : List ℕ) (k w : ℕ) (es : List Entry) (low : k < 3) where
   -- the entry is read as a mark, or is none
-  pub mark-yes : markTaken m marked k w ≡ true → (x : Mark) × ((mark m (entry k w ∷ es) ≡ got x 1) × (markedBy (marked, barred) x ≡ some (setBitAt marked w, setIf (eqb k 2) barred w)))
-  unfolding mark one markAs
-  mark-yes t = go k low t (ltb w m) refl (isNew marked w) refl
+  pub mark_yes : mark_taken m marked k w ≡ true → (x : Mark) × ((mark m (entry k w ∷ es) ≡ got x 1) × (marked_by (marked, barred) x ≡ some (set_bit_at marked w, set_if (eqb k 2) barred w)))
+  unfolding mark one mark_as
+  mark_yes t = go k low t (ltb w m) refl (is_new marked w) refl
     where
-      go : (k : ℕ) → k < 3 → markTaken m marked k w ≡ true → (p : Bool) → ltb w m ≡ p → (q : Bool) → isNew marked w ≡ q
-          → (x : Mark) × ((mark m (entry k w ∷ es) ≡ got x 1) × (markedBy (marked, barred) x ≡ some (setBitAt marked w, setIf (eqb k 2) barred w)))
+      go : (k : ℕ) → k < 3 → mark_taken m marked k w ≡ true → (p : Bool) → ltb w m ≡ p → (q : Bool) → is_new marked w ≡ q
+          → (x : Mark) × ((mark m (entry k w ∷ es) ≡ got x 1) × (marked_by (marked, barred) x ≡ some (set_bit_at marked w, set_if (eqb k 2) barred w)))
       go zero l t p ep q eq = absurd (let z : ◌≡◌ {A = ℕ} 0 1 = cc in omega arith)
       go (suc zero) l t true ep true eq = (Mark.defined w, (rw ep, rw eq))
       go (suc zero) l t true ep false eq = absurd (no (rw (ep, eq) at t))
@@ -367,12 +367,12 @@ module _ (m : ℕ) (marked barred : List ℕ) (k w : ℕ) (es : List Entry) (low
       go (suc (suc zero)) l t false ep q eq = absurd (no (rw ep at t))
       go (suc (suc (suc k))) l t p ep q eq = absurd (omega arith)
 
-  pub mark-no : markTaken m marked k w ≡ false → (mark m (entry k w ∷ es) ≡ bad) ⊎ ((x : Mark) × ((mark m (entry k w ∷ es) ≡ got x 1) × (markedBy (marked, barred) x ≡ none)))
-  unfolding mark one markAs
-  mark-no t = go k low t (ltb w m) refl (isNew marked w) refl
+  pub mark_no : mark_taken m marked k w ≡ false → (mark m (entry k w ∷ es) ≡ bad) ⊎ ((x : Mark) × ((mark m (entry k w ∷ es) ≡ got x 1) × (marked_by (marked, barred) x ≡ none)))
+  unfolding mark one mark_as
+  mark_no t = go k low t (ltb w m) refl (is_new marked w) refl
     where
-      go : (k : ℕ) → k < 3 → markTaken m marked k w ≡ false → (p : Bool) → ltb w m ≡ p → (q : Bool) → isNew marked w ≡ q
-          → (mark m (entry k w ∷ es) ≡ bad) ⊎ ((x : Mark) × ((mark m (entry k w ∷ es) ≡ got x 1) × (markedBy (marked, barred) x ≡ none)))
+      go : (k : ℕ) → k < 3 → mark_taken m marked k w ≡ false → (p : Bool) → ltb w m ≡ p → (q : Bool) → is_new marked w ≡ q
+          → (mark m (entry k w ∷ es) ≡ bad) ⊎ ((x : Mark) × ((mark m (entry k w ∷ es) ≡ got x 1) × (marked_by (marked, barred) x ≡ none)))
       go zero l t p ep q eq = inl refl
       go (suc zero) l t true ep true eq = absurd (yes (rw (ep, eq) at t))
       go (suc zero) l t true ep false eq = inr (Mark.defined w, (rw ep, rw eq))
@@ -384,63 +384,63 @@ module _ (m : ℕ) (marked barred : List ℕ) (k w : ℕ) (es : List Entry) (low
 
 -- the tests of the code
 module _ (m : ℕ) (marked : List ℕ) (k w : ℕ) where
-  pub mark-zero : k ≡ 0 → false ≡ markTaken m marked k w
-  mark-zero e = sym (rw e)
+  pub mark_zero : k ≡ 0 → false ≡ mark_taken m marked k w
+  mark_zero e = sym (rw e)
 
-  pub mark-high : 2 < k → false ≡ markTaken m marked k w
-  mark-high h = sym (rw (lt-leb k 2 h, and-false (leb 1 k)))
+  pub mark_high : 2 < k → false ≡ mark_taken m marked k w
+  mark_high h = sym (rw (lt-leb k 2 h, and-false (leb 1 k)))
 
-  pub mark-name : m ≤ w → false ≡ markTaken m marked k w
-  mark-name h = sym (rw (le-ltb w m h) (and-false (leb 1 k && leb k 2)))
+  pub mark_name_lem : m ≤ w → false ≡ mark_taken m marked k w
+  mark_name_lem h = sym (rw (le-ltb w m h) (and-false (leb 1 k && leb k 2)))
 
-  pub mark-old : (r : Bool) → r ≡ isNew marked w → r ≡ false → false ≡ markTaken m marked k w
-  mark-old r er f = sym (rw (sym er ∙ f, and-false (ltb w m)) (and-false (leb 1 k && leb k 2)))
+  pub mark_old : (r : Bool) → r ≡ is_new marked w → r ≡ false → false ≡ mark_taken m marked k w
+  mark_old r er f = sym (rw (sym er ∙ f, and-false (ltb w m)) (and-false (leb 1 k && leb k 2)))
 
-  pub mark-first : (k ≡ 0 → ⊥) → k ≤ 2 → w < m → (r : Bool) → r ≡ isNew marked w → r ≡ true → true ≡ markTaken m marked k w
-  mark-first z h l r er t = sym (rw (le-leb 1 k (omega (arith, z)), le-leb k 2 h, lt-ltb w m l, sym er ∙ t))
+  pub mark_first : (k ≡ 0 → ⊥) → k ≤ 2 → w < m → (r : Bool) → r ≡ is_new marked w → r ≡ true → true ≡ mark_taken m marked k w
+  mark_first z h l r er t = sym (rw (le-leb 1 k (omega (arith, z)), le-leb k 2 h, lt-ltb w m l, sym er ∙ t))
 
 -- the loop over the marks, at the place a
 module _ (named defined marked barred : List ℕ) (m : ℕ) (ks ws : List ℕ) (a : ℕ) (now : List ℕ × List ℕ)
-    (l : Fold markedBy (structsEnded named defined) (leb 3) (mark m) (structsAndFunctions m) (marked, barred) (length (entries ks ws)) ks ws a (length (entries ks ws) - a) now) where
-  abbrev wholeMarks : Found
-  wholeMarks = marksFound named defined marked barred (parts m (entries ks ws))
+    (l : Fold marked_by (structs_ended named defined) (leb 3) (mark m) (structs_and_functions m) (marked, barred) (length (entries ks ws)) ks ws a (length (entries ks ws) - a) now) where
+  abbrev whole_marks : Found
+  whole_marks = marks_found named defined marked barred (parts m (entries ks ws))
 
-  pub marks-over : length (entries ks ws) ≤ a → found.Bad ≡ wholeMarks
+  pub marks_over : length (entries ks ws) ≤ a → found.Bad ≡ whole_marks
   unfolding parts stops
-  marks-over h =
+  marks_over h =
       let e : drop a (entries ks ws) ≡ [] = drop_of_length-le (entries ks ws) h in
-      fold_end markedBy (structsEnded named defined) (leb 3) (mark m) (structsAndFunctions m) (marked, barred) (length (entries ks ws)) ks ws a _ now l (rw e) found.Bad _ (sym (ap (λ es. endFound (structsEnded named defined) now (structsAndFunctions m es)) e ∙ ap (endFound (structsEnded named defined) now) (no-structs m))) refl
+      fold_end marked_by (structs_ended named defined) (leb 3) (mark m) (structs_and_functions m) (marked, barred) (length (entries ks ws)) ks ws a _ now l (rw e) found.Bad _ (sym (ap (λ es. end_found (structs_ended named defined) now (structs_and_functions m es)) e ∙ ap (end_found (structs_ended named defined) now) (no_structs m))) refl
 
   module _ (h : a < length (entries ks ws)) where
     here : drop a (entries ks ws) ≡ entry (get_or ks a 0) (get_or ws a 0) ∷ drop (a + 1) (entries ks ws)
     here = entry_at ks ws a h
 
-    pub marks-end : 3 ≤ get_or ks a 0 → (r x : Found) → r ≡ namedFound now.1 defined named (structsAndFunctions m (lentFrom ks ws a)) → x ≡ joined a false r → x ≡ wholeMarks
+    pub marks_end : 3 ≤ get_or ks a 0 → (r x : Found) → r ≡ named_found now.1 defined named (structs_and_functions m (lent_from ks ws a)) → x ≡ joined a false r → x ≡ whole_marks
     unfolding parts stops
-    marks-end t r x er ex =
-        fold_end markedBy (structsEnded named defined) (leb 3) (mark m) (structsAndFunctions m) (marked, barred) (length (entries ks ws)) ks ws a _ now l (rw here (le-leb 3 (get_or ks a 0) t)) r x
-        (er ∙ ap (λ es. namedFound now.1 defined named (structsAndFunctions m es)) (entries-part a ks ws) ∙ sym (structs-ended named defined now.0 now.1 (structsAndFunctions m (drop a (entries ks ws))))) ex
+    marks_end t r x er ex =
+        fold_end marked_by (structs_ended named defined) (leb 3) (mark m) (structs_and_functions m) (marked, barred) (length (entries ks ws)) ks ws a _ now l (rw here (le-leb 3 (get_or ks a 0) t)) r x
+        (er ∙ ap (λ es. named_found now.1 defined named (structs_and_functions m es)) (entries_part a ks ws) ∙ sym (structs_ended_lem named defined now.0 now.1 (structs_and_functions m (drop a (entries ks ws))))) ex
 
-    module _ (t : get_or ks a 0 < 3) (r : Bool) (er : r ≡ markTaken m now.0 (get_or ks a 0) (get_or ws a 0)) where
-      item-stays : stops (leb 3) (drop a (entries ks ws)) ≡ false
+    module _ (t : get_or ks a 0 < 3) (r : Bool) (er : r ≡ mark_taken m now.0 (get_or ks a 0) (get_or ws a 0)) where
+      item_stays : stops (leb 3) (drop a (entries ks ws)) ≡ false
       unfolding stops
-      item-stays = rw here (lt-leb 3 (get_or ks a 0) t)
+      item_stays = rw here (lt-leb 3 (get_or ks a 0) t)
 
-      pub marks-refused : r ≡ false → found.Bad ≡ wholeMarks
+      pub marks_refused : r ≡ false → found.Bad ≡ whole_marks
       unfolding parts
-      marks-refused f =
+      marks_refused f =
           ⊎_elim
-          (λ e. fold-bad markedBy (structsEnded named defined) (leb 3) (mark m) (structsAndFunctions m) (marked, barred) (length (entries ks ws)) ks ws a _ now l item-stays (ap (mark m) here ∙ e))
-          (λ y. fold-refused markedBy (structsEnded named defined) (leb 3) (mark m) (structsAndFunctions m) (marked, barred) (length (entries ks ws)) ks ws a _ now l item-stays y.0 1 (ap (mark m) here ∙ y.1.0) y.1.1)
-          (mark-no m now.0 now.1 (get_or ks a 0) (get_or ws a 0) (drop (a + 1) (entries ks ws)) t (sym er ∙ f))
+          (λ e. fold_bad marked_by (structs_ended named defined) (leb 3) (mark m) (structs_and_functions m) (marked, barred) (length (entries ks ws)) ks ws a _ now l item_stays (ap (mark m) here ∙ e))
+          (λ y. fold_refused marked_by (structs_ended named defined) (leb 3) (mark m) (structs_and_functions m) (marked, barred) (length (entries ks ws)) ks ws a _ now l item_stays y.0 1 (ap (mark m) here ∙ y.1.0) y.1.1)
+          (mark_no m now.0 now.1 (get_or ks a 0) (get_or ws a 0) (drop (a + 1) (entries ks ws)) t (sym er ∙ f))
 
-      pub marks-next : r ≡ true → (p q : List ℕ) → p ≡ setIf r now.0 (get_or ws a 0) → q ≡ setIf (r && eqb (get_or ks a 0) 2) now.1 (get_or ws a 0)
-          → Fold markedBy (structsEnded named defined) (leb 3) (mark m) (structsAndFunctions m) (marked, barred) (length (entries ks ws)) ks ws (a + 1) (length (entries ks ws) - (a + 1)) (p, q)
-      marks-next f p q ep eq =
-          let y = mark-yes m now.0 now.1 (get_or ks a 0) (get_or ws a 0) (drop (a + 1) (entries ks ws)) t (sym er ∙ f) in
-          let u : ◌≡◌ {A = List ℕ × List ℕ} (setBitAt now.0 (get_or ws a 0), setIf (eqb (get_or ks a 0) 2) now.1 (get_or ws a 0)) (p, q) = λ i. (sym (ep ∙ ap (λ b. setIf b now.0 (get_or ws a 0)) f) i, sym (eq ∙ ap (λ b. setIf (b && eqb (get_or ks a 0) 2) now.1 (get_or ws a 0)) f) i) in
-          ap-left (fold_next markedBy (structsEnded named defined) (leb 3) (mark m) (structsAndFunctions m) (marked, barred) (length (entries ks ws)) ks ws a _ now l item-stays y.0 1 (ap (mark m) here ∙ y.1.0) (p, q) (y.1.1 ∙ ap some u) (λ z. omega arith) (omega arith))
+      pub marks_next : r ≡ true → (p q : List ℕ) → p ≡ set_if r now.0 (get_or ws a 0) → q ≡ set_if (r && eqb (get_or ks a 0) 2) now.1 (get_or ws a 0)
+          → Fold marked_by (structs_ended named defined) (leb 3) (mark m) (structs_and_functions m) (marked, barred) (length (entries ks ws)) ks ws (a + 1) (length (entries ks ws) - (a + 1)) (p, q)
+      marks_next f p q ep eq =
+          let y = mark_yes m now.0 now.1 (get_or ks a 0) (get_or ws a 0) (drop (a + 1) (entries ks ws)) t (sym er ∙ f) in
+          let u : ◌≡◌ {A = List ℕ × List ℕ} (set_bit_at now.0 (get_or ws a 0), set_if (eqb (get_or ks a 0) 2) now.1 (get_or ws a 0)) (p, q) = λ i. (sym (ep ∙ ap (λ b. set_if b now.0 (get_or ws a 0)) f) i, sym (eq ∙ ap (λ b. set_if (b && eqb (get_or ks a 0) 2) now.1 (get_or ws a 0)) f) i) in
+          ap_left (fold_next marked_by (structs_ended named defined) (leb 3) (mark m) (structs_and_functions m) (marked, barred) (length (entries ks ws)) ks ws a _ now l item_stays y.0 1 (ap (mark m) here ∙ y.1.0) (p, q) (y.1.1 ∙ ap some u) (λ z. omega arith) (omega arith))
         where
-          ap-left : Fold markedBy (structsEnded named defined) (leb 3) (mark m) (structsAndFunctions m) (marked, barred) (length (entries ks ws)) ks ws (a + 1) (length (entries ks ws) - a - 1) (p, q)
-              → Fold markedBy (structsEnded named defined) (leb 3) (mark m) (structsAndFunctions m) (marked, barred) (length (entries ks ws)) ks ws (a + 1) (length (entries ks ws) - (a + 1)) (p, q)
-          ap-left = subst (λ i. Fold markedBy (structsEnded named defined) (leb 3) (mark m) (structsAndFunctions m) (marked, barred) (length (entries ks ws)) ks ws (a + 1) i (p, q)) (omega arith)
+          ap_left : Fold marked_by (structs_ended named defined) (leb 3) (mark m) (structs_and_functions m) (marked, barred) (length (entries ks ws)) ks ws (a + 1) (length (entries ks ws) - a - 1) (p, q)
+              → Fold marked_by (structs_ended named defined) (leb 3) (mark m) (structs_and_functions m) (marked, barred) (length (entries ks ws)) ks ws (a + 1) (length (entries ks ws) - (a + 1)) (p, q)
+          ap_left = subst (λ i. Fold marked_by (structs_ended named defined) (leb 3) (mark m) (structs_and_functions m) (marked, barred) (length (entries ks ws)) ks ws (a + 1) i (p, q)) (omega arith)

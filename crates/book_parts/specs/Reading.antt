@@ -1,13 +1,13 @@
 -- What a pass over a book's entries finds: items that each change a state or are refused, then an end.
 use Rattle.std.specs.Prelude.{ℕ, Bool, true, false, ◌&&◌, ◌||◌, List, [], ◌∷◌, replicate, leb, ltb}
 use Rattle.std.proofs.Math.Option.{Option, none, some}
-use Rattle.numbers.specs.Bits.{bit_at, setBitAt}
+use Rattle.numbers.specs.Bits.{bit_at, set_bit_at}
 use Rattle.book.specs.Ast.{Mark, StructType, Function}
 use Rattle.book.specs.Rule.{when}
 use Rattle.book.specs.Read.{Read, got, bad}
-use Rattle.book.specs.Decode.{markName}
-use Rattle.book.specs.Forbidden.{forbiddenFunction}
-use Rattle.book_marks.specs.Once.{isNew}
+use Rattle.book.specs.Decode.{mark_name}
+use Rattle.book.specs.Forbidden.{forbidden_function}
+use Rattle.book_marks.specs.Once.{is_new}
 use Rattle.book_types.specs.declared.Found.{Found}
 use Rattle.book_types.specs.declared.Found.TheVariants as found
 
@@ -24,59 +24,59 @@ unfoldable pub folded : {S A : Type 0} → (S → A → Option S) → S → List
 folded taken s [] = some s
 folded taken s (a ∷ as') = goes (taken s a) (λ t. folded taken t as')
 
-abbrev pub endFound : {S B : Type 0} → (S → B → Option Bool) → S → Read B → Found
-endFound ended s (got b n) = answered n (ended s b)
-endFound ended s bad = found.Bad
+abbrev pub end_found : {S B : Type 0} → (S → B → Option Bool) → S → Read B → Found
+end_found ended s (got b n) = answered n (ended s b)
+end_found ended s bad = found.Bad
 
-abbrev pub allFound : {S A B : Type 0} → (S → A → Option S) → (S → B → Option Bool) → S → Read (List A × B) → Found
-allFound taken ended s (got r n) = answered n (goes (folded taken s r.0) (λ t. ended t r.1))
-allFound taken ended s bad = found.Bad
+abbrev pub all_found : {S A B : Type 0} → (S → A → Option S) → (S → B → Option Bool) → S → Read (List A × B) → Found
+all_found taken ended s (got r n) = answered n (goes (folded taken s r.0) (λ t. ended t r.1))
+all_found taken ended s bad = found.Bad
 
 -- ---- functions: the state is the map of the names that occurred, whether there was one, and whether something in them is forbidden
 module _ (barred : List ℕ) where
-  abbrev pub functionTaken : List ℕ × (Bool × Bool) → Function → Option (List ℕ × (Bool × Bool))
-  functionTaken s f = when (isNew s.0 f.name) (setBitAt s.0 f.name, (true, s.1.1 || forbiddenFunction (bit_at barred) f))
+  abbrev pub function_taken : List ℕ × (Bool × Bool) → Function → Option (List ℕ × (Bool × Bool))
+  function_taken s f = when (is_new s.0 f.name) (set_bit_at s.0 f.name, (true, s.1.1 || forbidden_function (bit_at barred) f))
 
   -- "one or more"
-  abbrev pub functionsClosed : List ℕ × (Bool × Bool) → Unit {0} → Option Bool
-  functionsClosed s u = when s.1.0 s.1.1
+  abbrev pub functions_closed : List ℕ × (Bool × Bool) → Unit {0} → Option Bool
+  functions_closed s u = when s.1.0 s.1.1
 
-  abbrev pub functionsEnded : List ℕ → List Function → Option Bool
-  functionsEnded defined fs = goes (folded functionTaken (defined, (false, false)) fs) (λ s. functionsClosed s tt)
+  abbrev pub functions_ended : List ℕ → List Function → Option Bool
+  functions_ended defined fs = goes (folded function_taken (defined, (false, false)) fs) (λ s. functions_closed s tt)
 
-  abbrev pub functionsFound : List ℕ → Read (List Function) → Found
-  functionsFound = endFound functionsEnded
+  abbrev pub functions_found : List ℕ → Read (List Function) → Found
+  functions_found = end_found functions_ended
 
 -- ---- named structs: the state is the map of the names that occurred
-abbrev pub structTaken : List ℕ → StructType → Option (List ℕ)
-structTaken named s = when (isNew named s.name) (setBitAt named s.name)
+abbrev pub struct_taken : List ℕ → StructType → Option (List ℕ)
+struct_taken named s = when (is_new named s.name) (set_bit_at named s.name)
 
 module _ (barred defined : List ℕ) where
-  abbrev pub structsClosed : List ℕ → List Function → Option Bool
-  structsClosed named fs = functionsEnded barred defined fs
+  abbrev pub structs_closed : List ℕ → List Function → Option Bool
+  structs_closed named fs = functions_ended barred defined fs
 
-  abbrev pub namedFound : List ℕ → Read (List StructType × List Function) → Found
-  namedFound = allFound structTaken structsClosed
+  abbrev pub named_found : List ℕ → Read (List StructType × List Function) → Found
+  named_found = all_found struct_taken structs_closed
 
 -- ---- marks: the state is the map of the marked names, and that of the names that may not be called
-abbrev pub nowBarred : Mark → List ℕ → List ℕ
-nowBarred (Mark.defined x) barred = barred
-nowBarred (Mark.reserved x) barred = setBitAt barred x
+abbrev pub now_barred : Mark → List ℕ → List ℕ
+now_barred (Mark.defined x) barred = barred
+now_barred (Mark.reserved x) barred = set_bit_at barred x
 
-abbrev pub markedBy : List ℕ × List ℕ → Mark → Option (List ℕ × List ℕ)
-markedBy s k = when (isNew s.0 (markName k)) (setBitAt s.0 (markName k), nowBarred k s.1)
+abbrev pub marked_by : List ℕ × List ℕ → Mark → Option (List ℕ × List ℕ)
+marked_by s k = when (is_new s.0 (mark_name k)) (set_bit_at s.0 (mark_name k), now_barred k s.1)
 
 module _ (named defined : List ℕ) where
-  abbrev pub structsEnded : List ℕ × List ℕ → List StructType × List Function → Option Bool
-  structsEnded s r = goes (folded structTaken named r.0) (λ t. structsClosed s.1 defined t r.1)
+  abbrev pub structs_ended : List ℕ × List ℕ → List StructType × List Function → Option Bool
+  structs_ended s r = goes (folded struct_taken named r.0) (λ t. structs_closed s.1 defined t r.1)
 
-  abbrev pub marksFound : List ℕ → List ℕ → Read (List Mark × (List StructType × List Function)) → Found
-  marksFound marked barred = allFound markedBy structsEnded (marked, barred)
+  abbrev pub marks_found : List ℕ → List ℕ → Read (List Mark × (List StructType × List Function)) → Found
+  marks_found marked barred = all_found marked_by structs_ended (marked, barred)
 
 -- no name is marked at first; maps have a bit for each of 131,072 names
-abbrev pub partsFound : List ℕ → Read (List Mark × (List StructType × List Function)) → Found
-partsFound barred = marksFound (replicate 2048 0) (replicate 2048 0) (replicate 2048 0) barred
+abbrev pub parts_found : List ℕ → Read (List Mark × (List StructType × List Function)) → Found
+parts_found barred = marks_found (replicate 2048 0) (replicate 2048 0) (replicate 2048 0) barred
 
 -- whether the entry is a name's first mark
-abbrev pub markTaken : ℕ → List ℕ → ℕ → ℕ → Bool
-markTaken m marked k w = (leb 1 k && leb k 2) && (ltb w m && isNew marked w)
+abbrev pub mark_taken : ℕ → List ℕ → ℕ → ℕ → Bool
+mark_taken m marked k w = (leb 1 k && leb k 2) && (ltb w m && is_new marked w)

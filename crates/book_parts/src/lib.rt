@@ -3,13 +3,13 @@
 // the functions are read.
 ghost use Rattle.std.specs.Prelude.{◌≡◌, ◌<◌, ◌≤◌, ◌&&◌, eqb, replicate};
 ghost use Rattle.book.specs.Entry.{entries};
-ghost use Rattle.book.specs.Decode.{structBody, structType, functions, structsAndFunctions, parts};
+ghost use Rattle.book.specs.Decode.{struct_body, struct_type, functions, structs_and_functions, parts};
 ghost use Rattle.book_types.specs.Length.{len_of};
-ghost use Rattle.book_marks.specs.Once.{setIf};
-ghost use Rattle.book_marks.specs.Range.{markedRange};
-ghost use Rattle.book_types.specs.Found.{foundOf, never};
-ghost use Rattle.book_parts.specs.Parts.{isStructGroup};
-ghost use Rattle.book_parts.specs.Reading.{markTaken, functionsFound, namedFound, marksFound, partsFound};
+ghost use Rattle.book_marks.specs.Once.{set_if};
+ghost use Rattle.book_marks.specs.Range.{marked_range};
+ghost use Rattle.book_types.specs.Found.{found_of, never};
+ghost use Rattle.book_parts.specs.Parts.{is_struct_group};
+ghost use Rattle.book_parts.specs.Reading.{mark_taken, functions_found, named_found, marks_found, parts_found};
 
 use book::entry;
 use book_blocks::function_len;
@@ -19,7 +19,7 @@ use book_types::{Found, Front, Length, entry_if, first_entry, join_found, plain,
 use book_values::word_len;
 
 fn is_struct(group: TypeGroup) -> bool
-    ensures { result ≡ isStructGroup group }
+    ensures { result ≡ is_struct_group group }
 {
     match group {
         TypeGroup::Void => false,
@@ -35,7 +35,7 @@ fn is_struct(group: TypeGroup) -> bool
 
 // A struct's body: opaque, or a struct type.
 fn struct_body_len(kinds: &[u64], words: &[u64], names: u64) -> Length
-    ensures { result ≡ len_of (structBody names (entries kinds.now words.now)) }
+    ensures { result ≡ len_of (struct_body names (entries kinds.now words.now)) }
 {
     let Front::Entry(kind, word) = first_entry(kinds, words) else {
         return Length::Bad;
@@ -52,7 +52,7 @@ fn struct_body_len(kinds: &[u64], words: &[u64], names: u64) -> Length
 
 // A named struct: its name and its body.
 fn struct_len(kinds: &[u64], words: &[u64], names: u64) -> Found
-    ensures { result ≡ foundOf never (structType names (entries kinds.now words.now)) }
+    ensures { result ≡ found_of never (struct_type names (entries kinds.now words.now)) }
 {
     let Found::Entries(n, barred) = plain(word_len(first_entry(kinds, words), 3, names)) else {
         return Found::Bad;
@@ -72,7 +72,7 @@ fn functions_len(
     barred: &[u64],
     defined: &mut [u64],
 ) -> Found
-    ensures { result ≡ functionsFound barred.now defined.old (functions names (entries kinds.now words.now)) }
+    ensures { result ≡ functions_found barred.now defined.old (functions names (entries kinds.now words.now)) }
 {
     let end = shorter(kinds, words);
     let mut at: usize = 0;
@@ -111,7 +111,7 @@ fn named_len(
     named: &mut [u64],
     defined: &mut [u64],
 ) -> Found
-    ensures { result ≡ namedFound barred.now defined.old named.old (structsAndFunctions names (entries kinds.now words.now)) }
+    ensures { result ≡ named_found barred.now defined.old named.old (structs_and_functions names (entries kinds.now words.now)) }
 {
     let end = shorter(kinds, words);
     let mut at: usize = 0;
@@ -141,9 +141,9 @@ fn named_len(
 
 // Whether a name has its first mark here, kind 1 or 2; then it is marked, and barred if it is reserved.
 fn mark(kind: u64, word: u64, names: u64, marked: &mut [u64], barred: &mut [u64]) -> bool
-    ensures value { result ≡ markTaken names marked.old kind word }
-    ensures marked_after { marked.new ≡ setIf result marked.old word }
-    ensures barred_after { barred.new ≡ setIf (result && eqb kind 2) barred.old word }
+    ensures value { result ≡ mark_taken names marked.old kind word }
+    ensures marked_after { marked.new ≡ set_if result marked.old word }
+    ensures barred_after { barred.new ≡ set_if (result && eqb kind 2) barred.old word }
 {
     if kind == entry::END {
         return false;
@@ -173,7 +173,7 @@ fn marks_len(
     named: &mut [u64],
     defined: &mut [u64],
 ) -> Found
-    ensures { result ≡ marksFound named.old defined.old marked.old barred.old (parts names (entries kinds.now words.now)) }
+    ensures { result ≡ marks_found named.old defined.old marked.old barred.old (parts names (entries kinds.now words.now)) }
 {
     let n = shorter(kinds, words);
     let mut at: usize = 0;
@@ -205,7 +205,7 @@ fn ranged_len(
     named: &mut [u64],
     defined: &mut [u64],
 ) -> Found
-    ensures { result ≡ marksFound named.old defined.old marked.old (markedRange barred.old from to) (parts names (entries kinds.now words.now)) }
+    ensures { result ≡ marks_found named.old defined.old marked.old (marked_range barred.old from to) (parts names (entries kinds.now words.now)) }
 {
     mark_range(barred, from, to);
     marks_len(kinds, words, names, marked, barred, named, defined)
@@ -214,7 +214,7 @@ fn ranged_len(
 // The same from maps of 32 words, which have a bit for each of 2,048 names; they find what longer ones do.
 fn few_len(kinds: &[u64], words: &[u64], names: u64, from: u64, to: u64) -> Found
     requires { (names ≤ 2048) × (to ≤ 2048) }
-    ensures { result ≡ partsFound (markedRange (replicate 2048 0) from to) (parts names (entries kinds.now words.now)) }
+    ensures { result ≡ parts_found (marked_range (replicate 2048 0) from to) (parts names (entries kinds.now words.now)) }
 {
     let mut marked = [0u64; 32];
     let mut barred = [0u64; 32];
@@ -235,7 +235,7 @@ fn few_len(kinds: &[u64], words: &[u64], names: u64, from: u64, to: u64) -> Foun
 
 // The same from maps of 2,048 words, which have a bit for each of 131,072 names.
 fn many_len(kinds: &[u64], words: &[u64], names: u64, from: u64, to: u64) -> Found
-    ensures { result ≡ partsFound (markedRange (replicate 2048 0) from to) (parts names (entries kinds.now words.now)) }
+    ensures { result ≡ parts_found (marked_range (replicate 2048 0) from to) (parts names (entries kinds.now words.now)) }
 {
     let mut marked = [0u64; 2048];
     let mut barred = [0u64; 2048];
@@ -259,7 +259,7 @@ fn many_len(kinds: &[u64], words: &[u64], names: u64, from: u64, to: u64) -> Fou
 // pages of long maps.
 fn maps_len(kinds: &[u64], words: &[u64], names: u64, from: u64, to: u64, room: u64) -> Found
     requires { 0 < room }
-    ensures { result ≡ partsFound (markedRange (replicate 2048 0) from to) (parts names (entries kinds.now words.now)) }
+    ensures { result ≡ parts_found (marked_range (replicate 2048 0) from to) (parts names (entries kinds.now words.now)) }
 {
     if 131071 < room {
         return many_len(kinds, words, names, from, to);
@@ -279,7 +279,7 @@ fn maps_len(kinds: &[u64], words: &[u64], names: u64, from: u64, to: u64, room: 
 // Marks, each name once, named structs and the functions. The names from `from` up to and without `to` may not be called, nor may
 // the reserved ones.
 pub fn parts_len(kinds: &[u64], words: &[u64], names: u64, from: u64, to: u64) -> Found
-    ensures { result ≡ partsFound (markedRange (replicate 2048 0) from to) (parts names (entries kinds.now words.now)) }
+    ensures { result ≡ parts_found (marked_range (replicate 2048 0) from to) (parts names (entries kinds.now words.now)) }
 {
     maps_len(kinds, words, names, from, to, 2048)
 }

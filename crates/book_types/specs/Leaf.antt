@@ -3,56 +3,56 @@ use Rattle.std.specs.Prelude.{ℕ, ◌<◌, ◌≡◌, refl, Bool, true, false, 
 use Rattle.std.proofs.Common.{ap, sym, ◌∙◌, arith, ne_eqb, eqb-true, ltb-true, ltb-false}
 use Rattle.std.proofs.Math.Bool.{and-false}
 use Rattle.std.proofs.lemmas.Bool.{lt-leb}
-use Rattle.numbers.specs.Width.{widthOk}
+use Rattle.numbers.specs.Width.{width_ok}
 use Rattle.book.specs.Entry.{entries}
 use Rattle.book.specs.Rule.{find}
-use Rattle.book.specs.Kinds.{tyTag, tyTags, tyKind}
-use Rattle.book.specs.Decode.{typeTo}
-use Rattle.book_types.specs.Groups.{typeGroupOf, leafIf, structIf, groupHead}
+use Rattle.book.specs.Kinds.{ty_tag, ty_tags, ty_kind}
+use Rattle.book.specs.Decode.{type_to}
+use Rattle.book_types.specs.Groups.{type_group_of, leaf_if, struct_if, group_head}
 use Rattle.book_types.specs.Length.{len_of}
-use Rattle.book_types.specs.Laws.{front_of}
-use Rattle.book_types.specs.Tables.{find-below, in-range}
-use Rattle.book_types.specs.TypeLaws.{leaf-arm}
+use Rattle.book_types.specs.Laws.{front_of_lem}
+use Rattle.book_types.specs.Tables.{find_below, in_range_lem}
+use Rattle.book_types.specs.TypeLaws.{leaf_arm}
 use Rattle.book_types.specs.declared.Length.TheVariants as len
 use Rattle.book_types.specs.declared.types.TypeHead.{TypeHead}
 use Rattle.book_types.specs.declared.types.TypeHead.TheVariants as head
 
-abbrev pub isLeaf : TypeHead → Bool
-isLeaf head.Leaf = true
-isLeaf head.Array = false
-isLeaf head.Struct = false
-isLeaf head.Bad = false
+abbrev pub is_leaf : TypeHead → Bool
+is_leaf head.Leaf = true
+is_leaf head.Array = false
+is_leaf head.Struct = false
+is_leaf head.Bad = false
 
-abbrev pub leafOk : ℕ → ℕ → ℕ → Bool
-leafOk m k w = isLeaf (groupHead m w (typeGroupOf (tyTag k)))
+abbrev pub leaf_ok : ℕ → ℕ → ℕ → Bool
+leaf_ok m k w = is_leaf (group_head m w (type_group_of (ty_tag k)))
 
-leaf-if : (b : Bool) → b ≡ isLeaf (leafIf b)
-leaf-if true = refl
-leaf-if false = refl
+leaf_if_lem : (b : Bool) → b ≡ is_leaf (leaf_if b)
+leaf_if_lem true = refl
+leaf_if_lem false = refl
 
-struct-if : (b : Bool) → false ≡ isLeaf (structIf b)
-struct-if true = refl
-struct-if false = refl
+struct_if_lem : (b : Bool) → false ≡ is_leaf (struct_if b)
+struct_if_lem true = refl
+struct_if_lem false = refl
 
 -- a type whose word is 0
-abbrev zeroKind : ℕ → Bool
-zeroKind k = (eqb k 10 || eqb k 12) || (leb 18 k && leb k 20)
+abbrev zero_kind : ℕ → Bool
+zero_kind k = (eqb k 10 || eqb k 12) || (leb 18 k && leb k 20)
 
 abbrev Other : ℕ → ℕ → ℕ → Type 0
-Other m w k = (k ≡ 11 → ⊥) → (k ≡ 15 → ⊥) → (zeroKind k && eqb w 0) ≡ leafOk m k w
+Other m w k = (k ≡ 11 → ⊥) → (k ≡ 15 → ⊥) → (zero_kind k && eqb w 0) ≡ leaf_ok m k w
 
 -- no kind above the table is a type's
-none_above : (m k w : ℕ) → 20 < k → leafOk m k w ≡ false
-unfolding tyTag tyTags
-none_above m k w h = ap (λ t. isLeaf (groupHead m w (typeGroupOf t))) (find-below tyKind k 21 tyTags refl (omega arith))
+none_above : (m k w : ℕ) → 20 < k → leaf_ok m k w ≡ false
+unfolding ty_tag ty_tags
+none_above m k w h = ap (λ t. is_leaf (group_head m w (type_group_of t))) (find_below ty_kind k 21 ty_tags refl (omega arith))
 
-pub leaf-other : (m k w : ℕ) → Other m w k
-unfolding tyTag find tyTags
-leaf-other m k w = go (ltb k 21) refl
+pub leaf_other : (m k w : ℕ) → Other m w k
+unfolding ty_tag find ty_tags
+leaf_other m k w = go (ltb k 21) refl
   where
     go : (t : Bool) → ltb k 21 ≡ t → Other m w k
     go true e =
-        in-range (Other m w) 0 21 (
+        in_range_lem (Other m w) 0 21 (
           λ p q. refl,
           (
             λ p q. refl,
@@ -73,18 +73,18 @@ leaf-other m k w = go (ltb k 21) refl
                           (
                             λ p q. refl,
                             (
-                              λ p q. leaf-if (eqb w 0),
+                              λ p q. leaf_if_lem (eqb w 0),
                               (
                                 λ p q. absurd (p refl),
                                 (
-                                  λ p q. leaf-if (eqb w 0),
+                                  λ p q. leaf_if_lem (eqb w 0),
                                   (
                                     λ p q. refl,
                                     (
                                       λ p q. refl,
                                       (
                                         λ p q. absurd (q refl),
-                                        (λ p q. struct-if (eqb w 0), (λ p q. struct-if (eqb w 0), (λ p q. leaf-if (eqb w 0), (λ p q. leaf-if (eqb w 0), (λ p q. leaf-if (eqb w 0), tt))))),
+                                        (λ p q. struct_if_lem (eqb w 0), (λ p q. struct_if_lem (eqb w 0), (λ p q. leaf_if_lem (eqb w 0), (λ p q. leaf_if_lem (eqb w 0), (λ p q. leaf_if_lem (eqb w 0), tt))))),
                                       ),
                                     ),
                                   ),
@@ -106,28 +106,28 @@ leaf-other m k w = go (ltb k 21) refl
         let h : 20 < k = omega (arith, ltb-false k 21 e) in
         rw (ne_eqb k 10 (λ z. omega arith), ne_eqb k 12 (λ z. omega arith), lt-leb k 20 h, and-false (leb 18 k)) (sym (none_above m k w h))
 
-pub leaf-int : (m k w : ℕ) → k ≡ 11 → widthOk w ≡ leafOk m k w
-unfolding tyTag find tyTags
-leaf-int m k w e = leaf-if (widthOk w) ∙ ap (λ j. leafOk m j w) (sym e)
+pub leaf_int : (m k w : ℕ) → k ≡ 11 → width_ok w ≡ leaf_ok m k w
+unfolding ty_tag find ty_tags
+leaf_int m k w e = leaf_if_lem (width_ok w) ∙ ap (λ j. leaf_ok m j w) (sym e)
 
-pub leaf-named : (m k w : ℕ) → k ≡ 15 → ltb w m ≡ leafOk m k w
-unfolding tyTag find tyTags
-leaf-named m k w e = leaf-if (ltb w m) ∙ ap (λ j. leafOk m j w) (sym e)
+pub leaf_named : (m k w : ℕ) → k ≡ 15 → ltb w m ≡ leaf_ok m k w
+unfolding ty_tag find ty_tags
+leaf_named m k w e = leaf_if_lem (ltb w m) ∙ ap (λ j. leaf_ok m j w) (sym e)
 
 -- no value is one
-pub leaf-not-other : (m k w : ℕ) → leafOk m k w ≡ true → eqb k 37 ≡ false
-leaf-not-other m k w h = go (eqb k 37) refl
+pub leaf_not_other : (m k w : ℕ) → leaf_ok m k w ≡ true → eqb k 37 ≡ false
+leaf_not_other m k w h = go (eqb k 37) refl
   where
     go : (b : Bool) → eqb k 37 ≡ b → b ≡ false
     go true e = sym h ∙ none_above m k w (omega (arith, eqb-true k 37 e))
     go false e = refl
 
 -- the type at the front is then one entry
-pub leaf-one : (m l : ℕ) (ks ws : List ℕ) → (l ≡ 0 → ⊥) → (length ks ≡ 0 → ⊥) → (length ws ≡ 0 → ⊥) → leafOk m (get_or ks 0 0) (get_or ws 0 0) ≡ true
-    → len.Entries 1 ≡ len_of (typeTo m l (entries ks ws))
-leaf-one m l ks ws d p q h = leaf-arm m l ks ws _ _ (front_of ks ws p q) refl d (go _ h)
+pub leaf_one : (m l : ℕ) (ks ws : List ℕ) → (l ≡ 0 → ⊥) → (length ks ≡ 0 → ⊥) → (length ws ≡ 0 → ⊥) → leaf_ok m (get_or ks 0 0) (get_or ws 0 0) ≡ true
+    → len.Entries 1 ≡ len_of (type_to m l (entries ks ws))
+leaf_one m l ks ws d p q h = leaf_arm m l ks ws _ _ (front_of_lem ks ws p q) refl d (go _ h)
   where
-    go : (t : TypeHead) → isLeaf t ≡ true → t ≡ head.Leaf
+    go : (t : TypeHead) → is_leaf t ≡ true → t ≡ head.Leaf
     go head.Leaf e = refl
     go head.Array e = absurd (let z : ◌≡◌ {A = ℕ} 0 1 = cc in omega arith)
     go head.Struct e = absurd (let z : ◌≡◌ {A = ℕ} 0 1 = cc in omega arith)

@@ -22,37 +22,37 @@ further n (len.Entries k) = len.Entries (n + k)
 further n len.Bad = len.Bad
 
 -- one entry or none
-abbrev pub lenIf : Bool → Length
-lenIf true = len.Entries 1
-lenIf false = len.Bad
+abbrev pub len_if : Bool → Length
+len_if true = len.Entries 1
+len_if false = len.Bad
 
 -- an item as the next step, an end as the last
-abbrev pub stepOfLength : Length → Step
-stepOfLength (len.Entries n) = step.Next n
-stepOfLength len.Bad = step.Bad
+abbrev pub step_of_length : Length → Step
+step_of_length (len.Entries n) = step.Next n
+step_of_length len.Bad = step.Bad
 
-abbrev pub lastOfLength : Length → Step
-lastOfLength (len.Entries n) = step.Done n
-lastOfLength len.Bad = step.Bad
+abbrev pub last_of_length : Length → Step
+last_of_length (len.Entries n) = step.Done n
+last_of_length len.Bad = step.Bad
 
-abbrev pub pickStep : Bool → Step → Step → Step
-pickStep true a b = a
-pickStep false a b = b
+abbrev pub pick_step : Bool → Step → Step → Step
+pick_step true a b = a
+pick_step false a b = b
 
 -- what comes next: the end where the kind in front stops the items, else an item
 abbrev pub step_of : {A B : Type 0} → (ℕ → Bool) → Reader A → Reader B → List Entry → Step
-step_of stop item end es = pickStep (stops stop es) (lastOfLength (len_of (end es))) (stepOfLength (len_of (item es)))
+step_of stop item end es = pick_step (stops stop es) (last_of_length (len_of (end es))) (step_of_length (len_of (item es)))
 
-abbrev pub pickHead : Bool → ListHead → ListHead → ListHead
-pickHead true a b = a
-pickHead false a b = b
+abbrev pub pick_head : Bool → ListHead → ListHead → ListHead
+pick_head true a b = a
+pick_head false a b = b
 
 -- the entry in front
-unfoldable pub frontOf : List Entry → Front
-frontOf [] = front.Nothing
-frontOf (e ∷ es) = front.Entry e.kind e.word
+unfoldable pub front_of : List Entry → Front
+front_of [] = front.Nothing
+front_of (e ∷ es) = front.Entry e.kind e.word
 
 -- whether it closes a list
 abbrev pub head_of : Front → ListHead
 head_of front.Nothing = head.Bad
-head_of (front.Entry k w) = pickHead (eqb k 0) (pickHead (eqb w 0) head.Closing head.Bad) head.Item
+head_of (front.Entry k w) = pick_head (eqb k 0) (pick_head (eqb w 0) head.Closing head.Bad) head.Item

@@ -14,27 +14,27 @@ module _ {A : Type 0} (number : A → ℕ) where
   all_below b [] = true
   all_below b (a ∷ as') = ltb (number a) b && all_below b as'
 
-  abbrev pub allAbove : ℕ → List A → Bool
-  allAbove b [] = true
-  allAbove b (a ∷ as') = ltb b (number a) && allAbove b as'
+  abbrev pub all_above : ℕ → List A → Bool
+  all_above b [] = true
+  all_above b (a ∷ as') = ltb b (number a) && all_above b as'
 
   module _ (k : ℕ) where
-    pub find-below : (b : ℕ) (as' : List A) → all_below b as' ≡ true → b ≤ k → find number k as' ≡ none
+    pub find_below : (b : ℕ) (as' : List A) → all_below b as' ≡ true → b ≤ k → find number k as' ≡ none
     unfolding find
-    find-below b [] t h = refl
-    find-below b (a ∷ as') t h = go (ltb (number a) b) refl t (find-below b as')
+    find_below b [] t h = refl
+    find_below b (a ∷ as') t h = go (ltb (number a) b) refl t (find_below b as')
       where
         go : (x : Bool) → ltb (number a) b ≡ x → x && all_below b as' ≡ true → (all_below b as' ≡ true → b ≤ k → find number k as' ≡ none)
             → pick (eqb (number a) k) (some a) (find number k as') ≡ none
         go true e u ih = rw (ne_eqb (number a) k (λ z. omega (arith, ltb-true (number a) b e)), ih u h)
         go false e u ih = absurd (let z : ◌≡◌ {A = ℕ} 0 1 = cc in omega arith)
 
-    pub find-above : (b : ℕ) (as' : List A) → allAbove b as' ≡ true → k ≤ b → find number k as' ≡ none
+    pub find_above : (b : ℕ) (as' : List A) → all_above b as' ≡ true → k ≤ b → find number k as' ≡ none
     unfolding find
-    find-above b [] t h = refl
-    find-above b (a ∷ as') t h = go (ltb b (number a)) refl t (find-above b as')
+    find_above b [] t h = refl
+    find_above b (a ∷ as') t h = go (ltb b (number a)) refl t (find_above b as')
       where
-        go : (x : Bool) → ltb b (number a) ≡ x → x && allAbove b as' ≡ true → (allAbove b as' ≡ true → k ≤ b → find number k as' ≡ none)
+        go : (x : Bool) → ltb b (number a) ≡ x → x && all_above b as' ≡ true → (all_above b as' ≡ true → k ≤ b → find number k as' ≡ none)
             → pick (eqb (number a) k) (some a) (find number k as') ≡ none
         go true e u ih = rw (ne_eqb (number a) k (λ z. omega (arith, ltb-true b (number a) e)), ih u h)
         go false e u ih = absurd (let z : ◌≡◌ {A = ℕ} 0 1 = cc in omega arith)
@@ -44,9 +44,9 @@ abbrev pub From : (ℕ → Type 0) → ℕ → ℕ → Type 0
 From P lo zero = Unit {0}
 From P lo (suc n) = P lo × From P (suc lo) n
 
-pub in-range : (P : ℕ → Type 0) (lo n : ℕ) → From P lo n → (k : ℕ) → lo ≤ k → k < lo + n → P k
-in-range P lo zero f k p q = absurd (omega arith)
-in-range P lo (suc n) f k p q = go (eqb lo k) refl (λ d. in-range P (suc lo) n f.1 k (omega (arith, d)) (omega arith))
+pub in_range_lem : (P : ℕ → Type 0) (lo n : ℕ) → From P lo n → (k : ℕ) → lo ≤ k → k < lo + n → P k
+in_range_lem P lo zero f k p q = absurd (omega arith)
+in_range_lem P lo (suc n) f k p q = go (eqb lo k) refl (λ d. in_range_lem P (suc lo) n f.1 k (omega (arith, d)) (omega arith))
   where
     go : (b : Bool) → eqb lo k ≡ b → ((lo ≡ k → ⊥) → P k) → P k
     go true e ih = subst P (eqb-true lo k e) f.0

@@ -7,7 +7,7 @@ pub mod types;
 ghost use Rattle.std.specs.Prelude.{◌≡◌, ◌+◌, length};
 ghost use Rattle.book.specs.Entry.{entries};
 ghost use Rattle.book_types.specs.Fit.{Room};
-ghost use Rattle.book_types.specs.Length.{lenIf, further, stepOfLength, frontOf, head_of};
+ghost use Rattle.book_types.specs.Length.{len_if, further, step_of_length, front_of, head_of};
 ghost use Rattle.book_types.specs.Found.{plain_of, joined, FoundRoom, next_of};
 
 // How many entries something takes.
@@ -27,7 +27,7 @@ pub enum Step {
 
 // One entry, if the test holds.
 pub fn entry_if(ok: bool) -> Length
-    ensures { result ≡ lenIf ok }
+    ensures { result ≡ len_if ok }
 {
     if ok { Length::Entries(1) } else { Length::Bad }
 }
@@ -45,7 +45,7 @@ fn then_len(first: usize, second: Length) -> Length
 
 // An item as the next step.
 fn next_step(item: Length) -> Step
-    ensures { result ≡ stepOfLength item }
+    ensures { result ≡ step_of_length item }
 {
     match item {
         Length::Entries(n) => Step::Next(n),
@@ -107,7 +107,7 @@ pub enum Front {
 }
 
 pub fn first_entry(kinds: &[u64], words: &[u64]) -> Front
-    ensures { result ≡ frontOf (entries kinds.now words.now) }
+    ensures { result ≡ front_of (entries kinds.now words.now) }
 {
     if kinds.len() == 0 {
         return Front::Nothing;

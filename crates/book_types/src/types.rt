@@ -1,12 +1,12 @@
 // Types: kinds 10 to 20.
 ghost use Rattle.std.specs.Prelude.{◌≡◌};
 ghost use Rattle.book.specs.Entry.{entries};
-ghost use Rattle.book.specs.Kinds.{tyTag};
-ghost use Rattle.book.specs.Read.{closing, isClosing, many};
-ghost use Rattle.book.specs.Decode.{typeTo};
+ghost use Rattle.book.specs.Kinds.{ty_tag};
+ghost use Rattle.book.specs.Read.{closing, is_closing, many};
+ghost use Rattle.book.specs.Decode.{type_to};
 ghost use Rattle.book_types.specs.Length.{len_of, step_of};
-ghost use Rattle.book_types.specs.Groups.{typeGroupOf, leafIf, structIf, groupHead, typeHeadOf};
-ghost use Rattle.book_types.specs.Leaf.{leafOk};
+ghost use Rattle.book_types.specs.Groups.{type_group_of, leaf_if, struct_if, group_head, type_head_of};
+ghost use Rattle.book_types.specs.Leaf.{leaf_ok};
 
 use crate::{Front, Length, ListHead, Step, first_entry, list_head, next_step, shorter, then_len};
 use book::entry;
@@ -25,7 +25,7 @@ pub enum TypeGroup {
 }
 
 pub fn type_group(kind: u64) -> TypeGroup
-    ensures { result ≡ typeGroupOf (tyTag kind) }
+    ensures { result ≡ type_group_of (ty_tag kind) }
 {
     if kind < entry::VOID {
         return TypeGroup::Other;
@@ -56,19 +56,19 @@ pub enum TypeHead {
 }
 
 fn leaf_if(ok: bool) -> TypeHead
-    ensures { result ≡ leafIf ok }
+    ensures { result ≡ leaf_if ok }
 {
     if ok { TypeHead::Leaf } else { TypeHead::Bad }
 }
 
 fn struct_if(ok: bool) -> TypeHead
-    ensures { result ≡ structIf ok }
+    ensures { result ≡ struct_if ok }
 {
     if ok { TypeHead::Struct } else { TypeHead::Bad }
 }
 
 fn group_head(group: TypeGroup, word: u64, names: u64) -> TypeHead
-    ensures { result ≡ groupHead names word group }
+    ensures { result ≡ group_head names word group }
 {
     match group {
         TypeGroup::Void => leaf_if(word == 0),
@@ -83,7 +83,7 @@ fn group_head(group: TypeGroup, word: u64, names: u64) -> TypeHead
 }
 
 pub fn type_head(entry: Front, names: u64) -> TypeHead
-    ensures { result ≡ typeHeadOf names entry }
+    ensures { result ≡ type_head_of names entry }
 {
     match entry {
         Front::Entry(kind, word) => group_head(type_group(kind), word, names),
@@ -93,7 +93,7 @@ pub fn type_head(entry: Front, names: u64) -> TypeHead
 
 // Whether an entry is a type by itself.
 pub fn leaf(kind: u64, word: u64, names: u64) -> bool
-    ensures { result ≡ leafOk names kind word }
+    ensures { result ≡ leaf_ok names kind word }
 {
     if kind == entry::INT {
         return numbers::width::width_ok(word);
@@ -111,7 +111,7 @@ pub fn leaf(kind: u64, word: u64, names: u64) -> bool
 // compiled into its callers.
 #[cycle(type_deep_type_len_type_step_types_len)]
 pub fn type_len(kinds: &[u64], words: &[u64], names: u64, level: u32) -> Length
-    ensures { result ≡ len_of (typeTo names level (entries kinds.now words.now)) }
+    ensures { result ≡ len_of (type_to names level (entries kinds.now words.now)) }
 {
     if level != 0 {
         if kinds.len() != 0 {
@@ -128,7 +128,7 @@ pub fn type_len(kinds: &[u64], words: &[u64], names: u64, level: u32) -> Length
 // The same by what the entry in front begins.
 #[cycle(type_deep_type_len_type_step_types_len)]
 fn type_deep(kinds: &[u64], words: &[u64], names: u64, level: u32) -> Length
-    ensures { result ≡ len_of (typeTo names level (entries kinds.now words.now)) }
+    ensures { result ≡ len_of (type_to names level (entries kinds.now words.now)) }
 {
     if level == 0 {
         return Length::Bad;
@@ -144,7 +144,7 @@ fn type_deep(kinds: &[u64], words: &[u64], names: u64, level: u32) -> Length
 // What comes next in a list of types.
 #[cycle(type_deep_type_len_type_step_types_len)]
 fn type_step(kinds: &[u64], words: &[u64], names: u64, level: u32) -> Step
-    ensures { result ≡ step_of isClosing (typeTo names level) closing (entries kinds.now words.now) }
+    ensures { result ≡ step_of is_closing (type_to names level) closing (entries kinds.now words.now) }
 {
     match list_head(first_entry(kinds, words)) {
         ListHead::Closing => Step::Done(1),
@@ -156,7 +156,7 @@ fn type_step(kinds: &[u64], words: &[u64], names: u64, level: u32) -> Step
 // The list of types at the front, its closing entry with it.
 #[cycle(type_deep_type_len_type_step_types_len)]
 pub fn types_len(kinds: &[u64], words: &[u64], names: u64, level: u32) -> Length
-    ensures { result ≡ len_of (many (typeTo names level) (entries kinds.now words.now)) }
+    ensures { result ≡ len_of (many (type_to names level) (entries kinds.now words.now)) }
 {
     let mut at: usize = 0;
     let mut left: usize = shorter(kinds, words);

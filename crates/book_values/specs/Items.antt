@@ -1,16 +1,16 @@
 -- The answers for values and for what fields hold.
 use Rattle.std.specs.Prelude.{ℕ, ◌^◌, ◌-◌, Bool, true, false, ◌&&◌, ◌||◌, not, eqb, ltb, leb}
 use Rattle.std.proofs.Math.Option.{Option, none, some}
-use Rattle.numbers.specs.Align.{isAlign}
+use Rattle.numbers.specs.Align.{is_align}
 use Rattle.book.specs.Ast as ast
-use Rattle.book.specs.Kinds.{ValTag, valTag}
+use Rattle.book.specs.Kinds.{ValTag, val_tag}
 use Rattle.book.specs.Fields as book
 use Rattle.book.specs.Read.{Reader, word, filtered}
-use Rattle.book.specs.Decode.{value, block, index, align, maybeName}
+use Rattle.book.specs.Decode.{value, block, index, align, maybe_name}
 use Rattle.book.specs.Decode as decode
-use Rattle.book.specs.Forbidden.{isOther}
-use Rattle.book_types.specs.Length.{lenIf}
-use Rattle.book_types.specs.Found.{oneIf, never}
+use Rattle.book.specs.Forbidden.{is_other}
+use Rattle.book_types.specs.Length.{len_if}
+use Rattle.book_types.specs.Found.{one_if, never}
 use Rattle.book_types.specs.declared.Length.{Length}
 use Rattle.book_types.specs.declared.Length.TheVariants as len
 use Rattle.book_types.specs.declared.Found.{Found}
@@ -24,48 +24,48 @@ use Rattle.book_values.specs.declared.Atom.TheVariants as atom
 use Rattle.book_values.specs.declared.Item.{Item}
 use Rattle.book_values.specs.declared.Item.TheVariants.{«Type», Value, Block, Index, Align, Typed, GepIndex, Incoming, Case, Param}
 
-abbrev pub valueGroupOf : Option ValTag → ValueGroup
-valueGroupOf none = group.Bad
-valueGroupOf (some ValTag.local) = group.Local
-valueGroupOf (some ValTag.global) = group.Global
-valueGroupOf (some ValTag.int) = group.Int
-valueGroupOf (some (ValTag.zero z)) = group.Zero
-valueGroupOf (some ValTag.other) = group.Other
+abbrev pub value_group_of : Option ValTag → ValueGroup
+value_group_of none = group.Bad
+value_group_of (some ValTag.local) = group.Local
+value_group_of (some ValTag.global) = group.Global
+value_group_of (some ValTag.int) = group.Int
+value_group_of (some (ValTag.zero z)) = group.Zero
+value_group_of (some ValTag.other) = group.Other
 
 -- whether the word is one that the value may have
-abbrev pub valueOk : ℕ → ℕ → ValueGroup → Bool
-valueOk m w group.Local = ltb w m
-valueOk m w group.Global = ltb w m
-valueOk m w group.Int = true
-valueOk m w group.Zero = eqb w 0
-valueOk m w group.Other = eqb w 0
-valueOk m w group.Bad = false
+abbrev pub value_ok : ℕ → ℕ → ValueGroup → Bool
+value_ok m w group.Local = ltb w m
+value_ok m w group.Global = ltb w m
+value_ok m w group.Int = true
+value_ok m w group.Zero = eqb w 0
+value_ok m w group.Other = eqb w 0
+value_ok m w group.Bad = false
 
-abbrev pub pickLen : Bool → Length → Length → Length
-pickLen true a b = a
-pickLen false a b = b
+abbrev pub pick_len : Bool → Length → Length → Length
+pick_len true a b = a
+pick_len false a b = b
 
 -- an entry of kind k, its word below b
-abbrev pub wordFront : ℕ → ℕ → Front → Length
-wordFront k b front.Nothing = len.Bad
-wordFront k b (front.Entry j w) = pickLen (eqb j k) (lenIf (ltb w b)) len.Bad
+abbrev pub word_front : ℕ → ℕ → Front → Length
+word_front k b front.Nothing = len.Bad
+word_front k b (front.Entry j w) = pick_len (eqb j k) (len_if (ltb w b)) len.Bad
 
 -- ---- what may stand in one entry
-abbrev pub indexFits : ℕ → ℕ → Bool
-indexFits k w = (not (eqb k 32) || ltb w (2 ^ 31)) || leb (2 ^ 64 - 2 ^ 31) w
+abbrev pub index_fits : ℕ → ℕ → Bool
+index_fits k w = (not (eqb k 32) || ltb w (2 ^ 31)) || leb (2 ^ 64 - 2 ^ 31) w
 
-abbrev pub atomOk : ℕ → ℕ → ℕ → Atom → Bool
-atomOk m k w atom.Value = valueOk m w (valueGroupOf (valTag k))
-atomOk m k w atom.GepValue = valueOk m w (valueGroupOf (valTag k)) && indexFits k w
-atomOk m k w atom.Block = eqb k 23 && ltb w m
-atomOk m k w atom.Index = eqb k 22 && ltb w (2 ^ 32)
-atomOk m k w atom.Align = eqb k 22 && isAlign w
-atomOk m k w atom.Case = eqb k 32
-atomOk m k w atom.Param = eqb k 6 && leb w m
+abbrev pub atom_ok : ℕ → ℕ → ℕ → Atom → Bool
+atom_ok m k w atom.Value = value_ok m w (value_group_of (val_tag k))
+atom_ok m k w atom.GepValue = value_ok m w (value_group_of (val_tag k)) && index_fits k w
+atom_ok m k w atom.Block = eqb k 23 && ltb w m
+atom_ok m k w atom.Index = eqb k 22 && ltb w (2 ^ 32)
+atom_ok m k w atom.Align = eqb k 22 && is_align w
+atom_ok m k w atom.Case = eqb k 32
+atom_ok m k w atom.Param = eqb k 6 && leb w m
 
-abbrev pub atomFront : ℕ → Atom → Front → Found
-atomFront m a front.Nothing = found.Bad
-atomFront m a (front.Entry k w) = oneIf (atomOk m k w a) (eqb k 37)
+abbrev pub atom_front : ℕ → Atom → Front → Found
+atom_front m a front.Nothing = found.Bad
+atom_front m a (front.Entry k w) = one_if (atom_ok m k w a) (eqb k 37)
 
 -- by the definition
 abbrev pub AtomMeaning : Atom → Type 0
@@ -77,23 +77,23 @@ AtomMeaning atom.Align = ℕ
 AtomMeaning atom.Case = ℕ
 AtomMeaning atom.Param = Option ℕ
 
-abbrev pub atomReader : ℕ → (a : Atom) → Reader (AtomMeaning a)
-atomReader m atom.Value = value m
-atomReader m atom.GepValue = filtered decode.indexFits (value m)
-atomReader m atom.Block = block m
-atomReader m atom.Index = index
-atomReader m atom.Align = align
-atomReader m atom.Case = word 32 some
-atomReader m atom.Param = word 6 (maybeName m)
+abbrev pub atom_reader : ℕ → (a : Atom) → Reader (AtomMeaning a)
+atom_reader m atom.Value = value m
+atom_reader m atom.GepValue = filtered decode.index_fits (value m)
+atom_reader m atom.Block = block m
+atom_reader m atom.Index = index
+atom_reader m atom.Align = align
+atom_reader m atom.Case = word 32 some
+atom_reader m atom.Param = word 6 (maybe_name m)
 
-abbrev pub atomTest : (a : Atom) → AtomMeaning a → Bool
-atomTest atom.Value = isOther
-atomTest atom.GepValue = isOther
-atomTest atom.Block = never
-atomTest atom.Index = never
-atomTest atom.Align = never
-atomTest atom.Case = never
-atomTest atom.Param = never
+abbrev pub atom_test : (a : Atom) → AtomMeaning a → Bool
+atom_test atom.Value = is_other
+atom_test atom.GepValue = is_other
+atom_test atom.Block = never
+atom_test atom.Index = never
+atom_test atom.Align = never
+atom_test atom.Case = never
+atom_test atom.Param = never
 
 abbrev pub item_of : Item → book.Item
 item_of «Type» = book.Item.type
@@ -102,7 +102,7 @@ item_of Block = book.Item.block
 item_of Index = book.Item.index
 item_of Align = book.Item.align
 item_of Typed = book.Item.typed
-item_of GepIndex = book.Item.gepIndex
+item_of GepIndex = book.Item.gep_index
 item_of Incoming = book.Item.incoming
 item_of Case = book.Item.case
 item_of Param = book.Item.param

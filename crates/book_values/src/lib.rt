@@ -1,14 +1,14 @@
 // Values, and what the fields of instructions and terminators hold.
 ghost use Rattle.std.specs.Prelude.{◌≡◌};
 ghost use Rattle.book.specs.Entry.{entries};
-ghost use Rattle.book.specs.Kinds.{valTag};
-ghost use Rattle.book.specs.Read.{closing, isClosing, optional, list_of, both};
+ghost use Rattle.book.specs.Kinds.{val_tag};
+ghost use Rattle.book.specs.Read.{closing, is_closing, optional, list_of, both};
 ghost use Rattle.book.specs.Decode.{type as typeReader, item as itemReader};
-ghost use Rattle.book.specs.Forbidden.{any, anyThere, otherItem};
-ghost use Rattle.book_types.specs.Found.{foundOf, passOf, never, pairTest};
+ghost use Rattle.book.specs.Forbidden.{any, any_there, other_item};
+ghost use Rattle.book_types.specs.Found.{found_of, pass_of, never, pair_test};
 ghost use Rattle.book_values.specs.declared.Atom.TheVariants.{Block as AtomBlock, Param as AtomParam};
-ghost use Rattle.book_values.specs.Items.{valueGroupOf, valueOk, wordFront, indexFits, atomOk, atomFront, atomReader, atomTest, item_of};
-ghost use Rattle.book_values.specs.Pairs.{twoOk};
+ghost use Rattle.book_values.specs.Items.{value_group_of, value_ok, word_front, index_fits, atom_ok, atom_front, atom_reader, atom_test, item_of};
+ghost use Rattle.book_values.specs.Pairs.{two_ok};
 
 use book::entry;
 use book_types::types::{leaf, type_len};
@@ -29,7 +29,7 @@ pub enum ValueGroup {
 }
 
 pub fn value_group(kind: u64) -> ValueGroup
-    ensures { result ≡ valueGroupOf (valTag kind) }
+    ensures { result ≡ value_group_of (val_tag kind) }
 {
     if kind < entry::LOCAL {
         return ValueGroup::Bad;
@@ -48,7 +48,7 @@ pub fn value_group(kind: u64) -> ValueGroup
 
 // Whether a value of the kind may have the word.
 fn value_fits(kind: u64, word: u64, names: u64) -> bool
-    ensures { result ≡ valueOk names word (valueGroupOf (valTag kind)) }
+    ensures { result ≡ value_ok names word (value_group_of (val_tag kind)) }
 {
     if kind < entry::INTEGER {
         return (entry::LOCAL <= kind) & (word < names);
@@ -58,7 +58,7 @@ fn value_fits(kind: u64, word: u64, names: u64) -> bool
 
 // An entry of one kind, its word below a limit: the name of a block, a function or a struct.
 pub fn word_len(entry: Front, kind: u64, below: u64) -> Length
-    ensures { result ≡ wordFront kind below entry }
+    ensures { result ≡ word_front kind below entry }
 {
     let Front::Entry(k, w) = entry else {
         return Length::Bad;
@@ -85,13 +85,13 @@ pub enum Atom {
 
 // An integer index of a getelementptr fits a signed word of 32 bits.
 fn index_fits(kind: u64, word: u64) -> bool
-    ensures { result ≡ indexFits kind word }
+    ensures { result ≡ index_fits kind word }
 {
     (kind != entry::INTEGER) | (word < 0x8000_0000) | (0xFFFF_FFFF_8000_0000 <= word)
 }
 
 fn atom_ok(kind: u64, word: u64, names: u64, atom: Atom) -> bool
-    ensures { result ≡ atomOk names kind word atom }
+    ensures { result ≡ atom_ok names kind word atom }
 {
     match atom {
         Atom::Value => value_fits(kind, word, names),
@@ -106,7 +106,7 @@ fn atom_ok(kind: u64, word: u64, names: u64, atom: Atom) -> bool
 
 // The atom in front.
 pub fn atom_len(entry: Front, names: u64, atom: Atom) -> Found
-    ensures { result ≡ atomFront names atom entry }
+    ensures { result ≡ atom_front names atom entry }
 {
     let Front::Entry(kind, word) = entry else {
         return Found::Bad;
@@ -120,7 +120,7 @@ pub fn atom_len(entry: Front, names: u64, atom: Atom) -> Found
 
 // A type, then an atom.
 fn typed_len(kinds: &[u64], words: &[u64], names: u64, atom: Atom) -> Found
-    ensures { result ≡ foundOf (pairTest never (atomTest atom)) (both (typeReader names) (atomReader names atom) (entries kinds.now words.now)) }
+    ensures { result ≡ found_of (pair_test never (atom_test atom)) (both (typeReader names) (atom_reader names atom) (entries kinds.now words.now)) }
 {
     let Found::Entries(n, barred) = plain(type_len(kinds, words, names, 64)) else {
         return Found::Bad;
@@ -134,7 +134,7 @@ fn typed_len(kinds: &[u64], words: &[u64], names: u64, atom: Atom) -> Found
 
 // An atom, then a block's name.
 fn pair_len(kinds: &[u64], words: &[u64], names: u64, atom: Atom) -> Found
-    ensures { result ≡ foundOf (pairTest (atomTest atom) (atomTest AtomBlock)) (both (atomReader names atom) (atomReader names AtomBlock) (entries kinds.now words.now)) }
+    ensures { result ≡ found_of (pair_test (atom_test atom) (atom_test AtomBlock)) (both (atom_reader names atom) (atom_reader names AtomBlock) (entries kinds.now words.now)) }
 {
     let Found::Entries(n, barred) = atom_len(first_entry(kinds, words), names, atom) else {
         return Found::Bad;
@@ -148,7 +148,7 @@ fn pair_len(kinds: &[u64], words: &[u64], names: u64, atom: Atom) -> Found
 
 // A parameter: its name and its type.
 fn param_len(kinds: &[u64], words: &[u64], names: u64) -> Found
-    ensures { result ≡ foundOf (pairTest (atomTest AtomParam) never) (both (atomReader names AtomParam) (typeReader names) (entries kinds.now words.now)) }
+    ensures { result ≡ found_of (pair_test (atom_test AtomParam) never) (both (atom_reader names AtomParam) (typeReader names) (entries kinds.now words.now)) }
 {
     let Found::Entries(n, barred) = atom_len(first_entry(kinds, words), names, Atom::Param) else {
         return Found::Bad;
@@ -176,7 +176,7 @@ pub enum Item {
 }
 
 pub fn item_len(kinds: &[u64], words: &[u64], names: u64, item: Item) -> Found
-    ensures { result ≡ foundOf (otherItem (item_of item)) (itemReader names (item_of item) (entries kinds.now words.now)) }
+    ensures { result ≡ found_of (other_item (item_of item)) (itemReader names (item_of item) (entries kinds.now words.now)) }
 {
     match item {
         Item::Type => plain(type_len(kinds, words, names, 64)),
@@ -194,7 +194,7 @@ pub fn item_len(kinds: &[u64], words: &[u64], names: u64, item: Item) -> Found
 
 // An item, or kind 21 for none.
 pub fn optional_len(kinds: &[u64], words: &[u64], names: u64, item: Item) -> Found
-    ensures { result ≡ foundOf (anyThere (otherItem (item_of item))) (optional (itemReader names (item_of item)) (entries kinds.now words.now)) }
+    ensures { result ≡ found_of (any_there (other_item (item_of item))) (optional (itemReader names (item_of item)) (entries kinds.now words.now)) }
 {
     let Front::Entry(k, w) = first_entry(kinds, words) else {
         return Found::Bad;
@@ -208,7 +208,7 @@ pub fn optional_len(kinds: &[u64], words: &[u64], names: u64, item: Item) -> Fou
 
 // Whether two entries are the item. Types of more entries are not looked at here.
 fn two_entries(kind: u64, word: u64, kind2: u64, word2: u64, names: u64, item: Item) -> bool
-    ensures { result ≡ twoOk names kind word kind2 word2 item }
+    ensures { result ≡ two_ok names kind word kind2 word2 item }
 {
     match item {
         Item::Typed => leaf(kind, word, names) & atom_ok(kind2, word2, names, Atom::Value),
@@ -230,7 +230,7 @@ fn two_entries(kind: u64, word: u64, kind2: u64, word2: u64, names: u64, item: I
 
 // An item of a list. Most are two entries, which are told without a call.
 fn listed_len(kinds: &[u64], words: &[u64], names: u64, item: Item) -> Found
-    ensures { result ≡ foundOf (otherItem (item_of item)) (itemReader names (item_of item) (entries kinds.now words.now)) }
+    ensures { result ≡ found_of (other_item (item_of item)) (itemReader names (item_of item) (entries kinds.now words.now)) }
 {
     if 1 < kinds.len() {
         if 1 < words.len() {
@@ -244,7 +244,7 @@ fn listed_len(kinds: &[u64], words: &[u64], names: u64, item: Item) -> Found
 
 // What comes next in a list of items.
 fn item_step(kinds: &[u64], words: &[u64], names: u64, item: Item) -> Pass
-    ensures { result ≡ passOf (otherItem (item_of item)) never isClosing (itemReader names (item_of item)) closing (entries kinds.now words.now) }
+    ensures { result ≡ pass_of (other_item (item_of item)) never is_closing (itemReader names (item_of item)) closing (entries kinds.now words.now) }
 {
     match list_head(first_entry(kinds, words)) {
         ListHead::Closing => Pass::Done(1, false),
@@ -255,7 +255,7 @@ fn item_step(kinds: &[u64], words: &[u64], names: u64, item: Item) -> Pass
 
 // A list of at most so many items, its closing entry with it.
 pub fn list_len(kinds: &[u64], words: &[u64], names: u64, item: Item, most: usize) -> Found
-    ensures { result ≡ foundOf (any (otherItem (item_of item))) (list_of most (itemReader names (item_of item)) (entries kinds.now words.now)) }
+    ensures { result ≡ found_of (any (other_item (item_of item))) (list_of most (itemReader names (item_of item)) (entries kinds.now words.now)) }
 {
     let mut at: usize = 0;
     let mut left: usize = most;

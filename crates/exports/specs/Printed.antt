@@ -7,8 +7,8 @@ use Rattle.print.specs.declared.passes.Printed.{Printed}
 use Rattle.print.specs.declared.passes.Printed.TheVariants.{Accepted, Refused}
 
 module _ (p : Printing) (r : Printed) (t : List ℕ) (a : PrintAnswer p r t) where
-  pub accepted-is : (n : ℕ) → r ≡ Accepted n → PrintAnswers p 0 n t
-  accepted-is n h = subst (λ (q : Printed). PrintAnswer p q t) h a
+  pub accepted_is : (n : ℕ) → r ≡ Accepted n → PrintAnswers p 0 n t
+  accepted_is n h = subst (λ (q : Printed). PrintAnswer p q t) h a
 
-  pub refused-is : (e : ℕ) → r ≡ Refused e → PrintAnswers p e 0 t
-  refused-is e h = subst (λ (q : Printed). PrintAnswer p q t) h a
+  pub refused_is : (e : ℕ) → r ≡ Refused e → PrintAnswers p e 0 t
+  refused_is e h = subst (λ (q : Printed). PrintAnswer p q t) h a

@@ -1,6 +1,6 @@
 // The boundary for C and Rust: each function lends its slices on and gives document 01's numbers.
 ghost use Rattle.std.specs.Prelude.{◌≡◌};
-ghost use Rattle.book.specs.Check.{checked, refusalOf};
+ghost use Rattle.book.specs.Check.{checked, refusal_of};
 ghost use Rattle.book_check.specs.Verdict.{number_of};
 ghost use Rattle.assembly.specs.Printer.{print};
 ghost use Rattle.lowering.specs.Translate.{translate};
@@ -28,7 +28,7 @@ fn number(verdict: Verdict) -> u64
 // none does.
 #[unsafe(no_mangle)]
 pub extern "C" fn mivolanjy_check(book: &[u64], names: &[u8], counter: u64, work: usize) -> u64
-    ensures { result ≡ refusalOf (checked book.now names.now counter work) }
+    ensures { result ≡ refusal_of (checked book.now names.now counter work) }
 {
     number(book_check::check(book, names, counter, work))
 }

@@ -5,17 +5,17 @@ ghost use Rattle.std.proofs.Math.Option.{Option};
 ghost use Rattle.book.specs.Ast.{TypedVal};
 ghost use Rattle.book.specs.Entry.{entries};
 ghost use Rattle.book.specs.Kinds.{InstTag};
-ghost use Rattle.book.specs.Fields.{Item, Field, Meanings, instFields};
+ghost use Rattle.book.specs.Fields.{Item, Field, Meanings, inst_fields};
 ghost use Rattle.book.specs.Map.{lookup};
 ghost use Rattle.lowering.specs.Gen.{Gen};
 ghost use Rattle.lowering.specs.Context.{FnCtx};
-ghost use Rattle.lowering.specs.Memory.{pushCount, genDynamicAlloca, fixedPlace, place_of, genAlloca};
+ghost use Rattle.lowering.specs.Memory.{push_count, gen_dynamic_alloca, fixed_place, place_of, gen_alloca};
 ghost use Rattle.gen_lines.specs.Puts.{Puts};
-ghost use Rattle.gen_values.specs.Values.{destOf};
+ghost use Rattle.gen_values.specs.Values.{dest_of};
 ghost use Rattle.gen_values.specs.Maps.{Locals, Maps, Did};
 ghost use Rattle.gen_values.specs.Fields.{Fields};
 ghost use Rattle.gen_size.specs.Lent.{Lent};
-ghost use Rattle.gen_alloca.specs.Alloca.{raise, moveBy, timesSize, plusOffset, CountFront, CountPlaced, CountThere, CountAt, AlignLent, AlignGiven, NameLent, ResultLent};
+ghost use Rattle.gen_alloca.specs.Alloca.{raise, move_by, times_size, plus_offset, CountFront, CountPlaced, CountThere, CountAt, AlignLent, AlignGiven, NameLent, ResultLent};
 
 use assembly::line;
 use book::entry;
@@ -48,7 +48,7 @@ fn push_count(
 ) -> Reached
     requires { CountThere kinds.now words.now 0 work.now }
     ensures { (m : ℕ) (c : FnCtx) (o : Option TypedVal) → CountAt m kinds.now words.now 0 o → Locals c m work.now
-        → Puts (pushCount c o) s result lines.old operands.old lines.new operands.new }
+        → Puts (push_count c o) s result lines.old operands.old lines.new operands.new }
 {
     if kinds[0] == entry::ABSENT {
         return push_int(1, 64, lines, operands, s);
@@ -96,7 +96,7 @@ fn raised(align: u64, lines: &mut [u16], operands: &mut [u64], s: Reached) -> Re
 
 // So many elements of this size.
 fn times_size(size: u64, lines: &mut [u16], operands: &mut [u64], s: Reached) -> Reached
-    ensures { Puts (timesSize size) s result lines.old operands.old lines.new operands.new }
+    ensures { Puts (times_size size) s result lines.old operands.old lines.new operands.new }
 {
     if size == 1 {
         return s;
@@ -107,7 +107,7 @@ fn times_size(size: u64, lines: &mut [u16], operands: &mut [u64], s: Reached) ->
 
 // The stack pointer moved behind so many elements of this size.
 fn moved(size: u64, lines: &mut [u16], operands: &mut [u64], s: Reached) -> Reached
-    ensures { Puts (moveBy size) s result lines.old operands.old lines.new operands.new }
+    ensures { Puts (move_by size) s result lines.old operands.old lines.new operands.new }
 {
     let bytes = times_size(size, lines, operands, s);
     let end = put(lines, operands, bytes, line::ADD_U64, 0);
@@ -126,10 +126,10 @@ fn gen_dynamic_alloca(
     operands: &mut [u64],
     s: Reached,
 ) -> Reached
-    requires { Lent names (instFields InstTag.alloca) (entries kinds.now words.now) (entries book_kinds.now book_words.now) work.old }
-    ensures { (p : Meanings (instFields InstTag.alloca)) (c : FnCtx) → Fields names (instFields InstTag.alloca) p (entries kinds.now words.now)
+    requires { Lent names (inst_fields InstTag.alloca) (entries kinds.now words.now) (entries book_kinds.now book_words.now) work.old }
+    ensures { (p : Meanings (inst_fields InstTag.alloca)) (c : FnCtx) → Fields names (inst_fields InstTag.alloca) p (entries kinds.now words.now)
         → Maps names (entries book_kinds.now book_words.now) c work.old
-        → Did (genDynamicAlloca c p.0 p.1.0 p.1.1.0) names (entries book_kinds.now book_words.now) c work.new
+        → Did (gen_dynamic_alloca c p.0 p.1.0 p.1.1.0) names (entries book_kinds.now book_words.now) c work.new
         s result lines.old operands.old lines.new operands.new }
 {
     let size = measured_size(kinds, words, book_kinds, book_words, work, names, s);
@@ -153,7 +153,7 @@ fn gen_dynamic_alloca(
 
 // An offset, where it is not 0.
 fn plus_offset(offset: u64, lines: &mut [u16], operands: &mut [u64], s: Reached) -> Reached
-    ensures { Puts (plusOffset offset) s result lines.old operands.old lines.new operands.new }
+    ensures { Puts (plus_offset offset) s result lines.old operands.old lines.new operands.new }
 {
     if offset == 0 {
         return s;
@@ -170,8 +170,8 @@ fn fixed_place(
     operands: &mut [u64],
     s: Reached,
 ) -> Reached
-    ensures { (c : FnCtx) → c.bpSlot ≡ base
-        → Puts (fixedPlace c offset) s result lines.old operands.old lines.new operands.new }
+    ensures { (c : FnCtx) → c.bp_slot ≡ base
+        → Puts (fixed_place c offset) s result lines.old operands.old lines.new operands.new }
 {
     let frame = put(lines, operands, s, line::GET_LOCAL, base);
     plus_offset(offset, lines, operands, frame)
@@ -192,9 +192,9 @@ fn place_of(
     s: Reached,
 ) -> Reached
     requires { NameLent names (entries kinds.now words.now) (entries book_kinds.now book_words.now) name work.old }
-    ensures { (p : Meanings (instFields InstTag.alloca)) (c : FnCtx) → Fields names (instFields InstTag.alloca) p (entries kinds.now words.now)
-        → Maps names (entries book_kinds.now book_words.now) c work.old → c.bpSlot ≡ base
-        → Did (place_of c (lookup name c.allocaOffsets) p.0 p.1.0 p.1.1.0) names (entries book_kinds.now book_words.now) c work.new
+    ensures { (p : Meanings (inst_fields InstTag.alloca)) (c : FnCtx) → Fields names (inst_fields InstTag.alloca) p (entries kinds.now words.now)
+        → Maps names (entries book_kinds.now book_words.now) c work.old → c.bp_slot ≡ base
+        → Did (place_of c (lookup name c.alloca_offsets) p.0 p.1.0 p.1.1.0) names (entries book_kinds.now book_words.now) c work.new
         s result lines.old operands.old lines.new operands.new }
 {
     let place = work[book::work::WORDS * (name as usize) + book::work::PLACE];
@@ -221,9 +221,9 @@ pub fn gen_alloca(
     s: Reached,
 ) -> Reached
     requires { ResultLent names (entries kinds.now words.now) (entries book_kinds.now book_words.now) dest work.old }
-    ensures { (p : Meanings (instFields InstTag.alloca)) (c : FnCtx) → Fields names (instFields InstTag.alloca) p (entries kinds.now words.now)
-        → Maps names (entries book_kinds.now book_words.now) c work.old → c.bpSlot ≡ base
-        → Did (genAlloca c (destOf dest) p.0 p.1.0 p.1.1.0) names (entries book_kinds.now book_words.now) c work.new
+    ensures { (p : Meanings (inst_fields InstTag.alloca)) (c : FnCtx) → Fields names (inst_fields InstTag.alloca) p (entries kinds.now words.now)
+        → Maps names (entries book_kinds.now book_words.now) c work.old → c.bp_slot ≡ base
+        → Did (gen_alloca c (dest_of dest) p.0 p.1.0 p.1.1.0) names (entries book_kinds.now book_words.now) c work.new
         s result lines.old operands.old lines.new operands.new }
 {
     if dest == 0 {

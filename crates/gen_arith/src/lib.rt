@@ -3,15 +3,15 @@ ghost use Rattle.std.specs.Prelude.{◌≡◌, ◌<◌, ◌+◌, ltb};
 ghost use Rattle.book.specs.Entry.{entries};
 ghost use Rattle.book.specs.Fields.{Meanings};
 ghost use Rattle.book.specs.Ast.{BinOp, ICmpPred, ConvOp};
-ghost use Rattle.assembly.specs.Number.{binNumber, icmpNumber};
+ghost use Rattle.assembly.specs.Number.{bin_number, icmp_number};
 ghost use Rattle.lowering.specs.Gen.{when};
 ghost use Rattle.lowering.specs.Context.{FnCtx};
-ghost use Rattle.lowering.specs.Operand.{emitTruncTo};
-ghost use Rattle.lowering.specs.Arith.{signedLeft, signedRight, signedPred, genBin, genIcmp, genConv, emitConvOp};
+ghost use Rattle.lowering.specs.Operand.{emit_trunc_to};
+ghost use Rattle.lowering.specs.Arith.{signed_left, signed_right, signed_pred, gen_bin, gen_icmp, gen_conv, emit_conv_op};
 ghost use Rattle.gen_lines.specs.Puts.{Puts};
 ghost use Rattle.gen_values.specs.Maps.{Locals};
 ghost use Rattle.gen_values.specs.Fields.{Fields};
-ghost use Rattle.gen_arith.specs.Arith.{twoValues, converted, There, convNumber};
+ghost use Rattle.gen_arith.specs.Arith.{two_values, converted, There, conv_number};
 
 use gen_lines::{Reached, put};
 use gen_values::{emit_sext, emit_trunc_to, extend, need_width, operation, push_value};
@@ -19,28 +19,28 @@ use layout_memo::skip;
 
 // Whether an operation extends its left side: sdiv, srem and ashr.
 fn signed_left(op: u16) -> bool
-    ensures { (o : BinOp) → op ≡ binNumber o → result ≡ signedLeft o }
+    ensures { (o : BinOp) → op ≡ bin_number o → result ≡ signed_left o }
 {
     (op == 4) | (op == 6) | (op == 12)
 }
 
 // Whether an operation extends its right side: sdiv and srem.
 fn signed_right(op: u16) -> bool
-    ensures { (o : BinOp) → op ≡ binNumber o → result ≡ signedRight o }
+    ensures { (o : BinOp) → op ≡ bin_number o → result ≡ signed_right o }
 {
     (op == 4) | (op == 6)
 }
 
 // Whether a predicate, numbered behind the 13 operations, extends both sides: sgt, sge, slt and sle.
 fn signed_pred(pred: u16) -> bool
-    ensures { (o : ICmpPred) → pred ≡ icmpNumber o → result ≡ signedPred o }
+    ensures { (o : ICmpPred) → pred ≡ icmp_number o → result ≡ signed_pred o }
 {
     19 <= pred
 }
 
 // Results under 32 bits are truncated.
 fn cut(width: u32, lines: &mut [u16], operands: &mut [u64], s: Reached) -> Reached
-    ensures { Puts (when (ltb width 32) (emitTruncTo width)) s result lines.old operands.old lines.new operands.new }
+    ensures { Puts (when (ltb width 32) (emit_trunc_to width)) s result lines.old operands.old lines.new operands.new }
 {
     if width < 32 {
         return emit_trunc_to(width, lines, operands, s);
@@ -60,10 +60,10 @@ pub fn gen_bin(
     s: Reached,
 ) -> Reached
     requires op_bound { op < 13 }
-    requires there { There twoValues names (entries kinds.now words.now) work.now }
-    ensures { (c : FnCtx) (o : BinOp) → op ≡ binNumber o → Locals c names work.now → (p : Meanings twoValues)
-        → Fields names twoValues p (entries kinds.now words.now)
-        → Puts (genBin c o p.0 p.1.0 p.1.1.0) s result lines.old operands.old lines.new operands.new }
+    requires there { There two_values names (entries kinds.now words.now) work.now }
+    ensures { (c : FnCtx) (o : BinOp) → op ≡ bin_number o → Locals c names work.now → (p : Meanings two_values)
+        → Fields names two_values p (entries kinds.now words.now)
+        → Puts (gen_bin c o p.0 p.1.0 p.1.1.0) s result lines.old operands.old lines.new operands.new }
 {
     let wide = need_width(kinds, words, s);
     let width = wide.width;
@@ -93,10 +93,10 @@ pub fn gen_icmp(
     s: Reached,
 ) -> Reached
     requires pred_bound { pred < 23 }
-    requires there { There twoValues names (entries kinds.now words.now) work.now }
-    ensures { (c : FnCtx) (o : ICmpPred) → pred ≡ icmpNumber o → Locals c names work.now → (p : Meanings twoValues)
-        → Fields names twoValues p (entries kinds.now words.now)
-        → Puts (genIcmp c o p.0 p.1.0 p.1.1.0) s result lines.old operands.old lines.new operands.new }
+    requires there { There two_values names (entries kinds.now words.now) work.now }
+    ensures { (c : FnCtx) (o : ICmpPred) → pred ≡ icmp_number o → Locals c names work.now → (p : Meanings two_values)
+        → Fields names two_values p (entries kinds.now words.now)
+        → Puts (gen_icmp c o p.0 p.1.0 p.1.1.0) s result lines.old operands.old lines.new operands.new }
 {
     let wide = need_width(kinds, words, s);
     let width = wide.width;
@@ -123,8 +123,8 @@ fn emit_conv_op(
     operands: &mut [u64],
     s: Reached,
 ) -> Reached
-    ensures { (o : ConvOp) → op ≡ convNumber o
-        → Puts (emitConvOp o from to) s result lines.old operands.old lines.new operands.new }
+    ensures { (o : ConvOp) → op ≡ conv_number o
+        → Puts (emit_conv_op o from to) s result lines.old operands.old lines.new operands.new }
 {
     if op == 0 {
         return emit_trunc_to(to, lines, operands, s);
@@ -152,9 +152,9 @@ pub fn gen_conv(
     s: Reached,
 ) -> Reached
     requires { There converted names (entries kinds.now words.now) work.now }
-    ensures { (c : FnCtx) (o : ConvOp) → op ≡ convNumber o → Locals c names work.now → (p : Meanings converted)
+    ensures { (c : FnCtx) (o : ConvOp) → op ≡ conv_number o → Locals c names work.now → (p : Meanings converted)
         → Fields names converted p (entries kinds.now words.now)
-        → Puts (genConv c o p.0 p.1.0 p.1.1.0) s result lines.old operands.old lines.new operands.new }
+        → Puts (gen_conv c o p.0 p.1.0 p.1.1.0) s result lines.old operands.old lines.new operands.new }
 {
     let from = need_width(kinds, words, s);
     let width = from.width;

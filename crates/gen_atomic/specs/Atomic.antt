@@ -6,125 +6,125 @@ use Rattle.std.proofs.Math.Option.{Option}
 use Rattle.book.specs.Ast.{Ty, Value, ICmpPred}
 use Rattle.book.specs.Work.{slot_at}
 use Rattle.book.specs.Map.{lookup}
-use Rattle.book.specs.Result.{okOr}
+use Rattle.book.specs.Result.{ok_or}
 use Rattle.layout.specs.Layout.{size_of}
 use Rattle.assembly.specs.Line.{Line, Work}
-use Rattle.assembly.specs.Number.{kind_of, operandOf, operation, icmpNumber}
+use Rattle.assembly.specs.Number.{kind_of, operand_of, operation, icmp_number}
 use Rattle.lowering.specs.Gen.{Gen, line, refuse, ◌>>◌, when}
 use Rattle.lowering.specs.Context.{FnCtx, named, slot_of}
-use Rattle.lowering.specs.Operand.{pushValue, storeDest}
-use Rattle.lowering.specs.Memory.{requireAtomicWidth, genAtomicLoad, genAtomicStore, genCmpxchg, aggSlot, genExtractValue}
+use Rattle.lowering.specs.Operand.{push_value, store_dest}
+use Rattle.lowering.specs.Memory.{require_atomic_width, gen_atomic_load, gen_atomic_store, gen_cmpxchg, agg_slot, gen_extract_value}
 use Rattle.gen_lines.specs.declared.Reached.{Reached}
-use Rattle.gen_lines.specs.Puts.{Puts, Lined, or_else, madeRefused, line-puts, then-puts, same-puts}
-use Rattle.gen_lines.specs.Follow.{Asked, asked-ok, asked-err, asked-puts}
-use Rattle.gen_values.specs.Values.{value_of, destOf}
+use Rattle.gen_lines.specs.Puts.{Puts, Lined, or_else, made_refused, line_puts, then_puts, same_puts}
+use Rattle.gen_lines.specs.Follow.{Asked, asked_ok, asked_err, asked_puts}
+use Rattle.gen_values.specs.Values.{value_of, dest_of}
 use Rattle.gen_values.specs.Maps.{Locals}
-use Rattle.gen_values.specs.Push.{some_of, none_of, bare-puts, set-local-puts}
-use Rattle.gen_fields.specs.Kinds.{NoLocal, is-local, no_local}
-use Rattle.gen_fields.specs.Tests.{need-puts}
+use Rattle.gen_values.specs.Push.{some_of, none_of, bare_puts, set_local_puts}
+use Rattle.gen_fields.specs.Kinds.{NoLocal, is_local, no_local}
+use Rattle.gen_fields.specs.Tests.{need_puts}
 
 -- ---- atomics
 module _ (c : FnCtx) (ty : Ty) {n : ℕ} {s s₁ t : Reached} (ks os : List ℕ) where
-  pub width-puts : Asked (size_of c.codegen.structs ty) s s₁ n → t ≡ or_else (n == 8) s₁ (madeRefused s₁ 12) → Puts (requireAtomicWidth c ty) s t ks os ks os
-  unfolding requireAtomicWidth
-  width-puts a h = asked-puts (λ k. when (not (k == 8)) (refuse 12)) a (need-puts (n == 8) 12 (omega arith) s₁ ks os h)
+  pub width_puts : Asked (size_of c.codegen.structs ty) s s₁ n → t ≡ or_else (n == 8) s₁ (made_refused s₁ 12) → Puts (require_atomic_width c ty) s t ks os ks os
+  unfolding require_atomic_width
+  width_puts a h = asked_puts (λ k. when (not (k == 8)) (refuse 12)) a (need_puts (n == 8) 12 (omega arith) s₁ ks os h)
 
 module _ (c : FnCtx) (ty : Ty) {s t u v : Reached} {ks os ks₁ os₁ ks₂ os₂ : List ℕ} where
-  pub load-puts : (ptr : Value) → Puts (requireAtomicWidth c ty) s t ks os ks os → Puts (pushValue c ptr 64) t u ks os ks₁ os₁ → Lined 83 0 u v ks₁ os₁ ks₂ os₂
-      → Puts (genAtomicLoad c ty ptr) s v ks os ks₂ os₂
-  unfolding genAtomicLoad kind_of operandOf
-  load-puts ptr p q h = then-puts p (then-puts q (bare-puts Line.atomicLoad refl refl h))
+  pub load_puts : (ptr : Value) → Puts (require_atomic_width c ty) s t ks os ks os → Puts (push_value c ptr 64) t u ks os ks₁ os₁ → Lined 83 0 u v ks₁ os₁ ks₂ os₂
+      → Puts (gen_atomic_load c ty ptr) s v ks os ks₂ os₂
+  unfolding gen_atomic_load kind_of operand_of
+  load_puts ptr p q h = then_puts p (then_puts q (bare_puts Line.atomic_load refl refl h))
 
 module _ (c : FnCtx) (ty : Ty) {s t u v w : Reached} {ks os ks₁ os₁ ks₂ os₂ ks₃ os₃ : List ℕ} where
-  pub store-puts : (val ptr : Value) → Puts (requireAtomicWidth c ty) s t ks os ks os → Puts (pushValue c ptr 64) t u ks os ks₁ os₁
-      → Puts (pushValue c val 64) u v ks₁ os₁ ks₂ os₂ → Lined 84 0 v w ks₂ os₂ ks₃ os₃ → Puts (genAtomicStore c ty val ptr) s w ks os ks₃ os₃
-  unfolding genAtomicStore kind_of operandOf
-  store-puts val ptr p q r h = then-puts p (then-puts q (then-puts r (bare-puts Line.atomicStore refl refl h)))
+  pub store_puts : (val ptr : Value) → Puts (require_atomic_width c ty) s t ks os ks os → Puts (push_value c ptr 64) t u ks os ks₁ os₁
+      → Puts (push_value c val 64) u v ks₁ os₁ ks₂ os₂ → Lined 84 0 v w ks₂ os₂ ks₃ os₃ → Puts (gen_atomic_store c ty val ptr) s w ks os ks₃ os₃
+  unfolding gen_atomic_store kind_of operand_of
+  store_puts val ptr p q r h = then_puts p (then_puts q (then_puts r (bare_puts Line.atomic_store refl refl h)))
 
 -- ---- slots
 module _ (c : FnCtx) (m x e : ℕ) (work : List ℕ) (below : x < m) (k : Locals c m work) (s : Reached) {w : ℕ} (is : w ≡ slice_index work (slot_at x)) where
-  pub slot-found : (w ≢ 0) → Asked (okOr e (lookup x c.slots)) s s (w - 1)
-  unfolding okOr
-  slot-found z = rw (some_of (lookup x c.slots) w (is ∙ k.slots x below) z) (asked-ok s (w - 1))
+  pub slot_found : (w ≢ 0) → Asked (ok_or e (lookup x c.slots)) s s (w - 1)
+  unfolding ok_or
+  slot_found z = rw (some_of (lookup x c.slots) w (is ∙ k.slots x below) z) (asked_ok s (w - 1))
 
-  pub slot-missing : {t : Reached} → 0 < e → w ≡ 0 → t ≡ madeRefused s e → Asked (okOr e (lookup x c.slots)) s t 0
-  unfolding okOr
-  slot-missing p z h = rw (none_of (lookup x c.slots) w (is ∙ k.slots x below) z) (asked-err e p s 0 h)
+  pub slot_missing : {t : Reached} → 0 < e → w ≡ 0 → t ≡ made_refused s e → Asked (ok_or e (lookup x c.slots)) s t 0
+  unfolding ok_or
+  slot_missing p z h = rw (none_of (lookup x c.slots) w (is ∙ k.slots x below) z) (asked_err e p s 0 h)
 
 module _ (c : FnCtx) (dest : ℕ) (s : Reached) where
-  pub nameless : {t : Reached} → dest ≡ 0 → t ≡ madeRefused s 5 → Asked (slot_of c (destOf dest)) s t 0
-  unfolding slot_of destOf named okOr
-  nameless z h = rw (eq-eqb dest 0 z) (asked-err 5 (omega arith) s 0 h)
+  pub nameless : {t : Reached} → dest ≡ 0 → t ≡ made_refused s 5 → Asked (slot_of c (dest_of dest)) s t 0
+  unfolding slot_of dest_of named ok_or
+  nameless z h = rw (eq-eqb dest 0 z) (asked_err 5 (omega arith) s 0 h)
 
-  pub result-slot : {t : Reached} {x : ℕ} → (dest ≢ 0) → Asked (okOr 5 (lookup (dest - 1) c.slots)) s t x → Asked (slot_of c (destOf dest)) s t x
-  unfolding slot_of destOf named
-  result-slot z a = rw (ne_eqb dest 0 z) a
+  pub result_slot : {t : Reached} {x : ℕ} → (dest ≢ 0) → Asked (ok_or 5 (lookup (dest - 1) c.slots)) s t x → Asked (slot_of c (dest_of dest)) s t x
+  unfolding slot_of dest_of named
+  result_slot z a = rw (ne_eqb dest 0 z) a
 
 module _ (c : FnCtx) (kind word : ℕ) (s : Reached) where
-  pub agg-local : {t : Reached} {x : ℕ} → kind ≡ 30 → Asked (okOr 16 (lookup word c.slots)) s t x → Asked (okOr 16 (aggSlot c (value_of kind word))) s t x
-  unfolding aggSlot
-  agg-local e a = rw (is-local kind word e) a
+  pub agg_local : {t : Reached} {x : ℕ} → kind ≡ 30 → Asked (ok_or 16 (lookup word c.slots)) s t x → Asked (ok_or 16 (agg_slot c (value_of kind word))) s t x
+  unfolding agg_slot
+  agg_local e a = rw (is_local kind word e) a
 
-  pub agg-none : {t : Reached} → (kind ≢ 30) → t ≡ madeRefused s 16 → Asked (okOr 16 (aggSlot c (value_of kind word))) s t 0
-  unfolding aggSlot okOr
-  agg-none {t} z h = at (value_of kind word) (no_local kind word z)
+  pub agg_none : {t : Reached} → (kind ≢ 30) → t ≡ made_refused s 16 → Asked (ok_or 16 (agg_slot c (value_of kind word))) s t 0
+  unfolding agg_slot ok_or
+  agg_none {t} z h = at (value_of kind word) (no_local kind word z)
     where
-      at : (v : Value) → NoLocal v → Asked (okOr 16 (aggSlot c v)) s t 0
+      at : (v : Value) → NoLocal v → Asked (ok_or 16 (agg_slot c v)) s t 0
       at (Value.local x) n = absurd n
-      at (Value.global x) n = asked-err 16 (omega arith) s 0 h
-      at (Value.int x) n = asked-err 16 (omega arith) s 0 h
-      at (Value.zero x) n = asked-err 16 (omega arith) s 0 h
-      at Value.other n = asked-err 16 (omega arith) s 0 h
+      at (Value.global x) n = asked_err 16 (omega arith) s 0 h
+      at (Value.int x) n = asked_err 16 (omega arith) s 0 h
+      at (Value.zero x) n = asked_err 16 (omega arith) s 0 h
+      at Value.other n = asked_err 16 (omega arith) s 0 h
 
 -- ---- `gen_cmpxchg`
 -- the two slots
-unfoldable pub setBoth : FnCtx → Value → ℕ → Gen
-setBoth c cmp base = do
+unfoldable pub set_both : FnCtx → Value → ℕ → Gen
+set_both c cmp base = do
   line Line.dup
-  line (Line.setLocal base)
-  pushValue c cmp 64
+  line (Line.set_local base)
+  push_value c cmp 64
   line (Line.icmp ICmpPred.eq Work.w64)
-  line (Line.setLocal (base + 1))
+  line (Line.set_local (base + 1))
 
 module _ {s t : Reached} {ks os ks' os' : List ℕ} where
   -- a slot that is a sum
-  pub next-slot : (x y : ℕ) {z : ℕ} → z ≡ (x + y) % 2 ^ 64 → Lined 11 z s t ks os ks' os' → Puts (line (Line.setLocal (x + y))) s t ks os ks' os'
-  unfolding kind_of operandOf
-  next-slot x y e h = line-puts (Line.setLocal (x + y)) refl e h
+  pub next_slot : (x y : ℕ) {z : ℕ} → z ≡ (x + y) % 2 ^ 64 → Lined 11 z s t ks os ks' os' → Puts (line (Line.set_local (x + y))) s t ks os ks' os'
+  unfolding kind_of operand_of
+  next_slot x y e h = line_puts (Line.set_local (x + y)) refl e h
 
-  pub sum-slot : (x y : ℕ) {z : ℕ} → z ≡ (x + y) % 2 ^ 64 → Lined 10 z s t ks os ks' os' → Puts (line (Line.getLocal (x + y))) s t ks os ks' os'
-  unfolding kind_of operandOf
-  sum-slot x y e h = line-puts (Line.getLocal (x + y)) refl e h
+  pub sum_slot : (x y : ℕ) {z : ℕ} → z ≡ (x + y) % 2 ^ 64 → Lined 10 z s t ks os ks' os' → Puts (line (Line.get_local (x + y))) s t ks os ks' os'
+  unfolding kind_of operand_of
+  sum_slot x y e h = line_puts (Line.get_local (x + y)) refl e h
 
 module _ (c : FnCtx) (v : Value) (base : ℕ) {next : ℕ} {s t₁ t₂ t₃ t₄ t₅ : Reached} {ks os ks₁ os₁ ks₂ os₂ ks₃ os₃ ks₄ os₄ ks₅ os₅ : List ℕ} where
-  pub both-puts : base < 2 ^ 64 → Lined 87 0 s t₁ ks os ks₁ os₁ → Lined 11 base t₁ t₂ ks₁ os₁ ks₂ os₂ → Puts (pushValue c v 64) t₂ t₃ ks₂ os₂ ks₃ os₃
-      → Lined 57 0 t₃ t₄ ks₃ os₃ ks₄ os₄ → next ≡ (base + 1) % 2 ^ 64 → Lined 11 next t₄ t₅ ks₄ os₄ ks₅ os₅ → Puts (setBoth c v base) s t₅ ks os ks₅ os₅
-  unfolding setBoth kind_of operandOf operation icmpNumber
-  both-puts few a b p d i e =
-      then-puts (bare-puts Line.dup refl refl a)
-      (then-puts (set-local-puts base few b) (then-puts p (then-puts (bare-puts (Line.icmp ICmpPred.eq Work.w64) refl refl d) (next-slot base 1 i e))))
+  pub both_puts : base < 2 ^ 64 → Lined 87 0 s t₁ ks os ks₁ os₁ → Lined 11 base t₁ t₂ ks₁ os₁ ks₂ os₂ → Puts (push_value c v 64) t₂ t₃ ks₂ os₂ ks₃ os₃
+      → Lined 57 0 t₃ t₄ ks₃ os₃ ks₄ os₄ → next ≡ (base + 1) % 2 ^ 64 → Lined 11 next t₄ t₅ ks₄ os₄ ks₅ os₅ → Puts (set_both c v base) s t₅ ks os ks₅ os₅
+  unfolding set_both kind_of operand_of operation icmp_number
+  both_puts few a b p d i e =
+      then_puts (bare_puts Line.dup refl refl a)
+      (then_puts (set_local_puts base few b) (then_puts p (then_puts (bare_puts (Line.icmp ICmpPred.eq Work.w64) refl refl d) (next_slot base 1 i e))))
 
 module _ (c : FnCtx) (ptr cmp new : Value) (dest : Option ℕ) {base : ℕ} {s t₁ t₂ t₃ t₄ t₅ t₆ : Reached} {ks os ks₁ os₁ ks₂ os₂ ks₃ os₃ ks₄ os₄ ks₅ os₅ : List ℕ} where
-  pub cmpxchg-puts : Asked (slot_of c dest) s t₁ base → Puts (pushValue c ptr 64) t₁ t₂ ks os ks₁ os₁ → Puts (pushValue c cmp 64) t₂ t₃ ks₁ os₁ ks₂ os₂
-      → Puts (pushValue c new 64) t₃ t₄ ks₂ os₂ ks₃ os₃ → Lined 85 0 t₄ t₅ ks₃ os₃ ks₄ os₄ → Puts (setBoth c cmp base) t₅ t₆ ks₄ os₄ ks₅ os₅
-      → Puts (genCmpxchg c ptr cmp new dest) s t₆ ks os ks₅ os₅
-  unfolding genCmpxchg setBoth kind_of operandOf
-  cmpxchg-puts a p q r h b =
-      asked-puts (λ x. pushValue c ptr 64 >> (pushValue c cmp 64 >> (pushValue c new 64 >> (line Line.atomicCas >> setBoth c cmp x)))) a
-      (then-puts p (then-puts q (then-puts r (then-puts (bare-puts Line.atomicCas refl refl h) b))))
+  pub cmpxchg_puts : Asked (slot_of c dest) s t₁ base → Puts (push_value c ptr 64) t₁ t₂ ks os ks₁ os₁ → Puts (push_value c cmp 64) t₂ t₃ ks₁ os₁ ks₂ os₂
+      → Puts (push_value c new 64) t₃ t₄ ks₂ os₂ ks₃ os₃ → Lined 85 0 t₄ t₅ ks₃ os₃ ks₄ os₄ → Puts (set_both c cmp base) t₅ t₆ ks₄ os₄ ks₅ os₅
+      → Puts (gen_cmpxchg c ptr cmp new dest) s t₆ ks os ks₅ os₅
+  unfolding gen_cmpxchg set_both kind_of operand_of
+  cmpxchg_puts a p q r h b =
+      asked_puts (λ x. push_value c ptr 64 >> (push_value c cmp 64 >> (push_value c new 64 >> (line Line.atomic_cas >> set_both c cmp x)))) a
+      (then_puts p (then_puts q (then_puts r (then_puts (bare_puts Line.atomic_cas refl refl h) b))))
 
 -- ---- `gen_extractvalue`
-index-test : (i : ℕ) → not (nat_le i 1) ≡ nat_lt 1 i
-index-test i = at (nat_le i 1) refl
+index_test : (i : ℕ) → not (nat_le i 1) ≡ nat_lt 1 i
+index_test i = at (nat_le i 1) refl
   where
     at : (b : Bool) → nat_le i 1 ≡ b → not b ≡ nat_lt 1 i
     at true e = sym (le-ltb 1 i (leb-true i 1 e))
     at false e = sym (lt-ltb 1 i (leb-false i 1 e))
 
 module _ (c : FnCtx) (agg : Value) (index : ℕ) (dest : Option ℕ) {base own : ℕ} {s t₁ t₂ t₃ t₄ : Reached} {ks os ks₁ os₁ ks₂ os₂ : List ℕ} where
-  pub extract-puts : Asked (okOr 16 (aggSlot c agg)) s t₁ base → t₂ ≡ or_else (nat_le index 1) t₁ (madeRefused t₁ 16) → own ≡ (base + index) % 2 ^ 64 → Lined 10 own t₂ t₃ ks os ks₁ os₁
-      → Puts (storeDest c dest) t₃ t₄ ks₁ os₁ ks₂ os₂ → Puts (genExtractValue c agg index dest) s t₄ ks os ks₂ os₂
-  unfolding genExtractValue
-  extract-puts a h i l p =
-      asked-puts (λ x. when (nat_lt 1 index) (refuse 16) >> (line (Line.getLocal (x + index)) >> storeDest c dest)) a
-      (then-puts (same-puts (λ n. ap (λ b. when b (refuse 16) n) (index-test index)) (need-puts (nat_le index 1) 16 (omega arith) t₁ ks os h)) (then-puts (sum-slot base index i l) p))
+  pub extract_puts : Asked (ok_or 16 (agg_slot c agg)) s t₁ base → t₂ ≡ or_else (nat_le index 1) t₁ (made_refused t₁ 16) → own ≡ (base + index) % 2 ^ 64 → Lined 10 own t₂ t₃ ks os ks₁ os₁
+      → Puts (store_dest c dest) t₃ t₄ ks₁ os₁ ks₂ os₂ → Puts (gen_extract_value c agg index dest) s t₄ ks os ks₂ os₂
+  unfolding gen_extract_value
+  extract_puts a h i l p =
+      asked_puts (λ x. when (nat_lt 1 index) (refuse 16) >> (line (Line.get_local (x + index)) >> store_dest c dest)) a
+      (then_puts (same_puts (λ n. ap (λ b. when b (refuse 16) n) (index_test index)) (need_puts (nat_le index 1) 16 (omega arith) t₁ ks os h)) (then_puts (sum_slot base index i l) p))

@@ -3,21 +3,21 @@ ghost use Rattle.std.specs.Prelude.{ℕ, ◌+◌, ◌*◌, ◌<◌, ◌≤◌, L
 ghost use Rattle.book.specs.Ast.{Value};
 ghost use Rattle.book.specs.Entry.{entries};
 ghost use Rattle.book.specs.Kinds.{InstTag};
-ghost use Rattle.book.specs.Fields.{Item, Field, Meanings, instFields};
+ghost use Rattle.book.specs.Fields.{Item, Field, Meanings, inst_fields};
 ghost use Rattle.book.specs.Work.{slot_at};
 ghost use Rattle.book.specs.Map.{lookup};
-ghost use Rattle.book.specs.Result.{okOr};
+ghost use Rattle.book.specs.Result.{ok_or};
 ghost use Rattle.lowering.specs.Context.{FnCtx, slot_of};
-ghost use Rattle.lowering.specs.Memory.{requireAtomicWidth, genAtomicLoad, genAtomicStore, genCmpxchg, aggSlot, genExtractValue};
+ghost use Rattle.lowering.specs.Memory.{require_atomic_width, gen_atomic_load, gen_atomic_store, gen_cmpxchg, agg_slot, gen_extract_value};
 ghost use Rattle.gen_lines.specs.Puts.{Puts};
 ghost use Rattle.gen_lines.specs.Follow.{Asked};
-ghost use Rattle.gen_values.specs.Values.{destOf, DestReaches};
+ghost use Rattle.gen_values.specs.Values.{dest_of, DestReaches};
 ghost use Rattle.gen_values.specs.Maps.{Locals, Maps, Did};
 ghost use Rattle.gen_values.specs.Fields.{Fields, ValueAt, OperandAt};
 ghost use Rattle.gen_fields.specs.Given.{Given};
 ghost use Rattle.gen_size.specs.Sizes.{Measurable};
 ghost use Rattle.gen_size.specs.Lent.{Lent};
-ghost use Rattle.gen_atomic.specs.Atomic.{setBoth};
+ghost use Rattle.gen_atomic.specs.Atomic.{set_both};
 
 use assembly::line;
 use book::entry;
@@ -41,7 +41,7 @@ pub fn require_atomic_width(
     ensures { (fs : List Field) (p : Meanings (Field.plain Item.type ∷ fs)) (c : FnCtx) (ks os : List ℕ)
         → Fields names (Field.plain Item.type ∷ fs) p (entries kinds.now words.now)
         → Maps names (entries book_kinds.now book_words.now) c work.old
-        → Did (requireAtomicWidth c p.0) names (entries book_kinds.now book_words.now) c work.new s result ks os ks os }
+        → Did (require_atomic_width c p.0) names (entries book_kinds.now book_words.now) c work.new s result ks os ks os }
 {
     let size = measured_size(kinds, words, book_kinds, book_words, work, names, s);
     need(size.s, size.bytes == 8, 12)
@@ -59,10 +59,10 @@ pub fn gen_atomic_load(
     operands: &mut [u64],
     s: Reached,
 ) -> Reached
-    requires { Lent names (instFields InstTag.atomicLoad) (entries kinds.now words.now) (entries book_kinds.now book_words.now) work.old }
-    ensures { (p : Meanings (instFields InstTag.atomicLoad)) (c : FnCtx) → Fields names (instFields InstTag.atomicLoad) p (entries kinds.now words.now)
+    requires { Lent names (inst_fields InstTag.atomic_load) (entries kinds.now words.now) (entries book_kinds.now book_words.now) work.old }
+    ensures { (p : Meanings (inst_fields InstTag.atomic_load)) (c : FnCtx) → Fields names (inst_fields InstTag.atomic_load) p (entries kinds.now words.now)
         → Maps names (entries book_kinds.now book_words.now) c work.old
-        → Did (genAtomicLoad c p.0 p.1.0) names (entries book_kinds.now book_words.now) c work.new
+        → Did (gen_atomic_load c p.0 p.1.0) names (entries book_kinds.now book_words.now) c work.new
         s result lines.old operands.old lines.new operands.new }
 {
     let wide = require_atomic_width(kinds, words, book_kinds, book_words, work, names, s);
@@ -85,10 +85,10 @@ pub fn gen_atomic_store(
     operands: &mut [u64],
     s: Reached,
 ) -> Reached
-    requires { Lent names (instFields InstTag.atomicStore) (entries kinds.now words.now) (entries book_kinds.now book_words.now) work.old }
-    ensures { (p : Meanings (instFields InstTag.atomicStore)) (c : FnCtx) → Fields names (instFields InstTag.atomicStore) p (entries kinds.now words.now)
+    requires { Lent names (inst_fields InstTag.atomic_store) (entries kinds.now words.now) (entries book_kinds.now book_words.now) work.old }
+    ensures { (p : Meanings (inst_fields InstTag.atomic_store)) (c : FnCtx) → Fields names (inst_fields InstTag.atomic_store) p (entries kinds.now words.now)
         → Maps names (entries book_kinds.now book_words.now) c work.old
-        → Did (genAtomicStore c p.0 p.1.0 p.1.1.0) names (entries book_kinds.now book_words.now) c work.new
+        → Did (gen_atomic_store c p.0 p.1.0 p.1.1.0) names (entries book_kinds.now book_words.now) c work.new
         s result lines.old operands.old lines.new operands.new }
 {
     let wide = require_atomic_width(kinds, words, book_kinds, book_words, work, names, s);
@@ -113,7 +113,7 @@ pub struct Slot {
 // The slot of a name; where it has none, a refusal with this number.
 fn name_slot(name: u64, number: u64, work: &[u64], s: Reached) -> Slot
     requires { (slot_at name < length work.now) × (0 < number) }
-    ensures { (m : ℕ) (c : FnCtx) → name < m → Locals c m work.now → Asked (okOr number (lookup name c.slots)) s result.s result.slot }
+    ensures { (m : ℕ) (c : FnCtx) → name < m → Locals c m work.now → Asked (ok_or number (lookup name c.slots)) s result.s result.slot }
 {
     let word = work[book::work::WORDS * (name as usize) + book::work::SLOT];
     if word == 0 {
@@ -128,7 +128,7 @@ fn name_slot(name: u64, number: u64, work: &[u64], s: Reached) -> Slot
 // The slot of a result.
 fn slot_of(dest: u64, work: &[u64], s: Reached) -> Slot
     requires { DestReaches dest work.now }
-    ensures { (m : ℕ) (c : FnCtx) → dest ≤ m → Locals c m work.now → Asked (slot_of c (destOf dest)) s result.s result.slot }
+    ensures { (m : ℕ) (c : FnCtx) → dest ≤ m → Locals c m work.now → Asked (slot_of c (dest_of dest)) s result.s result.slot }
 {
     if dest == 0 {
         return Slot {
@@ -151,7 +151,7 @@ fn set_both(
 ) -> Reached
     requires { OperandAt kinds.now words.now 0 work.now }
     ensures { (m : ℕ) (c : FnCtx) (v : Value) → ValueAt m kinds.now words.now 0 v → Locals c m work.now
-        → Puts (setBoth c v slot) s result lines.old operands.old lines.new operands.new }
+        → Puts (set_both c v slot) s result lines.old operands.old lines.new operands.new }
 {
     let twice = put(lines, operands, s, line::DUP, 0);
     let found = put(lines, operands, twice, line::SET_LOCAL, slot);
@@ -177,9 +177,9 @@ pub fn gen_cmpxchg(
     operands: &mut [u64],
     s: Reached,
 ) -> Reached
-    requires { Given names (instFields InstTag.cmpxchg) (entries kinds.now words.now) dest work.now }
-    ensures { (p : Meanings (instFields InstTag.cmpxchg)) (c : FnCtx) → Fields names (instFields InstTag.cmpxchg) p (entries kinds.now words.now)
-        → Locals c names work.now → Puts (genCmpxchg c p.1.0 p.1.1.0 p.1.1.1.0 (destOf dest))
+    requires { Given names (inst_fields InstTag.cmpxchg) (entries kinds.now words.now) dest work.now }
+    ensures { (p : Meanings (inst_fields InstTag.cmpxchg)) (c : FnCtx) → Fields names (inst_fields InstTag.cmpxchg) p (entries kinds.now words.now)
+        → Locals c names work.now → Puts (gen_cmpxchg c p.1.0 p.1.1.0 p.1.1.1.0 (dest_of dest))
         s result lines.old operands.old lines.new operands.new }
 {
     let own = slot_of(dest, work, s);
@@ -203,7 +203,7 @@ pub fn gen_cmpxchg(
 fn agg_slot(kinds: &[u64], words: &[u64], work: &[u64], s: Reached) -> Slot
     requires { OperandAt kinds.now words.now 0 work.now }
     ensures { (m : ℕ) (c : FnCtx) (v : Value) → ValueAt m kinds.now words.now 0 v → Locals c m work.now
-        → Asked (okOr 16 (aggSlot c v)) s result.s result.slot }
+        → Asked (ok_or 16 (agg_slot c v)) s result.s result.slot }
 {
     if kinds[0] == entry::LOCAL {
         return name_slot(words[0], 16, work, s);
@@ -225,9 +225,9 @@ pub fn gen_extractvalue(
     operands: &mut [u64],
     s: Reached,
 ) -> Reached
-    requires { Given names (instFields InstTag.extractValue) (entries kinds.now words.now) dest work.now }
-    ensures { (p : Meanings (instFields InstTag.extractValue)) (c : FnCtx) → Fields names (instFields InstTag.extractValue) p (entries kinds.now words.now)
-        → Locals c names work.now → Puts (genExtractValue c p.0 p.1.0 (destOf dest))
+    requires { Given names (inst_fields InstTag.extract_value) (entries kinds.now words.now) dest work.now }
+    ensures { (p : Meanings (inst_fields InstTag.extract_value)) (c : FnCtx) → Fields names (inst_fields InstTag.extract_value) p (entries kinds.now words.now)
+        → Locals c names work.now → Puts (gen_extract_value c p.0 p.1.0 (dest_of dest))
         s result lines.old operands.old lines.new operands.new }
 {
     let first = agg_slot(kinds, words, work, s);

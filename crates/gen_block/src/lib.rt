@@ -3,7 +3,7 @@ ghost use Rattle.std.specs.Prelude.{◌≡◌, List};
 ghost use Rattle.book.specs.Ast.{Inst, Terminator, BasicBlock};
 ghost use Rattle.book.specs.Entry.{Entry, entries};
 ghost use Rattle.lowering.specs.Context.{FnCtx};
-ghost use Rattle.lowering.specs.Inst.{genInst};
+ghost use Rattle.lowering.specs.Inst.{gen_inst};
 ghost use Rattle.gen_values.specs.Maps.{Maps, Did};
 ghost use Rattle.gen_values.specs.Fields.{InstAt};
 ghost use Rattle.gen_inst.specs.Whole.{InstThere};
@@ -39,9 +39,9 @@ fn gen_unless_refused(
     s: Reached,
 ) -> Reached
     requires { InstThere names kinds.now words.now book_kinds.now book_words.now at work.old }
-    ensures { (c : FnCtx) (i : Inst) → InstAt names i (entries kinds.now words.now) → c.bpSlot ≡ base
+    ensures { (c : FnCtx) (i : Inst) → InstAt names i (entries kinds.now words.now) → c.bp_slot ≡ base
         → Maps names (entries book_kinds.now book_words.now) c work.old
-        → Did (genInst c i) names (entries book_kinds.now book_words.now) c work.new
+        → Did (gen_inst c i) names (entries book_kinds.now book_words.now) c work.new
         s result lines.old operands.old lines.new operands.new }
 {
     if s.refused != 0 {
@@ -69,7 +69,7 @@ fn gen_insts(
     requires { InstsAsk names kinds.now words.now book_kinds.now book_words.now at base work.old }
     ensures { (c : FnCtx) (insts : List Inst) (term : Terminator) (rest : List Entry)
         → BodyAt names (entries kinds.now words.now) 1 insts term rest
-        → c.bpSlot ≡ base → Maps names (entries book_kinds.now book_words.now) c work.old
+        → c.bp_slot ≡ base → Maps names (entries book_kinds.now book_words.now) c work.old
         → InstsDone names (entries kinds.now words.now) (entries book_kinds.now book_words.now)
         c insts term rest work.new s result lines.old operands.old lines.new operands.new }
 {
@@ -111,7 +111,7 @@ pub fn gen_block(
 ) -> Passed
     requires { BlockAsk names kinds.now words.now book_kinds.now book_words.now at base.slot work.old }
     ensures { (c : FnCtx) (b : BasicBlock) (rest : List Entry) → BlockHere names b rest (entries kinds.now words.now)
-        → (c.bpSlot ≡ base.slot) × (c.hasFrame ≡ base.framed) → Maps names (entries book_kinds.now book_words.now) c work.old
+        → (c.bp_slot ≡ base.slot) × (c.has_frame ≡ base.framed) → Maps names (entries book_kinds.now book_words.now) c work.old
         → BlockDone names (entries kinds.now words.now) (entries book_kinds.now book_words.now)
         c b rest work.new s result lines.old operands.old lines.new operands.new }
 {

@@ -14,34 +14,34 @@ use Rattle.book.specs.Entry.{Entry, entry, entries}
 use Rattle.book.specs.Ast.{BasicBlock, Function}
 use Rattle.book.specs.Map.{Map, lookup}
 use Rattle.book.specs.Rule.{pick}
-use Rattle.book.specs.Encode.{ending, closed, encInst, encTerm, encBasicBlock}
+use Rattle.book.specs.Encode.{ending, closed, enc_inst, enc_term, enc_basic_block}
 use Rattle.book.specs.Limits.{Each, BlockLimits}
-use Rattle.book.specs.Work.{nameWords, param_at, block_at, body_at, measuredAt}
-use Rattle.book_types.specs.Laws.{within-kinds, within-words, entries-part}
-use Rattle.lowering.specs.Context.{paramMap, blockMap}
+use Rattle.book.specs.Work.{name_words, param_at, block_at, body_at, measured_at}
+use Rattle.book_types.specs.Laws.{within_kinds, within_words, entries_part}
+use Rattle.lowering.specs.Context.{param_map, block_map}
 use Rattle.layout_memo.specs.Calls.{lent}
-use Rattle.layout_memo.specs.Work.{Ready, table_at, table-other}
+use Rattle.layout_memo.specs.Work.{Ready, table_at, table_other}
 use Rattle.gen_values.specs.Maps.{numbered, BlockAt, BlockWord}
 use Rattle.gen_values.specs.Fields.{entry_at}
-use Rattle.book.specs.Heads.{Inside, inside-body}
-use Rattle.gen_blocks.specs.Words.{WordsKept, words-set, ready-kept}
-use Rattle.gen_blocks.specs.Function.{functionIn, behindIn, ending-append, Others, FunctionAt, Part, part-within, part-from, cut, cut-is, cut-part}
+use Rattle.book.specs.Heads.{Inside, inside_body}
+use Rattle.gen_blocks.specs.Words.{WordsKept, words_set, ready_kept}
+use Rattle.gen_blocks.specs.Function.{function_in, behind_in, ending_append, Others, FunctionAt, Part, part_within, part_from_lem, cut, cut_is, cut_part}
 use Rattle.gen_blocks.specs.Params.{ParamsAsked, ParamsPlaced}
 use Rattle.gen_blocks.specs.declared.Placed.{Placed}
 
 -- what `place_blocks` asks and leaves: the list of these blocks stands at the front, behind it `rest`, and at the place `at` of the book
 pub record BlocksAsked (m : ℕ) (blocks : List BasicBlock) (rest book : List Entry) (at : ℕ) (es : List Entry) (work : List ℕ) : Type 0 where
-  pub here : es ≡ closed encBasicBlock blocks ++ rest
+  pub here : es ≡ closed enc_basic_block blocks ++ rest
   pub limits : Each (BlockLimits m) blocks
   pub next : Others rest
   pub tail : List Entry
   pub part : Part book at es tail
-  pub room : nameWords m ≤ length work
+  pub room : name_words m ≤ length work
   pub blank : (x : ℕ) → x < m → get_or work (block_at x) 0 ≡ 0
   pub few : length book ≤ 2 ^ 20
 
 pub record BlocksPlaced (m : ℕ) (blocks : List BasicBlock) (rest book es : List Entry) (work work' : List ℕ) (end : ℕ) : Type 0 where
-  pub words : (x : ℕ) → x < m → BlockWord m book (lookup x (blockMap blocks [])) (get_or work' (block_at x) 0)
+  pub words : (x : ℕ) → x < m → BlockWord m book (lookup x (block_map blocks [])) (get_or work' (block_at x) 0)
   pub kept : WordsKept m 2 work work'
   pub after : drop end es ≡ rest
   pub there : end ≤ length es
@@ -52,23 +52,23 @@ pub record BlocksAt (m : ℕ) (blocks : List BasicBlock) (rest book : List Entry
   pub left : List BasicBlock
   pub end : List Entry
   pub done : Map BasicBlock
-  pub here : drop a es ≡ pre ++ ending encBasicBlock (end ++ rest) left
+  pub here : drop a es ≡ pre ++ ending enc_basic_block (end ++ rest) left
   pub inside : Each Inside pre
   pub ends : Each Inside end
   pub limits : Each (BlockLimits m) left
-  pub goes : blockMap left done ≡ blockMap blocks []
+  pub goes : block_map left done ≡ block_map blocks []
   pub words : (x : ℕ) → x < m → BlockWord m book (lookup x done) (get_or work (block_at x) 0)
   pub next : Others rest
   pub tail : List Entry
   pub part : Part book at es tail
   pub there : a ≤ length es
-  pub room : nameWords m ≤ length work
+  pub room : name_words m ≤ length work
   pub few : length book ≤ 2 ^ 20
 
-blocks-long : (bs : List BasicBlock) (end : List Entry) → length end ≤ length (ending encBasicBlock end bs)
+blocks_long : (bs : List BasicBlock) (end : List Entry) → length end ≤ length (ending enc_basic_block end bs)
 unfolding ending
-blocks-long [] end = omega arith
-blocks-long (b ∷ bs) end = omega (arith, blocks-long bs end, length-append (encBasicBlock b) (ending encBasicBlock end bs))
+blocks_long [] end = omega arith
+blocks_long (b ∷ bs) end = omega (arith, blocks_long bs end, length-append (enc_basic_block b) (ending enc_basic_block end bs))
 
 module _ (m : ℕ) (blocks : List BasicBlock) (rest book : List Entry) (at : ℕ) (es : List Entry) (work : List ℕ) where
   pub blocks_start : BlocksAsked m blocks rest book at es work → BlocksAt m blocks rest book at es work 0
@@ -79,7 +79,7 @@ module _ (m : ℕ) (blocks : List BasicBlock) (rest book : List Entry) (at : ℕ
         left = blocks;
         end = entry 0 0 ∷ [];
         done = [];
-        here = k.here ∙ ending-append encBasicBlock (entry 0 0 ∷ []) rest blocks;
+        here = k.here ∙ ending_append enc_basic_block (entry 0 0 ∷ []) rest blocks;
         inside = tt;
         ends = ((λ p q. omega arith), tt);
         limits = k.limits;
@@ -95,7 +95,7 @@ module _ (m : ℕ) (blocks : List BasicBlock) (rest book : List Entry) (at : ℕ
 
 -- the word of a name after a block is noted
 module _ (m : ℕ) (book : List Entry) (work : List ℕ) (done : Map BasicBlock) (words : (x : ℕ) → x < m → BlockWord m book (lookup x done) (get_or work (block_at x) 0))
-    (room : nameWords m ≤ length work) (y a : ℕ) (l : y < m) (b : BasicBlock) (here : BlockAt m book b (a + 1)) where
+    (room : name_words m ≤ length work) (y a : ℕ) (l : y < m) (b : BasicBlock) (here : BlockAt m book b (a + 1)) where
   stored : (x : ℕ) → x < m → BlockWord m book (lookup x ((y, b) ∷ done)) (get_or (set work (block_at y) (a + 2)) (block_at x) 0)
   unfolding lookup
   stored x lx = go (eqb x y) refl
@@ -116,10 +116,10 @@ module _ (m : ℕ) (ks ws : List ℕ) (blocks : List BasicBlock) (rest book : Li
   es = entries ks ws
 
   -- nothing is left before what stands behind the function
-  pub blocks-done : (work₀ : List ℕ) → p.left ≡ [] → drop a es ≡ rest → WordsKept m 2 work₀ work → BlocksPlaced m blocks rest book es work₀ work a
-  unfolding blockMap
-  blocks-done work₀ e h kept =
-      let g : p.done ≡ blockMap blocks [] = sym (ap (λ (x : List BasicBlock). blockMap x p.done) e) ∙ p.goes in
+  pub blocks_done : (work₀ : List ℕ) → p.left ≡ [] → drop a es ≡ rest → WordsKept m 2 work₀ work → BlocksPlaced m blocks rest book es work₀ work a
+  unfolding block_map
+  blocks_done work₀ e h kept =
+      let g : p.done ≡ block_map blocks [] = sym (ap (λ (x : List BasicBlock). block_map x p.done) e) ∙ p.goes in
       record {
         words = λ x l. subst (λ (o : Map BasicBlock). BlockWord m book (lookup x o) (get_or work (block_at x) 0)) g (p.words x l);
         kept = kept;
@@ -127,10 +127,10 @@ module _ (m : ℕ) (ks ws : List ℕ) (blocks : List BasicBlock) (rest book : Li
         there = p.there;
       }
 
-  some_left : (b : BasicBlock) (bs : List BasicBlock) (end : List Entry) → length end < length (ending encBasicBlock end (b ∷ bs))
-  unfolding ending encBasicBlock
+  some_left : (b : BasicBlock) (bs : List BasicBlock) (end : List Entry) → length end < length (ending enc_basic_block end (b ∷ bs))
+  unfolding ending enc_basic_block
   some_left b bs end =
-      omega (arith, blocks-long bs end, length-append (ending encInst (encTerm b.term) b.insts) (ending encBasicBlock end bs))
+      omega (arith, blocks_long bs end, length-append (ending enc_inst (enc_term b.term) b.insts) (ending enc_basic_block end bs))
 
   -- at the end
   pub blocks_last : length es ≤ a → (p.left ≡ []) × (drop a es ≡ rest)
@@ -141,27 +141,27 @@ module _ (m : ℕ) (ks ws : List ℕ) (blocks : List BasicBlock) (rest book : Li
       short = omega (arith, length-drop a es)
 
       at_left : (bs : List BasicBlock) → p.left ≡ bs → (end : List Entry) → p.end ≡ end → (pre : List Entry) → p.pre ≡ pre
-          → drop a es ≡ pre ++ ending encBasicBlock (end ++ rest) bs → (bs ≡ []) × (drop a es ≡ rest)
+          → drop a es ≡ pre ++ ending enc_basic_block (end ++ rest) bs → (bs ≡ []) × (drop a es ≡ rest)
       at_left (b ∷ bs) e end i pre j h =
-          absurd (omega (arith, short, ap length h, length-append pre (ending encBasicBlock (end ++ rest) (b ∷ bs)), some_left b bs (end ++ rest), length-append end rest))
+          absurd (omega (arith, short, ap length h, length-append pre (ending enc_basic_block (end ++ rest) (b ∷ bs)), some_left b bs (end ++ rest), length-append end rest))
       at_left [] e (x ∷ end) i pre j h = absurd (omega (arith, short, ap length h, length-append pre ((x ∷ end) ++ rest), length-append end rest))
       at_left [] e [] i (x ∷ pre) j h = absurd (omega (arith, short, ap length h, length-append pre rest))
       at_left [] e [] i [] j h = (refl, h)
 
   module _ (there : a < length es) where
-    pub in-kinds : a + 1 ≤ length ks
-    in-kinds = within-kinds (a + 1) ks ws (omega (arith, there))
+    pub in_kinds : a + 1 ≤ length ks
+    in_kinds = within_kinds (a + 1) ks ws (omega (arith, there))
 
     pub in_words : a + 1 ≤ length ws
-    in_words = within-words (a + 1) ks ws (omega (arith, there))
+    in_words = within_words (a + 1) ks ws (omega (arith, there))
 
     -- the place in the book
-    pub place-few : at + a + 2 ≤ 1048578
-    place-few = omega (arith, part-within p.part, p.few)
+    pub place_few : at + a + 2 ≤ 1048578
+    place_few = omega (arith, part_within p.part, p.few)
 
     -- what stands behind the function has kind 5, if it stands here
-    behind-five : drop a es ≡ rest → get_or ks a 0 ≡ 5
-    behind-five h = go p.next
+    behind_five : drop a es ≡ rest → get_or ks a 0 ≡ 5
+    behind_five h = go p.next
       where
         go : Others rest → get_or ks a 0 ≡ 5
         go (inl e) = absurd (omega (arith, ap length h, ap length e, length-drop a es))
@@ -172,29 +172,29 @@ module _ (m : ℕ) (ks ws : List ℕ) (blocks : List BasicBlock) (rest book : Li
     outside k ek one nine e tail h i = let q : e.kind ≡ k = sym (entry_at ks ws a e tail h).0 ∙ ek in i (omega arith) (omega arith)
 
     -- the next function stands here
-    pub blocks-five : get_or ks a 0 ≡ 5 → (p.left ≡ []) × (drop a es ≡ rest)
-    unfolding ending encBasicBlock
-    blocks-five k5 = at_pre p.pre p.here p.inside
+    pub blocks_five : get_or ks a 0 ≡ 5 → (p.left ≡ []) × (drop a es ≡ rest)
+    unfolding ending enc_basic_block
+    blocks_five k5 = at_pre p.pre p.here p.inside
       where
-        at-end : (end : List Entry) → p.left ≡ [] → drop a es ≡ end ++ rest → Each Inside end → (p.left ≡ []) × (drop a es ≡ rest)
-        at-end [] e h i = (e, h)
-        at-end (x ∷ end) e h i = absurd (outside 5 k5 (omega arith) (omega arith) x _ h i.0)
+        at_end_lem : (end : List Entry) → p.left ≡ [] → drop a es ≡ end ++ rest → Each Inside end → (p.left ≡ []) × (drop a es ≡ rest)
+        at_end_lem [] e h i = (e, h)
+        at_end_lem (x ∷ end) e h i = absurd (outside 5 k5 (omega arith) (omega arith) x _ h i.0)
 
-        at_left : (bs : List BasicBlock) → p.left ≡ bs → drop a es ≡ ending encBasicBlock (p.end ++ rest) bs → (p.left ≡ []) × (drop a es ≡ rest)
-        at_left [] e h = at-end p.end e h p.ends
+        at_left : (bs : List BasicBlock) → p.left ≡ bs → drop a es ≡ ending enc_basic_block (p.end ++ rest) bs → (p.left ≡ []) × (drop a es ≡ rest)
+        at_left [] e h = at_end_lem p.end e h p.ends
         at_left (b ∷ bs) e h = absurd (let z : 7 ≡ 5 = sym (entry_at ks ws a _ _ h).0 ∙ k5 in omega arith)
 
-        at_pre : (pre : List Entry) → drop a es ≡ pre ++ ending encBasicBlock (p.end ++ rest) p.left → Each Inside pre → (p.left ≡ []) × (drop a es ≡ rest)
+        at_pre : (pre : List Entry) → drop a es ≡ pre ++ ending enc_basic_block (p.end ++ rest) p.left → Each Inside pre → (p.left ≡ []) × (drop a es ≡ rest)
         at_pre [] h i = at_left p.left refl h
         at_pre (x ∷ pre) h i = absurd (outside 5 k5 (omega arith) (omega arith) x _ h i.0)
 
     module _ (n5 : get_or ks a 0 ≡ 5 → ⊥) where
       -- an entry that is no block's
-      pub blocks-skip : (get_or ks a 0 ≡ 7 → ⊥) → BlocksAt m blocks rest book at es work (a + 1)
-      unfolding ending encBasicBlock blockMap
-      blocks-skip n = at_pre p.pre refl p.here p.inside
+      pub blocks_skip : (get_or ks a 0 ≡ 7 → ⊥) → BlocksAt m blocks rest book at es work (a + 1)
+      unfolding ending enc_basic_block block_map
+      blocks_skip n = at_pre p.pre refl p.here p.inside
         where
-          moved : (pre end : List Entry) (left : List BasicBlock) → left ≡ p.left → drop (a + 1) es ≡ pre ++ ending encBasicBlock (end ++ rest) left → Each Inside pre → Each Inside end
+          moved : (pre end : List Entry) (left : List BasicBlock) → left ≡ p.left → drop (a + 1) es ≡ pre ++ ending enc_basic_block (end ++ rest) left → Each Inside pre → Each Inside end
               → BlocksAt m blocks rest book at es work (a + 1)
           moved pre end left e h i j =
               record {
@@ -206,7 +206,7 @@ module _ (m : ℕ) (ks ws : List ℕ) (blocks : List BasicBlock) (rest book : Li
                 inside = i;
                 ends = j;
                 limits = subst (Each (BlockLimits m)) (sym e) p.limits;
-                goes = ap (λ (x : List BasicBlock). blockMap x p.done) e ∙ p.goes;
+                goes = ap (λ (x : List BasicBlock). block_map x p.done) e ∙ p.goes;
                 words = p.words;
                 next = p.next;
                 tail = p.tail;
@@ -216,17 +216,17 @@ module _ (m : ℕ) (ks ws : List ℕ) (blocks : List BasicBlock) (rest book : Li
                 few = p.few;
               }
 
-          at-end : (end : List Entry) → p.left ≡ [] → drop a es ≡ end ++ rest → Each Inside end → BlocksAt m blocks rest book at es work (a + 1)
-          at-end [] e h i = absurd (n5 (behind-five h))
-          at-end (x ∷ end) e h i =
+          at_end_lem : (end : List Entry) → p.left ≡ [] → drop a es ≡ end ++ rest → Each Inside end → BlocksAt m blocks rest book at es work (a + 1)
+          at_end_lem [] e h i = absurd (n5 (behind_five h))
+          at_end_lem (x ∷ end) e h i =
               let q = entry_at ks ws a _ _ h in
               moved [] end [] (sym e) q.4 tt i.1
 
-          at_left : (bs : List BasicBlock) → p.left ≡ bs → drop a es ≡ ending encBasicBlock (p.end ++ rest) bs → BlocksAt m blocks rest book at es work (a + 1)
-          at_left [] e h = at-end p.end e h p.ends
+          at_left : (bs : List BasicBlock) → p.left ≡ bs → drop a es ≡ ending enc_basic_block (p.end ++ rest) bs → BlocksAt m blocks rest book at es work (a + 1)
+          at_left [] e h = at_end_lem p.end e h p.ends
           at_left (b ∷ bs) e h = absurd (n (entry_at ks ws a _ _ h).0)
 
-          at_pre : (pre : List Entry) → p.pre ≡ pre → drop a es ≡ pre ++ ending encBasicBlock (p.end ++ rest) p.left → Each Inside pre → BlocksAt m blocks rest book at es work (a + 1)
+          at_pre : (pre : List Entry) → p.pre ≡ pre → drop a es ≡ pre ++ ending enc_basic_block (p.end ++ rest) p.left → Each Inside pre → BlocksAt m blocks rest book at es work (a + 1)
           at_pre [] e h i = at_left p.left refl h
           at_pre (x ∷ pre) e h i = moved pre p.end p.left refl (entry_at ks ws a _ _ h).4 i.1 p.ends
 
@@ -237,62 +237,62 @@ module _ (m : ℕ) (ks ws : List ℕ) (blocks : List BasicBlock) (rest book : Li
           pub others : List BasicBlock
           pub is : p.left ≡ block ∷ others
           pub word : get_or ws a 0 ≡ block.label
-          pub body : drop (a + 1) es ≡ ending encInst (encTerm block.term) block.insts ++ ending encBasicBlock (p.end ++ rest) others
+          pub body : drop (a + 1) es ≡ ending enc_inst (enc_term block.term) block.insts ++ ending enc_basic_block (p.end ++ rest) others
 
         here : Here
-        unfolding ending encBasicBlock
+        unfolding ending enc_basic_block
         here = at_pre p.pre p.here p.inside
           where
-            at-end : (end : List Entry) → drop a es ≡ end ++ rest → Each Inside end → Here
-            at-end [] h i = absurd (n5 (behind-five h))
-            at-end (x ∷ end) h i = absurd (outside 7 k7 (omega arith) (omega arith) x _ h i.0)
+            at_end_lem : (end : List Entry) → drop a es ≡ end ++ rest → Each Inside end → Here
+            at_end_lem [] h i = absurd (n5 (behind_five h))
+            at_end_lem (x ∷ end) h i = absurd (outside 7 k7 (omega arith) (omega arith) x _ h i.0)
 
-            at_left : (bs : List BasicBlock) → p.left ≡ bs → drop a es ≡ ending encBasicBlock (p.end ++ rest) bs → Here
-            at_left [] e h = at-end p.end h p.ends
+            at_left : (bs : List BasicBlock) → p.left ≡ bs → drop a es ≡ ending enc_basic_block (p.end ++ rest) bs → Here
+            at_left [] e h = at_end_lem p.end h p.ends
             at_left (b ∷ bs) e h = let q = entry_at ks ws a _ _ h in record { block = b; others = bs; is = e; word = q.1; body = q.4 }
 
-            at_pre : (pre : List Entry) → drop a es ≡ pre ++ ending encBasicBlock (p.end ++ rest) p.left → Each Inside pre → Here
+            at_pre : (pre : List Entry) → drop a es ≡ pre ++ ending enc_basic_block (p.end ++ rest) p.left → Each Inside pre → Here
             at_pre [] h i = at_left p.left refl h
             at_pre (x ∷ pre) h i = absurd (outside 7 k7 (omega arith) (omega arith) x _ h i.0)
 
-        limits-here : Each (BlockLimits m) (here.block ∷ here.others)
-        limits-here = subst (Each (BlockLimits m)) here.is p.limits
+        limits_here : Each (BlockLimits m) (here.block ∷ here.others)
+        limits_here = subst (Each (BlockLimits m)) here.is p.limits
 
-        pub label-below : get_or ws a 0 < m
-        label-below = rw here.word limits-here.0.0
+        pub label_below : get_or ws a 0 < m
+        label_below = rw here.word limits_here.0.0
 
-        block-at : BlockAt m book here.block (at + a + 1)
-        block-at =
-            let q = part-from p.part (a + 1) (omega arith) in
+        block_at_lem : BlockAt m book here.block (at + a + 1)
+        block_at_lem =
+            let q = part_from_lem p.part (a + 1) (omega arith) in
             let e : at + (a + 1) ≡ at + a + 1 = omega arith in
-            let body = ending encInst (encTerm here.block.term) here.block.insts in
-            let others = ending encBasicBlock (p.end ++ rest) here.others in
+            let body = ending enc_inst (enc_term here.block.term) here.block.insts in
+            let others = ending enc_basic_block (p.end ++ rest) here.others in
             subst (BlockAt m book here.block) e
             (record {
               rest = others ++ p.tail;
               here = q.here ∙ ap (λ (x : List Entry). x ++ p.tail) here.body ∙ append_assoc body others p.tail;
-              keeps = limits-here.0.1;
+              keeps = limits_here.0.1;
               there = q.there;
             })
 
-        goes-here : blockMap here.others ((get_or ws a 0, here.block) ∷ p.done) ≡ blockMap blocks []
-        unfolding blockMap
-        goes-here =
-            ap (λ (y : ℕ). blockMap here.others ((y, here.block) ∷ p.done)) here.word ∙ sym (ap (λ (x : List BasicBlock). blockMap x p.done) here.is) ∙ p.goes
+        goes_here : block_map here.others ((get_or ws a 0, here.block) ∷ p.done) ≡ block_map blocks []
+        unfolding block_map
+        goes_here =
+            ap (λ (y : ℕ). block_map here.others ((y, here.block) ∷ p.done)) here.word ∙ sym (ap (λ (x : List BasicBlock). block_map x p.done) here.is) ∙ p.goes
 
-        pub blocks-next : BlocksAt m blocks rest book at es (set work (block_at (get_or ws a 0)) (at + a + 2)) (a + 1)
-        blocks-next =
+        pub blocks_next : BlocksAt m blocks rest book at es (set work (block_at (get_or ws a 0)) (at + a + 2)) (a + 1)
+        blocks_next =
             record {
-              pre = ending encInst (encTerm here.block.term) here.block.insts;
+              pre = ending enc_inst (enc_term here.block.term) here.block.insts;
               left = here.others;
               end = p.end;
               done = (get_or ws a 0, here.block) ∷ p.done;
               here = here.body;
-              inside = inside-body here.block.insts here.block.term;
+              inside = inside_body here.block.insts here.block.term;
               ends = p.ends;
-              limits = limits-here.1;
-              goes = goes-here;
-              words = stored m book work p.done p.words p.room (get_or ws a 0) (at + a) label-below here.block block-at;
+              limits = limits_here.1;
+              goes = goes_here;
+              words = stored m book work p.done p.words p.room (get_or ws a 0) (at + a) label_below here.block block_at_lem;
               next = p.next;
               tail = p.tail;
               part = p.part;
@@ -301,66 +301,66 @@ module _ (m : ℕ) (ks ws : List ℕ) (blocks : List BasicBlock) (rest book : Li
               few = p.few;
             }
 
-        pub blocks-kept : WordsKept m 2 work (set work (block_at (get_or ws a 0)) (at + a + 2))
-        blocks-kept = words-set (get_or ws a 0) (block_at (get_or ws a 0)) (at + a + 2) label-below refl
+        pub blocks_kept : WordsKept m 2 work (set work (block_at (get_or ws a 0)) (at + a + 2))
+        blocks_kept = words_set (get_or ws a 0) (block_at (get_or ws a 0)) (at + a + 2) label_below refl
 
 -- ---- the function: its entry stands at the place a of the book, words 0 and 2 of names are 0, and `es` are the entries from there up to `last`
 pub record FunctionAsked (m : ℕ) (book : List Entry) (last : ℕ) (es : List Entry) (a : ℕ) (work : List ℕ) : Type 0 where
   pub fn : FunctionAt m book last a
   pub part : es ≡ cut fn
-  pub room : nameWords m ≤ length work
+  pub room : name_words m ≤ length work
   pub params : (x : ℕ) → x < m → get_or work (param_at x) 0 ≡ 0
   pub blocks : (x : ℕ) → x < m → get_or work (block_at x) 0 ≡ 0
 
 -- the words hold the function's maps, the places are those of its list of blocks and of what stands behind it, and no other word has changed
 pub record FunctionPlaced (m : ℕ) (book : List Entry) (a : ℕ) (work work' : List ℕ) (r : Placed) : Type 0 where
-  pub params : (x : ℕ) → x < m → get_or work' (param_at x) 0 ≡ numbered (lookup x (paramMap 0 (functionIn m book a).params []))
-  pub blocks : (x : ℕ) → x < m → BlockWord m book (lookup x (blockMap (functionIn m book a).blocks [])) (get_or work' (block_at x) 0)
-  pub first : drop r.blocks book ≡ closed encBasicBlock (functionIn m book a).blocks ++ behindIn m book a
-  pub after : drop r.end book ≡ behindIn m book a
-  pub first-there : r.blocks ≤ length book
+  pub params : (x : ℕ) → x < m → get_or work' (param_at x) 0 ≡ numbered (lookup x (param_map 0 (function_in m book a).params []))
+  pub blocks : (x : ℕ) → x < m → BlockWord m book (lookup x (block_map (function_in m book a).blocks [])) (get_or work' (block_at x) 0)
+  pub first : drop r.blocks book ≡ closed enc_basic_block (function_in m book a).blocks ++ behind_in m book a
+  pub after : drop r.end book ≡ behind_in m book a
+  pub first_there : r.blocks ≤ length book
   pub there : r.end ≤ length book
   pub long : length work' ≡ length work
   pub same : (i : ℕ) → ((x : ℕ) → x < m → i ≡ param_at x → ⊥) → ((x : ℕ) → x < m → i ≡ block_at x → ⊥) → get_or work' i 0 ≡ get_or work i 0
 
 module _ {m : ℕ} {book : List Entry} {last a : ℕ} {work : List ℕ} (ks ws : List ℕ) (k : FunctionAsked m book last (entries ks ws) a work) where
   abbrev f : Function
-  f = functionIn m book a
+  f = function_in m book a
 
   abbrev others : List Entry
   others = k.fn.others
 
-  in-book : Part book a (entries ks ws) k.fn.end
-  in-book = subst (λ (es : List Entry). Part book a es k.fn.end) (sym k.part) (cut-part k.fn)
+  in_book : Part book a (entries ks ws) k.fn.end
+  in_book = subst (λ (es : List Entry). Part book a es k.fn.end) (sym k.part) (cut_part k.fn)
 
-  pub asked-params : ParamsAsked m f others (entries ks ws) work
-  asked-params =
+  pub asked_params : ParamsAsked m f others (entries ks ws) work
+  asked_params =
       record {
-        here = k.part ∙ cut-is k.fn;
+        here = k.part ∙ cut_is k.fn;
         limits = k.fn.limits;
         room = k.room;
         blank = k.params;
-        few = omega (arith, k.fn.few, part-within in-book);
+        few = omega (arith, k.fn.few, part_within in_book);
       }
 
   module _ {work' : List ℕ} {r : ℕ} (p : ParamsPlaced m f others (entries ks ws) work work' r) where
-    pub blocks-in : (r ≤ length ks) × (r ≤ length ws)
-    blocks-in = (within-kinds r ks ws p.there, within-words r ks ws p.there)
+    pub blocks_in : (r ≤ length ks) × (r ≤ length ws)
+    blocks_in = (within_kinds r ks ws p.there, within_words r ks ws p.there)
 
-    pub blocks-few : a + r ≤ 1048576
-    blocks-few = omega (arith, k.fn.few, part-within in-book, p.there)
+    pub blocks_few : a + r ≤ 1048576
+    blocks_few = omega (arith, k.fn.few, part_within in_book, p.there)
 
-    blocks-part : Part book (a + r) (lent ks ws r) k.fn.end
-    blocks-part = subst (λ (es : List Entry). Part book (a + r) es k.fn.end) (sym (entries-part r ks ws)) (part-from in-book r p.there)
+    blocks_part : Part book (a + r) (lent ks ws r) k.fn.end
+    blocks_part = subst (λ (es : List Entry). Part book (a + r) es k.fn.end) (sym (entries_part r ks ws)) (part_from_lem in_book r p.there)
 
-    pub asked-blocks : BlocksAsked m f.blocks others book (a + r) (lent ks ws r) work'
-    asked-blocks =
+    pub asked_blocks : BlocksAsked m f.blocks others book (a + r) (lent ks ws r) work'
+    asked_blocks =
         record {
-          here = entries-part r ks ws ∙ p.blocks;
+          here = entries_part r ks ws ∙ p.blocks;
           limits = k.fn.limits.1.1.1;
           next = k.fn.next;
           tail = k.fn.end;
-          part = blocks-part;
+          part = blocks_part;
           room = omega (arith, k.room, p.kept.long);
           blank = λ x l. p.kept.same (block_at x) (λ y _ e. omega arith) ∙ k.blocks x l;
           few = k.fn.few;
@@ -368,22 +368,22 @@ module _ {m : ℕ} {book : List Entry} {last a : ℕ} {work : List ℕ} (ks ws :
 
     module _ {work'' : List ℕ} {n : ℕ} (b : BlocksPlaced m f.blocks others book (lent ks ws r) work' work'' n) where
       ends_there : a + r + n ≤ length book
-      ends_there = omega (arith, part-within blocks-part, b.there)
+      ends_there = omega (arith, part_within blocks_part, b.there)
 
-      pub end-few : a + r + n ≤ 1048576
-      end-few = omega (arith, ends_there, k.fn.few)
+      pub end_few : a + r + n ≤ 1048576
+      end_few = omega (arith, ends_there, k.fn.few)
 
-      pub function-placed : FunctionPlaced m book a work work'' (record { blocks = a + r; end = a + r + n })
-      function-placed =
-          let own = closed encBasicBlock f.blocks in
+      pub function_placed : FunctionPlaced m book a work work'' (record { blocks = a + r; end = a + r + n })
+      function_placed =
+          let own = closed enc_basic_block f.blocks in
           let end = k.fn.end in
           record {
             params = λ x l. b.kept.same (param_at x) (λ y _ e. omega arith) ∙ p.words x l;
             blocks = b.words;
-            first = (part-from in-book r p.there).here ∙ ap (λ (x : List Entry). x ++ end) p.blocks ∙ append_assoc own others end
+            first = (part_from_lem in_book r p.there).here ∙ ap (λ (x : List Entry). x ++ end) p.blocks ∙ append_assoc own others end
                 ∙ ap (λ (x : List Entry). own ++ x) (sym k.fn.behind);
-            after = (part-from blocks-part n b.there).here ∙ ap (λ (x : List Entry). x ++ end) b.after ∙ sym k.fn.behind;
-            first-there = omega (arith, part-within in-book, p.there);
+            after = (part_from_lem blocks_part n b.there).here ∙ ap (λ (x : List Entry). x ++ end) b.after ∙ sym k.fn.behind;
+            first_there = omega (arith, part_within in_book, p.there);
             there = ends_there;
             long = b.kept.long ∙ p.kept.long;
             same = λ i f g. b.kept.same i g ∙ p.kept.same i (λ x l e. f x l (omega arith));
@@ -391,7 +391,7 @@ module _ {m : ℕ} {book : List Entry} {last a : ℕ} {work : List ℕ} (ks ws :
 
 -- measuring is not touched
 module _ {m : ℕ} {es : List Entry} {a : ℕ} {work work' : List ℕ} {r : Placed} where
-  pub function-ready : Ready m es work → FunctionPlaced m es a work work' r → Ready m es work'
-  function-ready k p =
-      ready-kept k p.long (λ x _. p.same (body_at x) (λ y _ e. omega arith) (λ y _ e. omega arith)) (λ x _. p.same (measuredAt x) (λ y _ e. omega arith) (λ y _ e. omega arith))
-      (λ i. p.same (table_at m i) (λ y ly e. table-other m i y 0 (omega arith) (λ z. omega arith) ly (omega arith)) (λ y ly. table-other m i y 2 (omega arith) (λ z. omega arith) ly))
+  pub function_ready : Ready m es work → FunctionPlaced m es a work work' r → Ready m es work'
+  function_ready k p =
+      ready_kept k p.long (λ x _. p.same (body_at x) (λ y _ e. omega arith) (λ y _ e. omega arith)) (λ x _. p.same (measured_at x) (λ y _ e. omega arith) (λ y _ e. omega arith))
+      (λ i. p.same (table_at m i) (λ y ly e. table_other m i y 0 (omega arith) (λ z. omega arith) ly (omega arith)) (λ y ly. table_other m i y 2 (omega arith) (λ z. omega arith) ly))

@@ -15,44 +15,44 @@ use Rattle.book.specs.Entry.{Entry, entry, entries}
 use Rattle.book.specs.Ast.{Function, Param}
 use Rattle.book.specs.Map.{Map, lookup, insert}
 use Rattle.book.specs.Rule.{pick}
-use Rattle.book.specs.Encode.{ending, closed, encTy, encParam, encBasicBlock, encFunction, destWord}
+use Rattle.book.specs.Encode.{ending, closed, enc_ty, enc_param, enc_basic_block, enc_function, dest_word}
 use Rattle.book.specs.Limits.{Each, Maybe, NameLimits, ParamLimits, FunctionLimits}
-use Rattle.book.specs.Work.{nameWords, param_at}
-use Rattle.book_types.specs.Laws.{entries-part}
-use Rattle.lowering.specs.Context.{paramMap}
-use Rattle.layout_memo.specs.Front.{Starts, tyLen, len_is, enc-pos}
+use Rattle.book.specs.Work.{name_words, param_at}
+use Rattle.book_types.specs.Laws.{entries_part}
+use Rattle.lowering.specs.Context.{param_map}
+use Rattle.layout_memo.specs.Front.{Starts, ty_len, len_is, enc_pos}
 use Rattle.layout_memo.specs.Calls.{lent}
 use Rattle.gen_values.specs.Maps.{numbered}
 use Rattle.gen_values.specs.Fields.{entry_at}
-use Rattle.gen_blocks.specs.Words.{WordsKept, words-none, words-set}
-use Rattle.gen_blocks.specs.Function.{ending-append}
+use Rattle.gen_blocks.specs.Words.{WordsKept, words_none, words_set}
+use Rattle.gen_blocks.specs.Function.{ending_append}
 
 -- behind the parameters of a function: its blocks, and what stands behind it
-abbrev pub blocksOf : Function → List Entry → List Entry
-blocksOf f rest = closed encBasicBlock f.blocks ++ rest
+abbrev pub blocks_of : Function → List Entry → List Entry
+blocks_of f rest = closed enc_basic_block f.blocks ++ rest
 
 -- at the place a of a list of parameters, where the parameter i may stand: `all` are in the list, and behind it stands `rest`
 pub record ParamsAt (m : ℕ) (all : List Param) (rest es : List Entry) (work : List ℕ) (a i : ℕ) : Type 0 where
   pub left : List Param
   pub done : Map ℕ
-  pub here : drop a es ≡ ending encParam (entry 0 0 ∷ rest) left
+  pub here : drop a es ≡ ending enc_param (entry 0 0 ∷ rest) left
   pub limits : Each (ParamLimits m) left
-  pub goes : paramMap i left done ≡ paramMap 0 all []
+  pub goes : param_map i left done ≡ param_map 0 all []
   pub words : (x : ℕ) → x < m → get_or work (param_at x) 0 ≡ numbered (lookup x done)
-  pub room : nameWords m ≤ length work
+  pub room : name_words m ≤ length work
   pub few : length es ≤ 2 ^ 20
 
 -- what `place_params` asks and leaves: the function f stands at the front, and behind it `rest`
 pub record ParamsAsked (m : ℕ) (f : Function) (rest es : List Entry) (work : List ℕ) : Type 0 where
-  pub here : es ≡ encFunction f ++ rest
+  pub here : es ≡ enc_function f ++ rest
   pub limits : FunctionLimits m f
-  pub room : nameWords m ≤ length work
+  pub room : name_words m ≤ length work
   pub blank : (x : ℕ) → x < m → get_or work (param_at x) 0 ≡ 0
   pub few : length es ≤ 2 ^ 20
 
 pub record ParamsPlaced (m : ℕ) (f : Function) (rest es : List Entry) (work work' : List ℕ) (r : ℕ) : Type 0 where
-  pub words : (x : ℕ) → x < m → get_or work' (param_at x) 0 ≡ numbered (lookup x (paramMap 0 f.params []))
-  pub blocks : drop r es ≡ blocksOf f rest
+  pub words : (x : ℕ) → x < m → get_or work' (param_at x) 0 ≡ numbered (lookup x (param_map 0 f.params []))
+  pub blocks : drop r es ≡ blocks_of f rest
   pub there : r ≤ length es
   pub kept : WordsKept m 0 work work'
 
@@ -62,45 +62,45 @@ module _ (m : ℕ) (ks ws : List ℕ) (f : Function) (rest : List Entry) (work :
   own = entries ks ws
 
   abbrev later : List Entry
-  later = closed encParam f.params ++ blocksOf f rest
+  later = closed enc_param f.params ++ blocks_of f rest
 
-  return-type : (0 < length ks) × (0 < length ws) × (drop 1 own ≡ encTy f.retTy ++ later)
-  unfolding encFunction
-  return-type =
+  return_type : (0 < length ks) × (0 < length ws) × (drop 1 own ≡ enc_ty f.ret_ty ++ later)
+  unfolding enc_function
+  return_type =
       let q = entry_at ks ws 0 _ _ k.here in
-      let p = closed encParam f.params in
-      let b = closed encBasicBlock f.blocks in
-      (q.2, q.3, q.4 ∙ append_assoc (encTy f.retTy) (p ++ b) rest ∙ ap (λ (x : List Entry). encTy f.retTy ++ x) (append_assoc p b rest))
+      let p = closed enc_param f.params in
+      let b = closed enc_basic_block f.blocks in
+      (q.2, q.3, q.4 ∙ append_assoc (enc_ty f.ret_ty) (p ++ b) rest ∙ ap (λ (x : List Entry). enc_ty f.ret_ty ++ x) (append_assoc p b rest))
 
-  pub return-kinds : 1 ≤ length ks
-  return-kinds = omega (arith, return-type.0)
+  pub return_kinds : 1 ≤ length ks
+  return_kinds = omega (arith, return_type.0)
 
-  pub return-words : 1 ≤ length ws
-  return-words = omega (arith, return-type.1)
+  pub return_words : 1 ≤ length ws
+  return_words = omega (arith, return_type.1)
 
   starts : Starts m (drop 1 own)
-  starts = record { ty = f.retTy; rest = later; here = return-type.2; keeps = k.limits.1.0; few = omega (arith, k.few, length-drop 1 own) }
+  starts = record { ty = f.ret_ty; rest = later; here = return_type.2; keeps = k.limits.1.0; few = omega (arith, k.few, length-drop 1 own) }
 
-  module _ (n : ℕ) (en : n ≡ tyLen m (lent ks ws 1)) where
-    length-is : n ≡ length (encTy f.retTy)
+  module _ (n : ℕ) (en : n ≡ ty_len m (lent ks ws 1)) where
+    length_is : n ≡ length (enc_ty f.ret_ty)
     unfolding starts
-    length-is = en ∙ ap (tyLen m) (entries-part 1 ks ws) ∙ len_is starts
+    length_is = en ∙ ap (ty_len m) (entries_part 1 ks ws) ∙ len_is starts
 
     behind : drop (1 + n) own ≡ later
     behind =
-        sym (drop-drop n 1 own) ∙ ap (λ j. drop j (drop 1 own)) length-is ∙ ap (drop (length (encTy f.retTy))) return-type.2
-        ∙ drop-append_seam (encTy f.retTy) later
+        sym (drop-drop n 1 own) ∙ ap (λ j. drop j (drop 1 own)) length_is ∙ ap (drop (length (enc_ty f.ret_ty))) return_type.2
+        ∙ drop-append_seam (enc_ty f.ret_ty) later
 
     pub return_fits : 1 + n ≤ 1048576
-    return_fits = omega (arith, length-is, ap length return-type.2, length-append (encTy f.retTy) later, length-drop 1 own, k.few, enc-pos f.retTy)
+    return_fits = omega (arith, length_is, ap length return_type.2, length-append (enc_ty f.ret_ty) later, length-drop 1 own, k.few, enc_pos f.ret_ty)
 
-    pub params-start : ParamsAt m f.params (blocksOf f rest) own work (1 + n) 0
+    pub params_start : ParamsAt m f.params (blocks_of f rest) own work (1 + n) 0
     unfolding lookup
-    params-start =
+    params_start =
         record {
           left = f.params;
           done = [];
-          here = behind ∙ ending-append encParam (entry 0 0 ∷ []) (blocksOf f rest) f.params;
+          here = behind ∙ ending_append enc_param (entry 0 0 ∷ []) (blocks_of f rest) f.params;
           limits = k.limits.1.1.0;
           goes = refl;
           words = k.blank;
@@ -121,13 +121,13 @@ pub record NextParam (m : ℕ) (all : List Param) (rest es : List Entry) (work w
   pub kept : WordsKept m 0 work work'
 
 -- the list from a place on, and back
-params-whole : {m : ℕ} {all : List Param} {rest : List Entry} (ks ws : List ℕ) {work : List ℕ} (a r : ℕ) {i : ℕ} → length (entries ks ws) ≤ 2 ^ 20
+params_whole : {m : ℕ} {all : List Param} {rest : List Entry} (ks ws : List ℕ) {work : List ℕ} (a r : ℕ) {i : ℕ} → length (entries ks ws) ≤ 2 ^ 20
     → ParamsAt m all rest (lent ks ws a) work r i → ParamsAt m all rest (entries ks ws) work (a + r) i
-params-whole ks ws a r few p =
+params_whole ks ws a r few p =
     record {
       left = p.left;
       done = p.done;
-      here = sym (drop-drop r a (entries ks ws)) ∙ ap (drop r) (sym (entries-part a ks ws)) ∙ p.here;
+      here = sym (drop-drop r a (entries ks ws)) ∙ ap (drop r) (sym (entries_part a ks ws)) ∙ p.here;
       limits = p.limits;
       goes = p.goes;
       words = p.words;
@@ -136,35 +136,35 @@ params-whole ks ws a r few p =
     }
 
 module _ {m : ℕ} {all : List Param} {rest : List Entry} (ks ws : List ℕ) {work : List ℕ} (a : ℕ) {i : ℕ} where
-  params-part : ParamsAt m all rest (entries ks ws) work a i → ParamsAt m all rest (lent ks ws a) work 0 i
-  params-part p =
+  params_part : ParamsAt m all rest (entries ks ws) work a i → ParamsAt m all rest (lent ks ws a) work 0 i
+  params_part p =
       record {
         left = p.left;
         done = p.done;
-        here = entries-part a ks ws ∙ p.here;
+        here = entries_part a ks ws ∙ p.here;
         limits = p.limits;
         goes = p.goes;
         words = p.words;
         room = p.room;
-        few = omega (arith, p.few, ap length (entries-part a ks ws), length-drop a (entries ks ws));
+        few = omega (arith, p.few, ap length (entries_part a ks ws), length-drop a (entries ks ws));
       }
 
   -- the parameter at a place
-  pub at-param : ParamsAt m all rest (entries ks ws) work a i → get_or ks a 0 ≡ 6 → i ≤ 1048576
+  pub at_param : ParamsAt m all rest (entries ks ws) work a i → get_or ks a 0 ≡ 6 → i ≤ 1048576
       → AtParam m all rest (take (length ks - a) (drop a ks)) (take (length ws - a) (drop a ws)) work i
-  at-param p e l =
+  at_param p e l =
       record {
-        params = params-part p;
+        params = params_part p;
         kind = rw (take_all (length ks - a) (drop a ks) (le_of_eq (length-drop a ks)), get_or-drop, add-zero) e;
         small = l;
       }
 
-  pub behind-param : {work' : List ℕ} {r : ℕ} → ParamsAt m all rest (entries ks ws) work a i → NextParam m all rest (lent ks ws a) work work' i r
+  pub behind_param : {work' : List ℕ} {r : ℕ} → ParamsAt m all rest (entries ks ws) work a i → NextParam m all rest (lent ks ws a) work work' i r
       → ParamsAt m all rest (entries ks ws) work' (a + r) (i + 1)
-  behind-param {r = r} p n = params-whole ks ws a r p.few n.next
+  behind_param {r = r} p n = params_whole ks ws a r p.few n.next
 
 -- the word of a name after a store
-module _ (m : ℕ) (work : List ℕ) (done : Map ℕ) (words : (x : ℕ) → x < m → get_or work (param_at x) 0 ≡ numbered (lookup x done)) (room : nameWords m ≤ length work) (y i : ℕ) (l : y < m) where
+module _ (m : ℕ) (work : List ℕ) (done : Map ℕ) (words : (x : ℕ) → x < m → get_or work (param_at x) 0 ≡ numbered (lookup x done)) (room : name_words m ≤ length work) (y i : ℕ) (l : y < m) where
   stored : (x : ℕ) → x < m → get_or (set work (param_at y) (i + 1)) (param_at x) 0 ≡ numbered (lookup x (insert (some y) i done))
   unfolding lookup insert
   stored x lx = go (eqb x y) refl
@@ -182,19 +182,19 @@ module _ (m : ℕ) (ks ws : List ℕ) (all : List Param) (rest : List Entry) (wo
   es = entries ks ws
 
   abbrev listed : List Param → List Entry
-  listed = ending encParam (entry 0 0 ∷ rest)
+  listed = ending enc_param (entry 0 0 ∷ rest)
 
   -- what stands at the place
   pub record Here : Type 0 where
     pub param : Param
     pub others : List Param
     pub is : p.left ≡ param ∷ others
-    pub word : get_or ws a 0 ≡ destWord param.name
-    pub type : drop (a + 1) es ≡ encTy param.ty ++ listed others
+    pub word : get_or ws a 0 ≡ dest_word param.name
+    pub type : drop (a + 1) es ≡ enc_ty param.ty ++ listed others
 
   view : (ps : List Param) → p.left ≡ ps → drop a es ≡ listed ps
       → (a < length ks) × ((a < length ws) × (((get_or ks a 0 ≡ 6 → ⊥) → (ps ≡ []) × (drop (a + 1) es ≡ rest)) × (get_or ks a 0 ≡ 6 → Here)))
-  unfolding ending encParam
+  unfolding ending enc_param
   view [] e h =
       let q = entry_at ks ws a _ _ h in
       (q.2, (q.3, ((λ _. (refl, q.4)), λ k. absurd (let z : 6 ≡ 0 = sym k ∙ q.0 in omega arith))))
@@ -205,113 +205,113 @@ module _ (m : ℕ) (ks ws : List ℕ) (all : List Param) (rest : List Entry) (wo
   seen : (a < length ks) × ((a < length ws) × (((get_or ks a 0 ≡ 6 → ⊥) → (p.left ≡ []) × (drop (a + 1) es ≡ rest)) × (get_or ks a 0 ≡ 6 → Here)))
   seen = view p.left refl p.here
 
-  pub params-kinds : a + 1 ≤ length ks
-  params-kinds = omega (arith, seen.0)
+  pub params_kinds : a + 1 ≤ length ks
+  params_kinds = omega (arith, seen.0)
 
-  pub params-words : a + 1 ≤ length ws
-  params-words = omega (arith, seen.1.0)
+  pub params_words : a + 1 ≤ length ws
+  params_words = omega (arith, seen.1.0)
 
   some_left : (ps : List Param) → 1 ≤ length (listed ps)
-  unfolding ending encParam
+  unfolding ending enc_param
   some_left [] = omega arith
   some_left (x ∷ xs) = omega arith
 
   there : a + 1 ≤ length es
   there = omega (arith, seen.0, ap length p.here, length-drop a es, some_left p.left)
 
-  pub params-few : a ≤ 1048576
-  params-few = omega (arith, there, p.few)
+  pub params_few : a ≤ 1048576
+  params_few = omega (arith, there, p.few)
 
   -- behind the last
-  pub params-done : (get_or ks a 0 ≡ 6 → ⊥)
-      → ((x : ℕ) → x < m → get_or work (param_at x) 0 ≡ numbered (lookup x (paramMap 0 all []))) × (drop (a + 1) es ≡ rest) × (a + 1 ≤ length es)
-  unfolding paramMap
-  params-done n =
+  pub params_done : (get_or ks a 0 ≡ 6 → ⊥)
+      → ((x : ℕ) → x < m → get_or work (param_at x) 0 ≡ numbered (lookup x (param_map 0 all []))) × (drop (a + 1) es ≡ rest) × (a + 1 ≤ length es)
+  unfolding param_map
+  params_done n =
       let d = seen.1.1.0 n in
-      ((λ x l. p.words x l ∙ ap (λ (o : Map ℕ). numbered (lookup x o)) (sym (ap (λ (ps : List Param). paramMap i ps p.done) d.0) ∙ p.goes)), d.1, there)
+      ((λ x l. p.words x l ∙ ap (λ (o : Map ℕ). numbered (lookup x o)) (sym (ap (λ (ps : List Param). param_map i ps p.done) d.0) ∙ p.goes)), d.1, there)
 
   module _ (k6 : get_or ks a 0 ≡ 6) where
     here : Here
     here = seen.1.1.1 k6
 
-    limits-here : Each (ParamLimits m) (here.param ∷ here.others)
-    limits-here = subst (Each (ParamLimits m)) here.is p.limits
+    limits_here : Each (ParamLimits m) (here.param ∷ here.others)
+    limits_here = subst (Each (ParamLimits m)) here.is p.limits
 
-    goes-here : paramMap (i + 1) here.others (insert here.param.name i p.done) ≡ paramMap 0 all []
-    unfolding paramMap
-    goes-here = sym (ap (λ (ps : List Param). paramMap i ps p.done) here.is) ∙ p.goes
+    goes_here : param_map (i + 1) here.others (insert here.param.name i p.done) ≡ param_map 0 all []
+    unfolding param_map
+    goes_here = sym (ap (λ (ps : List Param). param_map i ps p.done) here.is) ∙ p.goes
 
-    starts-here : Starts m (drop (a + 1) es)
-    starts-here =
-        record { ty = here.param.ty; rest = listed here.others; here = here.type; keeps = limits-here.0.1; few = omega (arith, p.few, length-drop (a + 1) es) }
+    starts_here : Starts m (drop (a + 1) es)
+    starts_here =
+        record { ty = here.param.ty; rest = listed here.others; here = here.type; keeps = limits_here.0.1; few = omega (arith, p.few, length-drop (a + 1) es) }
 
     -- the name
     name_of : (o : Option ℕ) → here.param.name ≡ o → (get_or ws a 0 ≡ 0 → ⊥) → (y : ℕ) × ((here.param.name ≡ some y) × ((get_or ws a 0 - 1 ≡ y) × (y < m)))
-    name_of none e z = absurd (z (here.word ∙ ap destWord e))
+    name_of none e z = absurd (z (here.word ∙ ap dest_word e))
     name_of (some y) e z =
-        let w : get_or ws a 0 ≡ y + 1 = here.word ∙ ap destWord e in
-        (y, (e, (omega arith, subst (Maybe (NameLimits m)) e limits-here.0.0)))
+        let w : get_or ws a 0 ≡ y + 1 = here.word ∙ ap dest_word e in
+        (y, (e, (omega arith, subst (Maybe (NameLimits m)) e limits_here.0.0)))
 
     pub name_below : (get_or ws a 0 ≡ 0 → ⊥) → get_or ws a 0 - 1 < m
     name_below z = let q = name_of here.param.name refl z in rw q.1.1.0 q.1.1.1
 
     none_of : (o : Option ℕ) → here.param.name ≡ o → get_or ws a 0 ≡ 0 → here.param.name ≡ none
     none_of none e z = e
-    none_of (some y) e z = absurd (let w : get_or ws a 0 ≡ y + 1 = here.word ∙ ap destWord e in omega arith)
+    none_of (some y) e z = absurd (let w : get_or ws a 0 ≡ y + 1 = here.word ∙ ap dest_word e in omega arith)
 
-    module _ (n : ℕ) (en : n ≡ tyLen m (lent ks ws (a + 1))) where
-      type-length : n ≡ length (encTy here.param.ty)
-      unfolding starts-here
-      type-length = en ∙ ap (tyLen m) (entries-part (a + 1) ks ws) ∙ len_is starts-here
+    module _ (n : ℕ) (en : n ≡ ty_len m (lent ks ws (a + 1))) where
+      type_length : n ≡ length (enc_ty here.param.ty)
+      unfolding starts_here
+      type_length = en ∙ ap (ty_len m) (entries_part (a + 1) ks ws) ∙ len_is starts_here
 
       after : drop (a + 1 + n) es ≡ listed here.others
       after =
-          sym (drop-drop n (a + 1) es) ∙ ap (λ j. drop j (drop (a + 1) es)) type-length ∙ ap (drop (length (encTy here.param.ty))) here.type
-          ∙ drop-append_seam (encTy here.param.ty) (listed here.others)
+          sym (drop-drop n (a + 1) es) ∙ ap (λ j. drop j (drop (a + 1) es)) type_length ∙ ap (drop (length (enc_ty here.param.ty))) here.type
+          ∙ drop-append_seam (enc_ty here.param.ty) (listed here.others)
 
-      pub type-fits : a + 1 + n ≤ 1048577
-      type-fits = omega (arith, type-length, ap length here.type, length-append (encTy here.param.ty) (listed here.others), length-drop (a + 1) es, p.few, there)
+      pub type_fits : a + 1 + n ≤ 1048577
+      type_fits = omega (arith, type_length, ap length here.type, length-append (enc_ty here.param.ty) (listed here.others), length-drop (a + 1) es, p.few, there)
 
-      next-with : (work' : List ℕ) → length work' ≡ length work
+      next_with : (work' : List ℕ) → length work' ≡ length work
           → ((x : ℕ) → x < m → get_or work' (param_at x) 0 ≡ numbered (lookup x (insert here.param.name i p.done))) → ParamsAt m all rest es work' (a + 1 + n) (i + 1)
-      next-with work' long words =
+      next_with work' long words =
           record {
             left = here.others;
             done = insert here.param.name i p.done;
             here = after;
-            limits = limits-here.1;
-            goes = goes-here;
+            limits = limits_here.1;
+            goes = goes_here;
             words = words;
             room = omega (arith, p.room);
             few = p.few;
           }
 
       -- without a name
-      pub next-unnamed : get_or ws a 0 ≡ 0 → ParamsAt m all rest es work (a + 1 + n) (i + 1)
+      pub next_unnamed : get_or ws a 0 ≡ 0 → ParamsAt m all rest es work (a + 1 + n) (i + 1)
       unfolding insert
-      next-unnamed z =
+      next_unnamed z =
           let e = none_of here.param.name refl z in
-          next-with work refl (λ x l. p.words x l ∙ ap (λ (o : Option ℕ). numbered (lookup x (insert o i p.done))) (sym e))
+          next_with work refl (λ x l. p.words x l ∙ ap (λ (o : Option ℕ). numbered (lookup x (insert o i p.done))) (sym e))
 
       -- with one
-      pub next-named : (get_or ws a 0 ≡ 0 → ⊥) → ParamsAt m all rest es (set work (param_at (get_or ws a 0 - 1)) (i + 1)) (a + 1 + n) (i + 1)
-      next-named z =
+      pub next_named : (get_or ws a 0 ≡ 0 → ⊥) → ParamsAt m all rest es (set work (param_at (get_or ws a 0 - 1)) (i + 1)) (a + 1 + n) (i + 1)
+      next_named z =
           let q = name_of here.param.name refl z in
           let y = q.0 in
           let s : (x : ℕ) → x < m → get_or (set work (param_at (get_or ws a 0 - 1)) (i + 1)) (param_at x) 0 ≡ numbered (lookup x (insert here.param.name i p.done)) =
           λ x l. ap (λ (j : ℕ). get_or (set work (param_at j) (i + 1)) (param_at x) 0) q.1.1.0 ∙ stored m work p.done p.words p.room y i q.1.1.1 x l
           ∙ ap (λ (o : Option ℕ). numbered (lookup x (insert o i p.done))) (sym q.1.0) in
-          next-with (set work (param_at (get_or ws a 0 - 1)) (i + 1)) (length-set work (param_at (get_or ws a 0 - 1)) (i + 1)) s
+          next_with (set work (param_at (get_or ws a 0 - 1)) (i + 1)) (length-set work (param_at (get_or ws a 0 - 1)) (i + 1)) s
 
 -- at the front
-module _ {m : ℕ} {all : List Param} {rest : List Entry} (ks ws work : List ℕ) {i : ℕ} (p : AtParam m all rest ks ws work i) {n : ℕ} (en : n ≡ tyLen m (lent ks ws 1)) where
+module _ {m : ℕ} {all : List Param} {rest : List Entry} (ks ws work : List ℕ) {i : ℕ} (p : AtParam m all rest ks ws work i) {n : ℕ} (en : n ≡ ty_len m (lent ks ws 1)) where
   pub unnamed : get_or ws 0 0 ≡ 0 → NextParam m all rest (entries ks ws) work work i (1 + n)
-  unnamed z = record { next = next-unnamed m ks ws all rest work 0 i p.params p.kind n en z; more = omega arith; kept = words-none }
+  unnamed z = record { next = next_unnamed m ks ws all rest work 0 i p.params p.kind n en z; more = omega arith; kept = words_none }
 
   pub named : (get_or ws 0 0 ≡ 0 → ⊥) → NextParam m all rest (entries ks ws) work (set work (param_at (get_or ws 0 0 - 1)) (i + 1)) i (1 + n)
   named z =
       record {
-        next = next-named m ks ws all rest work 0 i p.params p.kind n en z;
+        next = next_named m ks ws all rest work 0 i p.params p.kind n en z;
         more = omega arith;
-        kept = words-set (get_or ws 0 0 - 1) (param_at (get_or ws 0 0 - 1)) (i + 1) (name_below m ks ws all rest work 0 i p.params p.kind z) (omega arith);
+        kept = words_set (get_or ws 0 0 - 1) (param_at (get_or ws 0 0 - 1)) (i + 1) (name_below m ks ws all rest work 0 i p.params p.kind z) (omega arith);
       }

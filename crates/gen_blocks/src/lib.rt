@@ -3,7 +3,7 @@ ghost use Rattle.std.specs.Prelude.{◌≡◌, List, ℕ};
 ghost use Rattle.book.specs.Ast.{BasicBlock, Function, Param};
 ghost use Rattle.book.specs.Entry.{Entry, entries};
 ghost use Rattle.layout_memo.specs.Structs.{IsBook};
-ghost use Rattle.gen_blocks.specs.Function.{FunctionsAt, functionsIn, last_of};
+ghost use Rattle.gen_blocks.specs.Function.{FunctionsAt, functions_in, last_of};
 ghost use Rattle.gen_blocks.specs.Params.{AtParam, NextParam, ParamsAsked, ParamsPlaced};
 ghost use Rattle.gen_blocks.specs.Blocks.{BlocksAsked, BlocksPlaced, FunctionAsked, FunctionPlaced};
 
@@ -15,7 +15,7 @@ use layout_memo::skip;
 pub fn find_function(kinds: &[u64], words: &[u64], names: u64) -> usize
     requires { IsBook names (entries kinds.now words.now) }
     ensures { FunctionsAt names (entries kinds.now words.now) (last_of (entries kinds.now words.now)) result
-        (functionsIn names (entries kinds.now words.now)) }
+        (functions_in names (entries kinds.now words.now)) }
 {
     let mut at: usize = 0;
     while kinds[at] != entry::FUNCTION {

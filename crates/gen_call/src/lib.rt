@@ -4,12 +4,12 @@ ghost use Rattle.std.specs.Prelude.{◌≡◌, ℕ, ◌+◌, ◌*◌, ◌%◌, �
 ghost use Rattle.book.specs.Ast.{Ty, Value, TypedVal};
 ghost use Rattle.book.specs.Entry.{Entry, entries};
 ghost use Rattle.book.specs.Kinds.{InstTag};
-ghost use Rattle.book.specs.Fields.{Meanings, instFields};
-ghost use Rattle.book.specs.Work.{nameWords};
+ghost use Rattle.book.specs.Fields.{Meanings, inst_fields};
+ghost use Rattle.book.specs.Work.{name_words};
 ghost use Rattle.lowering.specs.Context.{FnCtx};
-ghost use Rattle.lowering.specs.Call.{isVoid, pushArgs, callTarget, genPlainCall, genSyscall, genMemcmpCall, genCall};
+ghost use Rattle.lowering.specs.Call.{is_void, push_args, call_target, gen_plain_call, gen_syscall, gen_memcmp_call, gen_call};
 ghost use Rattle.gen_lines.specs.Puts.{Puts};
-ghost use Rattle.gen_values.specs.Values.{destOf};
+ghost use Rattle.gen_values.specs.Values.{dest_of};
 ghost use Rattle.gen_values.specs.Maps.{Locals, Maps};
 ghost use Rattle.gen_values.specs.Fields.{Fields, ValueAt, OperandAt};
 ghost use Rattle.gen_fields.specs.Given.{Given};
@@ -48,9 +48,9 @@ fn push_args(
     operands: &mut [u64],
     s: Reached,
 ) -> Reached
-    requires { ArgsLent names (entries kinds.now words.now) × (nameWords names ≤ length work.now) }
+    requires { ArgsLent names (entries kinds.now words.now) × (name_words names ≤ length work.now) }
     ensures { (args : List TypedVal) (c : FnCtx) → Args names args (entries kinds.now words.now) → Locals c names work.now
-        → Puts (pushArgs c args) s result lines.old operands.old lines.new operands.new }
+        → Puts (push_args c args) s result lines.old operands.old lines.new operands.new }
 {
     let mut at: usize = 0;
     let mut reached = s;
@@ -98,7 +98,7 @@ fn call_target(
 ) -> Reached
     requires { OperandAt kinds.now words.now 0 work.now }
     ensures { (m : ℕ) (c : FnCtx) (v : Value) → ValueAt m kinds.now words.now 0 v → Locals c m work.now → Defined c v defined
-        → Puts (callTarget c v args) s result lines.old operands.old lines.new operands.new }
+        → Puts (call_target c v args) s result lines.old operands.old lines.new operands.new }
 {
     if kinds[0] == entry::GLOBAL {
         let known = need(s, defined, 15);
@@ -131,7 +131,7 @@ fn gen_plain_call(
 ) -> Reached
     requires { Given names calleeFields (entries kinds.now words.now) dest work.now }
     ensures { (p : Meanings calleeFields) (c : FnCtx) → Fields names calleeFields p (entries kinds.now words.now) → Locals c names work.now
-        → Defined c p.0 defined → Puts (genPlainCall c (destOf dest) p.0 p.1.0) s result lines.old operands.old lines.new operands.new }
+        → Defined c p.0 defined → Puts (gen_plain_call c (dest_of dest) p.0 p.1.0) s result lines.old operands.old lines.new operands.new }
 {
     let arg_kinds = &kinds[1..];
     let arg_words = &words[1..];
@@ -156,8 +156,8 @@ fn gen_syscall(
 ) -> Reached
     requires { Given names calleeFields (entries kinds.now words.now) dest work.now }
     ensures { (p : Meanings calleeFields) (c : FnCtx) (ty : Ty) → Fields names calleeFields p (entries kinds.now words.now)
-        → Locals c names work.now → void ≡ isVoid ty
-        → Puts (genSyscall c (destOf dest) (slice_index words.now 0) ty p.1.0) s result lines.old operands.old lines.new operands.new }
+        → Locals c names work.now → void ≡ is_void ty
+        → Puts (gen_syscall c (dest_of dest) (slice_index words.now 0) ty p.1.0) s result lines.old operands.old lines.new operands.new }
 {
     let pushed = push_args(&kinds[1..], &words[1..], names, work, lines, operands, s);
     let called = put(lines, operands, pushed, line::SYSCALL, words[0]);
@@ -180,7 +180,7 @@ fn gen_memcmp_call(
 ) -> Reached
     requires { Given names calleeFields (entries kinds.now words.now) dest work.now }
     ensures { (p : Meanings calleeFields) (c : FnCtx) → Fields names calleeFields p (entries kinds.now words.now) → Locals c names work.now
-        → Puts (genMemcmpCall c (destOf dest) p.1.0) s result lines.old operands.old lines.new operands.new }
+        → Puts (gen_memcmp_call c (dest_of dest) p.1.0) s result lines.old operands.old lines.new operands.new }
 {
     let pushed = push_args(&kinds[1..], &words[1..], names, work, lines, operands, s);
     let called = put(lines, operands, pushed, line::SYSCALL_MEMCMP, 0);
@@ -198,9 +198,9 @@ pub fn gen_call(
     operands: &mut [u64],
     s: Reached,
 ) -> Reached
-    requires { Given names (instFields InstTag.call) (entries kinds.now words.now) dest work.now }
-    ensures { (bs : List Entry) (p : Meanings (instFields InstTag.call)) (c : FnCtx) → Fields names (instFields InstTag.call) p (entries kinds.now words.now)
-        → Maps names bs c work.now → Puts (genCall c (destOf dest) p.0 p.1.0 p.1.1.0)
+    requires { Given names (inst_fields InstTag.call) (entries kinds.now words.now) dest work.now }
+    ensures { (bs : List Entry) (p : Meanings (inst_fields InstTag.call)) (c : FnCtx) → Fields names (inst_fields InstTag.call) p (entries kinds.now words.now)
+        → Maps names bs c work.now → Puts (gen_call c (dest_of dest) p.0 p.1.0 p.1.1.0)
         s result lines.old operands.old lines.new operands.new }
 {
     let at = skip(kinds, words, names);

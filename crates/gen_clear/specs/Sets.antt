@@ -4,13 +4,13 @@ use Rattle.std.proofs.Common.{inl, inr, arith}
 use Rattle.std.proofs.Math.Option.{Option, none, some}
 use Rattle.book.specs.Entry.{Entry, entry}
 use Rattle.book.specs.Ast.{Ty, Inst, Terminator, BasicBlock, Param, Function}
-use Rattle.book.specs.Kinds.{TermTag, termKind}
-use Rattle.book.specs.Fields.{instFields, termFields, instTagOf, termTagOf, instArgs, termArgs}
-use Rattle.book.specs.Encode.{ending, closed, destWord, encTy, encInst, encTerm, encParam, encBasicBlock, encFunction, encFields}
+use Rattle.book.specs.Kinds.{TermTag, term_kind}
+use Rattle.book.specs.Fields.{inst_fields, term_fields, inst_tag_of, term_tag_of, inst_args, term_args}
+use Rattle.book.specs.Encode.{ending, closed, dest_word, enc_ty, enc_inst, enc_term, enc_param, enc_basic_block, enc_function, enc_fields}
 use Rattle.book.specs.Limits.{Each, Maybe, NameLimits, InstLimits, BlockLimits, ParamLimits, FunctionLimits}
-use Rattle.gen_walk.specs.Walk.{Low, low-ty, low-fields}
-use Rattle.book.specs.Heads.{Inside, inside-ty, inside-inst, inside-term}
-use Rattle.gen_frame.specs.Scan.{inst-kinds}
+use Rattle.gen_walk.specs.Walk.{Low, low_ty, low_fields}
+use Rattle.book.specs.Heads.{Inside, inside_ty, inside_inst, inside_term}
+use Rattle.gen_frame.specs.Scan.{inst_kinds}
 
 -- the entry e sets the word j of the name x
 pub data Sets (e : Entry) (x j : ℕ) : Type 0 where
@@ -38,75 +38,75 @@ pub record Bounded (m : ℕ) (e : Entry) : Type 0 where
   pub block : e.kind ≡ 7 → e.word < m
   pub inst : 40 ≤ e.kind → e.word ≤ m
 
-bounded-append : (m : ℕ) (xs ys : List Entry) → Each (Bounded m) xs → Each (Bounded m) ys → Each (Bounded m) (xs ++ ys)
-bounded-append m [] ys p q = q
-bounded-append m (x ∷ xs) ys p q = (p.0, bounded-append m xs ys p.1 q)
+bounded_append : (m : ℕ) (xs ys : List Entry) → Each (Bounded m) xs → Each (Bounded m) ys → Each (Bounded m) (xs ++ ys)
+bounded_append m [] ys p q = q
+bounded_append m (x ∷ xs) ys p q = (p.0, bounded_append m xs ys p.1 q)
 
 -- entries that say none
-fields-bounded : (m : ℕ) (xs : List Entry) → Low xs → Each Inside xs → Each (Bounded m) xs
-fields-bounded m [] l i = tt
-fields-bounded m (x ∷ xs) l i = (
+fields_bounded : (m : ℕ) (xs : List Entry) → Low xs → Each Inside xs → Each (Bounded m) xs
+fields_bounded m [] l i = tt
+fields_bounded m (x ∷ xs) l i = (
   record { param = λ e. absurd (i.0 (omega arith) (omega arith)); block = λ e. absurd (l.0.1 e); inst = λ e. absurd (omega (arith, l.0.0)) },
-  fields-bounded m xs l.1 i.1,
+  fields_bounded m xs l.1 i.1,
 )
 
-type-bounded : (m : ℕ) (t : Ty) → Each (Bounded m) (encTy t)
-type-bounded m t = fields-bounded m (encTy t) (low-ty t) (inside-ty t)
+type_bounded : (m : ℕ) (t : Ty) → Each (Bounded m) (enc_ty t)
+type_bounded m t = fields_bounded m (enc_ty t) (low_ty t) (inside_ty t)
 
-ending-bounded : {A : Type 0} (m : ℕ) (P : A → Type 0) (write : A → List Entry) → ((a : A) → P a → Each (Bounded m) (write a)) → (end : List Entry) → Each (Bounded m) end
+ending_bounded : {A : Type 0} (m : ℕ) (P : A → Type 0) (write : A → List Entry) → ((a : A) → P a → Each (Bounded m) (write a)) → (end : List Entry) → Each (Bounded m) end
     → (as' : List A) → Each P as' → Each (Bounded m) (ending write end as')
 unfolding ending
-ending-bounded m P write all end e [] p = e
-ending-bounded m P write all end e (a ∷ as') p = bounded-append m (write a) (ending write end as') (all a p.0) (ending-bounded m P write all end e as' p.1)
+ending_bounded m P write all end e [] p = e
+ending_bounded m P write all end e (a ∷ as') p = bounded_append m (write a) (ending write end as') (all a p.0) (ending_bounded m P write all end e as' p.1)
 
-close-bounded : (m : ℕ) → Each (Bounded m) (entry 0 0 ∷ [])
-close-bounded m = (record { param = λ e. absurd (omega arith); block = λ e. absurd (omega arith); inst = λ e. absurd (omega arith) }, tt)
+close_bounded : (m : ℕ) → Each (Bounded m) (entry 0 0 ∷ [])
+close_bounded m = (record { param = λ e. absurd (omega arith); block = λ e. absurd (omega arith); inst = λ e. absurd (omega arith) }, tt)
 
-dest-bounded : (m : ℕ) (o : Option ℕ) → Maybe (NameLimits m) o → destWord o ≤ m
-dest-bounded m none l = omega arith
-dest-bounded m (some x) l = omega arith
+dest_bounded : (m : ℕ) (o : Option ℕ) → Maybe (NameLimits m) o → dest_word o ≤ m
+dest_bounded m none l = omega arith
+dest_bounded m (some x) l = omega arith
 
-inst-bounded : (m : ℕ) (i : Inst) → InstLimits m i → Each (Bounded m) (encInst i)
-unfolding encInst
-inst-bounded m i l =
-    let n = inst-kinds (instTagOf i.kind) in
-    let fields = encFields (instFields (instTagOf i.kind)) (instArgs i.kind) in (
-      record { param = λ e. absurd (omega (arith, n.0)); block = λ e. absurd (omega (arith, n.0)); inst = λ e. dest-bounded m i.dest l.0 },
-      fields-bounded m fields (low-fields (instFields (instTagOf i.kind)) (instArgs i.kind)) (inside-inst i).1,
+inst_bounded : (m : ℕ) (i : Inst) → InstLimits m i → Each (Bounded m) (enc_inst i)
+unfolding enc_inst
+inst_bounded m i l =
+    let n = inst_kinds (inst_tag_of i.kind) in
+    let fields = enc_fields (inst_fields (inst_tag_of i.kind)) (inst_args i.kind) in (
+      record { param = λ e. absurd (omega (arith, n.0)); block = λ e. absurd (omega (arith, n.0)); inst = λ e. dest_bounded m i.dest l.0 },
+      fields_bounded m fields (low_fields (inst_fields (inst_tag_of i.kind)) (inst_args i.kind)) (inside_inst i).1,
     )
 
-term-bounded : (m : ℕ) (t : Terminator) → Each (Bounded m) (encTerm t)
-unfolding encTerm
-term-bounded m t =
-    let fields = encFields (termFields (termTagOf t)) (termArgs t) in
-    let own : Bounded m (entry (termKind (termTagOf t)) 0) = record { param = λ e. omega arith; block = λ e. absurd (term-not-seven (termTagOf t) e); inst = λ e. omega arith } in
-    (own, fields-bounded m fields (low-fields (termFields (termTagOf t)) (termArgs t)) (inside-term t).1)
+term_bounded : (m : ℕ) (t : Terminator) → Each (Bounded m) (enc_term t)
+unfolding enc_term
+term_bounded m t =
+    let fields = enc_fields (term_fields (term_tag_of t)) (term_args t) in
+    let own : Bounded m (entry (term_kind (term_tag_of t)) 0) = record { param = λ e. omega arith; block = λ e. absurd (term_not_seven (term_tag_of t) e); inst = λ e. omega arith } in
+    (own, fields_bounded m fields (low_fields (term_fields (term_tag_of t)) (term_args t)) (inside_term t).1)
   where
-    term-not-seven : (t : TermTag) → termKind t ≡ 7 → ⊥
-    term-not-seven TermTag.ret e = omega arith
-    term-not-seven TermTag.br e = omega arith
-    term-not-seven TermTag.switch e = omega arith
-    term-not-seven TermTag.unreachable e = omega arith
+    term_not_seven : (t : TermTag) → term_kind t ≡ 7 → ⊥
+    term_not_seven TermTag.ret e = omega arith
+    term_not_seven TermTag.br e = omega arith
+    term_not_seven TermTag.switch e = omega arith
+    term_not_seven TermTag.unreachable e = omega arith
 
-block-bounded : (m : ℕ) (b : BasicBlock) → BlockLimits m b → Each (Bounded m) (encBasicBlock b)
-unfolding encBasicBlock
-block-bounded m b l = (
+block_bounded : (m : ℕ) (b : BasicBlock) → BlockLimits m b → Each (Bounded m) (enc_basic_block b)
+unfolding enc_basic_block
+block_bounded m b l = (
   record { param = λ e. absurd (omega arith); block = λ e. l.0; inst = λ e. absurd (omega arith) },
-  ending-bounded m (InstLimits m) encInst (inst-bounded m) (encTerm b.term) (term-bounded m b.term) b.insts l.1.0,
+  ending_bounded m (InstLimits m) enc_inst (inst_bounded m) (enc_term b.term) (term_bounded m b.term) b.insts l.1.0,
 )
 
-param-bounded : (m : ℕ) (p : Param) → ParamLimits m p → Each (Bounded m) (encParam p)
-unfolding encParam
-param-bounded m p l =
-    (record { param = λ e. dest-bounded m p.name l.0; block = λ e. absurd (omega arith); inst = λ e. absurd (omega arith) }, type-bounded m p.ty)
+param_bounded : (m : ℕ) (p : Param) → ParamLimits m p → Each (Bounded m) (enc_param p)
+unfolding enc_param
+param_bounded m p l =
+    (record { param = λ e. dest_bounded m p.name l.0; block = λ e. absurd (omega arith); inst = λ e. absurd (omega arith) }, type_bounded m p.ty)
 
-pub function-bounded : (m : ℕ) (f : Function) → FunctionLimits m f → Each (Bounded m) (encFunction f)
-unfolding encFunction
-function-bounded m f l =
-    let ps = closed encParam f.params in
-    let bs = closed encBasicBlock f.blocks in (
+pub function_bounded : (m : ℕ) (f : Function) → FunctionLimits m f → Each (Bounded m) (enc_function f)
+unfolding enc_function
+function_bounded m f l =
+    let ps = closed enc_param f.params in
+    let bs = closed enc_basic_block f.blocks in (
       record { param = λ e. absurd (omega arith); block = λ e. absurd (omega arith); inst = λ e. absurd (omega arith) },
-      bounded-append m (encTy f.retTy) (ps ++ bs) (type-bounded m f.retTy)
-          (bounded-append m ps bs (ending-bounded m (ParamLimits m) encParam (param-bounded m) (entry 0 0 ∷ []) (close-bounded m) f.params l.1.1.0)
-          (ending-bounded m (BlockLimits m) encBasicBlock (block-bounded m) (entry 0 0 ∷ []) (close-bounded m) f.blocks l.1.1.1)),
+      bounded_append m (enc_ty f.ret_ty) (ps ++ bs) (type_bounded m f.ret_ty)
+          (bounded_append m ps bs (ending_bounded m (ParamLimits m) enc_param (param_bounded m) (entry 0 0 ∷ []) (close_bounded m) f.params l.1.1.0)
+          (ending_bounded m (BlockLimits m) enc_basic_block (block_bounded m) (entry 0 0 ∷ []) (close_bounded m) f.blocks l.1.1.1)),
     )

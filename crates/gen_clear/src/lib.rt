@@ -2,7 +2,7 @@
 // are translated in a time that goes by their entries, however many names the book has.
 ghost use Rattle.std.specs.Prelude.{◌≤◌, length};
 ghost use Rattle.book.specs.Entry.{entry as entry_of, entries};
-ghost use Rattle.book.specs.Work.{nameWords};
+ghost use Rattle.book.specs.Work.{name_words};
 ghost use Rattle.gen_clear.specs.Sets.{Bounded};
 ghost use Rattle.gen_clear.specs.Clear.{Cleared, ClearPart, AllCleared};
 
@@ -11,7 +11,7 @@ use book_types::shorter;
 
 // The words that an entry has set: a parameter's, a block's or a result's.
 fn clear_entry(kind: u64, word: u64, work: &mut [u64], names: u64)
-    requires { Bounded names (entry_of kind word) × (nameWords names ≤ length work.old) }
+    requires { Bounded names (entry_of kind word) × (name_words names ≤ length work.old) }
     ensures { Cleared names (entry_of kind word) work.old work.new }
 {
     if entry::ADD <= kind {

@@ -7,19 +7,19 @@ use Rattle.std.proofs.lemmas.Bool.{eqb-false}
 use Rattle.std.proofs.Math.ListN.{length-append}
 use Rattle.book.specs.Ast.{Ty, Value, Incoming}
 use Rattle.book.specs.Entry.{entries}
-use Rattle.book.specs.Work.{nameWords}
-use Rattle.book_types.specs.Laws.{lentFrom, entries-part}
+use Rattle.book.specs.Work.{name_words}
+use Rattle.book_types.specs.Laws.{lent_from, entries_part}
 use Rattle.lowering.specs.Context.{FnCtx}
-use Rattle.lowering.specs.Operand.{intWidth, pushTyped}
-use Rattle.lowering.specs.Edge.{pushCopy}
-use Rattle.layout_memo.specs.Front.{tyLen}
+use Rattle.lowering.specs.Operand.{int_width, push_typed}
+use Rattle.lowering.specs.Edge.{push_copy}
+use Rattle.layout_memo.specs.Front.{ty_len}
 use Rattle.gen_lines.specs.declared.Reached.{Reached}
 use Rattle.gen_lines.specs.Puts.{Puts, is_refused, or_else}
 use Rattle.gen_values.specs.Maps.{Locals}
 use Rattle.gen_values.specs.Values.{width_by, DestReaches}
-use Rattle.gen_values.specs.Fields.{WidthSays, ValueAt, OperandAt, operand_at, partFrom, part-front, part-there, value-part}
-use Rattle.gen_edge.specs.Phis.{Phi, Leading, Pairs, PhiAt, pairs-in, pairs_end, pairs_next, leading-in, leading_end, leading-next}
-use Rattle.gen_edge.specs.Copies.{FoundAt, Pushed, copy_at, noted, noted-found, asked-phi, pushed_none, pushed_more, found_none, dest-reaches}
+use Rattle.gen_values.specs.Fields.{WidthSays, ValueAt, OperandAt, operand_at, part_from, part_front, part_there, value_part}
+use Rattle.gen_edge.specs.Phis.{Phi, Leading, Pairs, PhiAt, pairs_in, pairs_end, pairs_next, leading_in, leading_end, leading_next}
+use Rattle.gen_edge.specs.Copies.{FoundAt, Pushed, copy_at, noted, noted_found, asked_phi, pushed_none, pushed_more, found_none, dest_reaches}
 
 -- what a pass is lent: phis of some context
 pub record Lent (m : ℕ) (ks ws work : List ℕ) : Type 0 where
@@ -27,7 +27,7 @@ pub record Lent (m : ℕ) (ks ws work : List ℕ) : Type 0 where
   pub locals : Locals ctx m work
   pub phis : List Phi
   pub front : Leading m phis (entries ks ws)
-  pub room : nameWords m + 64 ≤ length work
+  pub room : name_words m + 64 ≤ length work
 
 -- `done` lie behind the place
 pub record Walk (c : FnCtx) (pred m : ℕ) (ks ws work : List ℕ) (ps : List Phi) (place count : ℕ) (s n t : Reached) (ls os ls' os' : List ℕ) : Type 0 where
@@ -57,45 +57,45 @@ pub record Passed (c : FnCtx) (pred : ℕ) (work : List ℕ) (ps : List Phi) (co
 
 -- what pushing the value found asks: a type at the front of its part, and the value at the front of its own
 pub record FoundAsk (tks tws ks ws work : List ℕ) : Type 0 where
-  pub type-kinds : 0 < length tks
-  pub type-words : 0 < length tws
+  pub type_kinds : 0 < length tks
+  pub type_words : 0 < length tws
   pub value : OperandAt ks ws 0 work
 
 -- ---- pairs
-pub value-reaches : (m : ℕ) {ks ws work : List ℕ} {a : ℕ} {v : Value} → ValueAt m ks ws a v → nameWords m + 64 ≤ length work → OperandAt ks ws a work
-value-reaches m {work = work} q room = operand_at {work = work} q (omega (arith, room))
+pub value_reaches : (m : ℕ) {ks ws work : List ℕ} {a : ℕ} {v : Value} → ValueAt m ks ws a v → name_words m + 64 ≤ length work → OperandAt ks ws a work
+value_reaches m {work = work} q room = operand_at {work = work} q (omega (arith, room))
 
 -- no test is both
 pub never : {A : Type 0} {b : Bool} → b ≡ true → b ≡ false → A
 never t f = absurd (let q : true ≡ false = sym t ∙ f in let y : ◌≡◌ {A = ℕ} 0 1 = cc in omega arith)
 
 -- a place that is not 0 was found
-found-is : (found : ℕ) → not (found == 0) ≡ true → found ≢ 0
-found-is found t z = never t (ap not (eq-eqb found 0 z))
+found_is : (found : ℕ) → not (found == 0) ≡ true → found ≢ 0
+found_is found t z = never t (ap not (eq-eqb found 0 z))
 
 module _ (pred m : ℕ) (ks ws : List ℕ) (place : ℕ) (ps : List Phi) where
-  pub pairs_start : Leading m ps (drop place (entries ks ws)) → slice_index ks place ≡ 75 → {n : ℕ} → n ≡ tyLen m (lentFrom ks ws (place + 1))
+  pub pairs_start : Leading m ps (drop place (entries ks ws)) → slice_index ks place ≡ 75 → {n : ℕ} → n ≡ ty_len m (lent_from ks ws (place + 1))
       → PairWalk pred m ks ws place ps (place + 1 + n) 0
   pairs_start f k e =
-      let a = leading-next ks ws place ps f k in
-      record { at = a; seen = []; todo = a.phi.incoming; same = refl; front = a.pairs (e ∙ ap (tyLen m) (entries-part (place + 1) ks ws)); first = found_none m pred ks ws }
+      let a = leading_next ks ws place ps f k in
+      record { at = a; seen = []; todo = a.phi.incoming; same = refl; front = a.pairs (e ∙ ap (ty_len m) (entries_part (place + 1) ks ws)); first = found_none m pred ks ws }
 
   module _ {pair found : ℕ} (w : PairWalk pred m ks ws place ps pair found) where
-    pub pair-in : (pair < length ks) × (pair < length ws)
-    pair-in = pairs-in ks ws pair w.todo w.front
+    pub pair_in : (pair < length ks) × (pair < length ws)
+    pair_in = pairs_in ks ws pair w.todo w.front
 
     -- a type has one entry at least
-    pub pair-long : {n : ℕ} → n ≡ tyLen m (lentFrom ks ws (place + 1)) → 1 ≤ n
-    pair-long e = omega (arith, w.at.long, e ∙ ap (tyLen m) (entries-part (place + 1) ks ws))
+    pub pair_long : {n : ℕ} → n ≡ ty_len m (lent_from ks ws (place + 1)) → 1 ≤ n
+    pair_long e = omega (arith, w.at.long, e ∙ ap (ty_len m) (entries_part (place + 1) ks ws))
 
-    pub pair-label : (slice_index ks pair ≢ 0) → pair + 1 < length ws
-    pair-label z = (pairs_next ks ws pair w.todo w.front z).in_words
+    pub pair_label : (slice_index ks pair ≢ 0) → pair + 1 < length ws
+    pair_label z = (pairs_next ks ws pair w.todo w.front z).in_words
 
     -- one pair more
-    pub pair-more : (slice_index ks pair ≢ 0) → {found' : ℕ}
+    pub pair_more : (slice_index ks pair ≢ 0) → {found' : ℕ}
         → ((is : List Incoming) (i : Incoming) → FoundAt m pred ks ws is found → slice_index ws (pair + 1) ≡ i.label → ValueAt m ks ws pair i.val → FoundAt m pred ks ws (is ++ (i ∷ [])) found')
         → PairWalk pred m ks ws place ps (pair + 2) found'
-    pair-more z f =
+    pair_more z f =
         let q = pairs_next ks ws pair w.todo w.front z in
         record {
           at = w.at;
@@ -107,13 +107,13 @@ module _ (pred m : ℕ) (ks ws : List ℕ) (place : ℕ) (ps : List Phi) where
         }
 
     -- what the value asks
-    pub pair-asks : {work : List ℕ} → nameWords m + 64 ≤ length work → not (found == 0) ≡ true
-        → FoundAsk (partFrom ks (place + 1)) (partFrom ws (place + 1)) (partFrom ks found) (partFrom ws found) work
-    pair-asks room t =
+    pub pair_asks : {work : List ℕ} → name_words m + 64 ≤ length work → not (found == 0) ≡ true
+        → FoundAsk (part_from ks (place + 1)) (part_from ws (place + 1)) (part_from ks found) (part_from ws found) work
+    pair_asks room t =
         record {
-          type-kinds = part-there ks (place + 1) w.at.in-kinds;
-          type-words = part-there ws (place + 1) w.at.in_words;
-          value = value-reaches m (value-part (w.first.present (found-is found t)).2) room;
+          type_kinds = part_there ks (place + 1) w.at.in_kinds;
+          type_words = part_there ws (place + 1) w.at.in_words;
+          value = value_reaches m (value_part (w.first.present (found_is found t)).2) room;
         }
 
     -- the place found is one of the entries, or the first
@@ -122,14 +122,14 @@ module _ (pred m : ℕ) (ks ws : List ℕ) (place : ℕ) (ps : List Phi) where
       where
         at : (b : Bool) → (found == 0) ≡ b → (found ≤ length ks) × (found ≤ length ws)
         at true e = let z = eqb-true found 0 e in (omega arith, omega arith)
-        at false e = let v = (w.first.present (eqb-false found 0 e)).2 in (omega (arith, v.in-kinds), omega (arith, v.in_words))
+        at false e = let v = (w.first.present (eqb-false found 0 e)).2 in (omega (arith, v.in_kinds), omega (arith, v.in_words))
 
-    pub phi-reaches : {work : List ℕ} → nameWords m + 64 ≤ length work → DestReaches (slice_index ws place) work
-    phi-reaches room = dest-reaches m w.at.phi.dest w.at.dest w.at.named room
+    pub phi_reaches : {work : List ℕ} → name_words m + 64 ≤ length work → DestReaches (slice_index ws place) work
+    phi_reaches room = dest_reaches m w.at.phi.dest w.at.dest w.at.named room
 
     -- behind the closing entry
-    pub pairs-behind : slice_index_or ks pair 0 ≡ 0 → (w.seen ≡ w.at.phi.incoming) × Leading m w.at.more (drop (pair + 1) (entries ks ws))
-    pairs-behind z =
+    pub pairs_behind : slice_index_or ks pair 0 ≡ 0 → (w.seen ≡ w.at.phi.incoming) × Leading m w.at.more (drop (pair + 1) (entries ks ws))
+    pairs_behind z =
         let q = pairs_end ks ws pair w.todo w.front z in
         (sym (append-nil w.seen) ∙ ap (λ r. w.seen ++ r) (sym q.0) ∙ w.same, q.1)
 
@@ -139,19 +139,19 @@ module _ (c : FnCtx) (pred m : ℕ) (ks ws work : List ℕ) (ps : List Phi) wher
   walk_start f s ls os = record { done = []; todo = ps; same = refl; front = f; counted = refl; pushed = pushed_none c pred work s ls os }
 
   module _ {place count : ℕ} {s n t : Reached} {ls os ls' os' : List ℕ} (w : Walk c pred m ks ws work ps place count s n t ls os ls' os') where
-    pub walk-in : (place < length ks) × (place < length ws)
-    walk-in = leading-in ks ws place w.todo w.front
+    pub walk_in : (place < length ks) × (place < length ws)
+    walk_in = leading_in ks ws place w.todo w.front
 
     -- one phi more
     module _ (maps : Locals c m work) {pair found : ℕ} (v : PairWalk pred m ks ws place w.todo pair found) (z : slice_index_or ks pair 0 ≡ 0) {n' t' : Reached} {ls'' os'' : List ℕ} where
       pub walk_more : n' ≡ noted (slice_index ws place) found work n
-          → (not (found == 0) ≡ true → (m : ℕ) (c : FnCtx) (ty : Ty) (v : Value) → WidthSays (width_by (slice_index (partFrom ks (place + 1)) 0) (slice_index (partFrom ws (place + 1)) 0)) (intWidth ty)
-          → ValueAt m (partFrom ks found) (partFrom ws found) 0 v → Locals c m work → Puts (pushTyped c ty v) t t' ls' os' ls'' os'')
+          → (not (found == 0) ≡ true → (m : ℕ) (c : FnCtx) (ty : Ty) (v : Value) → WidthSays (width_by (slice_index (part_from ks (place + 1)) 0) (slice_index (part_from ws (place + 1)) 0)) (int_width ty)
+          → ValueAt m (part_from ks found) (part_from ws found) 0 v → Locals c m work → Puts (push_typed c ty v) t t' ls' os' ls'' os'')
           → length ls'' ≡ length ls' → length os'' ≡ length os'
           → Walk c pred m ks ws work ps (pair + 1) (count + 1) s n' t' ls os ls'' os''
-      unfolding pushCopy
+      unfolding push_copy
       walk_more e p lk lo =
-          let b = pairs-behind pred m ks ws place w.todo v z in
+          let b = pairs_behind pred m ks ws place w.todo v z in
           let phi = v.at.phi in
           let f : FoundAt m pred ks ws phi.incoming found = subst (λ (is : List Incoming). FoundAt m pred ks ws is found) b.0 v.first in
           record {
@@ -161,11 +161,11 @@ module _ (c : FnCtx) (pred m : ℕ) (ks ws work : List ℕ) (ps : List Phi) wher
             front = b.1;
             counted = omega (arith, w.counted, length-append w.done (phi ∷ []));
             pushed = pushed_more c pred work w.done phi (copy_at ks ws work found phi) w.pushed refl
-                (asked-phi c pred m ks ws work maps phi v.at.named v.at.dest f n e)
+                (asked_phi c pred m ks ws work maps phi v.at.named v.at.dest f n e)
                 (λ r.
-                let y = noted-found (slice_index ws place) found work n e r in
+                let y = noted_found (slice_index ws place) found work n e r in
                 let q = f.present y in
-                rw q.2.is (p (ap not (ne_eqb found 0 y)) m c phi.ty q.0 (rw (part-front ks (place + 1), part-front ws (place + 1)) v.at.width) (value-part q.2) maps)) lk lo;
+                rw q.2.is (p (ap not (ne_eqb found 0 y)) m c phi.ty q.0 (rw (part_front ks (place + 1), part_front ws (place + 1)) v.at.width) (value_part q.2) maps)) lk lo;
           }
 
     -- behind them all

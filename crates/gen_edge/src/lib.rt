@@ -6,14 +6,14 @@ ghost use Rattle.book.specs.Ast.{Ty, Value};
 ghost use Rattle.book.specs.Entry.{entries};
 ghost use Rattle.lowering.specs.Context.{FnCtx};
 ghost use Rattle.lowering.specs.Gen.{each};
-ghost use Rattle.lowering.specs.Operand.{intWidth, pushTyped};
-ghost use Rattle.lowering.specs.Edge.{Copy, setCopy, emitEdgeCopies, edge as edge_of};
+ghost use Rattle.lowering.specs.Operand.{int_width, push_typed};
+ghost use Rattle.lowering.specs.Edge.{Copy, set_copy, emit_edge_copies, edge as edge_of};
 ghost use Rattle.gen_lines.specs.Puts.{Puts, further, is_refused, or_else};
 ghost use Rattle.gen_values.specs.Values.{width_by, DestReaches};
 ghost use Rattle.gen_values.specs.Fields.{WidthSays, ValueAt};
 ghost use Rattle.gen_values.specs.Maps.{Locals, Maps};
 ghost use Rattle.gen_edge.specs.Phis.{Phi, Leading};
-ghost use Rattle.gen_edge.specs.Copies.{slotWord, noted as notedFrom};
+ghost use Rattle.gen_edge.specs.Copies.{slot_word, noted as notedFrom};
 ghost use Rattle.gen_edge.specs.Walks.{Lent, Passed, FoundAsk};
 ghost use Rattle.gen_edge.specs.Edges.{PhiLent, SetAsk, slots_of, EdgeAsk};
 
@@ -34,7 +34,7 @@ pub struct Copies {
 // The slot of a result word, with 1 added; 0 for none.
 fn slot_word(dest: u64, work: &[u64]) -> u64
     requires { DestReaches dest work.now }
-    ensures { result ≡ slotWord dest work.now }
+    ensures { result ≡ slot_word dest work.now }
 {
     if dest == 0 {
         return 0;
@@ -65,9 +65,9 @@ fn push_found(
 ) -> Reached
     requires { found ≡ true → FoundAsk type_kinds.now type_words.now kinds.now words.now work.now }
     ensures { found ≡ true → (m : ℕ) (c : FnCtx) (ty : Ty) (v : Value)
-        → WidthSays (width_by (slice_index_or type_kinds.now 0 0) (slice_index_or type_words.now 0 0)) (intWidth ty)
+        → WidthSays (width_by (slice_index_or type_kinds.now 0 0) (slice_index_or type_words.now 0 0)) (int_width ty)
         → ValueAt m kinds.now words.now 0 v → Locals c m work.now
-        → Puts (pushTyped c ty v) s result lines.old operands.old lines.new operands.new }
+        → Puts (push_typed c ty v) s result lines.old operands.old lines.new operands.new }
 {
     if found {
         let wide = need_width(type_kinds, type_words, s);
@@ -154,7 +154,7 @@ fn phi_len(kinds: &[u64], words: &[u64], names: u64) -> usize
 // The slot of a result word; 0 for none.
 fn slot_number(dest: u64, work: &[u64]) -> u64
     requires { DestReaches dest work.now }
-    ensures { result ≡ slotWord dest work.now - 1 }
+    ensures { result ≡ slot_word dest work.now - 1 }
 {
     let slot = slot_word(dest, work);
     if slot == 0 {
@@ -207,7 +207,7 @@ fn set_slots(
     requires { SetAsk names kinds.now words.now work.now phis }
     ensures { (c : FnCtx) (ps : List Phi) (cps : List Copy) → Leading names ps (entries kinds.now words.now) → phis ≡ length ps
         → map (λ (cp : Copy). cp.slot) cps ≡ slots_of work.now ps
-        → Puts (each (setCopy c) (reverse cps)) s result lines.old operands.old lines.new operands.new }
+        → Puts (each (set_copy c) (reverse cps)) s result lines.old operands.old lines.new operands.new }
 {
     let first = s.at;
     let mut at: usize = 0;
@@ -239,7 +239,7 @@ pub fn emit_edge_copies(
 ) -> Reached
     requires { EdgeAsk names succ book_kinds.now book_words.now work.now }
     ensures { (c : FnCtx) → Maps names (entries book_kinds.now book_words.now) c work.now
-        → Puts (emitEdgeCopies c pred succ) s result lines.old operands.old lines.new operands.new }
+        → Puts (emit_edge_copies c pred succ) s result lines.old operands.old lines.new operands.new }
 {
     let place = work[book::work::WORDS * (succ as usize) + book::work::BLOCK];
     if place == 0 {

@@ -3,7 +3,7 @@ use Rattle.std.specs.Prelude.{ℕ, ◌≤◌, List, length}
 use Rattle.std.proofs.Common.{arith}
 use Rattle.book.specs.Entry.{Entry}
 use Rattle.book.specs.Fields.{Field, Meanings}
-use Rattle.book.specs.Work.{nameWords}
+use Rattle.book.specs.Work.{name_words}
 use Rattle.gen_values.specs.Values.{DestReaches}
 use Rattle.gen_values.specs.Fields.{Fields}
 
@@ -11,7 +11,7 @@ pub record Given (m : ℕ) (fs : List Field) (es : List Entry) (dest : ℕ) (wor
   pub holds : Meanings fs
   pub fields : Fields m fs holds es
   pub result : dest ≤ m
-  pub room : nameWords m ≤ length work
+  pub room : name_words m ≤ length work
 
-pub dest-reaches : {m : ℕ} {fs : List Field} {es : List Entry} {dest : ℕ} {work : List ℕ} → Given m fs es dest work → DestReaches dest work
-dest-reaches g = record { there = λ z. omega (arith, g.result, g.room) }
+pub dest_reaches : {m : ℕ} {fs : List Field} {es : List Entry} {dest : ℕ} {work : List ℕ} → Given m fs es dest work → DestReaches dest work
+dest_reaches g = record { there = λ z. omega (arith, g.result, g.room) }

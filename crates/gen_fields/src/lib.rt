@@ -3,8 +3,8 @@ ghost use Rattle.std.specs.Prelude.{◌≡◌, List, ◌∷◌, ℕ};
 ghost use Rattle.book.specs.Entry.{entries};
 ghost use Rattle.book.specs.Fields.{Item, Field, Meanings};
 ghost use Rattle.lowering.specs.Context.{FnCtx};
-ghost use Rattle.lowering.specs.Operand.{pushTyped};
-ghost use Rattle.layout_memo.specs.Front.{tyLen};
+ghost use Rattle.lowering.specs.Operand.{push_typed};
+ghost use Rattle.layout_memo.specs.Front.{ty_len};
 ghost use Rattle.gen_lines.specs.Puts.{Puts};
 ghost use Rattle.gen_values.specs.Maps.{Locals};
 ghost use Rattle.gen_values.specs.Fields.{Fields};
@@ -26,8 +26,8 @@ pub fn push_typed(
     requires { TypedAt kinds.now words.now 0 at work.now }
     ensures { (m : ℕ) (c : FnCtx) (fs : List Field) (p : Meanings (Field.plain Item.type ∷ Field.plain Item.value ∷ fs))
         → Fields m (Field.plain Item.type ∷ Field.plain Item.value ∷ fs) p (entries kinds.now words.now)
-        → at ≡ tyLen m (entries kinds.now words.now) → Locals c m work.now
-        → Puts (pushTyped c p.0 p.1.0) s result lines.old operands.old lines.new operands.new }
+        → at ≡ ty_len m (entries kinds.now words.now) → Locals c m work.now
+        → Puts (push_typed c p.0 p.1.0) s result lines.old operands.old lines.new operands.new }
 {
     let wide = need_width(kinds, words, s);
     push_value(

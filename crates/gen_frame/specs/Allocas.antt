@@ -8,21 +8,21 @@ use Rattle.std.proofs.Math.ListN.{length}
 use Rattle.book.specs.Entry.{Entry, entries}
 use Rattle.book.specs.Ast.{Sizeless, Ty, Value, Zero, TypedVal}
 use Rattle.book.specs.Kinds.{InstTag}
-use Rattle.book.specs.Fields.{Item, Field, Meanings, instFields}
-use Rattle.book.specs.Encode.{encTy, encFields, encTyped, orAbsent, valueEntry}
+use Rattle.book.specs.Fields.{Item, Field, Meanings, inst_fields}
+use Rattle.book.specs.Encode.{enc_ty, enc_fields, enc_typed, or_absent, value_entry}
 use Rattle.book.specs.Limits.{Maybe, TypedLimits}
-use Rattle.book.specs.Result.{Result, bind, okOr}
+use Rattle.book.specs.Result.{Result, bind, ok_or}
 use Rattle.book.specs.Shape.{Shape}
-use Rattle.book_types.specs.Laws.{entries-part, within-kinds, within-words}
-use Rattle.layout.specs.Step.{constInt}
-use Rattle.layout.specs.Frame.{Places, count_of, place, frameStep, withDynamic}
-use Rattle.layout_memo.specs.Front.{Starts, ty_of, tyLen, len_is}
-use Rattle.layout_memo.specs.Work.{Ready, structsIn}
+use Rattle.book_types.specs.Laws.{entries_part, within_kinds, within_words}
+use Rattle.layout.specs.Step.{const_int}
+use Rattle.layout.specs.Frame.{Places, count_of, place, frame_step, with_dynamic}
+use Rattle.layout_memo.specs.Front.{Starts, ty_of, ty_len, len_is}
+use Rattle.layout_memo.specs.Work.{Ready, structs_in}
 use Rattle.layout_memo.specs.Calls.{lent}
-use Rattle.gen_values.specs.Values.{destOf}
-use Rattle.gen_values.specs.Fields.{Fields, entry_at, type-starts, type-is, behind-type, type-in}
-use Rattle.gen_frame.specs.Frames.{barredBy, dynamicBy, FrameSays}
-use Rattle.gen_frame.specs.Placed.{PlaceStep, PlaceDone, same_step, step-none}
+use Rattle.gen_values.specs.Values.{dest_of}
+use Rattle.gen_values.specs.Fields.{Fields, entry_at, type_starts, type_is, behind_type_lem, type_in}
+use Rattle.gen_frame.specs.Frames.{barred_by, dynamic_by, FrameSays}
+use Rattle.gen_frame.specs.Placed.{PlaceStep, PlaceDone, same_step, step_none}
 use Rattle.gen_frame.specs.declared.Frame.{Frame}
 use Rattle.gen_frame.specs.declared.places.Count.{Count}
 use Rattle.gen_frame.specs.declared.places.Count.TheVariants as count
@@ -31,136 +31,136 @@ use Rattle.gen_frame.specs.declared.places.Count.TheVariants as count
 -- it stands at the front
 pub record CountAt (m : ℕ) (o : Option TypedVal) (es : List Entry) : Type 0 where
   pub rest : List Entry
-  pub here : es ≡ orAbsent encTyped o ++ rest
+  pub here : es ≡ or_absent enc_typed o ++ rest
   pub keeps : Maybe (TypedLimits m) o
   pub few : length es ≤ 2 ^ 20
 
-abbrev pub countBy : Count → Option ℕ
-countBy (count.Fixed n) = some n
-countBy count.Varying = none
+abbrev pub count_by : Count → Option ℕ
+count_by (count.Fixed n) = some n
+count_by count.Varying = none
 
 -- no type begins with kind 21
-type-kind : (t : Ty) (ks ws : List ℕ) (rest : List Entry) → entries ks ws ≡ encTy t ++ rest → get_or ks 0 0 ≡ 21 → ⊥
-unfolding encTy
-type-kind Ty.void ks ws rest h e = omega (arith, (entry_at ks ws 0 _ _ h).0)
-type-kind Ty.ptr ks ws rest h e = omega (arith, (entry_at ks ws 0 _ _ h).0)
-type-kind (Ty.sizeless Sizeless.func) ks ws rest h e = omega (arith, (entry_at ks ws 0 _ _ h).0)
-type-kind (Ty.sizeless Sizeless.label) ks ws rest h e = omega (arith, (entry_at ks ws 0 _ _ h).0)
-type-kind (Ty.sizeless Sizeless.metadata) ks ws rest h e = omega (arith, (entry_at ks ws 0 _ _ h).0)
-type-kind (Ty.int w) ks ws rest h e = omega (arith, (entry_at ks ws 0 _ _ h).0)
-type-kind (Ty.array true n t) ks ws rest h e = omega (arith, (entry_at ks ws 0 _ _ h).0)
-type-kind (Ty.array false n t) ks ws rest h e = omega (arith, (entry_at ks ws 0 _ _ h).0)
-type-kind (Ty.namedStruct x) ks ws rest h e = omega (arith, (entry_at ks ws 0 _ _ h).0)
-type-kind (Ty.struct true ts) ks ws rest h e = omega (arith, (entry_at ks ws 0 _ _ h).0)
-type-kind (Ty.struct false ts) ks ws rest h e = omega (arith, (entry_at ks ws 0 _ _ h).0)
+type_kind : (t : Ty) (ks ws : List ℕ) (rest : List Entry) → entries ks ws ≡ enc_ty t ++ rest → get_or ks 0 0 ≡ 21 → ⊥
+unfolding enc_ty
+type_kind Ty.void ks ws rest h e = omega (arith, (entry_at ks ws 0 _ _ h).0)
+type_kind Ty.ptr ks ws rest h e = omega (arith, (entry_at ks ws 0 _ _ h).0)
+type_kind (Ty.sizeless Sizeless.func) ks ws rest h e = omega (arith, (entry_at ks ws 0 _ _ h).0)
+type_kind (Ty.sizeless Sizeless.label) ks ws rest h e = omega (arith, (entry_at ks ws 0 _ _ h).0)
+type_kind (Ty.sizeless Sizeless.metadata) ks ws rest h e = omega (arith, (entry_at ks ws 0 _ _ h).0)
+type_kind (Ty.int w) ks ws rest h e = omega (arith, (entry_at ks ws 0 _ _ h).0)
+type_kind (Ty.array true n t) ks ws rest h e = omega (arith, (entry_at ks ws 0 _ _ h).0)
+type_kind (Ty.array false n t) ks ws rest h e = omega (arith, (entry_at ks ws 0 _ _ h).0)
+type_kind (Ty.named_struct x) ks ws rest h e = omega (arith, (entry_at ks ws 0 _ _ h).0)
+type_kind (Ty.struct true ts) ks ws rest h e = omega (arith, (entry_at ks ws 0 _ _ h).0)
+type_kind (Ty.struct false ts) ks ws rest h e = omega (arith, (entry_at ks ws 0 _ _ h).0)
 
 -- what the entry of a value says of a constant
-value-constant : (v : Value) {k w : ℕ} → k ≡ (valueEntry v).kind → w ≡ (valueEntry v).word → (k ≡ 32 → constInt v ≡ some w) × ((k ≡ 32 → ⊥) → constInt v ≡ none)
-unfolding valueEntry constInt
-value-constant (Value.local x) e d = (λ q. absurd (omega arith), λ q. refl)
-value-constant (Value.global x) e d = (λ q. absurd (omega arith), λ q. refl)
-value-constant (Value.int c) e d = (λ q. ap some (sym d), λ q. absurd (q e))
-value-constant (Value.zero Zero.null) e d = (λ q. absurd (omega arith), λ q. refl)
-value-constant (Value.zero Zero.undef) e d = (λ q. absurd (omega arith), λ q. refl)
-value-constant (Value.zero Zero.poison) e d = (λ q. absurd (omega arith), λ q. refl)
-value-constant (Value.zero Zero.zeroInit) e d = (λ q. absurd (omega arith), λ q. refl)
-value-constant Value.other e d = (λ q. absurd (omega arith), λ q. refl)
+value_constant : (v : Value) {k w : ℕ} → k ≡ (value_entry v).kind → w ≡ (value_entry v).word → (k ≡ 32 → const_int v ≡ some w) × ((k ≡ 32 → ⊥) → const_int v ≡ none)
+unfolding value_entry const_int
+value_constant (Value.local x) e d = (λ q. absurd (omega arith), λ q. refl)
+value_constant (Value.global x) e d = (λ q. absurd (omega arith), λ q. refl)
+value_constant (Value.int c) e d = (λ q. ap some (sym d), λ q. absurd (q e))
+value_constant (Value.zero Zero.null) e d = (λ q. absurd (omega arith), λ q. refl)
+value_constant (Value.zero Zero.undef) e d = (λ q. absurd (omega arith), λ q. refl)
+value_constant (Value.zero Zero.poison) e d = (λ q. absurd (omega arith), λ q. refl)
+value_constant (Value.zero Zero.zero_init) e d = (λ q. absurd (omega arith), λ q. refl)
+value_constant Value.other e d = (λ q. absurd (omega arith), λ q. refl)
 
 -- a count behind whose type the value is at n
 pub record CountValue (o : Option TypedVal) (ks ws : List ℕ) (n : ℕ) : Type 0 where
-  pub in-kinds : n < length ks
+  pub in_kinds : n < length ks
   pub in_words : n < length ws
   pub constant : get_or ks n 0 ≡ 32 → some (get_or ws n 0) ≡ count_of o
   pub varies : (get_or ks n 0 ≡ 32 → ⊥) → none ≡ count_of o
 
 module _ {m : ℕ} (ks ws : List ℕ) where
   typed : (v : TypedVal) → CountAt m (some v) (entries ks ws) → Fields m (Field.plain Item.type ∷ Field.plain Item.value ∷ []) (v.ty, (v.val, tt)) (drop 0 (entries ks ws))
-  unfolding encFields
+  unfolding enc_fields
   typed v k = record { rest = k.rest; here = k.here; keeps = (k.keeps.0, (k.keeps.1, tt)); few = k.few }
 
-  pub count-there : (o : Option TypedVal) → CountAt m o (entries ks ws) → 0 < length ks
-  count-there none k = (entry_at ks ws 0 _ _ k.here).2
-  count-there (some v) k = (type-in ks ws 0 (typed v k)).0
+  pub count_there : (o : Option TypedVal) → CountAt m o (entries ks ws) → 0 < length ks
+  count_there none k = (entry_at ks ws 0 _ _ k.here).2
+  count_there (some v) k = (type_in ks ws 0 (typed v k)).0
 
-  pub count-absent : (o : Option TypedVal) → CountAt m o (entries ks ws) → get_or ks 0 0 ≡ 21 → some 1 ≡ count_of o
+  pub count_absent : (o : Option TypedVal) → CountAt m o (entries ks ws) → get_or ks 0 0 ≡ 21 → some 1 ≡ count_of o
   unfolding count_of
-  count-absent none k e = refl
-  count-absent (some v) k e = absurd (type-kind v.ty ks ws _ (k.here ∙ append_assoc (encTy v.ty) _ _) e)
+  count_absent none k e = refl
+  count_absent (some v) k e = absurd (type_kind v.ty ks ws _ (k.here ∙ append_assoc (enc_ty v.ty) _ _) e)
 
-  pub count-value : (o : Option TypedVal) → CountAt m o (entries ks ws) → (get_or ks 0 0 ≡ 21 → ⊥) → {n : ℕ} → n ≡ tyLen m (entries ks ws) → CountValue o ks ws n
-  unfolding count_of encFields
-  count-value none k z e = absurd (z (entry_at ks ws 0 _ _ k.here).0)
-  count-value (some v) k z {n} e =
-      let f = subst (λ (j : ℕ). Fields m (Field.plain Item.value ∷ []) (v.val, tt) (drop j (entries ks ws))) (zero-add n) (behind-type ks ws 0 (typed v k) e) in
-      let q = entry_at ks ws n (valueEntry v.val) _ f.here in
-      let c = value-constant v.val q.0 q.1 in
-      record { in-kinds = q.2; in_words = q.3; constant = λ d. sym (c.0 d); varies = λ d. sym (c.1 d) }
+  pub count_value : (o : Option TypedVal) → CountAt m o (entries ks ws) → (get_or ks 0 0 ≡ 21 → ⊥) → {n : ℕ} → n ≡ ty_len m (entries ks ws) → CountValue o ks ws n
+  unfolding count_of enc_fields
+  count_value none k z e = absurd (z (entry_at ks ws 0 _ _ k.here).0)
+  count_value (some v) k z {n} e =
+      let f = subst (λ (j : ℕ). Fields m (Field.plain Item.value ∷ []) (v.val, tt) (drop j (entries ks ws))) (zero-add n) (behind_type_lem ks ws 0 (typed v k) e) in
+      let q = entry_at ks ws n (value_entry v.val) _ f.here in
+      let c = value_constant v.val q.0 q.1 in
+      record { in_kinds = q.2; in_words = q.3; constant = λ d. sym (c.0 d); varies = λ d. sym (c.1 d) }
 
 -- a type's entries are there
-pub skip-fits : {m : ℕ} (ks ws : List ℕ) → Starts m (entries ks ws) → {n : ℕ} → n ≡ tyLen m (entries ks ws) → (n ≤ length ks) × (n ≤ length ws)
-skip-fits ks ws s {n} e =
-    let l : n ≤ length (entries ks ws) = omega (arith, e, len_is s, ap length s.here, length-append (encTy s.ty) s.rest) in
-    (within-kinds n ks ws l, within-words n ks ws l)
+pub skip_fits : {m : ℕ} (ks ws : List ℕ) → Starts m (entries ks ws) → {n : ℕ} → n ≡ ty_len m (entries ks ws) → (n ≤ length ks) × (n ≤ length ws)
+skip_fits ks ws s {n} e =
+    let l : n ≤ length (entries ks ws) = omega (arith, e, len_is s, ap length s.here, length-append (enc_ty s.ty) s.rest) in
+    (within_kinds n ks ws l, within_words n ks ws l)
 
 -- ---- an alloca
-abbrev pub allocaFields : List Field
-allocaFields = instFields InstTag.alloca
+abbrev pub alloca_fields : List Field
+alloca_fields = inst_fields InstTag.alloca
 
 -- its fields stand at the front; its result word is a name with 1 added, or 0
 pub record AllocaAsk (m dest : ℕ) (f : Frame) (es bs : List Entry) (work : List ℕ) : Type 0 where
-  pub args : Meanings allocaFields
-  pub fields : Fields m allocaFields args es
+  pub args : Meanings alloca_fields
+  pub fields : Fields m alloca_fields args es
   pub named : dest ≤ m
   pub ready : Ready m bs work
   pub ends : f.off ≤ 2147483648
 
 abbrev pub AllocaDone : (m dest : ℕ) (es bs : List Entry) (work work' : List ℕ) (f r : Frame) → Type 0
 AllocaDone m dest es bs work work' f r =
-    (args : Meanings allocaFields) → Fields m allocaFields args es → PlaceStep m bs work work' f r (frameStep (structsIn m bs) (destOf dest) (Shape.alloca args.0 args.1.0))
+    (args : Meanings alloca_fields) → Fields m alloca_fields args es → PlaceStep m bs work work' f r (frame_step (structs_in m bs) (dest_of dest) (Shape.alloca args.0 args.1.0))
 
-module _ (m dest : ℕ) (ks ws : List ℕ) (args : Meanings allocaFields) (k : Fields m allocaFields args (entries ks ws)) where
+module _ (m dest : ℕ) (ks ws : List ℕ) (args : Meanings alloca_fields) (k : Fields m alloca_fields args (entries ks ws)) where
   -- the count behind the type
-  pub count_at : {n : ℕ} → n ≡ tyLen m (entries ks ws) → CountAt m args.1.0 (lent ks ws n)
-  unfolding encFields
+  pub count_at : {n : ℕ} → n ≡ ty_len m (entries ks ws) → CountAt m args.1.0 (lent ks ws n)
+  unfolding enc_fields
   count_at {n} e =
-      let f = subst (λ (j : ℕ). Fields m (Field.optional Item.typed ∷ Field.optional Item.align ∷ []) args.1 (drop j (entries ks ws))) (zero-add n) (behind-type ks ws 0 k e) in
+      let f = subst (λ (j : ℕ). Fields m (Field.optional Item.typed ∷ Field.optional Item.align ∷ []) args.1 (drop j (entries ks ws))) (zero-add n) (behind_type_lem ks ws 0 k e) in
       record {
-        rest = encFields (Field.optional Item.align ∷ []) args.1.1 ++ f.rest;
-        here = entries-part n ks ws ∙ f.here ∙ append_assoc (orAbsent encTyped args.1.0) _ _;
+        rest = enc_fields (Field.optional Item.align ∷ []) args.1.1 ++ f.rest;
+        here = entries_part n ks ws ∙ f.here ∙ append_assoc (or_absent enc_typed args.1.0) _ _;
         keeps = f.keeps.0;
-        few = subst (λ (es : List Entry). length es ≤ 2 ^ 20) (sym (entries-part n ks ws)) f.few;
+        few = subst (λ (es : List Entry). length es ≤ 2 ^ 20) (sym (entries_part n ks ws)) f.few;
       }
 
-  pub alloca-starts : Starts m (entries ks ws)
-  alloca-starts = type-starts ks ws 0 k
+  pub alloca_starts : Starts m (entries ks ws)
+  alloca_starts = type_starts ks ws 0 k
 
   abbrev step_of : List Entry → Places → Result Places
-  step_of bs = frameStep (structsIn m bs) (destOf dest) (Shape.alloca args.0 args.1.0)
+  step_of bs = frame_step (structs_in m bs) (dest_of dest) (Shape.alloca args.0 args.1.0)
 
   -- no name
-  pub alloca-unnamed : {bs : List Entry} {work : List ℕ} {f r : Frame} → dest ≡ 0 → Ready m bs work → r ≡ barredBy f 5 → PlaceStep m bs work work f r (step_of bs)
-  unfolding frameStep destOf okOr bind
-  alloca-unnamed {bs} z ready e =
-      step-none (step_of bs) ready (ap (λ (x : Frame). x.slots) e) (ap (λ (x : Frame). x.off) e)
+  pub alloca_unnamed : {bs : List Entry} {work : List ℕ} {f r : Frame} → dest ≡ 0 → Ready m bs work → r ≡ barred_by f 5 → PlaceStep m bs work work f r (step_of bs)
+  unfolding frame_step dest_of ok_or bind
+  alloca_unnamed {bs} z ready e =
+      step_none (step_of bs) ready (ap (λ (x : Frame). x.slots) e) (ap (λ (x : Frame). x.off) e)
       (λ p h. rw (eq-eqb dest 0 z) (record { positive = omega arith; number = ap (λ (x : Frame). x.refused) e }))
 
-  module _ (z : dest ≡ 0 → ⊥) (c : Count) (e : countBy c ≡ count_of args.1.0) where
-    step-named : {o : Option ℕ} → countBy c ≡ o → (bs : List Entry) (p : Places) → step_of bs p ≡ place (structsIn m bs) (dest - 1) args.0 o p
-    unfolding frameStep destOf okOr bind
-    step-named d bs p = rw (ne_eqb dest 0 z) (ap (λ x. place (structsIn m bs) (dest - 1) args.0 x p) (sym e ∙ d))
+  module _ (z : dest ≡ 0 → ⊥) (c : Count) (e : count_by c ≡ count_of args.1.0) where
+    step_named : {o : Option ℕ} → count_by c ≡ o → (bs : List Entry) (p : Places) → step_of bs p ≡ place (structs_in m bs) (dest - 1) args.0 o p
+    unfolding frame_step dest_of ok_or bind
+    step_named d bs p = rw (ne_eqb dest 0 z) (ap (λ x. place (structs_in m bs) (dest - 1) args.0 x p) (sym e ∙ d))
 
     -- a fixed count
-    pub alloca-fixed : {bs : List Entry} {work work' : List ℕ} {f r : Frame} {n : ℕ} → c ≡ count.Fixed n → PlaceDone m (dest - 1) n (entries ks ws) bs work work' f r
+    pub alloca_fixed : {bs : List Entry} {work work' : List ℕ} {f r : Frame} {n : ℕ} → c ≡ count.Fixed n → PlaceDone m (dest - 1) n (entries ks ws) bs work work' f r
         → PlaceStep m bs work work' f r (step_of bs)
-    alloca-fixed {bs} {n = n} d s =
-        same_step (place (structsIn m bs) (dest - 1) (ty_of m (entries ks ws)) (some n)) (step_of bs)
-        (λ p. step-named (ap countBy d) bs p ∙ ap (λ t. place (structsIn m bs) (dest - 1) t (some n) p) (sym (type-is ks ws 0 k))) s
+    alloca_fixed {bs} {n = n} d s =
+        same_step (place (structs_in m bs) (dest - 1) (ty_of m (entries ks ws)) (some n)) (step_of bs)
+        (λ p. step_named (ap count_by d) bs p ∙ ap (λ t. place (structs_in m bs) (dest - 1) t (some n) p) (sym (type_is ks ws 0 k))) s
 
     -- a varying one
-    pub alloca-varying : {bs : List Entry} {work : List ℕ} {f : Frame} → c ≡ count.Varying → Ready m bs work → PlaceStep m bs work work f (dynamicBy f) (step_of bs)
-    unfolding place withDynamic
-    alloca-varying {bs} {work} {f} d ready =
-        step-none (step_of bs) ready refl refl
+    pub alloca_varying : {bs : List Entry} {work : List ℕ} {f : Frame} → c ≡ count.Varying → Ready m bs work → PlaceStep m bs work work f (dynamic_by f) (step_of bs)
+    unfolding place with_dynamic
+    alloca_varying {bs} {work} {f} d ready =
+        step_none (step_of bs) ready refl refl
         (λ p h.
-        subst (λ (x : Result Places). FrameSays m x work (dynamicBy f)) (sym (step-named (ap countBy d) bs p))
+        subst (λ (x : Result Places). FrameSays m x work (dynamic_by f)) (sym (step_named (ap count_by d) bs p))
         (record { going = h.going; off = h.off; within = h.within; dynamic = refl; words = h.words }))

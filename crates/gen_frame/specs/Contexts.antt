@@ -2,29 +2,29 @@
 use Rattle.std.specs.Prelude.{ℕ, ◌+◌, ◌*◌, ◌<◌, ◌≤◌, ◌≡◌, refl, Bool, true, false, cond, ◌||◌, List, get_or, leb}
 use Rattle.std.proofs.Common.{sym, ap, subst, ◌∙◌}
 use Rattle.names.specs.Name.{name_at}
-use Rattle.names.specs.Spelling.{isSyscall, isBcmp, isMemcmp, hasOverflow}
+use Rattle.names.specs.Spelling.{is_syscall, is_bcmp, is_memcmp, has_overflow}
 use Rattle.book.specs.Entry.{Entry}
 use Rattle.book.specs.Ast.{Function, StructType}
 use Rattle.book.specs.Decode.{member}
 use Rattle.book.specs.Map.{lookup}
 use Rattle.book.specs.Result.{Result, ok, err}
-use Rattle.book.specs.Shape.{allInsts}
-use Rattle.book.specs.Work.{slot_at, placeAt, markAt}
-use Rattle.layout.specs.Frame.{Places, noFrame, framePass}
-use Rattle.layout_memo.specs.Work.{structsIn}
+use Rattle.book.specs.Shape.{all_insts}
+use Rattle.book.specs.Work.{slot_at, place_at, mark_at}
+use Rattle.layout.specs.Frame.{Places, no_frame, frame_pass}
+use Rattle.layout_memo.specs.Work.{structs_in}
 use Rattle.lowering.specs.Context.{Codegen, FnCtx}
 use Rattle.lowering.specs.Function.{slots_of, context_of}
-use Rattle.gen_values.specs.Maps.{numbered, callClass, markWord}
+use Rattle.gen_values.specs.Maps.{numbered, call_class, mark_word}
 use Rattle.gen_frame.specs.Frames.{Barred, Overflows, FrameSays}
 use Rattle.gen_frame.specs.Pass.{BlocksAt, FrameDone}
 use Rattle.gen_frame.specs.declared.Frame.{Frame}
 
 -- word 5 is 4 or more exactly for a name containing `.with.overflow.`
-pub marks-overflow : (g : Codegen) (m : ℕ) (work : List ℕ) → ((x : ℕ) → x < m → get_or work (markAt x) 0 ≡ markWord g x) → Overflows g.names m work
-unfolding markWord callClass
-marks-overflow g m work h x l =
+pub marks_overflow : (g : Codegen) (m : ℕ) (work : List ℕ) → ((x : ℕ) → x < m → get_or work (mark_at x) 0 ≡ mark_word g x) → Overflows g.names m work
+unfolding mark_word call_class
+marks_overflow g m work h x l =
     ap (leb 4) (h x l)
-    ∙ at (isSyscall (name_at g.names x)) (isBcmp (name_at g.names x) || isMemcmp (name_at g.names x)) (member x g.defined) (hasOverflow (name_at g.names x))
+    ∙ at (is_syscall (name_at g.names x)) (is_bcmp (name_at g.names x) || is_memcmp (name_at g.names x)) (member x g.defined) (has_overflow (name_at g.names x))
   where
     at : (a b c d : Bool) → leb 4 (cond a 2 (cond b 3 (cond c 1 0)) + cond d 4 0) ≡ d
     at true b c true = refl
@@ -40,24 +40,24 @@ marks-overflow g m work h x l =
 pub record Framed (m : ℕ) (c : FnCtx) (p : Places) (work : List ℕ) (f : Frame) : Type 0 where
   pub accepted : f.refused ≡ 0
   pub slots : (x : ℕ) → x < m → get_or work (slot_at x) 0 ≡ numbered (lookup x c.slots)
-  pub places : (x : ℕ) → x < m → get_or work (placeAt x) 0 ≡ numbered (lookup x c.allocaOffsets)
-  pub base : f.slots ≡ c.bpSlot
+  pub places : (x : ℕ) → x < m → get_or work (place_at x) 0 ≡ numbered (lookup x c.alloca_offsets)
+  pub base : f.slots ≡ c.bp_slot
   pub off : f.off ≡ p.off
   pub within : p.off ≤ 2147483648
   pub dynamic : f.dynamic ≡ p.dynamic
 
 module _ (g : Codegen) (fn : Function) {m : ℕ} {es bs : List Entry} {work work' : List ℕ} {r : Frame}
-    (same : g.structs ≡ structsIn m bs) (at : BlocksAt m fn.blocks es) (d : FrameDone m es bs work work' r) where
-  says : {res : Result Places} → framePass g.structs (allInsts fn.blocks) noFrame ≡ res → FrameSays m res work' r
+    (same : g.structs ≡ structs_in m bs) (at : BlocksAt m fn.blocks es) (d : FrameDone m es bs work work' r) where
+  says : {res : Result Places} → frame_pass g.structs (all_insts fn.blocks) no_frame ≡ res → FrameSays m res work' r
   says {res} e =
-      subst (λ (x : Result Places). FrameSays m x work' r) (ap (λ (x : List StructType). framePass x (allInsts fn.blocks) noFrame) (sym same) ∙ e) (d.places fn.blocks at)
+      subst (λ (x : Result Places). FrameSays m x work' r) (ap (λ (x : List StructType). frame_pass x (all_insts fn.blocks) no_frame) (sym same) ∙ e) (d.places fn.blocks at)
 
-  pub frame-context : {p : Places} → ((x : ℕ) → x < m → get_or work (markAt x) 0 ≡ markWord g x) → framePass g.structs (allInsts fn.blocks) noFrame ≡ ok p → Framed m (context_of g fn p) p work' r
+  pub frame_context : {p : Places} → ((x : ℕ) → x < m → get_or work (mark_at x) 0 ≡ mark_word g x) → frame_pass g.structs (all_insts fn.blocks) no_frame ≡ ok p → Framed m (context_of g fn p) p work' r
   unfolding context_of slots_of
-  frame-context {p} marks e =
+  frame_context {p} marks e =
       let h = says e in
-      let s = d.slots fn.blocks at h.going g.names (marks-overflow g m work marks) in
+      let s = d.slots fn.blocks at h.going g.names (marks_overflow g m work marks) in
       record { accepted = h.going; slots = s.words; places = h.words; base = s.count; off = h.off; within = h.within; dynamic = h.dynamic }
 
-  pub frame_refused : {n : ℕ} → framePass g.structs (allInsts fn.blocks) noFrame ≡ err n → Barred n r.refused
+  pub frame_refused : {n : ℕ} → frame_pass g.structs (all_insts fn.blocks) no_frame ≡ err n → Barred n r.refused
   frame_refused e = says e

@@ -10,13 +10,13 @@ use Rattle.std.proofs.Math.ListN.{length, get_or}
 use Rattle.std.proofs.Math.Seq.{get_or-set_other}
 use Rattle.std.proofs.Math.Dec.{eqb}
 use Rattle.names.specs.Name.{name_at}
-use Rattle.names.specs.Spelling.{hasOverflow}
+use Rattle.names.specs.Spelling.{has_overflow}
 use Rattle.book.specs.Entry.{Entry}
 use Rattle.book.specs.Result.{Result, ok, err}
 use Rattle.book.specs.Map.{Map, lookup}
-use Rattle.book.specs.Work.{nameWords, slot_at, placeAt, body_at, markAt, measuredAt, word_at}
+use Rattle.book.specs.Work.{name_words, slot_at, place_at, body_at, mark_at, measured_at, word_at}
 use Rattle.layout.specs.Frame.{Places}
-use Rattle.layout_memo.specs.Work.{Ready, Kept, Settled, settled-word, table_at, facts-kept}
+use Rattle.layout_memo.specs.Work.{Ready, Kept, Settled, settled_word, table_at, facts_kept}
 use Rattle.lowering.specs.Context.{Slots}
 use Rattle.gen_values.specs.Maps.{numbered}
 use Rattle.gen_frame.specs.declared.Frame.{Frame}
@@ -27,18 +27,18 @@ pub record Barred (e told : ℕ) : Type 0 where
   pub positive : 0 < e
   pub number : told ≡ e
 
-pub not-told : {A : Type 0} {e told : ℕ} → Barred e told → told ≡ 0 → A
-not-told b z = absurd (omega (arith, b.positive, b.number))
+pub not_told : {A : Type 0} {e told : ℕ} → Barred e told → told ≡ 0 → A
+not_told b z = absurd (omega (arith, b.positive, b.number))
 
 -- no test holds and fails
 pub never : {A : Type 0} {b : Bool} → b ≡ true → b ≡ false → A
 never p q = absurd (let z : ◌≡◌ {A = ℕ} 0 1 = cc in omega arith)
 
-abbrev pub barredBy : Frame → ℕ → Frame
-barredBy f e = record { slots = f.slots; off = f.off; dynamic = f.dynamic; refused = e }
+abbrev pub barred_by : Frame → ℕ → Frame
+barred_by f e = record { slots = f.slots; off = f.off; dynamic = f.dynamic; refused = e }
 
-abbrev pub dynamicBy : Frame → Frame
-dynamicBy f = record { slots = f.slots; off = f.off; dynamic = true; refused = f.refused }
+abbrev pub dynamic_by : Frame → Frame
+dynamic_by f = record { slots = f.slots; off = f.off; dynamic = true; refused = f.refused }
 
 -- ---- slots
 pub record SlotsHold (m : ℕ) (s : Slots) (work : List ℕ) (f : Frame) : Type 0 where
@@ -47,7 +47,7 @@ pub record SlotsHold (m : ℕ) (s : Slots) (work : List ℕ) (f : Frame) : Type 
 
 -- word 5 of a name says whether it contains `.with.overflow.`
 abbrev pub Overflows : List (List ℕ) → ℕ → List ℕ → Type 0
-Overflows names m work = (x : ℕ) → x < m → leb 4 (get_or work (markAt x) 0) ≡ hasOverflow (name_at names x)
+Overflows names m work = (x : ℕ) → x < m → leb 4 (get_or work (mark_at x) 0) ≡ has_overflow (name_at names x)
 
 -- ---- fixed places
 pub record PlacesHold (m : ℕ) (p : Places) (work : List ℕ) (f : Frame) : Type 0 where
@@ -55,7 +55,7 @@ pub record PlacesHold (m : ℕ) (p : Places) (work : List ℕ) (f : Frame) : Typ
   pub off : f.off ≡ p.off
   pub within : p.off ≤ 2 ^ 31
   pub dynamic : f.dynamic ≡ p.dynamic
-  pub words : (x : ℕ) → x < m → get_or work (placeAt x) 0 ≡ numbered (lookup x p.offsets)
+  pub words : (x : ℕ) → x < m → get_or work (place_at x) 0 ≡ numbered (lookup x p.offsets)
 
 abbrev pub FrameSays : ℕ → Result Places → List ℕ → Frame → Type 0
 FrameSays m (ok p) work f = PlacesHold m p work f
@@ -65,35 +65,35 @@ FrameSays m (err e) work f = Barred e f.refused
 -- words 3 may have changed, and those of measuring
 pub record PlacesKept (m : ℕ) (work work' : List ℕ) : Type 0 where
   pub long : length work' ≡ length work
-  pub same : (i : ℕ) → ((x : ℕ) → x < m → i ≡ placeAt x → ⊥) → Settled m i → get_or work' i 0 ≡ get_or work i 0
+  pub same : (i : ℕ) → ((x : ℕ) → x < m → i ≡ place_at x → ⊥) → Settled m i → get_or work' i 0 ≡ get_or work i 0
 
 -- words 1 and 3 may have changed, and those of measuring
 pub record FrameKept (m : ℕ) (work work' : List ℕ) : Type 0 where
   pub long : length work' ≡ length work
-  pub same : (i : ℕ) → ((x : ℕ) → x < m → i ≡ slot_at x → ⊥) → ((x : ℕ) → x < m → i ≡ placeAt x → ⊥) → Settled m i → get_or work' i 0 ≡ get_or work i 0
+  pub same : (i : ℕ) → ((x : ℕ) → x < m → i ≡ slot_at x → ⊥) → ((x : ℕ) → x < m → i ≡ place_at x → ⊥) → Settled m i → get_or work' i 0 ≡ get_or work i 0
 
 module _ {m : ℕ} where
-  pub measured-kept : {work work' : List ℕ} → Kept m work work' → PlacesKept m work work'
-  measured-kept k = record { long = k.long; same = λ i a b. k.same i b }
+  pub measured_kept : {work work' : List ℕ} → Kept m work work' → PlacesKept m work work'
+  measured_kept k = record { long = k.long; same = λ i a b. k.same i b }
 
   pub places_then : {a b c : List ℕ} → PlacesKept m a b → PlacesKept m b c → PlacesKept m a c
   places_then p q = record { long = q.long ∙ p.long; same = λ i x y. q.same i x y ∙ p.same i x y }
 
-  pub kept-places : {work work' : List ℕ} → PlacesKept m work work' → FrameKept m work work'
-  kept-places k = record { long = k.long; same = λ i a b c. k.same i b c }
+  pub kept_places : {work work' : List ℕ} → PlacesKept m work work' → FrameKept m work work'
+  kept_places k = record { long = k.long; same = λ i a b c. k.same i b c }
 
-  pub kept-none : {work : List ℕ} → FrameKept m work work
-  kept-none = record { long = refl; same = λ i a b c. refl }
+  pub kept_none : {work : List ℕ} → FrameKept m work work
+  kept_none = record { long = refl; same = λ i a b c. refl }
 
   pub kept_then : {a b c : List ℕ} → FrameKept m a b → FrameKept m b c → FrameKept m a c
   kept_then p q = record { long = q.long ∙ p.long; same = λ i x y z. q.same i x y z ∙ p.same i x y z }
 
-  pub overflows-kept : (names : List (List ℕ)) {work work' : List ℕ} → FrameKept m work work' → Overflows names m work → Overflows names m work'
-  overflows-kept names k o x l = ap (leb 4) (k.same (markAt x) (λ y _ e. omega arith) (λ y _ e. omega arith) (settled-word x 5 l (omega arith))) ∙ o x l
+  pub overflows_kept : (names : List (List ℕ)) {work work' : List ℕ} → FrameKept m work work' → Overflows names m work → Overflows names m work'
+  overflows_kept names k o x l = ap (leb 4) (k.same (mark_at x) (λ y _ e. omega arith) (λ y _ e. omega arith) (settled_word x 5 l (omega arith))) ∙ o x l
 
 -- ---- a word of a name is set
 -- a map's word j of each name, with one entry more
-module _ (j : ℕ) (small : j < 8) {m : ℕ} (work : List ℕ) (room : nameWords m ≤ length work) (x v : ℕ) (named : x < m) (map : Map ℕ) where
+module _ (j : ℕ) (small : j < 8) {m : ℕ} (work : List ℕ) (room : name_words m ≤ length work) (x v : ℕ) (named : x < m) (map : Map ℕ) where
   pub word_set : ((y : ℕ) → y < m → get_or work (word_at y j) 0 ≡ numbered (lookup y map)) → (y : ℕ) → y < m → get_or (set work (word_at x j) (v + 1)) (word_at y j) 0 ≡ numbered (lookup y ((x, v) ∷ map))
   unfolding lookup
   word_set h y l = go (eqb y x) refl
@@ -108,12 +108,12 @@ module _ (j : ℕ) (small : j < 8) {m : ℕ} (work : List ℕ) (room : nameWords
           rw (e, get_or-set_other work (word_at x j) (word_at y j) (v + 1) 0 (λ z. q (omega arith))) (h y l)
 
 -- the words of measuring, of bodies and of the table are left
-pub ready-set : {m : ℕ} {bs : List Entry} {work : List ℕ} (i v : ℕ) → Ready m bs work → ((x : ℕ) → i ≡ body_at x → ⊥) → ((x : ℕ) → i ≡ measuredAt x → ⊥) → ((k : ℕ) → table_at m k ≡ i → ⊥) → Ready m bs (set work i v)
-ready-set {m} {bs} {work} i v r a b t =
+pub ready_set : {m : ℕ} {bs : List Entry} {work : List ℕ} (i v : ℕ) → Ready m bs work → ((x : ℕ) → i ≡ body_at x → ⊥) → ((x : ℕ) → i ≡ measured_at x → ⊥) → ((k : ℕ) → table_at m k ≡ i → ⊥) → Ready m bs (set work i v)
+ready_set {m} {bs} {work} i v r a b t =
     record {
       room = omega (arith, r.room, length-set work i v);
       bodies = λ x l. rw (get_or-set_other work i (body_at x) v 0 (λ e. a x (sym e))) (r.bodies x l);
-      known = λ x l. rw (get_or-set_other work i (measuredAt x) v 0 (λ e. b x (sym e))) (r.known x l);
-      facts = facts-kept (set work i v) r (λ k. get_or-set_other work i (table_at m k) v 0 (t k));
+      known = λ x l. rw (get_or-set_other work i (measured_at x) v 0 (λ e. b x (sym e))) (r.known x l);
+      facts = facts_kept (set work i v) r (λ k. get_or-set_other work i (table_at m k) v 0 (t k));
       few = r.few;
     }

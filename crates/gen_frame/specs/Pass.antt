@@ -5,38 +5,38 @@ use Rattle.std.proofs.Common.{◌∙◌, arith, add-zero, add-one, ltb-true, ltb
 use mathlib.Core.List.{List, [], ◌∷◌, ◌++◌, append-nil}
 use Rattle.book.specs.Entry.{Entry, entry, entries}
 use Rattle.book.specs.Ast.{Inst, BasicBlock}
-use Rattle.book.specs.Encode.{closed, encBasicBlock}
+use Rattle.book.specs.Encode.{closed, enc_basic_block}
 use Rattle.book.specs.Limits.{Each, BlockLimits}
 use Rattle.book.specs.Map.{lookup}
 use Rattle.book.specs.Read.{got, many}
 use Rattle.book.specs.Result.{Result, ok, err, bind}
-use Rattle.book.specs.Shape.{shape, allInsts}
-use Rattle.book.specs.AgreeBook.{agrees-blocks}
-use Rattle.book.specs.Work.{slot_at, placeAt}
-use Rattle.book_types.specs.Laws.{entries-drop, entries-part, within-kinds, within-words}
-use Rattle.layout.specs.Frame.{Places, noFrame, frameStep, framePass}
-use Rattle.layout_memo.specs.Front.{kind_of, kind-at}
-use Rattle.layout_memo.specs.Work.{Ready, structsIn}
+use Rattle.book.specs.Shape.{shape, all_insts}
+use Rattle.book.specs.AgreeBook.{agrees_blocks}
+use Rattle.book.specs.Work.{slot_at, place_at}
+use Rattle.book_types.specs.Laws.{entries_drop, entries_part, within_kinds, within_words}
+use Rattle.layout.specs.Frame.{Places, no_frame, frame_step, frame_pass}
+use Rattle.layout_memo.specs.Front.{kind_of, kind_at_lem}
+use Rattle.layout_memo.specs.Work.{Ready, structs_in}
 use Rattle.layout_memo.specs.Calls.{lent}
-use Rattle.lowering.specs.Context.{Slots, noSlots, slotStep, slotMap}
-use Rattle.gen_frame.specs.Frames.{not-told, SlotsHold, Overflows, FrameSays, FrameKept, kept-none, kept_then, overflows-kept}
+use Rattle.lowering.specs.Context.{Slots, no_slots, slot_step, slot_map}
+use Rattle.gen_frame.specs.Frames.{not_told, SlotsHold, Overflows, FrameSays, FrameKept, kept_none, kept_then, overflows_kept}
 use Rattle.gen_frame.specs.Taken.{InstAt}
-use Rattle.gen_frame.specs.Steps.{StepAsk, Stepped, step-idle}
-use Rattle.gen_frame.specs.Scan.{First, Scan, scan-blocks}
+use Rattle.gen_frame.specs.Steps.{StepAsk, Stepped, step_idle}
+use Rattle.gen_frame.specs.Scan.{First, Scan, scan_blocks}
 use Rattle.gen_frame.specs.declared.Frame.{Frame}
 
 -- the blocks of a function stand at the front, with the entry that closes them
 pub record BlocksAt (m : ℕ) (blocks : List BasicBlock) (es : List Entry) : Type 0 where
   pub rest : List Entry
-  pub here : es ≡ closed encBasicBlock blocks ++ rest
+  pub here : es ≡ closed enc_basic_block blocks ++ rest
   pub keeps : Each (BlockLimits m) blocks
   pub few : length es ≤ 2 ^ 20
 
 -- no others stand there
 pub same_blocks : {m : ℕ} {b c : List BasicBlock} {es : List Entry} → BlocksAt m b es → BlocksAt m c es → b ≡ c
 same_blocks {m} {b} {c} {es} x y =
-    let p : many _ es ≡ got b _ = ap (many _) x.here ∙ (agrees-blocks m).complete b x.rest x.keeps in
-    let q : many _ es ≡ got c _ = ap (many _) y.here ∙ (agrees-blocks m).complete c y.rest y.keeps in
+    let p : many _ es ≡ got b _ = ap (many _) x.here ∙ (agrees_blocks m).complete b x.rest x.keeps in
+    let q : many _ es ≡ got c _ = ap (many _) y.here ∙ (agrees_blocks m).complete c y.rest y.keeps in
     cc
 
 -- nothing stands behind the blocks; words 1 and 3 are 0; bs are the book's entries
@@ -46,7 +46,7 @@ pub record FrameAsk (m : ℕ) (es bs : List Entry) (work : List ℕ) : Type 0 wh
   pub ends : at.rest ≡ []
   pub ready : Ready m bs work
   pub slots : (x : ℕ) → x < m → get_or work (slot_at x) 0 ≡ 0
-  pub places : (x : ℕ) → x < m → get_or work (placeAt x) 0 ≡ 0
+  pub places : (x : ℕ) → x < m → get_or work (place_at x) 0 ≡ 0
 
 -- the answer is that of `framePass`, with the slots of `slotMap`. Left free: what words 1, 3 and 7 hold where it refuses
 pub record FrameDone (m : ℕ) (es bs : List Entry) (work work' : List ℕ) (r : Frame) : Type 0 where
@@ -54,15 +54,15 @@ pub record FrameDone (m : ℕ) (es bs : List Entry) (work work' : List ℕ) (r :
   pub kept : FrameKept m work work'
   pub few : r.slots ≤ 2 * length es
   pub ends : r.off ≤ 2147483648
-  pub places : (blocks : List BasicBlock) → BlocksAt m blocks es → FrameSays m (framePass (structsIn m bs) (allInsts blocks) noFrame) work' r
+  pub places : (blocks : List BasicBlock) → BlocksAt m blocks es → FrameSays m (frame_pass (structs_in m bs) (all_insts blocks) no_frame) work' r
   pub slots : (blocks : List BasicBlock) → BlocksAt m blocks es → r.refused ≡ 0 → (names : List (List ℕ)) → Overflows names m work
-      → SlotsHold m (slotMap names (allInsts blocks) noSlots) work' r
+      → SlotsHold m (slot_map names (all_insts blocks) no_slots) work' r
 
 -- ---- on the way
 -- the slots so far, and those of the instructions that are left
 pub record SlotsSo (m : ℕ) (names : List (List ℕ)) (all left : List Inst) (work : List ℕ) (f : Frame) : Type 0 where
   pub so : Slots
-  pub rest : slotMap names all noSlots ≡ slotMap names left so
+  pub rest : slot_map names all no_slots ≡ slot_map names left so
   pub holds : SlotsHold m so work f
 
 pub record Going (m : ℕ) (es bs : List Entry) (work₀ work : List ℕ) (at : ℕ) (f : Frame) : Type 0 where
@@ -71,9 +71,9 @@ pub record Going (m : ℕ) (es bs : List Entry) (work₀ work : List ℕ) (at : 
   pub left : List Inst
   pub place : Scan m left (drop at es)
   pub so : Result Places
-  pub rest : framePass (structsIn m bs) (allInsts blocks) noFrame ≡ bind so (framePass (structsIn m bs) left)
+  pub rest : frame_pass (structs_in m bs) (all_insts blocks) no_frame ≡ bind so (frame_pass (structs_in m bs) left)
   pub says : FrameSays m so work f
-  pub slots : f.refused ≡ 0 → (names : List (List ℕ)) → Overflows names m work₀ → SlotsSo m names (allInsts blocks) left work f
+  pub slots : f.refused ≡ 0 → (names : List (List ℕ)) → Overflows names m work₀ → SlotsSo m names (all_insts blocks) left work f
   pub ready : Ready m bs work
   pub kept : FrameKept m work₀ work
   pub there : at ≤ length es
@@ -84,20 +84,20 @@ abbrev pub first : Frame
 first = record { slots = 0; off = 0; dynamic = false; refused = 0 }
 
 pub going_start : {m : ℕ} {es bs : List Entry} {work : List ℕ} → FrameAsk m es bs work → Going m es bs work work 0 first
-unfolding bind noFrame noSlots lookup
+unfolding bind no_frame no_slots lookup
 going_start {m} {es} {bs} {work} a =
     record {
       blocks = a.blocks;
       own = a.at;
-      left = allInsts a.blocks;
-      place = subst (Scan m (allInsts a.blocks)) (sym (a.at.here ∙ ap (λ (x : List Entry). closed encBasicBlock a.blocks ++ x) a.ends ∙ append-nil (closed encBasicBlock a.blocks)))
-          (scan-blocks m a.blocks a.at.keeps);
-      so = ok noFrame;
+      left = all_insts a.blocks;
+      place = subst (Scan m (all_insts a.blocks)) (sym (a.at.here ∙ ap (λ (x : List Entry). closed enc_basic_block a.blocks ++ x) a.ends ∙ append-nil (closed enc_basic_block a.blocks)))
+          (scan_blocks m a.blocks a.at.keeps);
+      so = ok no_frame;
       rest = refl;
       says = record { going = refl; off = refl; within = omega arith; dynamic = refl; words = a.places };
-      slots = λ e names o. record { so = noSlots; rest = refl; holds = record { count = refl; words = a.slots } };
+      slots = λ e names o. record { so = no_slots; rest = refl; holds = record { count = refl; words = a.slots } };
       ready = a.ready;
-      kept = kept-none;
+      kept = kept_none;
       there = omega arith;
       few = omega arith;
       ends = omega arith;
@@ -105,7 +105,7 @@ going_start {m} {es} {bs} {work} a =
 
 -- a place before the end of the entries
 pub inside : (ks ws : List ℕ) {at end : ℕ} → end ≡ length (entries ks ws) → at < end → (at < length (entries ks ws)) × (at + 1 ≤ length ks) × (at + 1 ≤ length ws)
-inside ks ws {at} e l = (omega arith, within-kinds (at + 1) ks ws (omega arith), within-words (at + 1) ks ws (omega arith))
+inside ks ws {at} e l = (omega arith, within_kinds (at + 1) ks ws (omega arith), within_words (at + 1) ks ws (omega arith))
 
 module _ {m : ℕ} (ks ws : List ℕ) {bs : List Entry} {work₀ work : List ℕ} {at : ℕ} {f : Frame} (g : Going m (entries ks ws) bs work₀ work at f) where
   abbrev here : List Entry
@@ -113,7 +113,7 @@ module _ {m : ℕ} (ks ws : List ℕ) {bs : List Entry} {work₀ work : List ℕ
 
   -- no entry is left
   pub going_done : length (entries ks ws) ≤ at → FrameDone m (entries ks ws) bs work₀ work f
-  unfolding framePass slotMap bind
+  unfolding frame_pass slot_map bind
   going_done z =
       let e : g.left ≡ [] = subst (Scan m g.left) (drop_of_length-le (entries ks ws) z) g.place in
       record {
@@ -123,13 +123,13 @@ module _ {m : ℕ} (ks ws : List ℕ) {bs : List Entry} {work₀ work : List ℕ
         ends = g.ends;
         places = λ blocks b.
             subst (λ (r : Result Places). FrameSays m r work f)
-            (sym (ap (λ x. framePass (structsIn m bs) (allInsts x) noFrame) (same_blocks b g.own) ∙ g.rest ∙ ap (λ x. bind g.so (framePass (structsIn m bs) x)) e ∙ whole g.so)) g.says;
+            (sym (ap (λ x. frame_pass (structs_in m bs) (all_insts x) no_frame) (same_blocks b g.own) ∙ g.rest ∙ ap (λ x. bind g.so (frame_pass (structs_in m bs) x)) e ∙ whole g.so)) g.says;
         slots = λ blocks b d names o.
             let s = g.slots d names o in
-            subst (λ (x : Slots). SlotsHold m x work f) (sym (ap (λ x. slotMap names (allInsts x) noSlots) (same_blocks b g.own) ∙ s.rest ∙ ap (λ x. slotMap names x s.so) e)) s.holds;
+            subst (λ (x : Slots). SlotsHold m x work f) (sym (ap (λ x. slot_map names (all_insts x) no_slots) (same_blocks b g.own) ∙ s.rest ∙ ap (λ x. slot_map names x s.so) e)) s.holds;
       }
     where
-      whole : (r : Result Places) → bind r (framePass (structsIn m bs) []) ≡ r
+      whole : (r : Result Places) → bind r (frame_pass (structs_in m bs) []) ≡ r
       whole (ok p) = refl
       whole (err n) = refl
 
@@ -141,15 +141,15 @@ module _ {m : ℕ} (ks ws : List ℕ) {bs : List Entry} {work₀ work : List ℕ
     abbrev back : List Entry
     back = drop (at + 1) (entries ks ws)
 
-    here-is : here ≡ front ∷ back
-    here-is = rw (add-one, drop-cons (entries ks ws) at (entry 0 0) more) refl
+    here_is : here ≡ front ∷ back
+    here_is = rw (add-one, drop-cons (entries ks ws) at (entry 0 0) more) refl
 
-    kind-is : front.kind ≡ get_or ks at 0
+    kind_is : front.kind ≡ get_or ks at 0
     unfolding kind_of
-    kind-is = sym (ap kind_of here-is) ∙ kind-at ks ws at more
+    kind_is = sym (ap kind_of here_is) ∙ kind_at_lem ks ws at more
 
     scanned : Scan m g.left (front ∷ back)
-    scanned = subst (Scan m g.left) here-is g.place
+    scanned = subst (Scan m g.left) here_is g.place
 
     -- nothing was done
     skipped : Scan m g.left back → Going m (entries ks ws) bs work₀ work (at + 1) f
@@ -173,20 +173,20 @@ module _ {m : ℕ} (ks ws : List ℕ) {bs : List Entry} {work₀ work : List ℕ
     -- a step was done
     module _ {work' : List ℕ} {r : Frame} (i : Inst) (next : List Inst) (split : g.left ≡ i ∷ next) (own : InstAt m i here) (s : Stepped m here bs work work' f r) where
       abbrev step : Places → Result Places
-      step = frameStep (structsIn m bs) i.dest (shape i.kind)
+      step = frame_step (structs_in m bs) i.dest (shape i.kind)
 
-      behind : (so : Result Places) → bind so (framePass (structsIn m bs) (i ∷ next)) ≡ bind (bind so step) (framePass (structsIn m bs) next)
-      unfolding bind framePass
+      behind : (so : Result Places) → bind so (frame_pass (structs_in m bs) (i ∷ next)) ≡ bind (bind so step) (frame_pass (structs_in m bs) next)
+      unfolding bind frame_pass
       behind (ok p) = refl
       behind (err n) = refl
 
-      not-before : (so : Result Places) → FrameSays m so work f → FrameSays m (bind so step) work' r → r.refused ≡ 0 → f.refused ≡ 0
+      not_before : (so : Result Places) → FrameSays m so work f → FrameSays m (bind so step) work' r → r.refused ≡ 0 → f.refused ≡ 0
       unfolding bind
-      not-before (ok p) h k e = h.going
-      not-before (err n) h k e = not-told k e
+      not_before (ok p) h k e = h.going
+      not_before (err n) h k e = not_told k e
 
       done : Scan m next back → Going m (entries ks ws) bs work₀ work' (at + 1) r
-      unfolding slotMap
+      unfolding slot_map
       done p =
           let says = s.places i own g.so g.says in
           record {
@@ -195,14 +195,14 @@ module _ {m : ℕ} (ks ws : List ℕ) {bs : List Entry} {work₀ work : List ℕ
             left = next;
             place = p;
             so = bind g.so step;
-            rest = g.rest ∙ ap (λ x. bind g.so (framePass (structsIn m bs) x)) split ∙ behind g.so;
+            rest = g.rest ∙ ap (λ x. bind g.so (frame_pass (structs_in m bs) x)) split ∙ behind g.so;
             says = says;
             slots = λ e names o.
-                let q = g.slots (not-before g.so g.says says e) names o in
+                let q = g.slots (not_before g.so g.says says e) names o in
                 record {
-                  so = slotStep names i.dest (shape i.kind) q.so;
-                  rest = q.rest ∙ ap (λ x. slotMap names x q.so) split;
-                  holds = s.slots i own e names (overflows-kept names g.kept o) q.so q.holds;
+                  so = slot_step names i.dest (shape i.kind) q.so;
+                  rest = q.rest ∙ ap (λ x. slot_map names x q.so) split;
+                  holds = s.slots i own e names (overflows_kept names g.kept o) q.so q.holds;
                 };
             ready = s.ready;
             kept = kept_then g.kept s.kept;
@@ -213,32 +213,32 @@ module _ {m : ℕ} (ks ws : List ℕ) {bs : List Entry} {work₀ work : List ℕ
 
     -- an instruction
     module _ (low : 40 ≤ get_or ks at 0) (high : get_or ks at 0 < 90) where
-      first-here : First (λ (others : List Inst). Scan m others back) m g.left (front ∷ back)
-      first-here = scanned.2 (omega (arith, kind-is)) (omega (arith, kind-is))
+      first_here : First (λ (others : List Inst). Scan m others back) m g.left (front ∷ back)
+      first_here = scanned.2 (omega (arith, kind_is)) (omega (arith, kind_is))
 
-      inst-here : InstAt m first-here.own here
-      inst-here =
-          record { rest = first-here.rest; here = here-is ∙ first-here.here; keeps = first-here.keeps; few = omega (arith, g.own.few, length-drop at (entries ks ws)) }
+      inst_here : InstAt m first_here.own here
+      inst_here =
+          record { rest = first_here.rest; here = here_is ∙ first_here.here; keeps = first_here.keeps; few = omega (arith, g.own.few, length-drop at (entries ks ws)) }
 
-      pub going-ask : StepAsk m f (lent ks ws at) bs work
-      going-ask =
-          subst (λ (es : List Entry). StepAsk m f es bs work) (sym (entries-part at ks ws))
+      pub going_ask : StepAsk m f (lent ks ws at) bs work
+      going_ask =
+          subst (λ (es : List Entry). StepAsk m f es bs work) (sym (entries_part at ks ws))
           (record {
-            inst = first-here.own;
-            at = inst-here;
+            inst = first_here.own;
+            at = inst_here;
             ready = g.ready;
             few = omega (arith, g.few, g.own.few);
             ends = g.ends;
           })
 
-      pub going-inst : {work' : List ℕ} {r : Frame} → Stepped m (lent ks ws at) bs work work' f r → Going m (entries ks ws) bs work₀ work' (at + 1) r
-      going-inst {work'} {r} s =
-          done first-here.own first-here.others first-here.split inst-here
-          (subst (λ (es : List Entry). Stepped m es bs work work' f r) (entries-part at ks ws) s) first-here.behind
+      pub going_inst : {work' : List ℕ} {r : Frame} → Stepped m (lent ks ws at) bs work work' f r → Going m (entries ks ws) bs work₀ work' (at + 1) r
+      going_inst {work'} {r} s =
+          done first_here.own first_here.others first_here.split inst_here
+          (subst (λ (es : List Entry). Stepped m es bs work work' f r) (entries_part at ks ws) s) first_here.behind
 
     -- any other entry
-    pub going-idle : (40 ≤ get_or ks at 0 → get_or ks at 0 < 90 → (get_or ws at 0 ≡ 0) × (get_or ks at 0 ≡ 73 → ⊥)) → Going m (entries ks ws) bs work₀ work (at + 1) f
-    going-idle idle = low (ltb (get_or ks at 0) 40) refl
+    pub going_idle : (40 ≤ get_or ks at 0 → get_or ks at 0 < 90 → (get_or ws at 0 ≡ 0) × (get_or ks at 0 ≡ 73 → ⊥)) → Going m (entries ks ws) bs work₀ work (at + 1) f
+    going_idle idle = low (ltb (get_or ks at 0) 40) refl
       where
         high : 40 ≤ get_or ks at 0 → (b : Bool) → ltb (get_or ks at 0) 90 ≡ b → Going m (entries ks ws) bs work₀ work (at + 1) f
         high l true e =
@@ -246,11 +246,11 @@ module _ {m : ℕ} (ks ws : List ℕ) {bs : List Entry} {work₀ work : List ℕ
             let w = idle l h in
             let k : get_or (drop at ks) 0 0 ≡ get_or ks at 0 = rw (get_or-drop, add-zero) refl in
             let v : get_or (drop at ws) 0 0 ≡ get_or ws at 0 = rw (get_or-drop, add-zero) refl in
-            done (first-here l h).own (first-here l h).others (first-here l h).split (inst-here l h)
-            (subst (λ (es : List Entry). Stepped m es bs work work f f) (entries-drop at ks ws)
-            (step-idle (drop at ks) (drop at ws) work f g.ready (v ∙ w.0) (λ q. w.1 (sym k ∙ q)))) (first-here l h).behind
-        high l false e = skipped (scanned.1 (omega (arith, kind-is, ltb-false (get_or ks at 0) 90 e)))
+            done (first_here l h).own (first_here l h).others (first_here l h).split (inst_here l h)
+            (subst (λ (es : List Entry). Stepped m es bs work work f f) (entries_drop at ks ws)
+            (step_idle (drop at ks) (drop at ws) work f g.ready (v ∙ w.0) (λ q. w.1 (sym k ∙ q)))) (first_here l h).behind
+        high l false e = skipped (scanned.1 (omega (arith, kind_is, ltb-false (get_or ks at 0) 90 e)))
 
         low : (b : Bool) → ltb (get_or ks at 0) 40 ≡ b → Going m (entries ks ws) bs work₀ work (at + 1) f
-        low true e = skipped (scanned.0 (omega (arith, kind-is, ltb-true (get_or ks at 0) 40 e)))
+        low true e = skipped (scanned.0 (omega (arith, kind_is, ltb-true (get_or ks at 0) 40 e)))
         low false e = high (ltb-false (get_or ks at 0) 40 e) (ltb (get_or ks at 0) 90) refl

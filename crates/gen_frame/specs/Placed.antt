@@ -12,18 +12,18 @@ use Rattle.numbers.specs.Align.{align_up}
 use Rattle.book.specs.Entry.{Entry}
 use Rattle.book.specs.Ast.{Ty, StructType}
 use Rattle.book.specs.Result.{Result, ok, err, bind, given}
-use Rattle.book.specs.Work.{nameWords, placeAt}
-use Rattle.layout.specs.Layout.{align_at, size_at, align_of, size_of, frameLimit}
-use Rattle.layout.specs.Refusals.{refusal-positive, refusing-err, align-refusing, size-refusing}
-use Rattle.layout.specs.Frame.{Places, place, withPlace}
+use Rattle.book.specs.Work.{name_words, place_at}
+use Rattle.layout.specs.Layout.{align_at, size_at, align_of, size_of, frame_limit}
+use Rattle.layout.specs.Refusals.{refusal_positive, refusing_err, align_refusing, size_refusing}
+use Rattle.layout.specs.Frame.{Places, place, with_place}
 use Rattle.layout_memo.specs.Front.{Starts, ty_of}
-use Rattle.layout_memo.specs.Work.{Ready, After, Outcome, kept_word, table-other, structsIn, sizes, aligns, size_small, align-small}
-use Rattle.layout_memo.specs.Helpers.{gives_at, refused-at}
+use Rattle.layout_memo.specs.Work.{Ready, After, Outcome, kept_word, table_other, structs_in, sizes, aligns, size_small, align_small}
+use Rattle.layout_memo.specs.Helpers.{gives_at, refused_at}
 use Rattle.layout_memo.specs.declared.Measured.{Measured}
 use Rattle.layout_memo.specs.declared.Measured.TheVariants.{Bytes, Refused}
 use Rattle.gen_lines.specs.Puts.{or_else}
-use Rattle.gen_frame.specs.Fixed.{SmallPlace, start_of, end_of, madeBy, fixedBy, fixedWords}
-use Rattle.gen_frame.specs.Frames.{barredBy, PlacesHold, FrameSays, PlacesKept, measured-kept, places_then, word_set, ready-set}
+use Rattle.gen_frame.specs.Fixed.{SmallPlace, start_of, end_of, made_by, fixed_by, fixed_words}
+use Rattle.gen_frame.specs.Frames.{barred_by, PlacesHold, FrameSays, PlacesKept, measured_kept, places_then, word_set, ready_set}
 use Rattle.gen_frame.specs.declared.Frame.{Frame}
 
 -- ---- the type is measured
@@ -40,11 +40,11 @@ module _ (m name : ℕ) where
     pub aligned : align ≤ 8
 
 -- what is left of `place` when the alignment is known
-unfoldable pub placeSized : List StructType → (name align : ℕ) → Ty → (count : ℕ) → Places → Result Places
-placeSized structs name a ty n f = bind (size_of structs ty) (λ s. bind (frameLimit (align_up f.off a + s * n)) (λ end. ok (withPlace name (align_up f.off a) end f)))
+unfoldable pub place_sized : List StructType → (name align : ℕ) → Ty → (count : ℕ) → Places → Result Places
+place_sized structs name a ty n f = bind (size_of structs ty) (λ s. bind (frame_limit (align_up f.off a + s * n)) (λ end. ok (with_place name (align_up f.off a) end f)))
 
-pub place_is : (structs : List StructType) (name : ℕ) (ty : Ty) (n : ℕ) (f : Places) → place structs name ty (some n) f ≡ bind (align_of structs ty) (λ a. placeSized structs name a ty n f)
-unfolding place placeSized
+pub place_is : (structs : List StructType) (name : ℕ) (ty : Ty) (n : ℕ) (f : Places) → place structs name ty (some n) f ≡ bind (align_of structs ty) (λ a. place_sized structs name a ty n f)
+unfolding place place_sized
 place_is structs name ty n f = refl
 
 -- what was done: fixed places stand as `step` says, slots as before
@@ -57,10 +57,10 @@ pub record PlaceStep (m : ℕ) (bs : List Entry) (work work' : List ℕ) (f r : 
 
 module _ (m name : ℕ) where
   abbrev pub SizedDone : (align count : ℕ) (es bs : List Entry) (work work' : List ℕ) (f r : Frame) → Type 0
-  SizedDone align count es bs work work' f r = PlaceStep m bs work work' f r (placeSized (structsIn m bs) name align (ty_of m es) count)
+  SizedDone align count es bs work work' f r = PlaceStep m bs work work' f r (place_sized (structs_in m bs) name align (ty_of m es) count)
 
   abbrev pub PlaceDone : (count : ℕ) (es bs : List Entry) (work work' : List ℕ) (f r : Frame) → Type 0
-  PlaceDone count es bs work work' f r = PlaceStep m bs work work' f r (place (structsIn m bs) name (ty_of m es) (some count))
+  PlaceDone count es bs work work' f r = PlaceStep m bs work work' f r (place (structs_in m bs) name (ty_of m es) (some count))
 
 -- the same step by another name
 pub same_step : {m : ℕ} {bs : List Entry} {work work' : List ℕ} {f r : Frame} (one all : Places → Result Places) → ((p : Places) → all p ≡ one p)
@@ -69,9 +69,9 @@ same_step {m} {bs} {work} {work'} {f} {r} one all e s =
     record { ready = s.ready; kept = s.kept; slots = s.slots; ends = s.ends; says = λ p h. subst (λ (q : Result Places). FrameSays m q work' r) (sym (e p)) (s.says p h) }
 
 -- nothing was measured
-pub step-none : {m : ℕ} {bs : List Entry} {work : List ℕ} {f r : Frame} (step : Places → Result Places) → Ready m bs work → r.slots ≡ f.slots → r.off ≡ f.off
+pub step_none : {m : ℕ} {bs : List Entry} {work : List ℕ} {f r : Frame} (step : Places → Result Places) → Ready m bs work → r.slots ≡ f.slots → r.off ≡ f.off
     → ((p : Places) → PlacesHold m p work f → FrameSays m (step p) work r) → PlaceStep m bs work work f r step
-step-none step r e o s = record { ready = r; kept = record { long = refl; same = λ i a b. refl }; slots = e; ends = λ l. omega arith; says = s }
+step_none step r e o s = record { ready = r; kept = record { long = refl; same = λ i a b. refl }; slots = e; ends = λ l. omega arith; says = s }
 
 -- the words of places stand as before where only word 7 changed
 holds_after : {m : ℕ} {bs : List Entry} {work work' : List ℕ} {p : Places} {f : Frame} → After m bs work work' → PlacesHold m p work f → PlacesHold m p work' f
@@ -79,29 +79,29 @@ holds_after a h =
     record { going = h.going; off = h.off; within = h.within; dynamic = h.dynamic; words = λ x l. kept_word a x 3 l (omega arith) ∙ h.words x l }
 
 -- a measurement, then a step
-then-step : {m : ℕ} {bs : List Entry} {a b c : List ℕ} {f r : Frame} (one all : Places → Result Places)
+then_step : {m : ℕ} {bs : List Entry} {a b c : List ℕ} {f r : Frame} (one all : Places → Result Places)
     → After m bs a b → PlaceStep m bs b c f r one → ((p : Places) → all p ≡ one p) → PlaceStep m bs a c f r all
-then-step {m} {bs} {a} {b} {c} {f} {r} one all x y e =
+then_step {m} {bs} {a} {b} {c} {f} {r} one all x y e =
     record {
       ready = y.ready;
-      kept = places_then (measured-kept x.kept) y.kept;
+      kept = places_then (measured_kept x.kept) y.kept;
       slots = y.slots;
       ends = y.ends;
       says = λ p h. subst (λ (q : Result Places). FrameSays m q c r) (sym (e p)) (y.says p (holds_after x h));
     }
 
 -- a refusal while measuring
-barred-step : {m : ℕ} {bs : List Entry} {work work' : List ℕ} {f r : Frame} {e : ℕ} (all : Places → Result Places)
-    → After m bs work work' → r ≡ barredBy f e → 0 < e → ((p : Places) → all p ≡ err e) → PlaceStep m bs work work' f r all
-barred-step {m} {bs} {work} {work'} {f} {r} {e} all a d z h =
-    then-step (λ p. err e) all a
-    (step-none (λ p. err e) a.ready (ap (λ (x : Frame). x.slots) d) (ap (λ (x : Frame). x.off) d)
+barred_step : {m : ℕ} {bs : List Entry} {work work' : List ℕ} {f r : Frame} {e : ℕ} (all : Places → Result Places)
+    → After m bs work work' → r ≡ barred_by f e → 0 < e → ((p : Places) → all p ≡ err e) → PlaceStep m bs work work' f r all
+barred_step {m} {bs} {work} {work'} {f} {r} {e} all a d z h =
+    then_step (λ p. err e) all a
+    (step_none (λ p. err e) a.ready (ap (λ (x : Frame). x.slots) d) (ap (λ (x : Frame). x.off) d)
     (λ p k. record { positive = z; number = ap (λ (x : Frame). x.refused) d })) h
 
 -- one place more, when alignment and size are known
 module _ (name align size count : ℕ) where
   unfoldable limited : Places → Result Places
-  limited p = bind (frameLimit (align_up p.off align + size * count)) (λ end. ok (withPlace name (align_up p.off align) end p))
+  limited p = bind (frame_limit (align_up p.off align + size * count)) (λ end. ok (with_place name (align_up p.off align) end p))
 
   module _ (work : List ℕ) (f : Frame) where
     abbrev start : ℕ
@@ -111,75 +111,75 @@ module _ (name align size count : ℕ) where
     end = end_of align size count f
 
     abbrev stored : List ℕ
-    stored = set work (placeAt name) (start + 1)
+    stored = set work (place_at name) (start + 1)
 
-    holds : {m : ℕ} (p : Places) → name < m → nameWords m ≤ length work → PlacesHold m p work f → end ≤ 2 ^ 31 → PlacesHold m (withPlace name start end p) stored (madeBy align size count f)
-    unfolding withPlace
+    holds : {m : ℕ} (p : Places) → name < m → name_words m ≤ length work → PlacesHold m p work f → end ≤ 2 ^ 31 → PlacesHold m (with_place name start end p) stored (made_by align size count f)
+    unfolding with_place
     holds p named room h l = record { going = refl; off = refl; within = l; dynamic = h.dynamic; words = word_set 3 (omega arith) work room name start named p.offsets h.words }
 
-    fixed-step : {m : ℕ} {bs : List Entry} → Ready m bs work → name < m → PlaceStep m bs work (fixedWords align size count f name work) f (fixedBy align size count f) limited
-    unfolding limited frameLimit given bind
-    fixed-step {m} {bs} ready named = go (leb end (2 ^ 31)) refl
+    fixed_step : {m : ℕ} {bs : List Entry} → Ready m bs work → name < m → PlaceStep m bs work (fixed_words align size count f name work) f (fixed_by align size count f) limited
+    unfolding limited frame_limit given bind
+    fixed_step {m} {bs} ready named = go (leb end (2 ^ 31)) refl
       where
-        go : (b : Bool) → leb end (2 ^ 31) ≡ b → PlaceStep m bs work (or_else b stored work) f (or_else b (madeBy align size count f) (barredBy f 7)) limited
+        go : (b : Bool) → leb end (2 ^ 31) ≡ b → PlaceStep m bs work (or_else b stored work) f (or_else b (made_by align size count f) (barred_by f 7)) limited
         go true e =
             record {
-              ready = ready-set (placeAt name) (start + 1) ready (λ x d. omega arith) (λ x d. omega arith) (λ k. table-other m k name 3 (omega arith) (λ z. omega arith) named);
-              kept = record { long = length-set work (placeAt name) (start + 1); same = λ i a b. get_or-set_other work (placeAt name) i (start + 1) 0 (a name named) };
+              ready = ready_set (place_at name) (start + 1) ready (λ x d. omega arith) (λ x d. omega arith) (λ k. table_other m k name 3 (omega arith) (λ z. omega arith) named);
+              kept = record { long = length-set work (place_at name) (start + 1); same = λ i a b. get_or-set_other work (place_at name) i (start + 1) 0 (a name named) };
               slots = refl;
               ends = λ l. leb-true end (2 ^ 31) e;
               says = λ p h.
-                  let d : limited p ≡ ok (withPlace name start end p) = rw (sym h.off, e) refl in
-                  subst (λ (x : Result Places). FrameSays m x stored (madeBy align size count f)) (sym d) (holds p named ready.room h (leb-true end (2 ^ 31) e));
+                  let d : limited p ≡ ok (with_place name start end p) = rw (sym h.off, e) refl in
+                  subst (λ (x : Result Places). FrameSays m x stored (made_by align size count f)) (sym d) (holds p named ready.room h (leb-true end (2 ^ 31) e));
             }
         go false e =
-            step-none limited ready refl refl
+            step_none limited ready refl refl
             (λ p h.
             let d : limited p ≡ err 7 = rw (sym h.off, e) refl in
-            subst (λ (x : Result Places). FrameSays m x work (barredBy f 7)) (sym d) (record { positive = omega arith; number = refl }))
+            subst (λ (x : Result Places). FrameSays m x work (barred_by f 7)) (sym d) (record { positive = omega arith; number = refl }))
 
 module _ (m : ℕ) (es bs : List Entry) where
   abbrev structs : List StructType
-  structs = structsIn m bs
+  structs = structs_in m bs
 
   abbrev ty : Ty
   ty = ty_of m es
 
   module _ (name count : ℕ) {work work' : List ℕ} {f : Frame} {q : Measured} where
-    pub align-barred : {r : Frame} {e : ℕ} → Outcome m bs work work' (aligns structs ty) 64 q → q ≡ Refused e → r ≡ barredBy f e → PlaceDone m name count es bs work work' f r
+    pub align_barred : {r : Frame} {e : ℕ} → Outcome m bs work work' (aligns structs ty) 64 q → q ≡ Refused e → r ≡ barred_by f e → PlaceDone m name count es bs work work' f r
     unfolding align_of bind
-    align-barred o d b =
-        let e = refused-at q (aligns structs ty) 64 d o.says in
-        barred-step (place structs name ty (some count)) o.after b (refusal-positive (refusing-err (align_at structs 64 ty) (align-refusing structs 64 ty) e))
+    align_barred o d b =
+        let e = refused_at q (aligns structs ty) 64 d o.says in
+        barred_step (place structs name ty (some count)) o.after b (refusal_positive (refusing_err (align_at structs 64 ty) (align_refusing structs 64 ty) e))
         (λ p. place_is structs name ty count p ∙ rw e refl)
 
-    pub size-barred : {r : Frame} {e : ℕ} (align : ℕ) → Outcome m bs work work' (sizes structs ty) 64 q → q ≡ Refused e → r ≡ barredBy f e → SizedDone m name align count es bs work work' f r
-    unfolding placeSized size_of bind
-    size-barred align o d b =
-        let e = refused-at q (sizes structs ty) 64 d o.says in
-        barred-step (placeSized structs name align ty count) o.after b (refusal-positive (refusing-err (size_at structs 64 ty) (size-refusing structs 64 ty) e))
+    pub size_barred : {r : Frame} {e : ℕ} (align : ℕ) → Outcome m bs work work' (sizes structs ty) 64 q → q ≡ Refused e → r ≡ barred_by f e → SizedDone m name align count es bs work work' f r
+    unfolding place_sized size_of bind
+    size_barred align o d b =
+        let e = refused_at q (sizes structs ty) 64 d o.says in
+        barred_step (place_sized structs name align ty count) o.after b (refusal_positive (refusing_err (size_at structs 64 ty) (size_refusing structs 64 ty) e))
         (λ p. rw e refl)
 
     module _ {n h : ℕ} (d : q ≡ Bytes n h) where
       -- the alignment is known
-      pub align-ask : PlaceAsk m name f es bs work → Outcome m bs work work' (aligns structs ty) 64 q → SizedAsk m name n f es bs work'
-      align-ask k o =
+      pub align_ask : PlaceAsk m name f es bs work → Outcome m bs work work' (aligns structs ty) 64 q → SizedAsk m name n f es bs work'
+      align_ask k o =
           let g = gives_at q d (aligns structs ty) 64 o.says in
           record {
             ask = record { front = k.front; ready = o.after.ready; named = k.named; ends = k.ends };
-            aligned = (align-small structs ty g.within g.known).1;
+            aligned = (align_small structs ty g.within g.known).1;
           }
 
-      pub align-done : {r : Frame} {work'' : List ℕ} → Outcome m bs work work' (aligns structs ty) 64 q → SizedDone m name n count es bs work' work'' f r → PlaceDone m name count es bs work work'' f r
+      pub align_done : {r : Frame} {work'' : List ℕ} → Outcome m bs work work' (aligns structs ty) 64 q → SizedDone m name n count es bs work' work'' f r → PlaceDone m name count es bs work work'' f r
       unfolding align_of bind
-      align-done o s =
+      align_done o s =
           let g = gives_at q d (aligns structs ty) 64 o.says in
-          then-step (placeSized structs name n ty count) (place structs name ty (some count)) o.after s
+          then_step (place_sized structs name n ty count) (place structs name ty (some count)) o.after s
           (λ p. place_is structs name ty count p ∙ rw (g.known.high 64 g.within) refl)
 
       -- the size is known
-      pub size-ask : (align : ℕ) → SizedAsk m name align f es bs work → Outcome m bs work work' (sizes structs ty) 64 q → SmallPlace name align n f work'
-      size-ask align k o =
+      pub size_ask : (align : ℕ) → SizedAsk m name align f es bs work → Outcome m bs work work' (sizes structs ty) 64 q → SmallPlace name align n f work'
+      size_ask align k o =
           let g = gives_at q d (sizes structs ty) 64 o.says in
           record {
             room = omega (arith, k.ask.named, o.after.ready.room);
@@ -188,11 +188,11 @@ module _ (m : ℕ) (es bs : List Entry) where
             small = size_small structs ty g.within g.known;
           }
 
-      pub size-done : (align : ℕ) {r : Frame} {work'' : List ℕ} → SizedAsk m name align f es bs work → Outcome m bs work work' (sizes structs ty) 64 q
-          → (r ≡ fixedBy align n count f) × (work'' ≡ fixedWords align n count f name work') → SizedDone m name align count es bs work work'' f r
-      unfolding placeSized limited size_of bind
-      size-done align k o (er, ew) =
+      pub size_done : (align : ℕ) {r : Frame} {work'' : List ℕ} → SizedAsk m name align f es bs work → Outcome m bs work work' (sizes structs ty) 64 q
+          → (r ≡ fixed_by align n count f) × (work'' ≡ fixed_words align n count f name work') → SizedDone m name align count es bs work work'' f r
+      unfolding place_sized limited size_of bind
+      size_done align k o (er, ew) =
           let g = gives_at q d (sizes structs ty) 64 o.says in
-          then-step (limited name align n count) (placeSized structs name align ty count) o.after
-          (rw (er, ew) (fixed-step name align n count _ f o.after.ready k.ask.named))
+          then_step (limited name align n count) (place_sized structs name align ty count) o.after
+          (rw (er, ew) (fixed_step name align n count _ f o.after.ready k.ask.named))
           (λ p. rw (g.known.high 64 g.within) refl)

@@ -6,14 +6,14 @@ use Rattle.std.proofs.Math.Path.{subst}
 use mathlib.Core.List.{List, [], ◌∷◌, ◌++◌, append_assoc}
 use Rattle.book.specs.Entry.{Entry}
 use Rattle.book.specs.Ast.{Inst, Terminator, BasicBlock}
-use Rattle.book.specs.Kinds.{InstTag, instKind, instTags, instTag, termKind}
-use Rattle.book.specs.Fields.{instFields, instTagOf, instArgs, termFields, termTagOf, termArgs}
-use Rattle.book.specs.Encode.{ending, closed, encFields, encInst, encTerm, encBasicBlock}
+use Rattle.book.specs.Kinds.{InstTag, inst_kind, inst_tags, inst_tag, term_kind}
+use Rattle.book.specs.Fields.{inst_fields, inst_tag_of, inst_args, term_fields, term_tag_of, term_args}
+use Rattle.book.specs.Encode.{ending, closed, enc_fields, enc_inst, enc_term, enc_basic_block}
 use Rattle.book.specs.Limits.{Each, InstLimits, BlockLimits}
-use Rattle.book.specs.Shape.{allInsts}
-use Rattle.book.specs.AgreeTy.{find-every}
-use Rattle.book.specs.AgreeInst.{inst-found}
-use Rattle.gen_walk.specs.Walk.{Low, low-fields}
+use Rattle.book.specs.Shape.{all_insts}
+use Rattle.book.specs.AgreeTy.{find_every}
+use Rattle.book.specs.AgreeInst.{inst_found}
+use Rattle.gen_walk.specs.Walk.{Low, low_fields}
 
 -- an entry is that of an instruction that takes slots or a place; one that is not is of a field, a block, a terminator or an instruction that takes none
 pub record Acts (kind word : ℕ) (r : Bool) : Type 0 where
@@ -27,7 +27,7 @@ pub record First (P : List Inst → Type 0) (m : ℕ) (is : List Inst) (es : Lis
   pub others : List Inst
   pub split : is ≡ own ∷ others
   pub rest : List Entry
-  pub here : es ≡ encInst own ++ rest
+  pub here : es ≡ enc_inst own ++ rest
   pub keeps : InstLimits m own
   pub behind : P others
 
@@ -37,29 +37,29 @@ Scan m is [] = is ≡ []
 Scan m is (e ∷ es) = (e.kind < 40 → Scan m is es) × (90 ≤ e.kind → Scan m is es) × (40 ≤ e.kind → e.kind < 90 → First (λ (others : List Inst). Scan m others es) m is (e ∷ es))
 
 -- ---- the blocks of a function
-pub inst-kinds : (t : InstTag) → (40 ≤ instKind t) × (instKind t < 90)
-unfolding instTag instTags
-inst-kinds t = (
-  leb-true _ _ (find-every (λ t. leb 40 (instKind t)) instKind (instKind t) instTags t refl (inst-found t)),
-  ltb-true _ _ (find-every (λ t. ltb (instKind t) 90) instKind (instKind t) instTags t refl (inst-found t)),
+pub inst_kinds : (t : InstTag) → (40 ≤ inst_kind t) × (inst_kind t < 90)
+unfolding inst_tag inst_tags
+inst_kinds t = (
+  leb-true _ _ (find_every (λ t. leb 40 (inst_kind t)) inst_kind (inst_kind t) inst_tags t refl (inst_found t)),
+  ltb-true _ _ (find_every (λ t. ltb (inst_kind t) 90) inst_kind (inst_kind t) inst_tags t refl (inst_found t)),
 )
 
-term-kind : (t : Terminator) → 90 ≤ termKind (termTagOf t)
-term-kind (Terminator.ret v) = omega arith
-term-kind (Terminator.br c t f) = omega arith
-term-kind (Terminator.switch t v d cs) = omega arith
-term-kind Terminator.unreachable = omega arith
+term_kind_lem : (t : Terminator) → 90 ≤ term_kind (term_tag_of t)
+term_kind_lem (Terminator.ret v) = omega arith
+term_kind_lem (Terminator.br c t f) = omega arith
+term_kind_lem (Terminator.switch t v d cs) = omega arith
+term_kind_lem Terminator.unreachable = omega arith
 
 module _ (m : ℕ) where
-  scan-low : (is : List Inst) (x y : List Entry) → Low x → Scan m is y → Scan m is (x ++ y)
-  scan-low is [] y l h = h
-  scan-low is (e ∷ x) y l h = let t = scan-low is x y l.1 h in ((λ a. t), (λ a. t), λ a b. absurd (omega (arith, l.0.0)))
+  scan_low : (is : List Inst) (x y : List Entry) → Low x → Scan m is y → Scan m is (x ++ y)
+  scan_low is [] y l h = h
+  scan_low is (e ∷ x) y l h = let t = scan_low is x y l.1 h in ((λ a. t), (λ a. t), λ a b. absurd (omega (arith, l.0.0)))
 
-  scan-inst : (is : List Inst) (i : Inst) (y : List Entry) → InstLimits m i → Scan m is y → Scan m (i ∷ is) (encInst i ++ y)
-  unfolding encInst
-  scan-inst is i y k h =
-      let fs = instFields (instTagOf i.kind) in
-      let n = inst-kinds (instTagOf i.kind) in (
+  scan_inst : (is : List Inst) (i : Inst) (y : List Entry) → InstLimits m i → Scan m is y → Scan m (i ∷ is) (enc_inst i ++ y)
+  unfolding enc_inst
+  scan_inst is i y k h =
+      let fs = inst_fields (inst_tag_of i.kind) in
+      let n = inst_kinds (inst_tag_of i.kind) in (
         (λ a. absurd (omega (arith, n.0))),
         (λ a. absurd (omega (arith, n.1))),
         λ a b.
@@ -70,27 +70,27 @@ module _ (m : ℕ) where
               rest = y;
               here = refl;
               keeps = k;
-              behind = scan-low is (encFields fs (instArgs i.kind)) y (low-fields fs (instArgs i.kind)) h;
+              behind = scan_low is (enc_fields fs (inst_args i.kind)) y (low_fields fs (inst_args i.kind)) h;
             },
       )
 
-  scan-term : (is : List Inst) (t : Terminator) (y : List Entry) → Scan m is y → Scan m is (encTerm t ++ y)
-  unfolding encTerm
-  scan-term is t y h =
-      let fs = termFields (termTagOf t) in
-      let b = scan-low is (encFields fs (termArgs t)) y (low-fields fs (termArgs t)) h in
-      ((λ a. b), (λ a. b), λ a c. absurd (omega (arith, term-kind t)))
+  scan_term : (is : List Inst) (t : Terminator) (y : List Entry) → Scan m is y → Scan m is (enc_term t ++ y)
+  unfolding enc_term
+  scan_term is t y h =
+      let fs = term_fields (term_tag_of t) in
+      let b = scan_low is (enc_fields fs (term_args t)) y (low_fields fs (term_args t)) h in
+      ((λ a. b), (λ a. b), λ a c. absurd (omega (arith, term_kind_lem t)))
 
-  scan-body : (is own : List Inst) (t : Terminator) (y : List Entry) → Each (InstLimits m) own → Scan m is y → Scan m (own ++ is) (ending encInst (encTerm t) own ++ y)
+  scan_body : (is own : List Inst) (t : Terminator) (y : List Entry) → Each (InstLimits m) own → Scan m is y → Scan m (own ++ is) (ending enc_inst (enc_term t) own ++ y)
   unfolding ending
-  scan-body is [] t y k h = scan-term is t y h
-  scan-body is (i ∷ own) t y k h =
-      let end = ending encInst (encTerm t) own in
-      subst (Scan m (i ∷ (own ++ is))) (sym (append_assoc (encInst i) end y)) (scan-inst (own ++ is) i (end ++ y) k.0 (scan-body is own t y k.1 h))
+  scan_body is [] t y k h = scan_term is t y h
+  scan_body is (i ∷ own) t y k h =
+      let end = ending enc_inst (enc_term t) own in
+      subst (Scan m (i ∷ (own ++ is))) (sym (append_assoc (enc_inst i) end y)) (scan_inst (own ++ is) i (end ++ y) k.0 (scan_body is own t y k.1 h))
 
-  pub scan-blocks : (bs : List BasicBlock) → Each (BlockLimits m) bs → Scan m (allInsts bs) (closed encBasicBlock bs)
-  unfolding ending encBasicBlock allInsts
-  scan-blocks [] k = ((λ a. refl), (λ a. refl), λ a b. absurd (omega arith))
-  scan-blocks (b ∷ bs) k =
-      let t = scan-body (allInsts bs) b.insts b.term (closed encBasicBlock bs) k.0.1.0 (scan-blocks bs k.1) in
+  pub scan_blocks : (bs : List BasicBlock) → Each (BlockLimits m) bs → Scan m (all_insts bs) (closed enc_basic_block bs)
+  unfolding ending enc_basic_block all_insts
+  scan_blocks [] k = ((λ a. refl), (λ a. refl), λ a b. absurd (omega arith))
+  scan_blocks (b ∷ bs) k =
+      let t = scan_body (all_insts bs) b.insts b.term (closed enc_basic_block bs) k.0.1.0 (scan_blocks bs k.1) in
       ((λ a. t), (λ a. t), λ a c. absurd (omega arith))

@@ -5,22 +5,22 @@ use Rattle.std.proofs.Math.Path.{ap, subst}
 use Rattle.std.proofs.Math.Option.{Option, none, some}
 use Rattle.book.specs.Entry.{Entry, entries}
 use Rattle.book.specs.Ast.{InstKind, Inst, StructType}
-use Rattle.book.specs.Kinds.{InstTag, instKind}
-use Rattle.book.specs.Fields.{Meanings, instFields, instTagOf, instArgs}
-use Rattle.book.specs.Encode.{destWord}
+use Rattle.book.specs.Kinds.{InstTag, inst_kind}
+use Rattle.book.specs.Fields.{Meanings, inst_fields, inst_tag_of, inst_args}
+use Rattle.book.specs.Encode.{dest_word}
 use Rattle.book.specs.Limits.{Maybe, NameLimits}
 use Rattle.book.specs.Result.{Result, ok, err, bind}
 use Rattle.book.specs.Shape.{Shape, shape}
 use Rattle.book.specs.Work.{slot_at}
-use Rattle.layout.specs.Frame.{Places, frameStep}
-use Rattle.layout_memo.specs.Work.{Ready, settled-word, structsIn}
+use Rattle.layout.specs.Frame.{Places, frame_step}
+use Rattle.layout_memo.specs.Work.{Ready, settled_word, structs_in}
 use Rattle.layout_memo.specs.Calls.{lent}
-use Rattle.lowering.specs.Context.{Slots, slotStep}
-use Rattle.gen_values.specs.Values.{destOf, dest-is}
+use Rattle.lowering.specs.Context.{Slots, slot_step}
+use Rattle.gen_values.specs.Values.{dest_of, dest_is}
 use Rattle.gen_values.specs.Fields.{Fields}
-use Rattle.gen_frame.specs.Frames.{not-told, SlotsHold, Overflows, FrameSays, FrameKept, kept-none, kept_then, kept-places}
-use Rattle.gen_frame.specs.Allocas.{allocaFields, AllocaAsk, AllocaDone}
-use Rattle.gen_frame.specs.Taken.{InstAt, inst-front, same_tag, TakeAsk, Taken, take_none}
+use Rattle.gen_frame.specs.Frames.{not_told, SlotsHold, Overflows, FrameSays, FrameKept, kept_none, kept_then, kept_places}
+use Rattle.gen_frame.specs.Allocas.{alloca_fields, AllocaAsk, AllocaDone}
+use Rattle.gen_frame.specs.Taken.{InstAt, inst_front, same_tag, TakeAsk, Taken, take_none}
 use Rattle.gen_frame.specs.declared.Frame.{Frame}
 
 pub record StepAsk (m : ℕ) (f : Frame) (es bs : List Entry) (work : List ℕ) : Type 0 where
@@ -36,128 +36,128 @@ pub record Stepped (m : ℕ) (es bs : List Entry) (work work' : List ℕ) (f r :
   pub kept : FrameKept m work work'
   pub few : r.slots ≤ f.slots + 2
   pub ends : f.off ≤ 2147483648 → r.off ≤ 2147483648
-  pub places : (i : Inst) → InstAt m i es → (fr : Result Places) → FrameSays m fr work f → FrameSays m (bind fr (frameStep (structsIn m bs) i.dest (shape i.kind))) work' r
+  pub places : (i : Inst) → InstAt m i es → (fr : Result Places) → FrameSays m fr work f → FrameSays m (bind fr (frame_step (structs_in m bs) i.dest (shape i.kind))) work' r
   pub slots : (i : Inst) → InstAt m i es → r.refused ≡ 0 → (names : List (List ℕ)) → Overflows names m work → (s : Slots) → SlotsHold m s work f
-      → SlotsHold m (slotStep names i.dest (shape i.kind) s) work' r
+      → SlotsHold m (slot_step names i.dest (shape i.kind) s) work' r
 
 -- an alloca; any other has no place
-tag-alloca : (q : InstKind) → instTagOf q ≡ InstTag.alloca → (args : Meanings allocaFields) × (q ≡ InstKind.alloca args.0 args.1.0 args.1.1.0)
-tag-alloca (InstKind.bin op t l r) e = absurd (let z : ◌≡◌ {A = ℕ} 0 1 = cc in omega arith)
-tag-alloca (InstKind.conv op t v u) e = absurd (let z : ◌≡◌ {A = ℕ} 0 1 = cc in omega arith)
-tag-alloca (InstKind.icmp p t l r) e = absurd (let z : ◌≡◌ {A = ℕ} 0 1 = cc in omega arith)
-tag-alloca (InstKind.select c t l r) e = absurd (let z : ◌≡◌ {A = ℕ} 0 1 = cc in omega arith)
-tag-alloca (InstKind.load t p a) e = absurd (let z : ◌≡◌ {A = ℕ} 0 1 = cc in omega arith)
-tag-alloca (InstKind.store t v p a) e = absurd (let z : ◌≡◌ {A = ℕ} 0 1 = cc in omega arith)
-tag-alloca (InstKind.alloca t n a) e = ((t, (n, (a, tt))), refl)
-tag-alloca (InstKind.getElementPtr t p is) e = absurd (let z : ◌≡◌ {A = ℕ} 0 1 = cc in omega arith)
-tag-alloca (InstKind.phi t vs) e = absurd (let z : ◌≡◌ {A = ℕ} 0 1 = cc in omega arith)
-tag-alloca (InstKind.call t f vs) e = absurd (let z : ◌≡◌ {A = ℕ} 0 1 = cc in omega arith)
-tag-alloca (InstKind.freeze t v) e = absurd (let z : ◌≡◌ {A = ℕ} 0 1 = cc in omega arith)
-tag-alloca (InstKind.atomicLoad t p) e = absurd (let z : ◌≡◌ {A = ℕ} 0 1 = cc in omega arith)
-tag-alloca (InstKind.atomicStore t v p) e = absurd (let z : ◌≡◌ {A = ℕ} 0 1 = cc in omega arith)
-tag-alloca (InstKind.cmpxchg t p c v) e = absurd (let z : ◌≡◌ {A = ℕ} 0 1 = cc in omega arith)
-tag-alloca (InstKind.extractValue v i) e = absurd (let z : ◌≡◌ {A = ℕ} 0 1 = cc in omega arith)
-tag-alloca InstKind.fence e = absurd (let z : ◌≡◌ {A = ℕ} 0 1 = cc in omega arith)
+tag_alloca : (q : InstKind) → inst_tag_of q ≡ InstTag.alloca → (args : Meanings alloca_fields) × (q ≡ InstKind.alloca args.0 args.1.0 args.1.1.0)
+tag_alloca (InstKind.bin op t l r) e = absurd (let z : ◌≡◌ {A = ℕ} 0 1 = cc in omega arith)
+tag_alloca (InstKind.conv op t v u) e = absurd (let z : ◌≡◌ {A = ℕ} 0 1 = cc in omega arith)
+tag_alloca (InstKind.icmp p t l r) e = absurd (let z : ◌≡◌ {A = ℕ} 0 1 = cc in omega arith)
+tag_alloca (InstKind.select c t l r) e = absurd (let z : ◌≡◌ {A = ℕ} 0 1 = cc in omega arith)
+tag_alloca (InstKind.load t p a) e = absurd (let z : ◌≡◌ {A = ℕ} 0 1 = cc in omega arith)
+tag_alloca (InstKind.store t v p a) e = absurd (let z : ◌≡◌ {A = ℕ} 0 1 = cc in omega arith)
+tag_alloca (InstKind.alloca t n a) e = ((t, (n, (a, tt))), refl)
+tag_alloca (InstKind.get_element_ptr t p is) e = absurd (let z : ◌≡◌ {A = ℕ} 0 1 = cc in omega arith)
+tag_alloca (InstKind.phi t vs) e = absurd (let z : ◌≡◌ {A = ℕ} 0 1 = cc in omega arith)
+tag_alloca (InstKind.call t f vs) e = absurd (let z : ◌≡◌ {A = ℕ} 0 1 = cc in omega arith)
+tag_alloca (InstKind.freeze t v) e = absurd (let z : ◌≡◌ {A = ℕ} 0 1 = cc in omega arith)
+tag_alloca (InstKind.atomic_load t p) e = absurd (let z : ◌≡◌ {A = ℕ} 0 1 = cc in omega arith)
+tag_alloca (InstKind.atomic_store t v p) e = absurd (let z : ◌≡◌ {A = ℕ} 0 1 = cc in omega arith)
+tag_alloca (InstKind.cmpxchg t p c v) e = absurd (let z : ◌≡◌ {A = ℕ} 0 1 = cc in omega arith)
+tag_alloca (InstKind.extract_value v i) e = absurd (let z : ◌≡◌ {A = ℕ} 0 1 = cc in omega arith)
+tag_alloca InstKind.fence e = absurd (let z : ◌≡◌ {A = ℕ} 0 1 = cc in omega arith)
 
-tag-unplaced : (structs : List StructType) (dest : Option ℕ) (q : InstKind) (p : Places) → (instTagOf q ≡ InstTag.alloca → ⊥) → frameStep structs dest (shape q) p ≡ ok p
-unfolding shape frameStep
-tag-unplaced structs dest (InstKind.bin op t l r) pl z = refl
-tag-unplaced structs dest (InstKind.conv op t v u) pl z = refl
-tag-unplaced structs dest (InstKind.icmp p t l r) pl z = refl
-tag-unplaced structs dest (InstKind.select c t l r) pl z = refl
-tag-unplaced structs dest (InstKind.load t p a) pl z = refl
-tag-unplaced structs dest (InstKind.store t v p a) pl z = refl
-tag-unplaced structs dest (InstKind.alloca t n a) pl z = absurd (z refl)
-tag-unplaced structs dest (InstKind.getElementPtr t p is) pl z = refl
-tag-unplaced structs dest (InstKind.phi t vs) pl z = refl
-tag-unplaced structs dest (InstKind.call t f vs) pl z = refl
-tag-unplaced structs dest (InstKind.freeze t v) pl z = refl
-tag-unplaced structs dest (InstKind.atomicLoad t p) pl z = refl
-tag-unplaced structs dest (InstKind.atomicStore t v p) pl z = refl
-tag-unplaced structs dest (InstKind.cmpxchg t p c v) pl z = refl
-tag-unplaced structs dest (InstKind.extractValue v i) pl z = refl
-tag-unplaced structs dest InstKind.fence pl z = refl
+tag_unplaced : (structs : List StructType) (dest : Option ℕ) (q : InstKind) (p : Places) → (inst_tag_of q ≡ InstTag.alloca → ⊥) → frame_step structs dest (shape q) p ≡ ok p
+unfolding shape frame_step
+tag_unplaced structs dest (InstKind.bin op t l r) pl z = refl
+tag_unplaced structs dest (InstKind.conv op t v u) pl z = refl
+tag_unplaced structs dest (InstKind.icmp p t l r) pl z = refl
+tag_unplaced structs dest (InstKind.select c t l r) pl z = refl
+tag_unplaced structs dest (InstKind.load t p a) pl z = refl
+tag_unplaced structs dest (InstKind.store t v p a) pl z = refl
+tag_unplaced structs dest (InstKind.alloca t n a) pl z = absurd (z refl)
+tag_unplaced structs dest (InstKind.get_element_ptr t p is) pl z = refl
+tag_unplaced structs dest (InstKind.phi t vs) pl z = refl
+tag_unplaced structs dest (InstKind.call t f vs) pl z = refl
+tag_unplaced structs dest (InstKind.freeze t v) pl z = refl
+tag_unplaced structs dest (InstKind.atomic_load t p) pl z = refl
+tag_unplaced structs dest (InstKind.atomic_store t v p) pl z = refl
+tag_unplaced structs dest (InstKind.cmpxchg t p c v) pl z = refl
+tag_unplaced structs dest (InstKind.extract_value v i) pl z = refl
+tag_unplaced structs dest InstKind.fence pl z = refl
 
 -- an alloca at the front
 record AllocaFront (m : ℕ) (i : Inst) (ks ws : List ℕ) : Type 0 where
-  pub args : Meanings allocaFields
-  pub fields : Fields m allocaFields args (lent ks ws 1)
+  pub args : Meanings alloca_fields
+  pub fields : Fields m alloca_fields args (lent ks ws 1)
   pub is : shape i.kind ≡ Shape.alloca args.0 args.1.0
 
-alloca-front : {m : ℕ} {i : Inst} (ks ws : List ℕ) → InstAt m i (entries ks ws) → get_or ks 0 0 ≡ 73 → AllocaFront m i ks ws
+alloca_front : {m : ℕ} {i : Inst} (ks ws : List ℕ) → InstAt m i (entries ks ws) → get_or ks 0 0 ≡ 73 → AllocaFront m i ks ws
 unfolding shape
-alloca-front {m} {i} ks ws a e =
-    let f = inst-front ks ws a in
-    let t = tag-alloca i.kind (same_tag (instTagOf i.kind) InstTag.alloca (sym f.kind ∙ e)) in
-    record { args = t.0; fields = subst (λ (q : InstKind). Fields m (instFields (instTagOf q)) (instArgs q) (lent ks ws 1)) t.1 f.fields; is = ap shape t.1 }
+alloca_front {m} {i} ks ws a e =
+    let f = inst_front ks ws a in
+    let t = tag_alloca i.kind (same_tag (inst_tag_of i.kind) InstTag.alloca (sym f.kind ∙ e)) in
+    record { args = t.0; fields = subst (λ (q : InstKind). Fields m (inst_fields (inst_tag_of q)) (inst_args q) (lent ks ws 1)) t.1 f.fields; is = ap shape t.1 }
 
-dest-within : {m : ℕ} (o : Option ℕ) {d : ℕ} → d ≡ destWord o → Maybe (NameLimits m) o → d ≤ m
-dest-within none e l = omega arith
-dest-within (some x) e l = omega arith
+dest_within : {m : ℕ} (o : Option ℕ) {d : ℕ} → d ≡ dest_word o → Maybe (NameLimits m) o → d ≤ m
+dest_within none e l = omega arith
+dest_within (some x) e l = omega arith
 
 module _ {m : ℕ} (ks ws : List ℕ) {bs : List Entry} (work : List ℕ) (f : Frame) where
-  pub take-ask : StepAsk m f (entries ks ws) bs work → TakeAsk m f (entries ks ws) work
-  take-ask k = record { inst = k.inst; at = k.at; room = k.ready.room; few = k.few }
+  pub take_ask : StepAsk m f (entries ks ws) bs work → TakeAsk m f (entries ks ws) work
+  take_ask k = record { inst = k.inst; at = k.at; room = k.ready.room; few = k.few }
 
   -- behind a refusal
-  pub step-refused : Ready m bs work → (f.refused ≡ 0 → ⊥) → Stepped m (entries ks ws) bs work work f f
+  pub step_refused : Ready m bs work → (f.refused ≡ 0 → ⊥) → Stepped m (entries ks ws) bs work work f f
   unfolding bind
-  step-refused ready e =
-      record { ready = ready; kept = kept-none; few = omega arith; ends = λ l. l; places = λ i a. still i; slots = λ i a d. absurd (e d) }
+  step_refused ready e =
+      record { ready = ready; kept = kept_none; few = omega arith; ends = λ l. l; places = λ i a. still i; slots = λ i a d. absurd (e d) }
     where
-      still : (i : Inst) (fr : Result Places) → FrameSays m fr work f → FrameSays m (bind fr (frameStep (structsIn m bs) i.dest (shape i.kind))) work f
+      still : (i : Inst) (fr : Result Places) → FrameSays m fr work f → FrameSays m (bind fr (frame_step (structs_in m bs) i.dest (shape i.kind))) work f
       still i (ok p) h = absurd (e h.going)
       still i (err n) h = h
 
   module _ (going : f.refused ≡ 0) {work' : List ℕ} {taken : Frame} (t : Taken m (entries ks ws) work work' f taken) where
     -- no alloca
-    pub step-plain : Ready m bs work → (get_or ks 0 0 ≡ 73 → ⊥) → Stepped m (entries ks ws) bs work work' f taken
+    pub step_plain : Ready m bs work → (get_or ks 0 0 ≡ 73 → ⊥) → Stepped m (entries ks ws) bs work work' f taken
     unfolding bind
-    step-plain ready z =
+    step_plain ready z =
         record { ready = t.ready bs ready; kept = t.kept; few = t.few; ends = λ l. omega (arith, t.off); places = places; slots = λ i a d names o s h. t.slots i a names o s h }
       where
-        places : (i : Inst) → InstAt m i (entries ks ws) → (fr : Result Places) → FrameSays m fr work f → FrameSays m (bind fr (frameStep (structsIn m bs) i.dest (shape i.kind))) work' taken
-        places i a (err n) h = not-told h going
+        places : (i : Inst) → InstAt m i (entries ks ws) → (fr : Result Places) → FrameSays m fr work f → FrameSays m (bind fr (frame_step (structs_in m bs) i.dest (shape i.kind))) work' taken
+        places i a (err n) h = not_told h going
         places i a (ok p) h =
             subst (λ (x : Result Places). FrameSays m x work' taken)
-            (sym (tag-unplaced (structsIn m bs) i.dest i.kind p (λ e. z ((inst-front ks ws a).kind ∙ ap instKind e)))) (t.places p h)
+            (sym (tag_unplaced (structs_in m bs) i.dest i.kind p (λ e. z ((inst_front ks ws a).kind ∙ ap inst_kind e)))) (t.places p h)
 
     -- an alloca
     module _ (e : get_or ks 0 0 ≡ 73) where
-      pub alloca-ask : StepAsk m f (entries ks ws) bs work → AllocaAsk m (get_or ws 0 0) taken (lent ks ws 1) bs work'
-      alloca-ask k =
-          let a = alloca-front ks ws k.at e in
-          let d : get_or ws 0 0 ≤ m = dest-within k.inst.dest (inst-front ks ws k.at).dest k.at.keeps.0 in
+      pub alloca_ask : StepAsk m f (entries ks ws) bs work → AllocaAsk m (get_or ws 0 0) taken (lent ks ws 1) bs work'
+      alloca_ask k =
+          let a = alloca_front ks ws k.at e in
+          let d : get_or ws 0 0 ≤ m = dest_within k.inst.dest (inst_front ks ws k.at).dest k.at.keeps.0 in
           record { args = a.args; fields = a.fields; named = d; ready = t.ready bs k.ready; ends = omega (arith, k.ends, t.off) }
 
-      pub step-alloca : (k : StepAsk m f (entries ks ws) bs work) {work'' : List ℕ} {r : Frame} → AllocaDone m (get_or ws 0 0) (lent ks ws 1) bs work' work'' taken r
+      pub step_alloca : (k : StepAsk m f (entries ks ws) bs work) {work'' : List ℕ} {r : Frame} → AllocaDone m (get_or ws 0 0) (lent ks ws 1) bs work' work'' taken r
           → Stepped m (entries ks ws) bs work work'' f r
       unfolding bind
-      step-alloca k {work''} {r} done =
-          let own = alloca-front ks ws k.at e in
+      step_alloca k {work''} {r} done =
+          let own = alloca_front ks ws k.at e in
           let s = done own.args own.fields in
           record {
             ready = s.ready;
-            kept = kept_then t.kept (kept-places s.kept);
+            kept = kept_then t.kept (kept_places s.kept);
             few = omega (arith, t.few, s.slots);
             ends = λ l. s.ends (omega (arith, t.off));
             places = places;
             slots = λ i a d names o z h.
                 let g = t.slots i a names o z h in
-                record { count = s.slots ∙ g.count; words = λ x l. s.kept.same (slot_at x) (λ y _ q. omega arith) (settled-word x 1 l (omega arith)) ∙ g.words x l };
+                record { count = s.slots ∙ g.count; words = λ x l. s.kept.same (slot_at x) (λ y _ q. omega arith) (settled_word x 1 l (omega arith)) ∙ g.words x l };
           }
         where
-          places : (i : Inst) → InstAt m i (entries ks ws) → (fr : Result Places) → FrameSays m fr work f → FrameSays m (bind fr (frameStep (structsIn m bs) i.dest (shape i.kind))) work'' r
-          places i a (err n) h = not-told h going
+          places : (i : Inst) → InstAt m i (entries ks ws) → (fr : Result Places) → FrameSays m fr work f → FrameSays m (bind fr (frame_step (structs_in m bs) i.dest (shape i.kind))) work'' r
+          places i a (err n) h = not_told h going
           places i a (ok p) h =
-              let c = alloca-front ks ws a e in
-              let d : destOf (get_or ws 0 0) ≡ i.dest = ap destOf (inst-front ks ws a).dest ∙ dest-is i.dest in
+              let c = alloca_front ks ws a e in
+              let d : dest_of (get_or ws 0 0) ≡ i.dest = ap dest_of (inst_front ks ws a).dest ∙ dest_is i.dest in
               rw (← d, c.is) ((done c.args c.fields).says p (t.places p h))
 
   -- no result that has a name, and no alloca
-  pub step-idle : Ready m bs work → get_or ws 0 0 ≡ 0 → (get_or ks 0 0 ≡ 73 → ⊥) → Stepped m (entries ks ws) bs work work f f
-  step-idle ready w z = at f.refused refl
+  pub step_idle : Ready m bs work → get_or ws 0 0 ≡ 0 → (get_or ks 0 0 ≡ 73 → ⊥) → Stepped m (entries ks ws) bs work work f f
+  step_idle ready w z = at f.refused refl
     where
       at : (n : ℕ) → f.refused ≡ n → Stepped m (entries ks ws) bs work work f f
-      at zero e = step-plain e (take_none ks ws work f w) ready z
-      at (suc n) e = step-refused ready (λ d. omega arith)
+      at zero e = step_plain e (take_none ks ws work f w) ready z
+      at (suc n) e = step_refused ready (λ d. omega arith)

@@ -4,9 +4,9 @@ ghost use Rattle.std.proofs.Math.Option.{Option};
 ghost use Rattle.book.specs.Ast.{TypedVal};
 ghost use Rattle.book.specs.Entry.{entries};
 ghost use Rattle.layout.specs.Frame.{count_of};
-ghost use Rattle.gen_frame.specs.Frames.{barredBy};
-ghost use Rattle.gen_frame.specs.Fixed.{Product, SmallPlace, fixedBy, fixedWords};
-ghost use Rattle.gen_frame.specs.Allocas.{CountAt, countBy, AllocaAsk, AllocaDone};
+ghost use Rattle.gen_frame.specs.Frames.{barred_by};
+ghost use Rattle.gen_frame.specs.Fixed.{Product, SmallPlace, fixed_by, fixed_words};
+ghost use Rattle.gen_frame.specs.Allocas.{CountAt, count_by, AllocaAsk, AllocaDone};
 ghost use Rattle.gen_frame.specs.Placed.{SizedAsk, PlaceAsk, SizedDone, PlaceDone};
 
 use crate::Frame;
@@ -18,7 +18,7 @@ use numbers::align::align_up;
 
 // A refusal.
 fn barred(f: Frame, number: u64) -> Frame
-    ensures { result ≡ barredBy f number }
+    ensures { result ≡ barred_by f number }
 {
     Frame {
         slots: f.slots,
@@ -45,7 +45,7 @@ fn bytes(size: u64, count: u64) -> u64
 // A fixed place: it starts at the next multiple of its type's alignment and ends at most at 2^31.
 fn fix_place(work: &mut [u64], name: u64, align: u64, size: u64, count: u64, f: Frame) -> Frame
     requires { SmallPlace name align size f work.old }
-    ensures { (result ≡ fixedBy align size count f) × (work.new ≡ fixedWords align size count f name work.old) }
+    ensures { (result ≡ fixed_by align size count f) × (work.new ≡ fixed_words align size count f name work.old) }
 {
     let start = align_up(f.off, align);
     let end = start + bytes(size, count);
@@ -118,7 +118,7 @@ enum Count {
 // The count at the front: one where it is absent, a constant as it stands.
 fn count_of(kinds: &[u64], words: &[u64], names: u64) -> Count
     requires { (o : Option TypedVal) × CountAt names o (entries kinds.now words.now) }
-    ensures { (o : Option TypedVal) → CountAt names o (entries kinds.now words.now) → countBy result ≡ count_of o }
+    ensures { (o : Option TypedVal) → CountAt names o (entries kinds.now words.now) → count_by result ≡ count_of o }
 {
     if kinds[0] == entry::ABSENT {
         return Count::Fixed(1);

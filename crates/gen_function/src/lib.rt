@@ -5,7 +5,7 @@ ghost use Rattle.book.specs.Entry.{entries};
 ghost use Rattle.assembly.specs.Line.{Line};
 ghost use Rattle.lowering.specs.Gen.{line, when, each};
 ghost use Rattle.lowering.specs.Context.{FnCtx};
-ghost use Rattle.lowering.specs.Function.{prologue as prologueOf, genBlock, genLines};
+ghost use Rattle.lowering.specs.Function.{prologue as prologueOf, gen_block, gen_lines};
 ghost use Rattle.gen_lines.specs.Puts.{Puts};
 ghost use Rattle.gen_values.specs.Maps.{Maps, Did};
 ghost use Rattle.gen_function.specs.Blocks.{Listed, BlocksAsk};
@@ -34,8 +34,8 @@ fn gen_blocks(
 ) -> Reached
     requires { BlocksAsk names book_kinds.now book_words.now from last base work.old }
     ensures { (c : FnCtx) (blocks : List BasicBlock) → Listed names book_kinds.now book_words.now from last blocks
-        → (c.bpSlot ≡ base.slot) × (c.hasFrame ≡ base.framed) → Maps names (entries book_kinds.now book_words.now) c work.old
-        → Did (each (genBlock c) blocks) names (entries book_kinds.now book_words.now) c work.new
+        → (c.bp_slot ≡ base.slot) × (c.has_frame ≡ base.framed) → Maps names (entries book_kinds.now book_words.now) c work.old
+        → Did (each (gen_block c) blocks) names (entries book_kinds.now book_words.now) c work.new
         s result lines.old operands.old lines.new operands.new }
 {
     let mut at = next_block(book_kinds, from, last);
@@ -78,7 +78,7 @@ fn push_slots(total: u64, lines: &mut [u16], operands: &mut [u64], s: Reached) -
 
 // The frame is entered: its base is kept in a slot, the stack pointer moved behind it.
 fn prologue(slot: u64, size: u64, lines: &mut [u16], operands: &mut [u64], s: Reached) -> Reached
-    ensures { (c : FnCtx) → c.bpSlot ≡ slot → c.frameSize ≡ size
+    ensures { (c : FnCtx) → c.bp_slot ≡ slot → c.frame_size ≡ size
         → Puts (prologueOf c) s result lines.old operands.old lines.new operands.new }
 {
     let top = put(lines, operands, s, line::THREAD_GET, 0);
@@ -92,7 +92,7 @@ fn prologue(slot: u64, size: u64, lines: &mut [u16], operands: &mut [u64], s: Re
 // The same where there is a frame.
 fn enter_frame(head: Prepared, lines: &mut [u16], operands: &mut [u64], s: Reached) -> Reached
     ensures { (c : FnCtx) → Framed c head
-        → Puts (when c.hasFrame (prologueOf c)) s result lines.old operands.old lines.new operands.new }
+        → Puts (when c.has_frame (prologueOf c)) s result lines.old operands.old lines.new operands.new }
 {
     if head.framed {
         prologue(head.slots, head.size, lines, operands, s)
@@ -127,7 +127,7 @@ pub fn gen_function(
     requires { FunctionAsk names book_kinds.now book_words.now head work.old }
     ensures { (c : FnCtx) (f : Function) → FunctionHere names book_kinds.now book_words.now head f
         → Framed c head → Maps names (entries book_kinds.now book_words.now) c work.old
-        → Did (genLines c f (slots_of head)) names (entries book_kinds.now book_words.now) c work.new
+        → Did (gen_lines c f (slots_of head)) names (entries book_kinds.now book_words.now) c work.new
         s result lines.old operands.old lines.new operands.new }
 {
     let at = head.at;

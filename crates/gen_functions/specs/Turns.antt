@@ -5,25 +5,25 @@ use Rattle.std.proofs.Common.{subst, ◌∙◌, arith, length-append, length-dro
 use Rattle.std.proofs.Math.Bool.{cond}
 use Rattle.book.specs.Ast.{Function}
 use Rattle.book.specs.Entry.{Entry, entries}
-use Rattle.book.specs.Encode.{ending, closed, encBasicBlock, encFunction, function-long}
+use Rattle.book.specs.Encode.{ending, closed, enc_basic_block, enc_function, function_long}
 use Rattle.book.specs.Limits.{FunctionLimits}
 use Rattle.book.specs.Result.{Result, ok, err, bind}
-use Rattle.book.specs.Shape.{allInsts}
-use Rattle.book_types.specs.Laws.{length-entries}
-use Rattle.layout.specs.Frame.{Places, framePass, noFrame, framed}
+use Rattle.book.specs.Shape.{all_insts}
+use Rattle.book_types.specs.Laws.{length_entries}
+use Rattle.layout.specs.Frame.{Places, frame_pass, no_frame, framed}
 use Rattle.lowering.specs.Gen.{Gen, refuse, ◌>>=◌}
 use Rattle.lowering.specs.Context.{Codegen, FnCtx}
-use Rattle.lowering.specs.Function.{genLines, context_of, totalSlots, genFunction}
+use Rattle.lowering.specs.Function.{gen_lines, context_of, total_slots, gen_function}
 use Rattle.gen_lines.specs.declared.Reached.{Reached}
-use Rattle.gen_lines.specs.Puts.{Puts, is_refused, madeRefused, refuse-puts, same-puts}
+use Rattle.gen_lines.specs.Puts.{Puts, is_refused, made_refused, refuse_puts, same_puts}
 use Rattle.gen_values.specs.Maps.{Maps, Did}
-use Rattle.gen_frame.specs.Frames.{not-told}
-use Rattle.gen_blocks.specs.Function.{functionIn, behindIn, FunctionAt, FunctionsAt, first-is, first-at, next-at}
+use Rattle.gen_frame.specs.Frames.{not_told}
+use Rattle.gen_blocks.specs.Function.{function_in, behind_in, FunctionAt, FunctionsAt, first_is, first_at, next_at}
 use Rattle.gen_prepare.specs.declared.Prepared.{Prepared}
 use Rattle.gen_prepare.specs.Prepare.{Shared, PrepareAsk, PreparedAs, SetUp, PrepareDone}
 use Rattle.gen_function.specs.Blocks.{Listed}
 use Rattle.gen_function.specs.Function.{FunctionHere, FunctionAsk, Framed, slots_of}
-use Rattle.gen_clear.specs.Clear.{AllCleared, ClearAsk, shared-after, function-ask}
+use Rattle.gen_clear.specs.Clear.{AllCleared, ClearAsk, shared_after, function_ask}
 use Rattle.gen_functions.specs.declared.Turn.{Turn}
 
 -- a function stands at the place, and others behind it; what functions share, and what is left to clear
@@ -37,7 +37,7 @@ pub record TurnAsk (m : ℕ) (bk bw : List ℕ) (at last : ℕ) (work : List ℕ
 
 -- its lines are put, and the others stand behind it. Left free: what the work words hold where it is refused
 pub record Turned (g : Codegen) (f : Function) (fs : List Function) (m : ℕ) (es : List Entry) (last at : ℕ) (work' : List ℕ) (t r : Turn) (ks os ks' os' : List ℕ) : Type 0 where
-  pub puts : Puts (genFunction g f) t.s r.s ks os ks' os'
+  pub puts : Puts (gen_function g f) t.s r.s ks os ks' os'
   pub next : FunctionsAt m es last r.to fs
   pub further : at < r.to
   pub again : is_refused r.s ≡ false → Shared m es g work' × ClearAsk m es r.from r.to work'
@@ -51,115 +51,115 @@ module _ {m : ℕ} (bk bw : List ℕ) {at last : ℕ} (g : Codegen) (f : Functio
   es = entries bk bw
 
   abbrev fn : Function
-  fn = functionIn m (entries bk bw) at
+  fn = function_in m (entries bk bw) at
 
   -- ---- what `prepare` asks
   module _ {work₀ : List ℕ} (shared₀ : Shared m es g work₀) {work : List ℕ} (c : AllCleared m work₀ work) where
     shared : Shared m es g work
-    shared = shared-after shared₀ c
+    shared = shared_after shared₀ c
 
-    pub prepare-ask : PrepareAsk m es last at work
-    prepare-ask = record { fn = first-at here; clean = c.clean; room = shared.room; measured = shared.measured }
+    pub prepare_ask : PrepareAsk m es last at work
+    prepare_ask = record { fn = first_at here; clean = c.clean; room = shared.room; measured = shared.measured }
 
     -- ---- what it answers
     module _ {work' : List ℕ} {r : Prepared} (d : PrepareDone m es at work work' r) where
-      says : PreparedAs (framePass g.structs (allInsts f.blocks) noFrame) g f m es work' r
-      says = subst (λ (h : Function). PreparedAs (framePass g.structs (allInsts h.blocks) noFrame) g h m es work' r) (first-is here) (d.says g shared)
+      says : PreparedAs (frame_pass g.structs (all_insts f.blocks) no_frame) g f m es work' r
+      says = subst (λ (h : Function). PreparedAs (frame_pass g.structs (all_insts h.blocks) no_frame) g h m es work' r) (first_is here) (d.says g shared)
 
-      front : drop at es ≡ encFunction f ++ behindIn m es at
-      front = (first-at here).here ∙ ap (λ (h : Function). encFunction h ++ behindIn m es at) (first-is here)
+      front : drop at es ≡ enc_function f ++ behind_in m es at
+      front = (first_at here).here ∙ ap (λ (h : Function). enc_function h ++ behind_in m es at) (first_is here)
 
-      end_is : r.end ≡ at + length (encFunction f)
+      end_is : r.end ≡ at + length (enc_function f)
       end_is =
-          omega (arith, ap length front, ap length d.after, length-append (encFunction f) (behindIn m es at), length-drop at es, length-drop r.end es, here.there, d.there)
+          omega (arith, ap length front, ap length d.after, length-append (enc_function f) (behind_in m es at), length-drop at es, length-drop r.end es, here.there, d.there)
 
       pub next : FunctionsAt m es last r.end fs
-      next = next-at here r.end d.there d.after
+      next = next_at here r.end d.there d.after
 
       pub further : at < r.end
-      further = omega (arith, end_is, function-long f)
+      further = omega (arith, end_is, function_long f)
 
-      first-blocks : drop r.blocks es ≡ closed encBasicBlock f.blocks ++ behindIn m es at
-      first-blocks = d.blocks ∙ ap (λ (h : Function). closed encBasicBlock h.blocks ++ behindIn m es at) (first-is here)
+      first_blocks : drop r.blocks es ≡ closed enc_basic_block f.blocks ++ behind_in m es at
+      first_blocks = d.blocks ∙ ap (λ (h : Function). closed enc_basic_block h.blocks ++ behind_in m es at) (first_is here)
 
-      pub function-here : FunctionHere m bk bw r f
-      function-here =
+      pub function_here : FunctionHere m bk bw r f
+      function_here =
           record {
-            rest = behindIn m es at;
+            rest = behind_in m es at;
             here = ap (λ (n : ℕ). drop n es) d.at ∙ front;
             blocks = record {
-              rest = behindIn m es at;
-              here = first-blocks;
+              rest = behind_in m es at;
+              here = first_blocks;
               ends = omega (arith, ap length d.after, length-drop r.end es, d.there);
               keeps = here.limits.0.1.1.1;
               few = here.few;
-              there = d.first-there;
+              there = d.first_there;
             };
             order =
                 omega (
                   arith,
-                  ap length first-blocks,
+                  ap length first_blocks,
                   ap length d.after,
-                  length-append (closed encBasicBlock f.blocks) (behindIn m es at),
+                  length-append (closed enc_basic_block f.blocks) (behind_in m es at),
                   length-drop r.blocks es,
                   length-drop r.end es,
-                  d.first-there,
+                  d.first_there,
                   d.there,
                 );
-            in-kinds = omega (arith, d.there, length-entries bk bw);
+            in_kinds = omega (arith, d.there, length_entries bk bw);
           }
 
       -- a place was refused
-      pub refused-turn : (r.refused ≡ 0 → ⊥) → {s t : Reached} (ks os : List ℕ) → t ≡ madeRefused s r.refused → Puts (genFunction g f) s t ks os ks os
-      unfolding genFunction ◌>>=◌ bind refuse
-      refused-turn e {s} {t} ks os q = go (framePass g.structs (allInsts f.blocks) noFrame) says
+      pub refused_turn : (r.refused ≡ 0 → ⊥) → {s t : Reached} (ks os : List ℕ) → t ≡ made_refused s r.refused → Puts (gen_function g f) s t ks os ks os
+      unfolding gen_function ◌>>=◌ bind refuse
+      refused_turn e {s} {t} ks os q = go (frame_pass g.structs (all_insts f.blocks) no_frame) says
         where
-          go : (p : Result Places) → PreparedAs p g f m es work' r → Puts (p >>= (λ fr. genLines (context_of g f fr) f (totalSlots g f fr))) s t ks os ks os
+          go : (p : Result Places) → PreparedAs p g f m es work' r → Puts (p >>= (λ fr. gen_lines (context_of g f fr) f (total_slots g f fr))) s t ks os ks os
           go (ok fr) z = absurd (e z.going)
-          go (err n) z = same-puts (λ k. refl) (refuse-puts n z.positive s ks os (q ∙ ap (madeRefused s) z.number))
+          go (err n) z = same_puts (λ k. refl) (refuse_puts n z.positive s ks os (q ∙ ap (made_refused s) z.number))
 
       -- none was: the function's context
       module _ (e : r.refused ≡ 0) where
         pub record Context : Type 0 where
           pub places : Places
-          pub is : framePass g.structs (allInsts f.blocks) noFrame ≡ ok places
+          pub is : frame_pass g.structs (all_insts f.blocks) no_frame ≡ ok places
           pub set : SetUp g f places m es work' r
 
         pub context : Context
-        context = go (framePass g.structs (allInsts f.blocks) noFrame) refl says
+        context = go (frame_pass g.structs (all_insts f.blocks) no_frame) refl says
           where
-            go : (p : Result Places) → framePass g.structs (allInsts f.blocks) noFrame ≡ p → PreparedAs p g f m es work' r → Context
+            go : (p : Result Places) → frame_pass g.structs (all_insts f.blocks) no_frame ≡ p → PreparedAs p g f m es work' r → Context
             go (ok fr) i z = record { places = fr; is = i; set = z }
-            go (err n) i z = not-told z e
+            go (err n) i z = not_told z e
 
         abbrev ctx : FnCtx
         ctx = context_of g f context.places
 
-        pub context-framed : Framed ctx r
-        context-framed = record { slots = context.set.slots; size = context.set.size; framed = context.set.framed }
+        pub context_framed : Framed ctx r
+        context_framed = record { slots = context.set.slots; size = context.set.size; framed = context.set.framed }
 
-        pub function-asked : FunctionAsk m bk bw r work'
-        function-asked = record { ctx = ctx; maps = context.set.maps; framed = context-framed; fn = f; here = function-here; few = d.few }
+        pub function_asked : FunctionAsk m bk bw r work'
+        function_asked = record { ctx = ctx; maps = context.set.maps; framed = context_framed; fn = f; here = function_here; few = d.few }
 
-        total-is : totalSlots g f context.places ≡ slots_of r
-        unfolding totalSlots slots_of context_of
-        total-is = ap (λ (n : ℕ). n + cond (framed context.places) 1 0) context.set.slots ∙ ap (λ (b : Bool). r.slots + cond b 1 0) context.set.framed
+        total_is : total_slots g f context.places ≡ slots_of r
+        unfolding total_slots slots_of context_of
+        total_is = ap (λ (n : ℕ). n + cond (framed context.places) 1 0) context.set.slots ∙ ap (λ (b : Bool). r.slots + cond b 1 0) context.set.framed
 
-        generated-is : (n : ℕ) → genLines ctx f (slots_of r) n ≡ genFunction g f n
-        unfolding genFunction ◌>>=◌ bind
-        generated-is n =
-            sym (ap (λ (p : Result Places). bind p (λ fr. genLines (context_of g f fr) f (totalSlots g f fr) n)) context.is ∙ ap (λ (j : ℕ). genLines ctx f j n) total-is)
+        generated_is : (n : ℕ) → gen_lines ctx f (slots_of r) n ≡ gen_function g f n
+        unfolding gen_function ◌>>=◌ bind
+        generated_is n =
+            sym (ap (λ (p : Result Places). bind p (λ fr. gen_lines (context_of g f fr) f (total_slots g f fr) n)) context.is ∙ ap (λ (j : ℕ). gen_lines ctx f j n) total_is)
 
         -- its lines
-        module _ {work'' : List ℕ} {s t : Reached} {ks os ks' os' : List ℕ} (did : Did (genLines ctx f (slots_of r)) m es ctx work'' s t ks os ks' os') where
-          pub lines-put : Puts (genFunction g f) s t ks os ks' os'
-          lines-put = same-puts generated-is did.puts
+        module _ {work'' : List ℕ} {s t : Reached} {ks os ks' os' : List ℕ} (did : Did (gen_lines ctx f (slots_of r)) m es ctx work'' s t ks os ks' os') where
+          pub lines_put : Puts (gen_function g f) s t ks os ks' os'
+          lines_put = same_puts generated_is did.puts
 
           -- what the next function needs
-          pub for-next : Shared m es g work'' × ClearAsk m es at r.end work''
+          pub for_next : Shared m es g work'' × ClearAsk m es at r.end work''
           unfolding context_of
-          for-next =
+          for_next =
               let k = did.maps in (
                 record { room = k.room; marks = k.marks; structs = k.structs; measured = k.measured },
-                function-ask m es work'' at r.end g f context.places (behindIn m es at) front here.there end_is here.limits.0 here.few context.is k,
+                function_ask m es work'' at r.end g f context.places (behind_in m es at) front here.there end_is here.limits.0 here.few context.is k,
               )

@@ -7,11 +7,11 @@ use Rattle.book.specs.Ast.{Function}
 use Rattle.book.specs.Entry.{Entry, entries}
 use Rattle.lowering.specs.Gen.{Gen, each}
 use Rattle.lowering.specs.Context.{Codegen}
-use Rattle.lowering.specs.Function.{genFunction, genFunctions}
+use Rattle.lowering.specs.Function.{gen_function, gen_functions}
 use Rattle.gen_lines.specs.declared.Reached.{Reached}
 use Rattle.gen_lines.specs.Puts.{Puts, is_refused}
-use Rattle.gen_term.specs.Toward.{Toward, toward-none, toward-first, toward-then, toward-skip}
-use Rattle.gen_blocks.specs.Function.{FunctionsAt, functions-none, first-before}
+use Rattle.gen_term.specs.Toward.{Toward, toward_none, toward_first, toward_then, toward_skip}
+use Rattle.gen_blocks.specs.Function.{FunctionsAt, functions_none, first_before}
 use Rattle.gen_prepare.specs.Prepare.{Shared}
 use Rattle.gen_clear.specs.Clear.{ClearAsk}
 use Rattle.gen_functions.specs.declared.Turn.{Turn}
@@ -26,36 +26,36 @@ pub record FunctionsAsk (m : ℕ) (bk bw : List ℕ) (first last : ℕ) (work : 
 
 -- their lines are put. Left free: what the work words hold where one is refused
 pub record FunctionsDone (g : Codegen) (fs : List Function) (m : ℕ) (es : List Entry) (work' : List ℕ) (t r : Turn) (ks os ks' os' : List ℕ) : Type 0 where
-  pub puts : Puts (genFunctions g fs) t.s r.s ks os ks' os'
+  pub puts : Puts (gen_functions g fs) t.s r.s ks os ks' os'
   pub again : is_refused r.s ≡ false → Shared m es g work' × ClearAsk m es r.from r.to work'
 
 -- behind a refusal every generator leaves all as it is
-refused-puts : (g : Gen) (s : Reached) (ks os : List ℕ) → is_refused s ≡ true → Puts g s s ks os ks os
-refused-puts g s ks os e =
-    record { long-kinds = refl; long-operands = refl; stays = λ r. record { refused = r; number = refl }; goes = λ n a. never e a.going }
+refused_puts : (g : Gen) (s : Reached) (ks os : List ℕ) → is_refused s ≡ true → Puts g s s ks os ks os
+refused_puts g s ks os e =
+    record { long_kinds = refl; long_operands = refl; stays = λ r. record { refused = r; number = refl }; goes = λ n a. never e a.going }
 
 -- ---- on the way
 pub record Walked (g : Codegen) (fs : List Function) (m : ℕ) (es : List Entry) (last at : ℕ) (work : List ℕ) (t r : Turn) (ks os ks' os' : List ℕ) : Type 0 where
   pub todo : List Function
   pub left : FunctionsAt m es last at todo
-  pub toward : Toward (each (genFunction g) fs) (each (genFunction g) todo) t.s r.s ks os ks' os'
+  pub toward : Toward (each (gen_function g) fs) (each (gen_function g) todo) t.s r.s ks os ks' os'
   pub shared : Shared m es g work
   pub ask : ClearAsk m es r.from r.to work
 
 pub record FunctionsWalk (m : ℕ) (bk bw : List ℕ) (first last : ℕ) (work₀ ks os : List ℕ) (t : Turn) (work ks' os' : List ℕ) (at : ℕ) (r : Turn) : Type 0 where
-  pub long-work : length work ≡ length work₀
-  pub long-lines : length ks' ≡ length ks
-  pub long-operands : length os' ≡ length os
+  pub long_work : length work ≡ length work₀
+  pub long_lines : length ks' ≡ length ks
+  pub long_operands : length os' ≡ length os
   pub walked : (g : Codegen) (fs : List Function) → FunctionsAt m (entries bk bw) last first fs → Shared m (entries bk bw) g work₀ → ClearAsk m (entries bk bw) t.from t.to work₀
       → Walked g fs m (entries bk bw) last at work t r ks os ks' os'
 
 pub walk_start : (m : ℕ) (bk bw : List ℕ) (first last : ℕ) (work ks os : List ℕ) (t : Turn) → FunctionsWalk m bk bw first last work ks os t work ks os first t
 walk_start m bk bw first last work ks os t =
     record {
-      long-work = refl;
-      long-lines = refl;
-      long-operands = refl;
-      walked = λ g fs h s a. record { todo = fs; left = h; toward = toward-none (each (genFunction g) fs) t.s ks os; shared = s; ask = a };
+      long_work = refl;
+      long_lines = refl;
+      long_operands = refl;
+      walked = λ g fs h s a. record { todo = fs; left = h; toward = toward_none (each (gen_function g) fs) t.s ks os; shared = s; ask = a };
     }
 
 -- the next one
@@ -66,7 +66,7 @@ pub record First (m : ℕ) (es : List Entry) (last at : ℕ) (todo : List Functi
   pub here : FunctionsAt m es last at (fn ∷ others)
 
 first_of : {m : ℕ} {es : List Entry} {last at : ℕ} (todo : List Function) → FunctionsAt m es last at todo → at < last → First m es last at todo
-first_of [] k l = absurd (omega (arith, functions-none k))
+first_of [] k l = absurd (omega (arith, functions_none k))
 first_of (f ∷ fs) k l = record { fn = f; others = fs; same = refl; here = k }
 
 module _ {m : ℕ} (bk bw : List ℕ) {first last : ℕ} {work₀ ks os : List ℕ} {t : Turn} {work ks' os' : List ℕ} {at : ℕ} {r : Turn}
@@ -77,8 +77,8 @@ module _ {m : ℕ} (bk bw : List ℕ) {first last : ℕ} {work₀ ks os : List �
   asked : (a : FunctionsAsk m bk bw first last work₀ t) → Walked a.codegen a.functions m es last at work t r ks os ks' os'
   asked a = w.walked a.codegen a.functions a.here a.shared a.ask
 
-  pub turn-ask : FunctionsAsk m bk bw first last work₀ t → at < last → TurnAsk m bk bw at last work r
-  turn-ask a l =
+  pub turn_ask : FunctionsAsk m bk bw first last work₀ t → at < last → TurnAsk m bk bw at last work r
+  turn_ask a l =
       let v = asked a in
       let f = first_of v.todo v.left l in
       record { codegen = a.codegen; fn = f.fn; others = f.others; here = f.here; shared = v.shared; ask = v.ask }
@@ -89,8 +89,8 @@ module _ {m : ℕ} (bk bw : List ℕ) {first last : ℕ} {work₀ ks os : List �
       → Turned g f fs m es last at work'' r u ks' os' ks'' os''
 
   module _ (l : at < last) {work'' ks'' os'' : List ℕ} {u : Turn} (one : Did-turn work'' u ks'' os'') where
-    pub turn-further : FunctionsAsk m bk bw first last work₀ t → at < u.to
-    turn-further a =
+    pub turn_further : FunctionsAsk m bk bw first last work₀ t → at < u.to
+    turn_further a =
         let v = asked a in
         let f = first_of v.todo v.left l in
         (one a.codegen f.fn f.others f.here v.shared v.ask).further
@@ -98,14 +98,14 @@ module _ {m : ℕ} (bk bw : List ℕ) {first last : ℕ} {work₀ ks os : List �
     -- a refusal ends the walk
     pub walk_refused : is_refused u.s ≡ true → (g : Codegen) (fs : List Function) → FunctionsAt m es last first fs → Shared m es g work₀ → ClearAsk m es t.from t.to work₀
         → FunctionsDone g fs m es work'' t u ks os ks'' os''
-    unfolding each genFunctions
+    unfolding each gen_functions
     walk_refused e g fs h s a =
         let v = w.walked g fs h s a in
         let f = first_of v.todo v.left l in
         let d = one g f.fn f.others f.here v.shared v.ask in
-        let way = subst (λ (xs : List Function). Toward (each (genFunction g) fs) (each (genFunction g) xs) t.s r.s ks os ks' os') f.same v.toward in
-        let done = toward-then way (toward-first (each (genFunction g) f.others) d.puts) in
-        record { puts = done.goes u.s ks'' os'' (refused-puts _ u.s ks'' os'' e); again = λ z. never e z }
+        let way = subst (λ (xs : List Function). Toward (each (gen_function g) fs) (each (gen_function g) xs) t.s r.s ks os ks' os') f.same v.toward in
+        let done = toward_then way (toward_first (each (gen_function g) f.others) d.puts) in
+        record { puts = done.goes u.s ks'' os'' (refused_puts _ u.s ks'' os'' e); again = λ z. never e z }
 
     -- one more
     pub walk_more : is_refused u.s ≡ false → length work'' ≡ length work → length ks'' ≡ length ks' → length os'' ≡ length os'
@@ -113,32 +113,32 @@ module _ {m : ℕ} (bk bw : List ℕ) {first last : ℕ} {work₀ ks os : List �
     unfolding each
     walk_more e lw lk lo =
         record {
-          long-work = lw ∙ w.long-work;
-          long-lines = lk ∙ w.long-lines;
-          long-operands = lo ∙ w.long-operands;
+          long_work = lw ∙ w.long_work;
+          long_lines = lk ∙ w.long_lines;
+          long_operands = lo ∙ w.long_operands;
           walked = λ g fs h s a.
               let v = w.walked g fs h s a in
               let f = first_of v.todo v.left l in
               let d = one g f.fn f.others f.here v.shared v.ask in
-              let way = subst (λ (xs : List Function). Toward (each (genFunction g) fs) (each (genFunction g) xs) t.s r.s ks os ks' os') f.same v.toward in
+              let way = subst (λ (xs : List Function). Toward (each (gen_function g) fs) (each (gen_function g) xs) t.s r.s ks os ks' os') f.same v.toward in
               record {
                 todo = f.others;
                 left = d.next;
-                toward = toward-then way (toward-first (each (genFunction g) f.others) d.puts);
+                toward = toward_then way (toward_first (each (gen_function g) f.others) d.puts);
                 shared = (d.again e).0;
                 ask = (d.again e).1;
               };
         }
 
-  pub walk-done : last ≤ at → (g : Codegen) (fs : List Function) → FunctionsAt m es last first fs → Shared m es g work₀ → ClearAsk m es t.from t.to work₀
+  pub walk_done : last ≤ at → (g : Codegen) (fs : List Function) → FunctionsAt m es last first fs → Shared m es g work₀ → ClearAsk m es t.from t.to work₀
       → FunctionsDone g fs m es work t r ks os ks' os'
-  unfolding each genFunctions
-  walk-done l g fs h s a =
+  unfolding each gen_functions
+  walk_done l g fs h s a =
       let v = w.walked g fs h s a in
       let e = none_of v.todo v.left in
-      let way = subst (λ (xs : List Function). Toward (each (genFunction g) fs) (each (genFunction g) xs) t.s r.s ks os ks' os') e v.toward in
-      record { puts = toward-skip way; again = λ z. (v.shared, v.ask) }
+      let way = subst (λ (xs : List Function). Toward (each (gen_function g) fs) (each (gen_function g) xs) t.s r.s ks os ks' os') e v.toward in
+      record { puts = toward_skip way; again = λ z. (v.shared, v.ask) }
     where
       none_of : (todo : List Function) → FunctionsAt m es last at todo → todo ≡ []
       none_of [] k = refl
-      none_of (f ∷ fs) k = absurd (omega (arith, first-before k))
+      none_of (f ∷ fs) k = absurd (omega (arith, first_before k))

@@ -12,82 +12,82 @@ use Rattle.book.specs.Ast.{Ty, Value, TypedVal, StructType}
 use Rattle.book.specs.Entry.{Entry, entries}
 use Rattle.book.specs.Fields.{Meanings}
 use Rattle.book.specs.Result.{Result, ok, err, bind}
-use Rattle.book.specs.Check.{workFor}
-use Rattle.layout.specs.Step.{Step as GepStep, constInt, stride}
-use Rattle.layout.specs.Refusals.{Refusing, refusal-positive, refusing-err, gep-step-refusing}
-use Rattle.layout_memo.specs.Front.{Starts, ty_of, tyLen}
+use Rattle.book.specs.Check.{work_for}
+use Rattle.layout.specs.Step.{Step as GepStep, const_int, stride}
+use Rattle.layout.specs.Refusals.{Refusing, refusal_positive, refusing_err, gep_step_refusing}
+use Rattle.layout_memo.specs.Front.{Starts, ty_of, ty_len}
 use Rattle.layout_memo.specs.Work.{Ready, After}
-use Rattle.layout_step.specs.Steps.{Stepped, Steps, StepOutcome, index_of, arrayBy, stepBy, step_by}
+use Rattle.layout_step.specs.Steps.{Stepped, Steps, StepOutcome, index_of, array_by, step_by, step_by_lem}
 use Rattle.layout_step.specs.declared.Index.{Index}
 use Rattle.layout_step.specs.declared.Step.{Step}
 use Rattle.layout_step.specs.declared.Step.TheVariants as step
-use Rattle.lowering.specs.Operand.{intWidth}
-use Rattle.lowering.specs.Gep.{VarTerm, Walk as GepWalk, varTerm, start, took, firstStep, walkRest, walk}
+use Rattle.lowering.specs.Operand.{int_width}
+use Rattle.lowering.specs.Gep.{VarTerm, Walk as GepWalk, var_term, start, took, first_step, walk_rest, walk}
 use Rattle.gen_lines.specs.declared.Reached.{Reached}
-use Rattle.gen_lines.specs.Puts.{Barred, is_refused, madeRefused}
-use Rattle.gen_lines.specs.Follow.{Asked, Answered, asked-ok, asked-err}
+use Rattle.gen_lines.specs.Puts.{Barred, is_refused, made_refused}
+use Rattle.gen_lines.specs.Follow.{Asked, Answered, asked_ok, asked_err}
 use Rattle.gen_values.specs.Values.{width_by}
-use Rattle.gen_values.specs.Fields.{Fields, WidthSays, ValueAt, type-in, width_is}
+use Rattle.gen_values.specs.Fields.{Fields, WidthSays, ValueAt, type_in, width_is}
 use Rattle.gen_gep.specs.declared.Way.{Way}
-use Rattle.gen_gep.specs.Indices.{indexThen, indexIn, value-behind}
-use Rattle.gen_gep.specs.Terms.{Stays, stays-none, stays_then, stays_after, TermIs, Terms, stored, terms-stored, stays-stored, terms-after}
+use Rattle.gen_gep.specs.Indices.{index_then, index_in, value_behind}
+use Rattle.gen_gep.specs.Terms.{Stays, stays_none, stays_then, stays_after, TermIs, Terms, stored, terms_stored, stays_stored, terms_after}
 
 -- ---- the definition's walk, the first index and the later ones alike
 module _ (structs : List StructType) where
-  unfoldable pub stepFrom : (first : Bool) → Ty → Option ℕ → Result GepStep
-  stepFrom true t o = arrayBy structs t o
-  stepFrom false t o = stepBy structs t o
+  unfoldable pub step_from : (first : Bool) → Ty → Option ℕ → Result GepStep
+  step_from true t o = array_by structs t o
+  step_from false t o = step_by structs t o
 
-  unfoldable pub walkFrom : (first : Bool) → List TypedVal → GepWalk → Result GepWalk
-  walkFrom first [] k = ok k
-  walkFrom first (idx ∷ is) k = bind (bind (stepFrom first k.curTy (constInt idx.val)) (λ (t : GepStep). took t idx k)) (walkFrom false is)
+  unfoldable pub walk_from : (first : Bool) → List TypedVal → GepWalk → Result GepWalk
+  walk_from first [] k = ok k
+  walk_from first (idx ∷ is) k = bind (bind (step_from first k.cur_ty (const_int idx.val)) (λ (t : GepStep). took t idx k)) (walk_from false is)
 
-  two-binds : {A B C : Type 0} (r : Result A) (f : A → Result B) (g : B → Result C) → bind r (λ a. bind (f a) g) ≡ bind (bind r f) g
+  two_binds : {A B C : Type 0} (r : Result A) (f : A → Result B) (g : B → Result C) → bind r (λ a. bind (f a) g) ≡ bind (bind r f) g
   unfolding bind
-  two-binds (ok a) f g = refl
-  two-binds (err e) f g = refl
+  two_binds (ok a) f g = refl
+  two_binds (err e) f g = refl
 
-  later_same : (is : List TypedVal) (k : GepWalk) → walkRest structs is k ≡ walkFrom false is k
-  unfolding walkRest walkFrom stepFrom
+  later_same : (is : List TypedVal) (k : GepWalk) → walk_rest structs is k ≡ walk_from false is k
+  unfolding walk_rest walk_from step_from
   later_same [] k = refl
   later_same (idx ∷ is) k =
-      let f : walkRest structs is ≡ walkFrom false is = λ i x. later_same is x i in
-      rw (step_by structs k.curTy idx.val, f) (two-binds (stepBy structs k.curTy (constInt idx.val)) (λ (t : GepStep). took t idx k) (walkFrom false is))
+      let f : walk_rest structs is ≡ walk_from false is = λ i x. later_same is x i in
+      rw (step_by_lem structs k.cur_ty idx.val, f) (two_binds (step_by structs k.cur_ty (const_int idx.val)) (λ (t : GepStep). took t idx k) (walk_from false is))
 
-  pub walk_same : (t : Ty) (is : List TypedVal) → walk structs t is ≡ walkFrom true is (start t)
-  unfolding walk walkFrom stepFrom arrayBy firstStep start
+  pub walk_same : (t : Ty) (is : List TypedVal) → walk structs t is ≡ walk_from true is (start t)
+  unfolding walk walk_from step_from array_by first_step start
   walk_same t [] = refl
   walk_same t (idx ∷ is) =
-      let f : walkRest structs is ≡ walkFrom false is = λ i x. later_same is x i in
-      rw f (two-binds (arrayBy structs t (constInt idx.val)) (λ (s : GepStep). took s idx (start t)) (walkFrom false is))
+      let f : walk_rest structs is ≡ walk_from false is = λ i x. later_same is x i in
+      rw f (two_binds (array_by structs t (const_int idx.val)) (λ (s : GepStep). took s idx (start t)) (walk_from false is))
 
   -- a refusal's number is not 0
-  later-refusing : (t : Ty) (o : Option ℕ) → Refusing (stepBy structs t o)
-  unfolding constInt
-  later-refusing t none = rw (step_by structs t Value.other) at (gep-step-refusing structs t Value.other)
-  later-refusing t (some n) = rw (step_by structs t (Value.int n)) at (gep-step-refusing structs t (Value.int n))
+  later_refusing : (t : Ty) (o : Option ℕ) → Refusing (step_by structs t o)
+  unfolding const_int
+  later_refusing t none = rw (step_by_lem structs t Value.other) at (gep_step_refusing structs t Value.other)
+  later_refusing t (some n) = rw (step_by_lem structs t (Value.int n)) at (gep_step_refusing structs t (Value.int n))
 
-  step-refusing : (first : Bool) (t : Ty) (o : Option ℕ) → Refusing (stepFrom first t o)
-  unfolding stepFrom stepBy
-  step-refusing true t o = later-refusing (Ty.array false 0 t) o
-  step-refusing false t o = later-refusing t o
+  step_refusing : (first : Bool) (t : Ty) (o : Option ℕ) → Refusing (step_from first t o)
+  unfolding step_from step_by
+  step_refusing true t o = later_refusing (Ty.array false 0 t) o
+  step_refusing false t o = later_refusing t o
 
 abbrev pub Numbered : Step → Type 0
 Numbered (step.Refused e) = 0 < e
 Numbered (step.Constant off next) = Unit {0}
 Numbered (step.Varying size next) = Unit {0}
 
-pub step-numbered : {m : ℕ} {es : List Entry} {work work' : List ℕ} (structs : List StructType) (first : Bool) (t : Ty) (o : Option ℕ) (r : Step)
-    → StepOutcome m es work work' (stepFrom structs first t o) r → Numbered r
-step-numbered structs first t o (step.Refused e) q = refusal-positive (refusing-err (stepFrom structs first t o) (step-refusing structs first t o) q.says)
-step-numbered structs first t o (step.Constant off next) q = tt
-step-numbered structs first t o (step.Varying size next) q = tt
+pub step_numbered : {m : ℕ} {es : List Entry} {work work' : List ℕ} (structs : List StructType) (first : Bool) (t : Ty) (o : Option ℕ) (r : Step)
+    → StepOutcome m es work work' (step_from structs first t o) r → Numbered r
+step_numbered structs first t o (step.Refused e) q = refusal_positive (refusing_err (step_from structs first t o) (step_refusing structs first t o) q.says)
+step_numbered structs first t o (step.Constant off next) q = tt
+step_numbered structs first t o (step.Varying size next) q = tt
 
 -- ---- what is asked for, one after the other
 module _ {A B : Type 0} {r : Result A} (f : A → Result B) {s t u : Reached} {x : A} {y : B} where
-  pub asked-then : Asked r s t x → Asked (f x) t u y → Asked (bind r f) s u y
+  pub asked_then : Asked r s t x → Asked (f x) t u y → Asked (bind r f) s u y
   unfolding bind
-  asked-then q p = record { stays = λ h. later (q.stays h); goes = λ h. go r (q.goes h) h }
+  asked_then q p = record { stays = λ h. later (q.stays h); goes = λ h. go r (q.goes h) h }
     where
       later : {e : ℕ} → Barred e t → Barred e u
       later b = let d = p.stays b.refused in record { refused = d.refused; number = d.number ∙ b.number }
@@ -99,8 +99,8 @@ module _ {A B : Type 0} {r : Result A} (f : A → Result B) {s t u : Reached} {x
           subst (λ (z : A). Answered (f z) s u y) j (subst (λ (v : Reached). Answered (f x) v u y) i w)
 
 -- the width that the entry in front tells
-width-by : {r : Result ℕ} {s t : Reached} {v w : ℕ} → Asked r s t v → WidthSays w r → Asked r s t w
-width-by {r} {s} {t} {v} {w} q e = record { stays = q.stays; goes = λ h. go r (q.goes h) e }
+width_by_lem : {r : Result ℕ} {s t : Reached} {v w : ℕ} → Asked r s t v → WidthSays w r → Asked r s t w
+width_by_lem {r} {s} {t} {v} {w} q e = record { stays = q.stays; goes = λ h. go r (q.goes h) e }
   where
     go : (r : Result ℕ) → Answered r s t v → WidthSays w r → Answered r s t w
     go (ok n) (i, j) (k, z) = (i, k)
@@ -109,10 +109,10 @@ width-by {r} {s} {t} {v} {w} q e = record { stays = q.stays; goes = λ h. go r (
 -- ---- the walk so far
 -- k is what the definition has, w what the code has
 pub record WalkAt (m : ℕ) (bk bw work : List ℕ) (k : GepWalk) (w : Way) : Type 0 where
-  pub type : ty_of m (drop w.ty (entries bk bw)) ≡ k.curTy
-  pub sum : w.sum ≡ k.constOff
-  pub count : length k.varTerms ≡ w.terms
-  pub terms : Terms m bk bw work 0 k.varTerms
+  pub type : ty_of m (drop w.ty (entries bk bw)) ≡ k.cur_ty
+  pub sum : w.sum ≡ k.const_off
+  pub count : length k.var_terms ≡ w.terms
+  pub terms : Terms m bk bw work 0 k.var_terms
 
 -- from w to r the walk went as the answer says
 pub record Went (m : ℕ) (bk bw work work' : List ℕ) (answer : Result GepWalk) (w r : Way) : Type 0 where
@@ -126,78 +126,78 @@ pub record Went (m : ℕ) (bk bw work work' : List ℕ) (answer : Result GepWalk
 
 -- an index is taken: there is room for its term
 pub record TookAsk (m : ℕ) (bk bw work : List ℕ) (index : ℕ) (w : Way) : Type 0 where
-  pub in-kinds : index < length bk
+  pub in_kinds : index < length bk
   pub in_words : index < length bw
-  pub room : workFor m ≤ length work
+  pub room : work_for m ≤ length work
   pub few : w.terms < 32
 
 pub record TakeAsk (m : ℕ) (bk bw work : List ℕ) (index value : ℕ) (w : Way) : Type 0 where
-  pub holds : Meanings indexThen
-  pub fields : Fields m indexThen holds (drop index (entries bk bw))
-  pub behind : value ≡ index + tyLen m (drop index (entries bk bw))
+  pub holds : Meanings index_then
+  pub fields : Fields m index_then holds (drop index (entries bk bw))
+  pub behind : value ≡ index + ty_len m (drop index (entries bk bw))
   pub front : Starts m (drop w.ty (entries bk bw))
   pub ready : Ready m (entries bk bw) work
-  pub room : workFor m ≤ length work
+  pub room : work_for m ≤ length work
   pub few : w.terms < 32
 
 module _ {m : ℕ} {bk bw work : List ℕ} {index value : ℕ} {w : Way} (t : TakeAsk m bk bw work index value w) where
-  pub take-value : {p : Meanings indexThen} → Fields m indexThen p (drop index (entries bk bw)) → ValueAt m bk bw value p.1.0
-  take-value f = value-behind bk bw index f refl t.behind
+  pub take_value : {p : Meanings index_then} → Fields m index_then p (drop index (entries bk bw)) → ValueAt m bk bw value p.1.0
+  take_value f = value_behind bk bw index f refl t.behind
 
-  pub take-took : {work' : List ℕ} → After m (entries bk bw) work work' → TookAsk m bk bw work' index w
-  take-took a =
-      let q = type-in bk bw index t.fields in
-      record { in-kinds = q.0; in_words = q.1; room = omega (arith, t.room, a.kept.long); few = t.few }
+  pub take_took : {work' : List ℕ} → After m (entries bk bw) work work' → TookAsk m bk bw work' index w
+  take_took a =
+      let q = type_in bk bw index t.fields in
+      record { in_kinds = q.0; in_words = q.1; room = omega (arith, t.room, a.kept.long); few = t.few }
 
 -- ---- a step taken
 module _ {m : ℕ} {bk bw work : List ℕ} {k : GepWalk} {w : Way} (idx : TypedVal) (ready : Ready m (entries bk bw) work) (at : WalkAt m bk bw work k w) where
-  pub refused-went : Starts m (drop w.ty (entries bk bw)) → {answer : Result GepStep} (e : ℕ) → 0 < e → answer ≡ err e → {t : Reached} → t ≡ madeRefused w.s e
+  pub refused_went : Starts m (drop w.ty (entries bk bw)) → {answer : Result GepStep} (e : ℕ) → 0 < e → answer ≡ err e → {t : Reached} → t ≡ made_refused w.s e
       → Went m bk bw work work (bind answer (λ (t : GepStep). took t idx k)) w (record { first = false; ty = w.ty; sum = w.sum; terms = w.terms; s = t })
   unfolding bind
-  refused-went front e number i j =
+  refused_went front e number i j =
       record {
         walk = k;
         here = record { type = at.type; sum = at.sum; count = at.count; terms = at.terms };
-        asked = rw i (asked-err e number w.s k j);
+        asked = rw i (asked_err e number w.s k j);
         front = front;
-        stays = stays-none ready;
+        stays = stays_none ready;
         later = refl;
         few = omega arith;
       }
 
-  pub constant-went : {answer : Result GepStep} (off next : ℕ) → Stepped m (entries bk bw) answer (GepStep.const off) next → {sum : ℕ} → sum ≡ wrap_add 64 w.sum off
+  pub constant_went : {answer : Result GepStep} (off next : ℕ) → Stepped m (entries bk bw) answer (GepStep.const off) next → {sum : ℕ} → sum ≡ wrap_add 64 w.sum off
       → Went m bk bw work work (bind answer (λ (t : GepStep). took t idx k)) w (record { first = false; ty = next; sum = sum; terms = w.terms; s = w.s })
   unfolding bind took
-  constant-went off next q e =
+  constant_went off next q e =
       record {
-        walk = record { constOff = (k.constOff + off) % 2 ^ 64; varTerms = k.varTerms; curTy = ty_of m (drop next (entries bk bw)) };
+        walk = record { const_off = (k.const_off + off) % 2 ^ 64; var_terms = k.var_terms; cur_ty = ty_of m (drop next (entries bk bw)) };
         here = record { type = refl; sum = e ∙ ap (λ n. (n + off) % 2 ^ 64) at.sum; count = at.count; terms = at.terms };
-        asked = rw q.answer (asked-ok w.s _);
+        asked = rw q.answer (asked_ok w.s _);
         front = q.front;
-        stays = stays-none ready;
+        stays = stays_none ready;
         later = refl;
         few = omega arith;
       }
 
 -- a varying index: its type must have a width
-module _ (m : ℕ) (bk bw work : List ℕ) (k : GepWalk) (w : Way) (index : ℕ) {p : Meanings indexThen} (f : Fields m indexThen p (drop index (entries bk bw)))
-    (ready : Ready m (entries bk bw) work) (at : WalkAt m bk bw work k w) (room : workFor m ≤ length work) (few : w.terms < 32) where
-  pub vary-went : (size next : ℕ) → Starts m (drop next (entries bk bw)) → {work' : List ℕ} → work' ≡ stored m bk bw work w.terms index size room few → {v : ℕ} {t : Reached}
-      → Asked (intWidth p.0) w.s t v
-      → Went m bk bw work work' (took (GepStep.var size (ty_of m (drop next (entries bk bw)))) (indexIn p) k) w (record { first = false; ty = next; sum = w.sum; terms = w.terms + 1; s = t })
-  unfolding took varTerm
-  vary-went size next front {work'} e {v} {t} asked =
+module _ (m : ℕ) (bk bw work : List ℕ) (k : GepWalk) (w : Way) (index : ℕ) {p : Meanings index_then} (f : Fields m index_then p (drop index (entries bk bw)))
+    (ready : Ready m (entries bk bw) work) (at : WalkAt m bk bw work k w) (room : work_for m ≤ length work) (few : w.terms < 32) where
+  pub vary_went : (size next : ℕ) → Starts m (drop next (entries bk bw)) → {work' : List ℕ} → work' ≡ stored m bk bw work w.terms index size room few → {v : ℕ} {t : Reached}
+      → Asked (int_width p.0) w.s t v
+      → Went m bk bw work work' (took (GepStep.var size (ty_of m (drop next (entries bk bw)))) (index_in p) k) w (record { first = false; ty = next; sum = w.sum; terms = w.terms + 1; s = t })
+  unfolding took var_term
+  vary_went size next front {work'} e {v} {t} asked =
       record {
         walk = on bits;
         here = record {
           type = refl;
           sum = at.sum;
-          count = length-append k.varTerms (term bits ∷ []) ∙ (let q = at.count in omega arith);
-          terms = rw e (terms-stored m bk bw work w.terms index size room few k.varTerms (term bits) at.count at.terms is);
+          count = length-append k.var_terms (term bits ∷ []) ∙ (let q = at.count in omega arith);
+          terms = rw e (terms_stored m bk bw work w.terms index size room few k.var_terms (term bits) at.count at.terms is);
         };
-        asked = asked-then (λ (iw : ℕ). ok (on iw)) (width-by asked (width_is bk bw index f)) (asked-ok t (on bits));
+        asked = asked_then (λ (iw : ℕ). ok (on iw)) (width_by_lem asked (width_is bk bw index f)) (asked_ok t (on bits));
         front = front;
-        stays = rw e (stays-stored m bk bw work w.terms index size room few ready);
+        stays = rw e (stays_stored m bk bw work w.terms index size room few ready);
         later = refl;
         few = omega arith;
       }
@@ -206,27 +206,27 @@ module _ (m : ℕ) (bk bw work : List ℕ) (k : GepWalk) (w : Way) (index : ℕ)
       bits = width_by (get_or bk index 0) (get_or bw index 0)
 
       term : ℕ → VarTerm
-      term iw = varTerm (indexIn p) iw size
+      term iw = var_term (index_in p) iw size
 
       is : TermIs m bk bw index size (term bits)
       is = record { holds = p; fields = f; val = refl; width = refl; stride = refl }
 
       on : ℕ → GepWalk
-      on iw = record { constOff = k.constOff; varTerms = k.varTerms ++ (term iw ∷ []); curTy = ty_of m (drop next (entries bk bw)) }
+      on iw = record { const_off = k.const_off; var_terms = k.var_terms ++ (term iw ∷ []); cur_ty = ty_of m (drop next (entries bk bw)) }
 
 -- the answer varies
-pub varying-went : {m : ℕ} {bk bw work work' : List ℕ} (k : GepWalk) {w r : Way} (idx : TypedVal) {answer : Result GepStep} (size next : ℕ) → Stepped m (entries bk bw) answer (GepStep.var size) next
+pub varying_went : {m : ℕ} {bk bw work work' : List ℕ} (k : GepWalk) {w r : Way} (idx : TypedVal) {answer : Result GepStep} (size next : ℕ) → Stepped m (entries bk bw) answer (GepStep.var size) next
     → Went m bk bw work work' (took (GepStep.var size (ty_of m (drop next (entries bk bw)))) idx k) w r → Went m bk bw work work' (bind answer (λ (t : GepStep). took t idx k)) w r
 unfolding bind
-varying-went k idx size next q h = rw q.answer h
+varying_went k idx size next q h = rw q.answer h
 
 -- behind a measurement
 module _ {m : ℕ} {bk bw work work' : List ℕ} where
   pub walk_after : {k : GepWalk} {w : Way} → w.terms < 32 → After m (entries bk bw) work work' → WalkAt m bk bw work k w → WalkAt m bk bw work' k w
-  walk_after {k} few a h = record { type = h.type; sum = h.sum; count = h.count; terms = terms-after m bk bw (entries bk bw) work work' k.varTerms (omega (arith, h.count)) a h.terms }
+  walk_after {k} few a h = record { type = h.type; sum = h.sum; count = h.count; terms = terms_after m bk bw (entries bk bw) work work' k.var_terms (omega (arith, h.count)) a h.terms }
 
-  pub went-after : {work'' : List ℕ} {answer : Result GepWalk} {w r : Way} → After m (entries bk bw) work work' → Went m bk bw work' work'' answer w r → Went m bk bw work work'' answer w r
-  went-after a h =
+  pub went_after : {work'' : List ℕ} {answer : Result GepWalk} {w r : Way} → After m (entries bk bw) work work' → Went m bk bw work' work'' answer w r → Went m bk bw work work'' answer w r
+  went_after a h =
       record {
         walk = h.walk;
         here = h.here;
@@ -239,17 +239,17 @@ module _ {m : ℕ} {bk bw work work' : List ℕ} where
 
 -- the first step and a later one
 module _ {m : ℕ} {es : List Entry} {work work' : List ℕ} (structs : List StructType) (t : Ty) (o : Option ℕ) {first : Bool} {r : Step} where
-  pub first-outcome : first ≡ true → StepOutcome m es work work' (arrayBy structs t o) r → StepOutcome m es work work' (stepFrom structs first t o) r
-  unfolding stepFrom
-  first-outcome e q = rw e q
+  pub first_outcome : first ≡ true → StepOutcome m es work work' (array_by structs t o) r → StepOutcome m es work work' (step_from structs first t o) r
+  unfolding step_from
+  first_outcome e q = rw e q
 
-  pub later-outcome : first ≡ false → StepOutcome m es work work' (stepBy structs t o) r → StepOutcome m es work work' (stepFrom structs first t o) r
-  unfolding stepFrom
-  later-outcome e q = rw e q
+  pub later_outcome : first ≡ false → StepOutcome m es work work' (step_by structs t o) r → StepOutcome m es work work' (step_from structs first t o) r
+  unfolding step_from
+  later_outcome e q = rw e q
 
 -- the answer by the code's type and index
-module _ {m : ℕ} {bk bw work : List ℕ} (structs : List StructType) {k : GepWalk} {w : Way} (at : WalkAt m bk bw work k w) (i : Index) (idx : TypedVal) (ei : index_of i ≡ constInt idx.val) where
-  pub same_step : (st : Step) → Steps m (entries bk bw) (stepFrom structs w.first (ty_of m (drop w.ty (entries bk bw))) (index_of i)) st
-      → Steps m (entries bk bw) (stepFrom structs w.first k.curTy (constInt idx.val)) st
-  same_step st q = subst (λ (t : Ty). Steps m (entries bk bw) (stepFrom structs w.first t (constInt idx.val)) st) at.type
-      (subst (λ (o : Option ℕ). Steps m (entries bk bw) (stepFrom structs w.first (ty_of m (drop w.ty (entries bk bw))) o) st) ei q)
+module _ {m : ℕ} {bk bw work : List ℕ} (structs : List StructType) {k : GepWalk} {w : Way} (at : WalkAt m bk bw work k w) (i : Index) (idx : TypedVal) (ei : index_of i ≡ const_int idx.val) where
+  pub same_step : (st : Step) → Steps m (entries bk bw) (step_from structs w.first (ty_of m (drop w.ty (entries bk bw))) (index_of i)) st
+      → Steps m (entries bk bw) (step_from structs w.first k.cur_ty (const_int idx.val)) st
+  same_step st q = subst (λ (t : Ty). Steps m (entries bk bw) (step_from structs w.first t (const_int idx.val)) st) at.type
+      (subst (λ (o : Option ℕ). Steps m (entries bk bw) (step_from structs w.first (ty_of m (drop w.ty (entries bk bw))) o) st) ei q)

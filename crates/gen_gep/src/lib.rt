@@ -5,22 +5,22 @@ ghost use Rattle.book.specs.Ast.{Value};
 ghost use Rattle.book.specs.Entry.{entries};
 ghost use Rattle.book.specs.Fields.{Meanings};
 ghost use Rattle.book.specs.Result.{Result, bind};
-ghost use Rattle.layout.specs.Step.{Step as GepStep, constInt};
-ghost use Rattle.layout_memo.specs.Front.{ty_of, tyLen, Starts};
-ghost use Rattle.layout_memo.specs.Work.{structsIn, Ready};
+ghost use Rattle.layout.specs.Step.{Step as GepStep, const_int};
+ghost use Rattle.layout_memo.specs.Front.{ty_of, ty_len, Starts};
+ghost use Rattle.layout_memo.specs.Work.{structs_in, Ready};
 ghost use Rattle.layout_step.specs.Steps.{AskAt, StepOutcome, Steps, index_of};
 ghost use Rattle.lowering.specs.Gen.{when, each};
 ghost use Rattle.lowering.specs.Context.{FnCtx};
-ghost use Rattle.lowering.specs.Operand.{emitSext};
-ghost use Rattle.lowering.specs.Gep.{VarTerm, Walk as GepWalk, took as tookOf, walk as walk_of, genVarTerm, genGep};
+ghost use Rattle.lowering.specs.Operand.{emit_sext};
+ghost use Rattle.lowering.specs.Gep.{VarTerm, Walk as GepWalk, took as tookOf, walk as walk_of, gen_var_term, gen_gep};
 ghost use Rattle.gen_lines.specs.Puts.{Puts};
 ghost use Rattle.gen_values.specs.Fields.{Fields, ValueAt};
 ghost use Rattle.gen_values.specs.Maps.{Locals, Maps, Did};
-ghost use Rattle.gen_gep.specs.Indices.{gepFields, indexList, indexThen, indexIn};
+ghost use Rattle.gen_gep.specs.Indices.{gep_fields, index_list, index_then, index_in};
 ghost use Rattle.gen_gep.specs.Terms.{Terms, TermIs, TermsAsk, TermAsk};
-ghost use Rattle.gen_gep.specs.Walks.{stepFrom, WalkAt, Went, TookAsk, TakeAsk, Numbered};
+ghost use Rattle.gen_gep.specs.Walks.{step_from, WalkAt, Went, TookAsk, TakeAsk, Numbered};
 ghost use Rattle.gen_gep.specs.Loop.{GepAsk, WalkAsk, Walked};
-ghost use Rattle.gen_gep.specs.Lines.{sumGen};
+ghost use Rattle.gen_gep.specs.Lines.{sum_gen};
 
 use assembly::line;
 use book::entry;
@@ -44,7 +44,7 @@ pub struct Way {
 // The number of entries of the type at a place.
 fn skip_at(book_kinds: &[u64], book_words: &[u64], at: usize, names: u64) -> usize
     requires { (at < length book_kinds.now) × (at < length book_words.now) }
-    ensures { result ≡ tyLen names (drop at (entries book_kinds.now book_words.now)) }
+    ensures { result ≡ ty_len names (drop at (entries book_kinds.now book_words.now)) }
 {
     skip(&book_kinds[at..], &book_words[at..], names)
 }
@@ -52,7 +52,7 @@ fn skip_at(book_kinds: &[u64], book_words: &[u64], at: usize, names: u64) -> usi
 // The index whose value is at a place.
 fn index_at(kinds: &[u64], words: &[u64], at: usize) -> Index
     requires { (at < length kinds.now) × (at < length words.now) }
-    ensures { (m : ℕ) (v : Value) → ValueAt m kinds.now words.now at v → index_of result ≡ constInt v }
+    ensures { (m : ℕ) (v : Value) → ValueAt m kinds.now words.now at v → index_of result ≡ const_int v }
 {
     if kinds[at] == entry::INTEGER {
         return Index::Constant(words[at]);
@@ -72,7 +72,7 @@ fn next_step(
 ) -> Step
     requires { AskAt names (entries book_kinds.now book_words.now) work.old at }
     ensures { StepOutcome names (entries book_kinds.now book_words.now) work.old work.new
-        (stepFrom (structsIn names (entries book_kinds.now book_words.now)) first
+        (step_from (structs_in names (entries book_kinds.now book_words.now)) first
         (ty_of names (drop at (entries book_kinds.now book_words.now))) (index_of index)) result }
 {
     if first {
@@ -93,12 +93,12 @@ fn vary(
     w: Way,
 ) -> Way
     requires { TookAsk names book_kinds.now book_words.now work.old index w }
-    ensures { (p : Meanings indexThen) (k : GepWalk) → Fields names indexThen p (drop index (entries book_kinds.now book_words.now))
+    ensures { (p : Meanings index_then) (k : GepWalk) → Fields names index_then p (drop index (entries book_kinds.now book_words.now))
         → Ready names (entries book_kinds.now book_words.now) work.old
         → Starts names (drop next (entries book_kinds.now book_words.now))
         → WalkAt names book_kinds.now book_words.now work.old k w
         → Went names book_kinds.now book_words.now work.old work.new
-        (tookOf (GepStep.var stride (ty_of names (drop next (entries book_kinds.now book_words.now)))) (indexIn p) k) w result }
+        (tookOf (GepStep.var stride (ty_of names (drop next (entries book_kinds.now book_words.now)))) (index_in p) k) w result }
 {
     let wide = need_width(&book_kinds[index..], &book_words[index..], w.s);
     let to = book::work::WORDS * (names as usize) + 2 * w.terms;
@@ -125,14 +125,14 @@ fn took(
     w: Way,
 ) -> Way
     requires { TookAsk names book_kinds.now book_words.now work.old index w × Numbered step }
-    ensures { (p : Meanings indexThen) (k : GepWalk) (answer : Result GepStep)
-        → Fields names indexThen p (drop index (entries book_kinds.now book_words.now))
+    ensures { (p : Meanings index_then) (k : GepWalk) (answer : Result GepStep)
+        → Fields names index_then p (drop index (entries book_kinds.now book_words.now))
         → Ready names (entries book_kinds.now book_words.now) work.old
         → Starts names (drop w.ty (entries book_kinds.now book_words.now))
         → Steps names (entries book_kinds.now book_words.now) answer step
         → WalkAt names book_kinds.now book_words.now work.old k w
         → Went names book_kinds.now book_words.now work.old work.new
-        (bind answer (λ (t : GepStep). tookOf t (indexIn p) k)) w result }
+        (bind answer (λ (t : GepStep). tookOf t (index_in p) k)) w result }
 {
     let s = w.s;
     match step {
@@ -167,11 +167,11 @@ fn walk_index(
     w: Way,
 ) -> Way
     requires { TakeAsk names book_kinds.now book_words.now work.old index value w }
-    ensures { (p : Meanings indexThen) (k : GepWalk) → Fields names indexThen p (drop index (entries book_kinds.now book_words.now))
+    ensures { (p : Meanings index_then) (k : GepWalk) → Fields names index_then p (drop index (entries book_kinds.now book_words.now))
         → WalkAt names book_kinds.now book_words.now work.old k w
         → Went names book_kinds.now book_words.now work.old work.new
-        (bind (stepFrom (structsIn names (entries book_kinds.now book_words.now)) w.first k.curTy (constInt (indexIn p).val))
-        (λ (t : GepStep). tookOf t (indexIn p) k)) w result }
+        (bind (step_from (structs_in names (entries book_kinds.now book_words.now)) w.first k.cur_ty (const_int (index_in p).val))
+        (λ (t : GepStep). tookOf t (index_in p) k)) w result }
 {
     let step = next_step(
         book_kinds,
@@ -197,10 +197,10 @@ fn walk(
     s: Reached,
 ) -> Way
     requires { WalkAsk names book_kinds.now book_words.now work.old at indices }
-    ensures { (p : Meanings gepFields) → Fields names gepFields p (drop at (entries book_kinds.now book_words.now))
-        → Fields names indexList p.1.1 (drop indices (entries book_kinds.now book_words.now))
+    ensures { (p : Meanings gep_fields) → Fields names gep_fields p (drop at (entries book_kinds.now book_words.now))
+        → Fields names index_list p.1.1 (drop indices (entries book_kinds.now book_words.now))
         → Walked names book_kinds.now book_words.now work.old work.new
-        (walk_of (structsIn names (entries book_kinds.now book_words.now)) p.0 p.1.1.0) s result }
+        (walk_of (structs_in names (entries book_kinds.now book_words.now)) p.0 p.1.1.0) s result }
 {
     let mut w = Way {
         first: true,
@@ -220,7 +220,7 @@ fn walk(
 
 // A varying index is extended to 64 bits.
 fn widen(width: u32, lines: &mut [u16], operands: &mut [u64], s: Reached) -> Reached
-    ensures { Puts (when (ltb width 64) (emitSext width 64)) s result lines.old operands.old lines.new operands.new }
+    ensures { Puts (when (ltb width 64) (emit_sext width 64)) s result lines.old operands.old lines.new operands.new }
 {
     if width < 64 {
         return emit_sext(width, 64, lines, operands, s);
@@ -242,7 +242,7 @@ fn gen_var_term(
 ) -> Reached
     requires { TermAsk names book_kinds.now book_words.now work.now index stride }
     ensures { (c : FnCtx) (t : VarTerm) → Locals c names work.now → TermIs names book_kinds.now book_words.now index stride t
-        → Puts (genVarTerm c t) s result lines.old operands.old lines.new operands.new }
+        → Puts (gen_var_term c t) s result lines.old operands.old lines.new operands.new }
 {
     let width = width_of(&book_kinds[index..], &book_words[index..]);
     let value = index + skip_at(book_kinds, book_words, index, names);
@@ -275,7 +275,7 @@ fn gen_var_terms(
     requires { TermsAsk names book_kinds.now book_words.now work.now terms }
     ensures { (c : FnCtx) (ts : List VarTerm) → Locals c names work.now → Terms names book_kinds.now book_words.now work.now 0 ts
         → length ts ≡ terms
-        → Puts (each (genVarTerm c) ts) s result lines.old operands.old lines.new operands.new }
+        → Puts (each (gen_var_term c) ts) s result lines.old operands.old lines.new operands.new }
 {
     let mut reached = s;
     let mut i: usize = 0;
@@ -300,7 +300,7 @@ fn gen_var_terms(
 
 // The sum of the constant offsets: one `push`, none if it is 0.
 fn add_sum(sum: u64, lines: &mut [u16], operands: &mut [u64], s: Reached) -> Reached
-    ensures { Puts (sumGen sum) s result lines.old operands.old lines.new operands.new }
+    ensures { Puts (sum_gen sum) s result lines.old operands.old lines.new operands.new }
 {
     if sum == 0 {
         return s;
@@ -322,8 +322,8 @@ pub fn gen_gep(
 ) -> Reached
     requires { GepAsk names book_kinds.now book_words.now work.old at }
     ensures { (c : FnCtx) → Maps names (entries book_kinds.now book_words.now) c work.old
-        → (p : Meanings gepFields) → Fields names gepFields p (drop at (entries book_kinds.now book_words.now))
-        → Did (genGep c p.0 p.1.0 p.1.1.0) names (entries book_kinds.now book_words.now) c work.new
+        → (p : Meanings gep_fields) → Fields names gep_fields p (drop at (entries book_kinds.now book_words.now))
+        → Did (gen_gep c p.0 p.1.0 p.1.1.0) names (entries book_kinds.now book_words.now) c work.new
         s result lines.old operands.old lines.new operands.new }
 {
     let pointer = at + skip_at(book_kinds, book_words, at, names);

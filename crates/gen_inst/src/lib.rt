@@ -6,14 +6,14 @@ ghost use Rattle.std.specs.Prelude.{◌≡◌, true, false, ℕ};
 ghost use Rattle.std.proofs.Math.Option.{Option};
 ghost use Rattle.book.specs.Ast.{InstKind, Inst};
 ghost use Rattle.book.specs.Entry.{entries};
-ghost use Rattle.book.specs.Encode.{destWord};
-ghost use Rattle.book.specs.Kinds.{instKind};
-ghost use Rattle.book.specs.Fields.{instFields, instTagOf, instArgs};
+ghost use Rattle.book.specs.Encode.{dest_word};
+ghost use Rattle.book.specs.Kinds.{inst_kind};
+ghost use Rattle.book.specs.Fields.{inst_fields, inst_tag_of, inst_args};
 ghost use Rattle.lowering.specs.Context.{FnCtx};
-ghost use Rattle.lowering.specs.Inst.{genInst};
+ghost use Rattle.lowering.specs.Inst.{gen_inst};
 ghost use Rattle.gen_values.specs.Maps.{Maps, Did};
 ghost use Rattle.gen_values.specs.Fields.{Fields, InstAt};
-ghost use Rattle.gen_inst.specs.Body.{bodyGen, Stores, Unstored};
+ghost use Rattle.gen_inst.specs.Body.{body_gen, Stores, Unstored};
 ghost use Rattle.gen_inst.specs.Held.{HeldAt};
 ghost use Rattle.gen_inst.specs.Whole.{InstThere};
 
@@ -60,10 +60,10 @@ fn inst_body(
     s: Reached,
 ) -> Reached
     requires { HeldAt kind names (entries kinds.now words.now) (entries book_kinds.now book_words.now) from dest work.old }
-    ensures { (c : FnCtx) (d : Option ℕ) (k : InstKind) → kind ≡ instKind (instTagOf k) → dest ≡ destWord d → c.bpSlot ≡ base
+    ensures { (c : FnCtx) (d : Option ℕ) (k : InstKind) → kind ≡ inst_kind (inst_tag_of k) → dest ≡ dest_word d → c.bp_slot ≡ base
         → Maps names (entries book_kinds.now book_words.now) c work.old
-        → Fields names (instFields (instTagOf k)) (instArgs k) (entries kinds.now words.now)
-        → Did (bodyGen c d k) names (entries book_kinds.now book_words.now) c work.new
+        → Fields names (inst_fields (inst_tag_of k)) (inst_args k) (entries kinds.now words.now)
+        → Did (body_gen c d k) names (entries book_kinds.now book_words.now) c work.new
         s result lines.old operands.old lines.new operands.new }
 {
     match kind {
@@ -104,9 +104,9 @@ pub fn gen_inst(
     s: Reached,
 ) -> Reached
     requires { InstThere names kinds.now words.now book_kinds.now book_words.now at work.old }
-    ensures { (c : FnCtx) (i : Inst) → InstAt names i (entries kinds.now words.now) → c.bpSlot ≡ base
+    ensures { (c : FnCtx) (i : Inst) → InstAt names i (entries kinds.now words.now) → c.bp_slot ≡ base
         → Maps names (entries book_kinds.now book_words.now) c work.old
-        → Did (genInst c i) names (entries book_kinds.now book_words.now) c work.new
+        → Did (gen_inst c i) names (entries book_kinds.now book_words.now) c work.new
         s result lines.old operands.old lines.new operands.new }
 {
     let kind = kinds[0];

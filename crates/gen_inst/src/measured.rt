@@ -3,12 +3,12 @@ ghost use Rattle.std.specs.Prelude.{◌≡◌, ℕ};
 ghost use Rattle.std.proofs.Math.Option.{Option};
 ghost use Rattle.book.specs.Ast.{InstKind};
 ghost use Rattle.book.specs.Entry.{entries};
-ghost use Rattle.book.specs.Kinds.{instKind};
-ghost use Rattle.book.specs.Fields.{instFields, instTagOf, instArgs};
+ghost use Rattle.book.specs.Kinds.{inst_kind};
+ghost use Rattle.book.specs.Fields.{inst_fields, inst_tag_of, inst_args};
 ghost use Rattle.lowering.specs.Context.{FnCtx};
 ghost use Rattle.gen_values.specs.Maps.{Maps, Did};
 ghost use Rattle.gen_values.specs.Fields.{Fields};
-ghost use Rattle.gen_inst.specs.Body.{bodyGen};
+ghost use Rattle.gen_inst.specs.Body.{body_gen};
 ghost use Rattle.gen_inst.specs.Held.{Held};
 ghost use Rattle.gen_inst.specs.Measured.{Measures};
 
@@ -30,10 +30,10 @@ pub fn measured_lines(
     s: Reached,
 ) -> Reached
     requires { Held kind names (entries kinds.now words.now) (entries book_kinds.now book_words.now) work.old }
-    ensures { (c : FnCtx) (d : Option ℕ) (k : InstKind) → kind ≡ instKind (instTagOf k) → Measures kind
+    ensures { (c : FnCtx) (d : Option ℕ) (k : InstKind) → kind ≡ inst_kind (inst_tag_of k) → Measures kind
         → Maps names (entries book_kinds.now book_words.now) c work.old
-        → Fields names (instFields (instTagOf k)) (instArgs k) (entries kinds.now words.now)
-        → Did (bodyGen c d k) names (entries book_kinds.now book_words.now) c work.new
+        → Fields names (inst_fields (inst_tag_of k)) (inst_args k) (entries kinds.now words.now)
+        → Did (body_gen c d k) names (entries book_kinds.now book_words.now) c work.new
         s result lines.old operands.old lines.new operands.new }
 {
     match kind {

@@ -3,13 +3,13 @@ ghost use Rattle.std.specs.Prelude.{◌≡◌, ℕ, ◌≤◌};
 ghost use Rattle.std.proofs.Math.Option.{Option};
 ghost use Rattle.book.specs.Ast.{InstKind};
 ghost use Rattle.book.specs.Entry.{entries};
-ghost use Rattle.book.specs.Encode.{destWord};
-ghost use Rattle.book.specs.Kinds.{instKind};
-ghost use Rattle.book.specs.Fields.{instFields, instTagOf, instArgs};
+ghost use Rattle.book.specs.Encode.{dest_word};
+ghost use Rattle.book.specs.Kinds.{inst_kind};
+ghost use Rattle.book.specs.Fields.{inst_fields, inst_tag_of, inst_args};
 ghost use Rattle.lowering.specs.Context.{FnCtx};
 ghost use Rattle.gen_values.specs.Maps.{Maps, Did};
 ghost use Rattle.gen_values.specs.Fields.{Fields};
-ghost use Rattle.gen_inst.specs.Body.{bodyGen};
+ghost use Rattle.gen_inst.specs.Body.{body_gen};
 ghost use Rattle.gen_inst.specs.Held.{Held, HeldAt};
 ghost use Rattle.gen_inst.specs.Own.{Own};
 
@@ -36,10 +36,10 @@ fn swap_lines(
 ) -> Reached
     requires held { Held 80 names (entries kinds.now words.now) (entries book_kinds.now book_words.now) work.old }
     requires dest_le_names { dest ≤ names }
-    ensures { (c : FnCtx) (d : Option ℕ) (k : InstKind) → 80 ≡ instKind (instTagOf k) → dest ≡ destWord d
+    ensures { (c : FnCtx) (d : Option ℕ) (k : InstKind) → 80 ≡ inst_kind (inst_tag_of k) → dest ≡ dest_word d
         → Maps names (entries book_kinds.now book_words.now) c work.old
-        → Fields names (instFields (instTagOf k)) (instArgs k) (entries kinds.now words.now)
-        → Did (bodyGen c d k) names (entries book_kinds.now book_words.now) c work.new
+        → Fields names (inst_fields (inst_tag_of k)) (inst_args k) (entries kinds.now words.now)
+        → Did (body_gen c d k) names (entries book_kinds.now book_words.now) c work.new
         s result lines.old operands.old lines.new operands.new }
 {
     let wide = require_atomic_width(kinds, words, book_kinds, book_words, work, names, s);
@@ -62,10 +62,10 @@ pub fn own_lines(
     s: Reached,
 ) -> Reached
     requires { HeldAt kind names (entries kinds.now words.now) (entries book_kinds.now book_words.now) from dest work.old }
-    ensures { (c : FnCtx) (d : Option ℕ) (k : InstKind) → kind ≡ instKind (instTagOf k) → Own kind → dest ≡ destWord d → c.bpSlot ≡ base
+    ensures { (c : FnCtx) (d : Option ℕ) (k : InstKind) → kind ≡ inst_kind (inst_tag_of k) → Own kind → dest ≡ dest_word d → c.bp_slot ≡ base
         → Maps names (entries book_kinds.now book_words.now) c work.old
-        → Fields names (instFields (instTagOf k)) (instArgs k) (entries kinds.now words.now)
-        → Did (bodyGen c d k) names (entries book_kinds.now book_words.now) c work.new
+        → Fields names (inst_fields (inst_tag_of k)) (inst_args k) (entries kinds.now words.now)
+        → Did (body_gen c d k) names (entries book_kinds.now book_words.now) c work.new
         s result lines.old operands.old lines.new operands.new }
 {
     match kind {

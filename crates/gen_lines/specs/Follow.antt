@@ -4,9 +4,9 @@ use Rattle.std.proofs.Math.Path.{refl, sym, ap, subst}
 use Rattle.std.proofs.Common.{◌∙◌, append_assoc, arith, add-one, mod-eq_of_lt}
 use Rattle.book.specs.Result.{Result, ok, err, bind}
 use Rattle.assembly.specs.Line.{Line}
-use Rattle.lowering.specs.Gen.{Gen, Out, lines, skip, after, ◌>>=◌, ◌>>◌, when, choose, fresh, reserve, each, then-skip}
+use Rattle.lowering.specs.Gen.{Gen, Out, lines, skip, after, ◌>>=◌, ◌>>◌, when, choose, fresh, reserve, each, then_skip}
 use Rattle.gen_lines.specs.declared.Reached.{Reached}
-use Rattle.gen_lines.specs.Puts.{Puts, After, Able, Barred, is_refused, madeRefused, madeFresh, refused-before, refused-now, skip-puts, then-puts, same-puts}
+use Rattle.gen_lines.specs.Puts.{Puts, After, Able, Barred, is_refused, made_refused, made_fresh, refused_before, refused_now, skip_puts, then_puts, same_puts}
 
 -- ---- what is asked for: the code has x, or it refused as r does
 abbrev pub Answered : {A : Type 0} → Result A → (s t : Reached) → A → Type 0
@@ -18,12 +18,12 @@ pub record Asked {A : Type 0} (r : Result A) (s t : Reached) (x : A) : Type 0 wh
   pub goes : is_refused s ≡ false → Answered r s t x
 
 module _ {A : Type 0} {r : Result A} (f : A → Gen) {s t u : Reached} {x : A} {ks os ks' os' : List ℕ} where
-  pub asked-puts : Asked r s t x → Puts (f x) t u ks os ks' os' → Puts (r >>= f) s u ks os ks' os'
+  pub asked_puts : Asked r s t x → Puts (f x) t u ks os ks' os' → Puts (r >>= f) s u ks os ks' os'
   unfolding ◌>>=◌ bind
-  asked-puts q p =
+  asked_puts q p =
       record {
-        long-kinds = p.long-kinds;
-        long-operands = p.long-operands;
+        long_kinds = p.long_kinds;
+        long_operands = p.long_operands;
         stays = λ h. later (q.stays h);
         goes = λ n a. go n a r (q.goes a.going);
       }
@@ -38,54 +38,54 @@ module _ {A : Type 0} {r : Result A} (f : A → Gen) {s t u : Reached} {x : A} {
           subst (λ (z : A). After (f z n) s.at u ks os ks' os') j (subst (λ (v : Reached). After (f x n) v.at u ks os ks' os') i w)
 
 -- an answer that is there
-pub asked-ok : {A : Type 0} (s : Reached) (x : A) → Asked (ok x) s s x
-asked-ok s x = record { stays = λ r. record { refused = r; number = refl }; goes = λ r. (refl, refl) }
+pub asked_ok : {A : Type 0} (s : Reached) (x : A) → Asked (ok x) s s x
+asked_ok s x = record { stays = λ r. record { refused = r; number = refl }; goes = λ r. (refl, refl) }
 
 -- a refusal
-pub asked-err : {A : Type 0} (e : ℕ) → 0 < e → (s : Reached) {t : Reached} (x : A) → t ≡ madeRefused s e → Asked (err e) s t x
-asked-err e p s x h = record { stays = refused-before e p s h; goes = refused-now e p s h }
+pub asked_err : {A : Type 0} (e : ℕ) → 0 < e → (s : Reached) {t : Reached} (x : A) → t ≡ made_refused s e → Asked (err e) s t x
+asked_err e p s x h = record { stays = refused_before e p s h; goes = refused_now e p s h }
 
 -- ---- tests
 module _ {g h : Gen} {s t : Reached} {ks os ks' os' : List ℕ} where
-  pub choose-puts : (b : Bool) → (b ≡ true → Puts g s t ks os ks' os') → (b ≡ false → Puts h s t ks os ks' os') → Puts (choose b g h) s t ks os ks' os'
+  pub choose_puts : (b : Bool) → (b ≡ true → Puts g s t ks os ks' os') → (b ≡ false → Puts h s t ks os ks' os') → Puts (choose b g h) s t ks os ks' os'
   unfolding choose
-  choose-puts true p q = p refl
-  choose-puts false p q = q refl
+  choose_puts true p q = p refl
+  choose_puts false p q = q refl
 
 module _ {g : Gen} {s t : Reached} {ks os ks' os' : List ℕ} where
-  pub when-puts : (b : Bool) → (b ≡ true → Puts g s t ks os ks' os') → (b ≡ false → Puts skip s t ks os ks' os') → Puts (when b g) s t ks os ks' os'
+  pub when_puts : (b : Bool) → (b ≡ true → Puts g s t ks os ks' os') → (b ≡ false → Puts skip s t ks os ks' os') → Puts (when b g) s t ks os ks' os'
   unfolding when
-  when-puts true p q = p refl
-  when-puts false p q = q refl
+  when_puts true p q = p refl
+  when_puts false p q = q refl
 
 -- ---- labels
 module _ {f : ℕ → Gen} (k : ℕ) {s t u : Reached} {ks os ks' os' : List ℕ} where
-  pub reserve-puts : t ≡ madeFresh s k → s.counter < 2 ^ 64 → ((n : ℕ) → s.counter ≡ n % 2 ^ 64 → Puts (f n) t u ks os ks' os')
+  pub reserve_puts : t ≡ made_fresh s k → s.counter < 2 ^ 64 → ((n : ℕ) → s.counter ≡ n % 2 ^ 64 → Puts (f n) t u ks os ks' os')
       → Puts (reserve k f) s u ks os ks' os'
   unfolding reserve
-  reserve-puts h few p =
+  reserve_puts h few p =
       let own = p s.counter (sym (mod-eq_of_lt few)) in
       record {
-        long-kinds = own.long-kinds;
-        long-operands = own.long-operands;
+        long_kinds = own.long_kinds;
+        long_operands = own.long_operands;
         stays = λ r. let d = own.stays (ap is_refused h ∙ r) in record { refused = d.refused; number = d.number ∙ ap (λ (v : Reached). v.refused) h };
         goes = λ n a.
             let c : t.counter ≡ (n + k) % 2 ^ 64 = ap (λ (v : Reached). v.counter) h ∙ rw a.counts (omega arith) in
             let b : Able t ks os (n + k) = record {
               going = ap is_refused h ∙ a.going;
               within = rw h a.within;
-              few-kinds = a.few-kinds;
-              few-operands = a.few-operands;
+              few_kinds = a.few_kinds;
+              few_operands = a.few_operands;
               counts = c;
             } in
             subst (λ (x : ℕ). After (f n (n + k)) x u ks os ks' os') (ap (λ (v : Reached). v.at) h) ((p n a.counts).goes (n + k) b);
       }
 
 module _ {f : ℕ → Gen} {s t u : Reached} {ks os ks' os' : List ℕ} where
-  pub fresh-puts : t ≡ madeFresh s 1 → s.counter < 2 ^ 64 → ((n : ℕ) → s.counter ≡ n % 2 ^ 64 → Puts (f n) t u ks os ks' os')
+  pub fresh_puts : t ≡ made_fresh s 1 → s.counter < 2 ^ 64 → ((n : ℕ) → s.counter ≡ n % 2 ^ 64 → Puts (f n) t u ks os ks' os')
       → Puts (fresh f) s u ks os ks' os'
   unfolding reserve fresh
-  fresh-puts h few p = same-puts (λ n. ap (f n) (add-one n)) (reserve-puts 1 h few p)
+  fresh_puts h few p = same_puts (λ n. ap (f n) (add-one n)) (reserve_puts 1 h few p)
 
 -- ---- lists
 unit_left : (g : Gen) (n : ℕ) → (skip >> g) n ≡ g n
@@ -126,14 +126,14 @@ then_same g h k e n = at (g n)
 module _ {A : Type 0} (f : A → Gen) where
   each_append : (xs : List A) (x : A) (n : ℕ) → (each f xs >> f x) n ≡ each f (xs ++ (x ∷ [])) n
   unfolding each
-  each_append [] x n = unit_left (f x) n ∙ sym (ap (λ (g : Gen). g n) (then-skip (f x)))
+  each_append [] x n = unit_left (f x) n ∙ sym (ap (λ (g : Gen). g n) (then_skip (f x)))
   each_append (y ∷ ys) x n = assoc (f y) (each f ys) (f x) n ∙ then_same (f y) _ _ (each_append ys x) n
 
   -- nothing of a list, and one more of it
-  pub none-puts : (s : Reached) (ks os : List ℕ) → Puts (each f []) s s ks os ks os
+  pub none_puts : (s : Reached) (ks os : List ℕ) → Puts (each f []) s s ks os ks os
   unfolding each
-  none-puts s ks os = skip-puts s ks os
+  none_puts s ks os = skip_puts s ks os
 
-  pub more-puts : {s t u : Reached} {ks os ks' os' ks'' os'' : List ℕ} (xs : List A) (x : A) → Puts (each f xs) s t ks os ks' os' → Puts (f x) t u ks' os' ks'' os''
+  pub more_puts : {s t u : Reached} {ks os ks' os' ks'' os'' : List ℕ} (xs : List A) (x : A) → Puts (each f xs) s t ks os ks' os' → Puts (f x) t u ks' os' ks'' os''
       → Puts (each f (xs ++ (x ∷ []))) s u ks os ks'' os''
-  more-puts xs x p q = same-puts (each_append xs x) (then-puts p q)
+  more_puts xs x p q = same_puts (each_append xs x) (then_puts p q)

@@ -6,7 +6,7 @@ use Rattle.std.proofs.lemmas.List.Edits.{sets}
 use Rattle.std.proofs.Math.Seq.{length-sets, set_out}
 use Rattle.book.specs.Result.{Result, ok, err, bind}
 use Rattle.assembly.specs.Line.{Line}
-use Rattle.assembly.specs.Number.{kind_of, operandOf}
+use Rattle.assembly.specs.Number.{kind_of, operand_of}
 use Rattle.lowering.specs.Gen.{Gen, Out, lines, line, skip, refuse, after, ◌>>◌}
 use Rattle.gen_lines.specs.declared.Reached.{Reached}
 
@@ -35,17 +35,17 @@ or_else true a b = a
 or_else false a b = b
 
 -- behind a refusal, unless one came before
-abbrev pub madeRefused : Reached → ℕ → Reached
-madeRefused s e = or_else (is_refused s) s (record { at = s.at; counter = s.counter; refused = e })
+abbrev pub made_refused : Reached → ℕ → Reached
+made_refused s e = or_else (is_refused s) s (record { at = s.at; counter = s.counter; refused = e })
 
 -- behind k labels
-abbrev pub madeFresh : Reached → ℕ → Reached
-madeFresh s k = record { at = s.at; counter = (s.counter + k) % 2 ^ 64; refused = s.refused }
+abbrev pub made_fresh : Reached → ℕ → Reached
+made_fresh s k = record { at = s.at; counter = (s.counter + k) % 2 ^ 64; refused = s.refused }
 
 -- ---- what a generator leaves
 -- an operand as a word
 abbrev pub operand_word : Line → ℕ
-operand_word l = operandOf l % 2 ^ 64
+operand_word l = operand_of l % 2 ^ 64
 
 -- these lines were put from a place on
 pub record Wrote (out : Out) (at : ℕ) (t : Reached) (ks os ks' os' : List ℕ) : Type 0 where
@@ -68,14 +68,14 @@ After (err e) at t ks os ks' os' = Barred e t
 pub record Able (s : Reached) (ks os : List ℕ) (n : ℕ) : Type 0 where
   pub going : is_refused s ≡ false
   pub within : s.at ≤ most
-  pub few-kinds : length ks ≤ most
-  pub few-operands : length os ≤ most
+  pub few_kinds : length ks ≤ most
+  pub few_operands : length os ≤ most
   pub counts : s.counter ≡ n % 2 ^ 64
 
 -- the code went from s to t as g says. Left free: what the slices hold where g refuses; lent slices are passed over only where it does not
 pub record Puts (g : Gen) (s t : Reached) (ks os ks' os' : List ℕ) : Type 0 where
-  pub long-kinds : length ks' ≡ length ks
-  pub long-operands : length os' ≡ length os
+  pub long_kinds : length ks' ≡ length ks
+  pub long_operands : length os' ≡ length os
   pub stays : is_refused s ≡ true → Barred s.refused t
   pub goes : (n : ℕ) → Able s ks os n → After (g n) s.at t ks os ks' os'
 
@@ -84,13 +84,13 @@ pub still : {x y : ℕ} → x ≡ y → not (x == 0) ≡ not (y == 0)
 still = ap (λ (x : ℕ). not (x == 0))
 
 -- ---- one line
-pub line-puts : {k x : ℕ} {s t : Reached} {ks os ks' os' : List ℕ} (l : Line) → k ≡ kind_of l → x ≡ operand_word l → Lined k x s t ks os ks' os'
+pub line_puts : {k x : ℕ} {s t : Reached} {ks os ks' os' : List ℕ} (l : Line) → k ≡ kind_of l → x ≡ operand_word l → Lined k x s t ks os ks' os'
     → Puts (line l) s t ks os ks' os'
 unfolding line lines
-line-puts {k} {x} {s} {t} {ks} {os} l ek ex h =
+line_puts {k} {x} {s} {t} {ks} {os} l ek ex h =
     record {
-      long-kinds = ap length h.kinds ∙ length-set ks s.at k;
-      long-operands = ap length h.operands ∙ length-set os s.at x;
+      long_kinds = ap length h.kinds ∙ length-set ks s.at k;
+      long_operands = ap length h.operands ∙ length-set os s.at x;
       stays = λ r. record { refused = still h.refused ∙ r; number = h.refused };
       goes = λ n a. record {
         going = still h.refused ∙ a.going;
@@ -102,22 +102,22 @@ line-puts {k} {x} {s} {t} {ks} {os} l ek ex h =
     }
 
 -- ---- behind a refusal nothing need be done
-pub refused-puts : {g : Gen} {s : Reached} (ks os : List ℕ) → (s.refused ≢ 0) → Puts g s s ks os ks os
-refused-puts {g} {s} ks os z =
+pub refused_puts : {g : Gen} {s : Reached} (ks os : List ℕ) → (s.refused ≢ 0) → Puts g s s ks os ks os
+refused_puts {g} {s} ks os z =
     record {
-      long-kinds = refl;
-      long-operands = refl;
+      long_kinds = refl;
+      long_operands = refl;
       stays = λ r. record { refused = r; number = refl };
       goes = λ n a. absurd (let q : true ≡ false = sym (ap not (ne_eqb s.refused 0 z)) ∙ a.going in let d : ◌≡◌ {A = ℕ} 0 1 = cc in omega arith);
     }
 
 -- ---- no line
-pub skip-puts : (s : Reached) (ks os : List ℕ) → Puts skip s s ks os ks os
+pub skip_puts : (s : Reached) (ks os : List ℕ) → Puts skip s s ks os ks os
 unfolding skip lines
-skip-puts s ks os =
+skip_puts s ks os =
     record {
-      long-kinds = refl;
-      long-operands = refl;
+      long_kinds = refl;
+      long_operands = refl;
       stays = λ r. record { refused = r; number = refl };
       goes = λ n a. record { going = a.going; place = omega (arith, a.within); next = a.counts; kinds = refl; operands = refl };
     }
@@ -125,74 +125,74 @@ skip-puts s ks os =
 -- ---- a refusal: its number is not 0
 module _ (e : ℕ) (positive : 0 < e) (s : Reached) {t : Reached} where
   -- one that came before stays
-  pub refused-before : t ≡ madeRefused s e → is_refused s ≡ true → Barred s.refused t
-  refused-before h r = let q : t ≡ s = h ∙ rw r in record { refused = ap is_refused q ∙ r; number = ap (λ (x : Reached). x.refused) q }
+  pub refused_before : t ≡ made_refused s e → is_refused s ≡ true → Barred s.refused t
+  refused_before h r = let q : t ≡ s = h ∙ rw r in record { refused = ap is_refused q ∙ r; number = ap (λ (x : Reached). x.refused) q }
 
-  pub refused-now : t ≡ madeRefused s e → is_refused s ≡ false → Barred e t
-  refused-now h r =
+  pub refused_now : t ≡ made_refused s e → is_refused s ≡ false → Barred e t
+  refused_now h r =
       let q : t ≡ record { at = s.at; counter = s.counter; refused = e } = h ∙ rw r in
       record { refused = ap is_refused q ∙ ap not (ne_eqb e 0 (λ z. omega arith)); number = ap (λ (x : Reached). x.refused) q }
 
   -- behind a refusal there is one
-  pub made-refused : t ≡ madeRefused s e → is_refused t ≡ true
-  made-refused h = go (is_refused s) refl
+  pub made_refused_lem : t ≡ made_refused s e → is_refused t ≡ true
+  made_refused_lem h = go (is_refused s) refl
     where
       go : (b : Bool) → is_refused s ≡ b → is_refused t ≡ true
-      go true r = (refused-before h r).refused
-      go false r = (refused-now h r).refused
+      go true r = (refused_before h r).refused
+      go false r = (refused_now h r).refused
 
-  pub refuse-puts : (ks os : List ℕ) → t ≡ madeRefused s e → Puts (refuse e) s t ks os ks os
+  pub refuse_puts : (ks os : List ℕ) → t ≡ made_refused s e → Puts (refuse e) s t ks os ks os
   unfolding refuse
-  refuse-puts ks os h = record { long-kinds = refl; long-operands = refl; stays = refused-before h; goes = λ n a. refused-now h a.going }
+  refuse_puts ks os h = record { long_kinds = refl; long_operands = refl; stays = refused_before h; goes = λ n a. refused_now h a.going }
 
 -- ---- the same generator
-pub same-puts : {g h : Gen} {s t : Reached} {ks os ks' os' : List ℕ} → ((n : ℕ) → g n ≡ h n) → Puts g s t ks os ks' os' → Puts h s t ks os ks' os'
-same-puts {g} {h} {s} {t} {ks} {os} {ks'} {os'} e p =
+pub same_puts : {g h : Gen} {s t : Reached} {ks os ks' os' : List ℕ} → ((n : ℕ) → g n ≡ h n) → Puts g s t ks os ks' os' → Puts h s t ks os ks' os'
+same_puts {g} {h} {s} {t} {ks} {os} {ks'} {os'} e p =
     record {
-      long-kinds = p.long-kinds;
-      long-operands = p.long-operands;
+      long_kinds = p.long_kinds;
+      long_operands = p.long_operands;
       stays = p.stays;
       goes = λ n a. subst (λ (r : Result Out). After r s.at t ks os ks' os') (e n) (p.goes n a);
     }
 
 -- ---- one after the other
-sets-out : (l : List ℕ) (i : ℕ) (vs : List ℕ) → length l ≤ i → sets l i vs ≡ l
-sets-out l i [] h = refl
-sets-out l i (v ∷ vs) h = sets-out (slice_set l i v) (suc i) vs (omega (arith, length-set l i v)) ∙ set_out l i v h
+sets_out : (l : List ℕ) (i : ℕ) (vs : List ℕ) → length l ≤ i → sets l i vs ≡ l
+sets_out l i [] h = refl
+sets_out l i (v ∷ vs) h = sets_out (slice_set l i v) (suc i) vs (omega (arith, length-set l i v)) ∙ set_out l i v h
 
-sets-append : (l : List ℕ) (i : ℕ) (us vs : List ℕ) → sets l i (us ++ vs) ≡ sets (sets l i us) (i + length us) vs
-sets-append l i [] vs = rw (add-zero i)
-sets-append l i (u ∷ us) vs = sets-append (slice_set l i u) (suc i) us vs ∙ ap (λ j. sets (sets (slice_set l i u) (suc i) us) j vs) (omega arith)
+sets_append : (l : List ℕ) (i : ℕ) (us vs : List ℕ) → sets l i (us ++ vs) ≡ sets (sets l i us) (i + length us) vs
+sets_append l i [] vs = rw (add-zero i)
+sets_append l i (u ∷ us) vs = sets_append (slice_set l i u) (suc i) us vs ∙ ap (λ j. sets (sets (slice_set l i u) (suc i) us) j vs) (omega arith)
 
 -- what is put behind what was put
 sets_then : (l : List ℕ) (i : ℕ) (us vs : List ℕ) (n : ℕ) → n ≡ length us → length l ≤ most → sets (sets l i us) (further i n) vs ≡ sets l i (us ++ vs)
 sets_then l i us vs n e few = go (nat_le (i + n) most) refl
   where
     go : (b : Bool) → nat_le (i + n) most ≡ b → sets (sets l i us) (further i n) vs ≡ sets l i (us ++ vs)
-    go true h = let f : further i n ≡ i + length us = omega (arith, leb-true (i + n) most h) in ap (λ j. sets (sets l i us) j vs) f ∙ sym (sets-append l i us vs)
+    go true h = let f : further i n ≡ i + length us = omega (arith, leb-true (i + n) most h) in ap (λ j. sets (sets l i us) j vs) f ∙ sym (sets_append l i us vs)
     go false h =
         let g = leb-false (i + n) most h in
         let f : further i n ≡ most = omega arith in
         ap (λ j. sets (sets l i us) j vs) f
-        ∙ sets-out (sets l i us) most vs (omega (arith, length-sets l i us))
-        ∙ sym (sets-out (sets l i us) (i + length us) vs (omega (arith, length-sets l i us)))
-        ∙ sym (sets-append l i us vs)
+        ∙ sets_out (sets l i us) most vs (omega (arith, length-sets l i us))
+        ∙ sym (sets_out (sets l i us) (i + length us) vs (omega (arith, length-sets l i us)))
+        ∙ sym (sets_append l i us vs)
 
-pub map-length : (f : Line → ℕ) (ls : List Line) → length (map f ls) ≡ length ls
-map-length f [] = refl
-map-length f (l ∷ ls) = ap suc (map-length f ls)
+pub map_length : (f : Line → ℕ) (ls : List Line) → length (map f ls) ≡ length ls
+map_length f [] = refl
+map_length f (l ∷ ls) = ap suc (map_length f ls)
 
 map-append : (f : Line → ℕ) (ls ms : List Line) → map f (ls ++ ms) ≡ map f ls ++ map f ms
 map-append f [] ms = refl
 map-append f (l ∷ ls) ms = ap (λ r. f l ∷ r) (map-append f ls ms)
 
 module _ {g h : Gen} {s t u : Reached} {ks os ks' os' ks'' os'' : List ℕ} where
-  pub then-puts : Puts g s t ks os ks' os' → Puts h t u ks' os' ks'' os'' → Puts (g >> h) s u ks os ks'' os''
+  pub then_puts : Puts g s t ks os ks' os' → Puts h t u ks' os' ks'' os'' → Puts (g >> h) s u ks os ks'' os''
   unfolding ◌>>◌ bind after
-  then-puts p q =
+  then_puts p q =
       record {
-        long-kinds = q.long-kinds ∙ p.long-kinds;
-        long-operands = q.long-operands ∙ p.long-operands;
+        long_kinds = q.long_kinds ∙ p.long_kinds;
+        long_operands = q.long_operands ∙ p.long_operands;
         stays = λ r. let b = p.stays r in let d = q.stays b.refused in record { refused = d.refused; number = d.number ∙ b.number };
         goes = λ n a. first n a (g n) (p.goes n a);
       }
@@ -202,8 +202,8 @@ module _ {g h : Gen} {s t u : Reached} {ks os ks' os' ks'' os'' : List ℕ} wher
           record {
             going = w.going;
             within = omega (arith, w.place);
-            few-kinds = omega (arith, p.long-kinds, a.few-kinds);
-            few-operands = omega (arith, p.long-operands, a.few-operands);
+            few_kinds = omega (arith, p.long_kinds, a.few_kinds);
+            few_operands = omega (arith, p.long_operands, a.few_operands);
             counts = w.next;
           }
 
@@ -215,8 +215,8 @@ module _ {g h : Gen} {s t u : Reached} {ks os ks' os' ks'' os'' : List ℕ} wher
             going = v.going;
             place = v.place ∙ rw w.place (omega (arith, length-append out.lines more.lines));
             next = v.next;
-            kinds = v.kinds ∙ rw (w.kinds, w.place) (sets_then ks s.at (map kind_of out.lines) (map kind_of more.lines) (length out.lines) (sym (map-length kind_of out.lines)) a.few-kinds ∙ ap (sets ks s.at) (sym (map-append kind_of out.lines more.lines)));
-            operands = v.operands ∙ rw (w.operands, w.place) (sets_then os s.at (map operand_word out.lines) (map operand_word more.lines) (length out.lines) (sym (map-length operand_word out.lines)) a.few-operands ∙ ap (sets os s.at) (sym (map-append operand_word out.lines more.lines)));
+            kinds = v.kinds ∙ rw (w.kinds, w.place) (sets_then ks s.at (map kind_of out.lines) (map kind_of more.lines) (length out.lines) (sym (map_length kind_of out.lines)) a.few_kinds ∙ ap (sets ks s.at) (sym (map-append kind_of out.lines more.lines)));
+            operands = v.operands ∙ rw (w.operands, w.place) (sets_then os s.at (map operand_word out.lines) (map operand_word more.lines) (length out.lines) (sym (map_length operand_word out.lines)) a.few_operands ∙ ap (sets os s.at) (sym (map-append operand_word out.lines more.lines)));
           }
 
       first : (n : ℕ) → Able s ks os n → (r : Result Out) → After r s.at t ks os ks' os'

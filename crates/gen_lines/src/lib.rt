@@ -2,7 +2,7 @@
 // a generator reached is handed through, and a refusal goes through unchanged, so that generators follow one another without
 // a test between them.
 ghost use Rattle.std.specs.Prelude.{◌≡◌, ◌<◌, slice_set};
-ghost use Rattle.gen_lines.specs.Puts.{further as furtherFrom, Lined, madeFresh, madeRefused};
+ghost use Rattle.gen_lines.specs.Puts.{further as furtherFrom, Lined, made_fresh, made_refused};
 
 use std::num::wrapping_add_u64;
 
@@ -62,7 +62,7 @@ pub fn put(lines: &mut [u16], operands: &mut [u64], s: Reached, kind: u16, opera
 // A refusal, unless one came before.
 pub fn refuse(s: Reached, number: u64) -> Reached
     requires { 0 < number }
-    ensures { result ≡ madeRefused s number }
+    ensures { result ≡ made_refused s number }
 {
     if s.refused != 0 {
         s
@@ -77,7 +77,7 @@ pub fn refuse(s: Reached, number: u64) -> Reached
 
 // `fresh_label`, so many at once: the counter behind them.
 pub fn fresh(s: Reached, labels: u64) -> Reached
-    ensures { result ≡ madeFresh s labels }
+    ensures { result ≡ made_fresh s labels }
 {
     Reached {
         at: s.at,

@@ -8,22 +8,22 @@ use mathlib.Core.List.{List, [], ◌∷◌, ◌++◌, map}
 use Rattle.std.proofs.Math.Dec.{eqb}
 use Rattle.std.proofs.Math.ListN.{length, get_or, drop, length-set, length-drop, drop_of_length-le}
 use Rattle.names.specs.Name.{lines, names_of, accepted, name_at, start_of}
-use Rattle.names.specs.Lines.{names-lines}
+use Rattle.names.specs.Lines.{names_lines}
 use Rattle.book.specs.Entry.{Entry, entry, entries}
 use Rattle.book.specs.Ast.{Ty, Param, BasicBlock, Mark, StructBody, StructType, Function, Book}
-use Rattle.book.specs.Decode.{decode, member, markName, functionNames}
-use Rattle.book.specs.Encode.{ending, closed, encTy, encInst, encTerm, encParam, encBasicBlock, encBody, encMark, markEntry, encStruct, encFunction, encFunctions, encode}
+use Rattle.book.specs.Decode.{decode, member, mark_name, function_names}
+use Rattle.book.specs.Encode.{ending, closed, enc_ty, enc_inst, enc_term, enc_param, enc_basic_block, enc_body, enc_mark, mark_entry, enc_struct, enc_function, enc_functions, encode}
 use Rattle.book.specs.Limits.{Each, FunctionLimits}
-use Rattle.book.specs.AgreeBook.{decode-sound}
-use Rattle.lowering.specs.Context.{Codegen, definedBy, codegenOf}
+use Rattle.book.specs.AgreeBook.{decode_sound}
+use Rattle.lowering.specs.Context.{Codegen, defined_by, codegen_of}
 use Rattle.layout_memo.specs.Structs.{IsBook}
 use Rattle.layout_memo.specs.Work.{Ready}
-use Rattle.gen_values.specs.Maps.{markWord}
+use Rattle.gen_values.specs.Maps.{mark_word}
 use Rattle.gen_values.specs.Fields.{entry_at}
-use Rattle.gen_blocks.specs.Words.{WordsKept, words-none, words-set, words-then, ready_words}
-use Rattle.book.specs.Heads.{Inside, inside-ty, inside-body}
-use Rattle.book.specs.Work.{nameWords, markAt}
-use Rattle.gen_marks.specs.Mark.{plainMark, definedMark, raised, Raised, raise-one, mark-is}
+use Rattle.gen_blocks.specs.Words.{WordsKept, words_none, words_set, words_then, ready_words}
+use Rattle.book.specs.Heads.{Inside, inside_ty, inside_body}
+use Rattle.book.specs.Work.{name_words, mark_at}
+use Rattle.gen_marks.specs.Mark.{plain_mark, defined_mark, raised, Raised, raise_one, mark_is}
 use Rattle.gen_marks.specs.Spelling.{SpellDone}
 
 -- ---- the entries that define a name: a mark of kind 1, a function
@@ -34,10 +34,10 @@ unfoldable pub definers : List Entry → List ℕ
 definers [] = []
 definers (e ∷ es) = let rest = definers es in cond (defines e.kind) (e.word ∷ rest) rest
 
-definers-append : (xs ys : List Entry) → definers (xs ++ ys) ≡ definers xs ++ definers ys
+definers_append : (xs ys : List Entry) → definers (xs ++ ys) ≡ definers xs ++ definers ys
 unfolding definers
-definers-append [] ys = refl
-definers-append (x ∷ xs) ys = go (defines x.kind) (definers-append xs ys)
+definers_append [] ys = refl
+definers_append (x ∷ xs) ys = go (defines x.kind) (definers_append xs ys)
   where
     go : (b : Bool) → definers (xs ++ ys) ≡ definers xs ++ definers ys
         → cond b (x.word ∷ definers (xs ++ ys)) (definers (xs ++ ys)) ≡ cond b (x.word ∷ definers xs) (definers xs) ++ definers ys
@@ -48,110 +48,110 @@ definers-append (x ∷ xs) ys = go (defines x.kind) (definers-append xs ys)
 abbrev Plain : Entry → Type 0
 Plain e = defines e.kind ≡ false
 
-plain-append : (xs ys : List Entry) → Each Plain xs → Each Plain ys → Each Plain (xs ++ ys)
-plain-append [] ys p q = q
-plain-append (x ∷ xs) ys p q = (p.0, plain-append xs ys p.1 q)
+plain_append : (xs ys : List Entry) → Each Plain xs → Each Plain ys → Each Plain (xs ++ ys)
+plain_append [] ys p q = q
+plain_append (x ∷ xs) ys p q = (p.0, plain_append xs ys p.1 q)
 
 none_of : (xs : List Entry) → Each Plain xs → definers xs ≡ []
 unfolding definers
 none_of [] p = refl
 none_of (x ∷ xs) p = rw p.0 (none_of xs p.1)
 
-inside-plain : (xs : List Entry) → Each Inside xs → Each Plain xs
+inside_plain : (xs : List Entry) → Each Inside xs → Each Plain xs
 unfolding defines
-inside-plain [] p = tt
-inside-plain (x ∷ xs) p =
-    (rw (ne_eqb x.kind 1 (λ e. p.0 (omega arith) (omega arith)), ne_eqb x.kind 5 (λ e. p.0 (omega arith) (omega arith))) refl, inside-plain xs p.1)
+inside_plain [] p = tt
+inside_plain (x ∷ xs) p =
+    (rw (ne_eqb x.kind 1 (λ e. p.0 (omega arith) (omega arith)), ne_eqb x.kind 5 (λ e. p.0 (omega arith) (omega arith))) refl, inside_plain xs p.1)
 
-plain-ending : {A : Type 0} (write : A → List Entry) → ((a : A) → Each Plain (write a)) → (end : List Entry) → Each Plain end → (as' : List A) → Each Plain (ending write end as')
+plain_ending : {A : Type 0} (write : A → List Entry) → ((a : A) → Each Plain (write a)) → (end : List Entry) → Each Plain end → (as' : List A) → Each Plain (ending write end as')
 unfolding ending
-plain-ending write all end e [] = e
-plain-ending write all end e (a ∷ as') = plain-append (write a) (ending write end as') (all a) (plain-ending write all end e as')
+plain_ending write all end e [] = e
+plain_ending write all end e (a ∷ as') = plain_append (write a) (ending write end as') (all a) (plain_ending write all end e as')
 
 closing : Each Plain (entry 0 0 ∷ [])
 unfolding defines
 closing = (refl, tt)
 
-param_plain : (p : Param) → Each Plain (encParam p)
-unfolding encParam defines
-param_plain p = (refl, inside-plain (encTy p.ty) (inside-ty p.ty))
+param_plain : (p : Param) → Each Plain (enc_param p)
+unfolding enc_param defines
+param_plain p = (refl, inside_plain (enc_ty p.ty) (inside_ty p.ty))
 
-block-plain : (b : BasicBlock) → Each Plain (encBasicBlock b)
-unfolding encBasicBlock defines
-block-plain b = (refl, inside-plain (ending encInst (encTerm b.term) b.insts) (inside-body b.insts b.term))
+block_plain : (b : BasicBlock) → Each Plain (enc_basic_block b)
+unfolding enc_basic_block defines
+block_plain b = (refl, inside_plain (ending enc_inst (enc_term b.term) b.insts) (inside_body b.insts b.term))
 
-struct_plain : (s : StructType) → Each Plain (encStruct s)
-unfolding encStruct defines
+struct_plain : (s : StructType) → Each Plain (enc_struct s)
+unfolding enc_struct defines
 struct_plain s = (refl, body s.body)
   where
-    body : (b : Option StructBody) → Each Plain (encBody b)
+    body : (b : Option StructBody) → Each Plain (enc_body b)
     body none = (refl, tt)
-    body (some b) = inside-plain (encTy (Ty.struct b.packed b.fields)) (inside-ty (Ty.struct b.packed b.fields))
+    body (some b) = inside_plain (enc_ty (Ty.struct b.packed b.fields)) (inside_ty (Ty.struct b.packed b.fields))
 
-function-defines : (f : Function) → definers (encFunction f) ≡ f.name ∷ []
-unfolding encFunction definers defines
-function-defines f =
-    let ps = closed encParam f.params in
-    let bs = closed encBasicBlock f.blocks in
-    let all = plain-append (encTy f.retTy) (ps ++ bs) (inside-plain (encTy f.retTy) (inside-ty f.retTy))
-    (plain-append ps bs (plain-ending encParam param_plain (entry 0 0 ∷ []) closing f.params) (plain-ending encBasicBlock block-plain (entry 0 0 ∷ []) closing f.blocks)) in
-    ap (λ (l : List ℕ). f.name ∷ l) (none_of (encTy f.retTy ++ (ps ++ bs)) all)
+function_defines : (f : Function) → definers (enc_function f) ≡ f.name ∷ []
+unfolding enc_function definers defines
+function_defines f =
+    let ps = closed enc_param f.params in
+    let bs = closed enc_basic_block f.blocks in
+    let all = plain_append (enc_ty f.ret_ty) (ps ++ bs) (inside_plain (enc_ty f.ret_ty) (inside_ty f.ret_ty))
+    (plain_append ps bs (plain_ending enc_param param_plain (entry 0 0 ∷ []) closing f.params) (plain_ending enc_basic_block block_plain (entry 0 0 ∷ []) closing f.blocks)) in
+    ap (λ (l : List ℕ). f.name ∷ l) (none_of (enc_ty f.ret_ty ++ (ps ++ bs)) all)
 
 -- each function defines its name, and the entry that closes them defines none
-functions-define : (fs : List Function) → definers (encFunctions fs) ≡ map (λ (f : Function). f.name) fs
+functions_define : (fs : List Function) → definers (enc_functions fs) ≡ map (λ (f : Function). f.name) fs
 unfolding ending definers defines
-functions-define [] = refl
-functions-define (f ∷ fs) =
-    definers-append (encFunction f) (encFunctions fs) ∙ ap (λ (l : List ℕ). l ++ definers (encFunctions fs)) (function-defines f) ∙ ap (λ (l : List ℕ). f.name ∷ l) (functions-define fs)
+functions_define [] = refl
+functions_define (f ∷ fs) =
+    definers_append (enc_function f) (enc_functions fs) ∙ ap (λ (l : List ℕ). l ++ definers (enc_functions fs)) (function_defines f) ∙ ap (λ (l : List ℕ). f.name ∷ l) (functions_define fs)
 
-structs-define : (end : List Entry) (ss : List StructType) → definers (ending encStruct end ss) ≡ definers end
+structs_define : (end : List Entry) (ss : List StructType) → definers (ending enc_struct end ss) ≡ definers end
 unfolding ending
-structs-define end [] = refl
-structs-define end (s ∷ ss) =
-    definers-append (encStruct s) (ending encStruct end ss) ∙ ap (λ (l : List ℕ). l ++ definers (ending encStruct end ss)) (none_of (encStruct s) (struct_plain s)) ∙ structs-define end ss
+structs_define end [] = refl
+structs_define end (s ∷ ss) =
+    definers_append (enc_struct s) (ending enc_struct end ss) ∙ ap (λ (l : List ℕ). l ++ definers (ending enc_struct end ss)) (none_of (enc_struct s) (struct_plain s)) ∙ structs_define end ss
 
-marks-define : (end : List Entry) (ms : List Mark) → definers (ending encMark end ms) ≡ definedBy ms ++ definers end
-unfolding ending markEntry definers defines definedBy
-marks-define end [] = refl
-marks-define end (Mark.defined x ∷ ms) = ap (λ (l : List ℕ). x ∷ l) (marks-define end ms)
-marks-define end (Mark.reserved x ∷ ms) = marks-define end ms
+marks_define : (end : List Entry) (ms : List Mark) → definers (ending enc_mark end ms) ≡ defined_by ms ++ definers end
+unfolding ending mark_entry definers defines defined_by
+marks_define end [] = refl
+marks_define end (Mark.defined x ∷ ms) = ap (λ (l : List ℕ). x ∷ l) (marks_define end ms)
+marks_define end (Mark.reserved x ∷ ms) = marks_define end ms
 
 -- they are the names that count as defined
-book-defines : (ns : List (List ℕ)) (b : Book) → definers (encode b) ≡ (codegenOf ns b).defined
-unfolding encode codegenOf
-book-defines ns b =
-    marks-define (ending encStruct (encFunctions b.functions) b.structs) b.marks
-    ∙ ap (λ (l : List ℕ). definedBy b.marks ++ l) (structs-define (encFunctions b.functions) b.structs ∙ functions-define b.functions)
+book_defines : (ns : List (List ℕ)) (b : Book) → definers (encode b) ≡ (codegen_of ns b).defined
+unfolding encode codegen_of
+book_defines ns b =
+    marks_define (ending enc_struct (enc_functions b.functions) b.structs) b.marks
+    ∙ ap (λ (l : List ℕ). defined_by b.marks ++ l) (structs_define (enc_functions b.functions) b.structs ∙ functions_define b.functions)
 
-pub defined-is : (m : ℕ) (es : List Entry) (ns : List (List ℕ)) (b : Book) → decode m es ≡ some b → definers es ≡ (codegenOf ns b).defined
-defined-is m es ns b e = ap definers (decode-sound m es b e).0 ∙ book-defines ns b
+pub defined_is : (m : ℕ) (es : List Entry) (ns : List (List ℕ)) (b : Book) → decode m es ≡ some b → definers es ≡ (codegen_of ns b).defined
+defined_is m es ns b e = ap definers (decode_sound m es b e).0 ∙ book_defines ns b
 
 -- each is a name
-below-append : (m : ℕ) (xs ys : List ℕ) → Each (λ x. x < m) xs → Each (λ x. x < m) ys → Each (λ x. x < m) (xs ++ ys)
-below-append m [] ys p q = q
-below-append m (x ∷ xs) ys p q = (p.0, below-append m xs ys p.1 q)
+below_append : (m : ℕ) (xs ys : List ℕ) → Each (λ x. x < m) xs → Each (λ x. x < m) ys → Each (λ x. x < m) (xs ++ ys)
+below_append m [] ys p q = q
+below_append m (x ∷ xs) ys p q = (p.0, below_append m xs ys p.1 q)
 
-marks-below : (m : ℕ) (ms : List Mark) → Each (λ k. markName k < m) ms → Each (λ x. x < m) (definedBy ms)
-unfolding definedBy
-marks-below m [] p = tt
-marks-below m (Mark.defined x ∷ ms) p = (p.0, marks-below m ms p.1)
-marks-below m (Mark.reserved x ∷ ms) p = marks-below m ms p.1
+marks_below : (m : ℕ) (ms : List Mark) → Each (λ k. mark_name k < m) ms → Each (λ x. x < m) (defined_by ms)
+unfolding defined_by
+marks_below m [] p = tt
+marks_below m (Mark.defined x ∷ ms) p = (p.0, marks_below m ms p.1)
+marks_below m (Mark.reserved x ∷ ms) p = marks_below m ms p.1
 
-functions-below : (m : ℕ) (fs : List Function) → Each (FunctionLimits m) fs → Each (λ x. x < m) (map (λ (f : Function). f.name) fs)
-functions-below m [] p = tt
-functions-below m (f ∷ fs) p = (p.0.0, functions-below m fs p.1)
+functions_below : (m : ℕ) (fs : List Function) → Each (FunctionLimits m) fs → Each (λ x. x < m) (map (λ (f : Function). f.name) fs)
+functions_below m [] p = tt
+functions_below m (f ∷ fs) p = (p.0.0, functions_below m fs p.1)
 
-all-below : (m : ℕ) (es : List Entry) → IsBook m es → Each (λ x. x < m) (definers es)
-unfolding codegenOf
-all-below m es k =
-    let s = decode-sound m es k.book k.says in
-    subst (Each (λ x. x < m)) (sym (defined-is m es [] k.book k.says))
-    (below-append m (definedBy k.book.marks) (functionNames k.book) (marks-below m k.book.marks s.1.marks) (functions-below m k.book.functions s.1.functions.1))
+all_below_lem : (m : ℕ) (es : List Entry) → IsBook m es → Each (λ x. x < m) (definers es)
+unfolding codegen_of
+all_below_lem m es k =
+    let s = decode_sound m es k.book k.says in
+    subst (Each (λ x. x < m)) (sym (defined_is m es [] k.book k.says))
+    (below_append m (defined_by k.book.marks) (function_names k.book) (marks_below m k.book.marks s.1.marks) (functions_below m k.book.functions s.1.functions.1))
 
 -- ---- the pass: what it asks and leaves
 pub record DefineAsked (m : ℕ) (es : List Entry) (work : List ℕ) : Type 0 where
   pub book : IsBook m es
-  pub room : nameWords m ≤ length work
+  pub room : name_words m ≤ length work
 
 pub record DefineDone (m : ℕ) (es : List Entry) (work work' : List ℕ) : Type 0 where
   pub words : Raised m (λ x. member x (definers es)) work work'
@@ -164,18 +164,18 @@ pub record Marking (m : ℕ) (es : List Entry) (work₀ work : List ℕ) (a : �
   pub below : Each (λ x. x < m) (definers (drop a es))
   pub words : Raised m seen work₀ work
   pub kept : WordsKept m 5 work₀ work
-  pub room : nameWords m ≤ length work
+  pub room : name_words m ≤ length work
 
-pub define-start : (m : ℕ) (es : List Entry) (work : List ℕ) → DefineAsked m es work → Marking m es work work 0
-define-start m es work k =
-    record { seen = λ x. false; goes = λ x. refl; below = all-below m es k.book; words = λ x l. refl; kept = words-none; room = k.room }
+pub define_start : (m : ℕ) (es : List Entry) (work : List ℕ) → DefineAsked m es work → Marking m es work work 0
+define_start m es work k =
+    record { seen = λ x. false; goes = λ x. refl; below = all_below_lem m es k.book; words = λ x l. refl; kept = words_none; room = k.room }
 
 module _ (m : ℕ) (ks ws work₀ work : List ℕ) (a : ℕ) (p : Marking m (entries ks ws) work₀ work a) where
   abbrev es : List Entry
   es = entries ks ws
 
   abbrev raising : List ℕ
-  raising = set work (markAt (get_or ws a 0)) (definedMark (get_or work (markAt (get_or ws a 0)) 0))
+  raising = set work (mark_at (get_or ws a 0)) (defined_mark (get_or work (mark_at (get_or ws a 0)) 0))
 
   swap : (s e l : Bool) → (s || (e || l)) ≡ ((e || s) || l)
   swap true true l = refl
@@ -185,7 +185,7 @@ module _ (m : ℕ) (ks ws work₀ work : List ℕ) (a : ℕ) (p : Marking m (ent
 
   -- what stands at the place
   pub record Here : Type 0 where
-    pub in-kinds : a + 1 ≤ length ks
+    pub in_kinds : a + 1 ≤ length ks
     pub in_words : a + 1 ≤ length ws
     pub below : defines (get_or ks a 0) ≡ true → get_or ws a 0 < m
     pub other : defines (get_or ks a 0) ≡ false → Marking m es work₀ work (a + 1)
@@ -197,7 +197,7 @@ module _ (m : ℕ) (ks ws work₀ work : List ℕ) (a : ℕ) (p : Marking m (ent
   view (e ∷ rest) h l =
       let q = entry_at ks ws a e rest h in
       record {
-        in-kinds = omega (arith, q.2);
+        in_kinds = omega (arith, q.2);
         in_words = omega (arith, q.3);
         below = λ i. (subst (Each (λ x. x < m)) (step true i) p.below).0;
         other = λ i. record {
@@ -215,9 +215,9 @@ module _ (m : ℕ) (ks ws work₀ work : List ℕ) (a : ℕ) (p : Marking m (ent
               seen = λ x. eqb x w || p.seen x;
               goes = λ x. p.goes x ∙ ap (λ (d : List ℕ). p.seen x || member x d) (step true i) ∙ swap (p.seen x) (eqb x w) (member x (definers (drop (a + 1) es)));
               below = both.1;
-              words = raise-one m p.seen work₀ work p.words p.room w both.0;
-              kept = words-then p.kept (words-set w (markAt w) (definedMark (get_or work (markAt w) 0)) both.0 refl);
-              room = omega (arith, p.room, length-set work (markAt w) (definedMark (get_or work (markAt w) 0)));
+              words = raise_one m p.seen work₀ work p.words p.room w both.0;
+              kept = words_then p.kept (words_set w (mark_at w) (defined_mark (get_or work (mark_at w) 0)) both.0 refl);
+              room = omega (arith, p.room, length-set work (mark_at w) (defined_mark (get_or work (mark_at w) 0)));
             };
       }
     where
@@ -234,13 +234,13 @@ module _ (m : ℕ) (ks ws work₀ work : List ℕ) (a : ℕ) (p : Marking m (ent
   seen_here = view (drop a es) refl
 
   -- no entry is left
-  pub define-done : length es ≤ a → DefineDone m es work₀ work
+  pub define_done : length es ≤ a → DefineDone m es work₀ work
   unfolding definers member
-  define-done l =
+  define_done l =
       let e : drop a es ≡ [] = drop_of_length-le es l in
       let all : (x : ℕ) → member x (definers es) ≡ p.seen x = λ x. p.goes x ∙ ap (λ (r : List Entry). p.seen x || member x (definers r)) e ∙ or-false (p.seen x) in
       record {
-        words = λ x h. p.words x h ∙ ap (λ (b : Bool). raised b (get_or work₀ (markAt x) 0)) (sym (all x));
+        words = λ x h. p.words x h ∙ ap (λ (b : Bool). raised b (get_or work₀ (mark_at x) 0)) (sym (all x));
         kept = p.kept;
       }
 
@@ -248,30 +248,30 @@ module _ (m : ℕ) (ks ws work₀ work : List ℕ) (a : ℕ) (p : Marking m (ent
 pub record MarksAsked (bs : List ℕ) (m : ℕ) (es : List Entry) (work : List ℕ) : Type 0 where
   pub names : accepted bs m ≡ true
   pub book : IsBook m es
-  pub room : nameWords m ≤ length work
-  pub nexts : (x : ℕ) → x < m → get_or work (markAt x) 0 ≡ start_of (lines bs) (x + 1)
+  pub room : name_words m ≤ length work
+  pub nexts : (x : ℕ) → x < m → get_or work (mark_at x) 0 ≡ start_of (lines bs) (x + 1)
 
 -- word 5 of each name is its mark, and no other word has changed
 pub record MarksPlaced (m : ℕ) (g : Codegen) (work work' : List ℕ) : Type 0 where
-  pub marks : (x : ℕ) → x < m → get_or work' (markAt x) 0 ≡ markWord g x
+  pub marks : (x : ℕ) → x < m → get_or work' (mark_at x) 0 ≡ mark_word g x
   pub kept : WordsKept m 5 work work'
 
 module _ {bs : List ℕ} {m : ℕ} (ks ws : List ℕ) {work : List ℕ} (k : MarksAsked bs m (entries ks ws) work) where
   module _ {work₁ : List ℕ} (s : SpellDone bs m work work₁) where
     module _ {work₂ : List ℕ} (d : DefineDone m (entries ks ws) work₁ work₂) where
-      pub marks-placed : (ns : List (List ℕ)) (b : Book) → names_of bs ≡ some ns → decode m (entries ks ws) ≡ some b → MarksPlaced m (codegenOf ns b) work work₂
-      unfolding codegenOf
-      marks-placed ns b en eb =
-          let l : lines bs ≡ ns = names-lines bs ns en in
-          let e : definers (entries ks ws) ≡ (codegenOf ns b).defined = defined-is m (entries ks ws) ns b eb in
+      pub marks_placed : (ns : List (List ℕ)) (b : Book) → names_of bs ≡ some ns → decode m (entries ks ws) ≡ some b → MarksPlaced m (codegen_of ns b) work work₂
+      unfolding codegen_of
+      marks_placed ns b en eb =
+          let l : lines bs ≡ ns = names_lines bs ns en in
+          let e : definers (entries ks ws) ≡ (codegen_of ns b).defined = defined_is m (entries ks ws) ns b eb in
           record {
             marks = λ x h.
-                d.words x h ∙ ap (raised (member x (definers (entries ks ws)))) (s.words x h ∙ ap (λ (n : List (List ℕ)). plainMark (name_at n x)) l)
-                ∙ ap (λ (y : List ℕ). raised (member x y) (plainMark (name_at ns x))) e ∙ mark-is (codegenOf ns b) x;
-            kept = words-then s.kept d.kept;
+                d.words x h ∙ ap (raised (member x (definers (entries ks ws)))) (s.words x h ∙ ap (λ (n : List (List ℕ)). plain_mark (name_at n x)) l)
+                ∙ ap (λ (y : List ℕ). raised (member x y) (plain_mark (name_at ns x))) e ∙ mark_is (codegen_of ns b) x;
+            kept = words_then s.kept d.kept;
           }
 
 -- measuring is not touched
 module _ {m : ℕ} {es : List Entry} {g : Codegen} {work work' : List ℕ} where
-  pub marks-ready : Ready m es work → MarksPlaced m g work work' → Ready m es work'
-  marks-ready r p = ready_words 5 (omega arith) (λ e. omega arith) (λ e. omega arith) (λ e. omega arith) r p.kept
+  pub marks_ready : Ready m es work → MarksPlaced m g work work' → Ready m es work'
+  marks_ready r p = ready_words 5 (omega arith) (λ e. omega arith) (λ e. omega arith) (λ e. omega arith) r p.kept

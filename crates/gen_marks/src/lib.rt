@@ -3,13 +3,13 @@
 // holds where the next name starts, as the check has noted it.
 ghost use Rattle.std.specs.Prelude.{◌≡◌, ℕ, ◌<◌, ◌||◌, List, length};
 ghost use Rattle.std.proofs.Math.Option.{some};
-ghost use Rattle.names.specs.Name.{names_of, nameFrom};
-ghost use Rattle.names.specs.Spelling.{isSyscall, isBcmp, isMemcmp, hasOverflow};
+ghost use Rattle.names.specs.Name.{names_of, name_from};
+ghost use Rattle.names.specs.Spelling.{is_syscall, is_bcmp, is_memcmp, has_overflow};
 ghost use Rattle.book.specs.Ast.{Book};
 ghost use Rattle.book.specs.Entry.{entries};
 ghost use Rattle.book.specs.Decode.{decode};
-ghost use Rattle.lowering.specs.Context.{codegenOf};
-ghost use Rattle.gen_marks.specs.Mark.{spelled as spelledAs, withOverflow, definedMark};
+ghost use Rattle.lowering.specs.Context.{codegen_of};
+ghost use Rattle.gen_marks.specs.Mark.{spelled as spelledAs, with_overflow, defined_mark};
 ghost use Rattle.gen_marks.specs.Spelling.{Ended, SpellAsked, SpellDone};
 ghost use Rattle.gen_marks.specs.Defined.{defines as definesOf, DefineAsked, DefineDone, MarksAsked, MarksPlaced};
 
@@ -20,7 +20,7 @@ use names_spelling::name_starts;
 // Whether the name at `at` starts `__uvm_`. Most have another first byte.
 fn is_syscall(names: &[u8], at: usize) -> bool
     requires { at < length names.now }
-    ensures { result ≡ isSyscall (nameFrom names.now at) }
+    ensures { result ≡ is_syscall (name_from names.now at) }
 {
     if names[at] == b'_' {
         name_starts(names, at, b"__uvm_")
@@ -32,7 +32,7 @@ fn is_syscall(names: &[u8], at: usize) -> bool
 // Whether the name that goes from `at` to `end` is `bcmp` or `memcmp`. Most have another length.
 fn is_memcmp(names: &[u8], at: usize, end: usize) -> bool
     requires { Ended names.now at end }
-    ensures { result ≡ (isBcmp (nameFrom names.now at) || isMemcmp (nameFrom names.now at)) }
+    ensures { result ≡ (is_bcmp (name_from names.now at) || is_memcmp (name_from names.now at)) }
 {
     let long = end - at;
     if long == 4 {
@@ -47,7 +47,7 @@ fn is_memcmp(names: &[u8], at: usize, end: usize) -> bool
 // The class of the name that goes from `at` to `end`, by its spelling.
 fn spelled(names: &[u8], at: usize, end: usize) -> u64
     requires { Ended names.now at end }
-    ensures { result ≡ spelledAs (nameFrom names.now at) }
+    ensures { result ≡ spelledAs (name_from names.now at) }
 {
     if is_syscall(names, at) {
         return work::CALL_SYSCALL;
@@ -61,7 +61,7 @@ fn spelled(names: &[u8], at: usize, end: usize) -> u64
 // Whether the name that goes from `at` to `end` contains `.with.overflow.`. Most are shorter than these 15 bytes, and not looked through.
 fn overflows(names: &[u8], at: usize, end: usize) -> bool
     requires { Ended names.now at end }
-    ensures { result ≡ hasOverflow (nameFrom names.now at) }
+    ensures { result ≡ has_overflow (name_from names.now at) }
 {
     if end - at < 15 {
         return false;
@@ -81,7 +81,7 @@ fn overflows(names: &[u8], at: usize, end: usize) -> bool
 // A class as a word, before it is known whether the name is defined here.
 fn with_overflow(class: u64, overflow: bool) -> u64
     requires { class < 4 }
-    ensures { result ≡ withOverflow class overflow }
+    ensures { result ≡ with_overflow class overflow }
 {
     if overflow {
         class + work::OVERFLOW
@@ -92,7 +92,7 @@ fn with_overflow(class: u64, overflow: bool) -> u64
 
 // The word of a name that is defined here.
 fn defined(word: u64) -> u64
-    ensures { result ≡ definedMark word }
+    ensures { result ≡ defined_mark word }
 {
     if word % work::OVERFLOW == work::CALL_NONE {
         word + work::CALL_DEFINED
@@ -145,7 +145,7 @@ pub fn place_marks(kinds: &[u64], words: &[u64], names: &[u8], work: &mut [u64],
     requires { MarksAsked names.now count (entries kinds.now words.now) work.old }
     ensures { (ns : List (List ℕ)) (b : Book) → names_of names.now ≡ some ns
         → decode count (entries kinds.now words.now) ≡ some b
-        → MarksPlaced count (codegenOf ns b) work.old work.new }
+        → MarksPlaced count (codegen_of ns b) work.old work.new }
 {
     spell_marks(names, work, count);
     define_marks(kinds, words, work, count);

@@ -3,11 +3,11 @@ ghost use Rattle.std.specs.Prelude.{◌≡◌, ◌<◌, ◌≤◌, length, get_o
 ghost use Rattle.book.specs.Ast.{Ty};
 ghost use Rattle.book.specs.Entry.{entries};
 ghost use Rattle.book.specs.Kinds.{InstTag};
-ghost use Rattle.book.specs.Fields.{Meanings, instFields};
+ghost use Rattle.book.specs.Fields.{Meanings, inst_fields};
 ghost use Rattle.lowering.specs.Context.{FnCtx};
-ghost use Rattle.lowering.specs.Operand.{intWidth};
-ghost use Rattle.lowering.specs.Memory.{genLoad, genStore};
-ghost use Rattle.lowering.specs.Arith.{widthOr, genFreeze};
+ghost use Rattle.lowering.specs.Operand.{int_width};
+ghost use Rattle.lowering.specs.Memory.{gen_load, gen_store};
+ghost use Rattle.lowering.specs.Arith.{width_or, gen_freeze};
 ghost use Rattle.gen_values.specs.Values.{width_by};
 ghost use Rattle.gen_values.specs.Maps.{Maps, Did};
 ghost use Rattle.gen_values.specs.Fields.{Fields, WidthSays};
@@ -56,10 +56,10 @@ pub fn gen_load(
     operands: &mut [u64],
     s: Reached,
 ) -> Reached
-    requires { Lent names (instFields InstTag.load) (entries kinds.now words.now) (entries book_kinds.now book_words.now) work.old }
-    ensures { (p : Meanings (instFields InstTag.load)) (c : FnCtx) → Fields names (instFields InstTag.load) p (entries kinds.now words.now)
+    requires { Lent names (inst_fields InstTag.load) (entries kinds.now words.now) (entries book_kinds.now book_words.now) work.old }
+    ensures { (p : Meanings (inst_fields InstTag.load)) (c : FnCtx) → Fields names (inst_fields InstTag.load) p (entries kinds.now words.now)
         → Maps names (entries book_kinds.now book_words.now) c work.old
-        → Did (genLoad c p.0 p.1.0) names (entries book_kinds.now book_words.now) c work.new
+        → Did (gen_load c p.0 p.1.0) names (entries book_kinds.now book_words.now) c work.new
         s result lines.old operands.old lines.new operands.new }
 {
     let size = measured_size(kinds, words, book_kinds, book_words, work, names, s);
@@ -83,10 +83,10 @@ pub fn gen_store(
     operands: &mut [u64],
     s: Reached,
 ) -> Reached
-    requires { Lent names (instFields InstTag.store) (entries kinds.now words.now) (entries book_kinds.now book_words.now) work.old }
-    ensures { (p : Meanings (instFields InstTag.store)) (c : FnCtx) → Fields names (instFields InstTag.store) p (entries kinds.now words.now)
+    requires { Lent names (inst_fields InstTag.store) (entries kinds.now words.now) (entries book_kinds.now book_words.now) work.old }
+    ensures { (p : Meanings (inst_fields InstTag.store)) (c : FnCtx) → Fields names (inst_fields InstTag.store) p (entries kinds.now words.now)
         → Maps names (entries book_kinds.now book_words.now) c work.old
-        → Did (genStore c p.0 p.1.0 p.1.1.0) names (entries book_kinds.now book_words.now) c work.new
+        → Did (gen_store c p.0 p.1.0 p.1.1.0) names (entries book_kinds.now book_words.now) c work.new
         s result lines.old operands.old lines.new operands.new }
 {
     let size = measured_size(kinds, words, book_kinds, book_words, work, names, s);
@@ -104,7 +104,7 @@ pub fn gen_store(
 fn width_or(kinds: &[u64], words: &[u64], bytes: u64) -> u32
     requires kinds_nonzero { (0 < length kinds.now) × (0 < length words.now) }
     requires bytes_bound { bytes ≤ 16777216 }
-    ensures { (t : Ty) → WidthSays (width_by (get_or kinds.now 0 0) (get_or words.now 0 0)) (intWidth t) → result ≡ widthOr (intWidth t) bytes }
+    ensures { (t : Ty) → WidthSays (width_by (get_or kinds.now 0 0) (get_or words.now 0 0)) (int_width t) → result ≡ width_or (int_width t) bytes }
 {
     let width = width_of(kinds, words);
     if width != 0 {
@@ -125,10 +125,10 @@ pub fn gen_freeze(
     operands: &mut [u64],
     s: Reached,
 ) -> Reached
-    requires { Lent names (instFields InstTag.freeze) (entries kinds.now words.now) (entries book_kinds.now book_words.now) work.old }
-    ensures { (p : Meanings (instFields InstTag.freeze)) (c : FnCtx) → Fields names (instFields InstTag.freeze) p (entries kinds.now words.now)
+    requires { Lent names (inst_fields InstTag.freeze) (entries kinds.now words.now) (entries book_kinds.now book_words.now) work.old }
+    ensures { (p : Meanings (inst_fields InstTag.freeze)) (c : FnCtx) → Fields names (inst_fields InstTag.freeze) p (entries kinds.now words.now)
         → Maps names (entries book_kinds.now book_words.now) c work.old
-        → Did (genFreeze c p.0 p.1.0) names (entries book_kinds.now book_words.now) c work.new
+        → Did (gen_freeze c p.0 p.1.0) names (entries book_kinds.now book_words.now) c work.new
         s result lines.old operands.old lines.new operands.new }
 {
     let size = measured_size(kinds, words, book_kinds, book_words, work, names, s);

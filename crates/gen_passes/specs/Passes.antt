@@ -12,18 +12,18 @@ use Rattle.book.specs.Entry.{entries}
 use Rattle.book.specs.Result.{Result, ok, err, bind, given}
 use Rattle.assembly.specs.Number.{kind_of}
 use Rattle.lowering.specs.Context.{Codegen}
-use Rattle.lowering.specs.Function.{genFunctions}
+use Rattle.lowering.specs.Function.{gen_functions}
 use Rattle.lowering.specs.Gen.{Gen, Out}
-use Rattle.lowering.specs.Printable.{take-over}
+use Rattle.lowering.specs.Printable.{take_over}
 use Rattle.lowering.specs.Translate.{over}
 use Rattle.gen_lines.specs.declared.Reached.{Reached}
-use Rattle.gen_lines.specs.Puts.{Puts, Able, After, is_refused, most, operand_word, map-length}
-use Rattle.gen_slices.specs.Fits.{FitOf, fit-lines, fit_refused}
+use Rattle.gen_lines.specs.Puts.{Puts, Able, After, is_refused, most, operand_word, map_length}
+use Rattle.gen_slices.specs.Fits.{FitOf, fit_lines, fit_refused}
 use Rattle.gen_slices.specs.declared.Fit.{Fit}
 use Rattle.gen_slices.specs.declared.Fit.TheVariants as fit
 use Rattle.gen_blocks.specs.Function.{FunctionsAt}
 use Rattle.gen_prepare.specs.Prepare.{Clean, Shared}
-use Rattle.gen_clear.specs.Clear.{ClearAsk, none-ask}
+use Rattle.gen_clear.specs.Clear.{ClearAsk, none_ask}
 use Rattle.gen_passes.specs.declared.Translation.{Translation}
 use Rattle.gen_passes.specs.declared.Translation.TheVariants.{Accepted, Refused}
 
@@ -63,20 +63,20 @@ pub record PassAsk (m : ℕ) (bk bw : List ℕ) (first last : ℕ) (work : List 
 abbrev pub Passed : (m : ℕ) (bk bw : List ℕ) (first last counter : ℕ) (work : List ℕ) (r : Translation) (ks os ks' os' : List ℕ) → Type 0
 Passed m bk bw first last counter work r ks os ks' os' =
     (g : Codegen) (fs : List Function) → FunctionsAt m (entries bk bw) last first fs → Shared m (entries bk bw) g work → Clean m work
-    → Answered (fitted (genFunctions g fs counter) (room ks os)) r ks os ks' os'
+    → Answered (fitted (gen_functions g fs counter) (room ks os)) r ks os ks' os'
 
 -- nothing is left to clear before the first pass
 pub clear_first : {m : ℕ} (bk bw : List ℕ) {first last : ℕ} {work : List ℕ} {g : Codegen} {fs : List Function}
     → FunctionsAt m (entries bk bw) last first fs → Shared m (entries bk bw) g work → Clean m work → ClearAsk m (entries bk bw) 0 0 work
-clear_first {m} bk bw {first} {last} {work} h s c = none-ask m (entries bk bw) work c (omega (arith, s.room)) h.few
+clear_first {m} bk bw {first} {last} {work} h s c = none_ask m (entries bk bw) work c (omega (arith, s.room)) h.few
 
 -- where both passes begin
 abbrev pub start : ℕ → Reached
 start counter = record { at = 0; counter = counter; refused = 0 }
 
-pub start-able : (counter : ℕ) (ks os : List ℕ) → counter < 2 ^ 64 → length ks ≤ most → length os ≤ most → Able (start counter) ks os counter
-start-able counter ks os small few-ks few-os =
-    record { going = refl; within = omega arith; few-kinds = few-ks; few-operands = few-os; counts = sym (mod-eq_of_lt small) }
+pub start_able : (counter : ℕ) (ks os : List ℕ) → counter < 2 ^ 64 → length ks ≤ most → length os ≤ most → Able (start counter) ks os counter
+start_able counter ks os small few-ks few-os =
+    record { going = refl; within = omega arith; few_kinds = few-ks; few_operands = few-os; counts = sym (mod-eq_of_lt small) }
 
 -- no answer is refused and not
 pub never : {A : Type 0} {b : Bool} → b ≡ true → b ≡ false → A
@@ -91,49 +91,49 @@ sets_over l vs h = let e : 0 + length vs ≡ length vs = omega arith in sets-eq 
 pub record Pass (g : Gen) (counter : ℕ) (t : Reached) (ks os ks' os' : List ℕ) : Type 0 where
   pub puts : Puts g (start counter) t ks os ks' os'
   pub small : counter < 2 ^ 64
-  pub few-kinds : length ks < most
-  pub few-operands : length os < most
+  pub few_kinds : length ks < most
+  pub few_operands : length os < most
 
-pass-after : {g : Gen} {counter : ℕ} {t : Reached} {ks os ks' os' : List ℕ} → Pass g counter t ks os ks' os' → After (g counter) 0 t ks os ks' os'
-pass-after {g} {counter} {t} {ks} {os} p = p.puts.goes counter (start-able counter ks os p.small (omega (arith, p.few-kinds)) (omega (arith, p.few-operands)))
+pass_after : {g : Gen} {counter : ℕ} {t : Reached} {ks os ks' os' : List ℕ} → Pass g counter t ks os ks' os' → After (g counter) 0 t ks os ks' os'
+pass_after {g} {counter} {t} {ks} {os} p = p.puts.goes counter (start_able counter ks os p.small (omega (arith, p.few_kinds)) (omega (arith, p.few_operands)))
 
 module _ (g : Gen) (counter : ℕ) {t : Reached} {ks₀ os₀ ks₁ os₁ : List ℕ} (counting : Pass g counter t ks₀ os₀ ks₁ os₁) (ks os : List ℕ) (few : length ks < most) where
   going : t.refused ≡ 0 → is_refused t ≡ false
   going e = ap not (eq-eqb t.refused 0 e)
 
   -- the count found a refusal
-  pass-refused : (t.refused ≡ 0 → ⊥) → Answered (fitted (g counter) (room ks os)) (Refused t.refused) ks os ks os
+  pass_refused : (t.refused ≡ 0 → ⊥) → Answered (fitted (g counter) (room ks os)) (Refused t.refused) ks os ks os
   unfolding bind
-  pass-refused e = go (g counter) (pass-after counting)
+  pass_refused e = go (g counter) (pass_after counting)
     where
       go : (r : Result Out) → After r 0 t ks₀ os₀ ks₁ os₁ → Answered (fitted r (room ks os)) (Refused t.refused) ks os ks os
       go (ok out) w = never (ap not (ne_eqb t.refused 0 e)) w.going
       go (err n) b = record { reply = ap Refused b.number; kinds = refl; operands = refl }
 
   -- the lines do not fit
-  pass-short : t.refused ≡ 0 → room ks os < t.at → Answered (fitted (g counter) (room ks os)) (Refused 20) ks os ks os
+  pass_short : t.refused ≡ 0 → room ks os < t.at → Answered (fitted (g counter) (room ks os)) (Refused 20) ks os ks os
   unfolding bind given
-  pass-short e l = go (g counter) (pass-after counting)
+  pass_short e l = go (g counter) (pass_after counting)
     where
       go : (r : Result Out) → After r 0 t ks₀ os₀ ks₁ os₁ → Answered (fitted r (room ks os)) (Refused 20) ks os ks os
       go (ok out) w = rw (lt-leb (length out.lines) (room ks os) (omega (arith, w.place))) (record { reply = refl; kinds = refl; operands = refl })
       go (err n) b = never b.refused (going e)
 
   -- they do, and are copied
-  pass-copied : t.refused ≡ 0 → t.at ≤ room ks os → t.at ≤ length ks₀ → length ks₀ ≡ length os₀
+  pass_copied : t.refused ≡ 0 → t.at ≤ room ks os → t.at ≤ length ks₀ → length ks₀ ≡ length os₀
       → (ks' os' : List ℕ) → ks' ≡ over (take t.at ks₁) ks → os' ≡ over (take t.at os₁) os → Answered (fitted (g counter) (room ks os)) (Accepted t.at t.counter) ks os ks' os'
   unfolding bind given
-  pass-copied e l own even ks' os' ek eo = go (g counter) (pass-after counting)
+  pass_copied e l own even ks' os' ek eo = go (g counter) (pass_after counting)
     where
       go : (r : Result Out) → After r 0 t ks₀ os₀ ks₁ os₁ → Answered (fitted r (room ks os)) (Accepted t.at t.counter) ks os ks' os'
       go (ok out) w =
           let n : t.at ≡ length out.lines = omega (arith, w.place) in
           let k : take t.at ks₁ ≡ map kind_of out.lines =
-          ap (take t.at) (w.kinds ∙ sets_over ks₀ (map kind_of out.lines) (omega (arith, map-length kind_of out.lines)))
-          ∙ ap (λ (j : ℕ). take j (over (map kind_of out.lines) ks₀)) n ∙ take-over kind_of out.lines ks₀ in
+          ap (take t.at) (w.kinds ∙ sets_over ks₀ (map kind_of out.lines) (omega (arith, map_length kind_of out.lines)))
+          ∙ ap (λ (j : ℕ). take j (over (map kind_of out.lines) ks₀)) n ∙ take_over kind_of out.lines ks₀ in
           let o : take t.at os₁ ≡ map operand_word out.lines =
-          ap (take t.at) (w.operands ∙ sets_over os₀ (map operand_word out.lines) (omega (arith, map-length operand_word out.lines)))
-          ∙ ap (λ (j : ℕ). take j (over (map operand_word out.lines) os₀)) n ∙ take-over operand_word out.lines os₀ in
+          ap (take t.at) (w.operands ∙ sets_over os₀ (map operand_word out.lines) (omega (arith, map_length operand_word out.lines)))
+          ∙ ap (λ (j : ℕ). take j (over (map operand_word out.lines) os₀)) n ∙ take_over operand_word out.lines os₀ in
           rw (le-leb (length out.lines) (room ks os) (omega arith))
           (record {
             reply = ap (λ x. Accepted x t.counter) n ∙ ap (Accepted (length out.lines)) w.next;
@@ -143,10 +143,10 @@ module _ (g : Gen) (counter : ℕ) {t : Reached} {ks₀ os₀ ks₁ os₁ : List
       go (err x) b = never b.refused (going e)
 
   -- they do, and are made again
-  pass-written : t.refused ≡ 0 → t.at ≤ room ks os → {u : Reached} {ks' os' : List ℕ} → Pass g counter u ks os ks' os'
+  pass_written : t.refused ≡ 0 → t.at ≤ room ks os → {u : Reached} {ks' os' : List ℕ} → Pass g counter u ks os ks' os'
       → Answered (fitted (g counter) (room ks os)) (Accepted t.at t.counter) ks os ks' os'
   unfolding bind given
-  pass-written e l {u} {ks'} {os'} writing = go (g counter) (pass-after counting) (pass-after writing)
+  pass_written e l {u} {ks'} {os'} writing = go (g counter) (pass_after counting) (pass_after writing)
     where
       go : (r : Result Out) → After r 0 t ks₀ os₀ ks₁ os₁ → After r 0 u ks os ks' os' → Answered (fitted r (room ks os)) (Accepted t.at t.counter) ks os ks' os'
       go (ok out) w v =
@@ -154,29 +154,29 @@ module _ (g : Gen) (counter : ℕ) {t : Reached} {ks₀ os₀ ks₁ os₁ : List
           rw (le-leb (length out.lines) (room ks os) (omega arith))
           (record {
             reply = ap (λ x. Accepted x t.counter) n ∙ ap (Accepted (length out.lines)) w.next;
-            kinds = v.kinds ∙ sets_over ks (map kind_of out.lines) (omega (arith, map-length kind_of out.lines));
-            operands = v.operands ∙ sets_over os (map operand_word out.lines) (omega (arith, map-length operand_word out.lines));
+            kinds = v.kinds ∙ sets_over ks (map kind_of out.lines) (omega (arith, map_length kind_of out.lines));
+            operands = v.operands ∙ sets_over os (map operand_word out.lines) (omega (arith, map_length operand_word out.lines));
           })
       go (err x) b v = never b.refused (going e)
 
   -- the same by what was told of them
   module _ (r : Fit) (f : FitOf t (length ks) (length os) r) where
     pub fit_none : (e : ℕ) → r ≡ fit.Refused e → Answered (fitted (g counter) (room ks os)) (Refused e) ks os ks os
-    fit_none e q = ⊎_elim (λ p. rw p.1 (pass-refused p.0)) (λ p. rw p.1.1 (pass-short p.0 p.1.0)) (fit_refused t (length ks) (length os) r f e q)
+    fit_none e q = ⊎_elim (λ p. rw p.1 (pass_refused p.0)) (λ p. rw p.1.1 (pass_short p.0 p.1.0)) (fit_refused t (length ks) (length os) r f e q)
 
     module _ (n : ℕ) (q : r ≡ fit.Lines n) where
       abbrev told : (t.refused ≡ 0) × ((n ≡ t.at) × (n ≤ room ks os))
-      told = fit-lines t (length ks) (length os) r f n q
+      told = fit_lines t (length ks) (length os) r f n q
 
-      pub fit-copied : n ≤ length ks₀ → length ks₀ ≡ length os₀
+      pub fit_copied : n ≤ length ks₀ → length ks₀ ≡ length os₀
           → (ks' os' : List ℕ) → ks' ≡ over (take n ks₁) ks → os' ≡ over (take n os₁) os → Answered (fitted (g counter) (room ks os)) (Accepted n t.counter) ks os ks' os'
-      fit-copied own even ks' os' ek eo =
+      fit_copied own even ks' os' ek eo =
           let e = told.1.0 in
           subst (λ (m : ℕ). Answered (fitted (g counter) (room ks os)) (Accepted m t.counter) ks os ks' os') (sym e)
-          (pass-copied told.0 (omega (arith, told.1.1, e)) (omega (arith, own, e)) even ks' os'
+          (pass_copied told.0 (omega (arith, told.1.1, e)) (omega (arith, own, e)) even ks' os'
           (ek ∙ ap (λ (m : ℕ). over (take m ks₁) ks) e) (eo ∙ ap (λ (m : ℕ). over (take m os₁) os) e))
 
       pub fit_written : {u : Reached} {ks' os' : List ℕ} → Pass g counter u ks os ks' os' → Answered (fitted (g counter) (room ks os)) (Accepted n t.counter) ks os ks' os'
       fit_written {ks' = ks'} {os' = os'} writing =
           let e = told.1.0 in
-          subst (λ (m : ℕ). Answered (fitted (g counter) (room ks os)) (Accepted m t.counter) ks os ks' os') (sym e) (pass-written told.0 (omega (arith, told.1.1, e)) writing)
+          subst (λ (m : ℕ). Answered (fitted (g counter) (room ks os)) (Accepted m t.counter) ks os ks' os') (sym e) (pass_written told.0 (omega (arith, told.1.1, e)) writing)

@@ -6,8 +6,8 @@ ghost use Rattle.names.specs.Name.{names_of};
 ghost use Rattle.book.specs.Ast.{Book};
 ghost use Rattle.book.specs.Decode.{decode};
 ghost use Rattle.book.specs.Entry.{entries};
-ghost use Rattle.lowering.specs.Context.{codegenOf};
-ghost use Rattle.lowering.specs.Function.{genFunctions};
+ghost use Rattle.lowering.specs.Context.{codegen_of};
+ghost use Rattle.lowering.specs.Function.{gen_functions};
 ghost use Rattle.lowering.specs.Translate.{over};
 ghost use Rattle.gen_passes.specs.Passes.{fitted, Answered, PassAsk, Passed};
 ghost use Rattle.gen_passes.specs.Generate.{GenerateAsk};
@@ -104,7 +104,7 @@ pub fn generate(
     requires own_lines_len { length own_lines.old ≡ length own_operands.old }
     ensures { (ns : List (List ℕ)) (b : Book) → names_of names.now ≡ some ns
         → decode count (entries book_kinds.now book_words.now) ≡ some b
-        → Answered (fitted (genFunctions (codegenOf ns b) b.functions counter) (min (length lines.old) (length operands.old)))
+        → Answered (fitted (gen_functions (codegen_of ns b) b.functions counter) (min (length lines.old) (length operands.old)))
         result lines.old operands.old lines.new operands.new }
 {
     let first = prepare_book(book_kinds, book_words, names, work, count);

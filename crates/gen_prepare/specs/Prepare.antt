@@ -7,25 +7,25 @@ use Rattle.names_check.specs.Nexts.{NextsAlone}
 use Rattle.book.specs.Entry.{Entry}
 use Rattle.book.specs.Ast.{Function, Book}
 use Rattle.book.specs.Decode.{decode}
-use Rattle.book.specs.Encode.{closed, encBasicBlock}
+use Rattle.book.specs.Encode.{closed, enc_basic_block}
 use Rattle.book.specs.Result.{Result, ok, err}
-use Rattle.book.specs.Shape.{allInsts}
-use Rattle.book.specs.Work.{nameWords, param_at, slot_at, block_at, placeAt, markAt}
-use Rattle.layout.specs.Frame.{Places, noFrame, framePass}
-use Rattle.layout_memo.specs.Work.{Ready, structsIn}
+use Rattle.book.specs.Shape.{all_insts}
+use Rattle.book.specs.Work.{name_words, param_at, slot_at, block_at, place_at, mark_at}
+use Rattle.layout.specs.Frame.{Places, no_frame, frame_pass}
+use Rattle.layout_memo.specs.Work.{Ready, structs_in}
 use Rattle.layout_memo.specs.Structs.{IsBook}
-use Rattle.lowering.specs.Context.{Codegen, codegenOf}
+use Rattle.lowering.specs.Context.{Codegen, codegen_of}
 use Rattle.lowering.specs.Function.{context_of}
-use Rattle.gen_values.specs.Maps.{Maps, markWord}
-use Rattle.gen_blocks.specs.Function.{functionIn, behindIn, functionsIn, last_of, FunctionAt, FunctionsAt}
+use Rattle.gen_values.specs.Maps.{Maps, mark_word}
+use Rattle.gen_blocks.specs.Function.{function_in, behind_in, functions_in, last_of, FunctionAt, FunctionsAt}
 use Rattle.gen_blocks.specs.declared.Placed.{Placed}
 use Rattle.gen_frame.specs.declared.Frame.{Frame}
 use Rattle.gen_frame.specs.Frames.{Barred}
 use Rattle.gen_prepare.specs.declared.Prepared.{Prepared}
 
 -- the answer, from the frame pass's: the bytes are rounded up to 8; a frame is there for bytes and for varying places
-abbrev pub preparedOf : (at : ℕ) → Placed → Frame → Prepared
-preparedOf at placed f =
+abbrev pub prepared_of : (at : ℕ) → Placed → Frame → Prepared
+prepared_of at placed f =
     record {
       at = at;
       blocks = placed.blocks;
@@ -42,42 +42,42 @@ pub record Clean (m : ℕ) (work : List ℕ) : Type 0 where
   pub params : (x : ℕ) → x < m → get_or work (param_at x) 0 ≡ 0
   pub slots : (x : ℕ) → x < m → get_or work (slot_at x) 0 ≡ 0
   pub blocks : (x : ℕ) → x < m → get_or work (block_at x) 0 ≡ 0
-  pub places : (x : ℕ) → x < m → get_or work (placeAt x) 0 ≡ 0
+  pub places : (x : ℕ) → x < m → get_or work (place_at x) 0 ≡ 0
 
 -- what functions rest on: how each name is called, the structs, and what measuring knows
 pub record Shared (m : ℕ) (es : List Entry) (g : Codegen) (work : List ℕ) : Type 0 where
-  pub room : nameWords m + 64 ≤ length work
-  pub marks : (x : ℕ) → x < m → get_or work (markAt x) 0 ≡ markWord g x
-  pub structs : g.structs ≡ structsIn m es
+  pub room : name_words m + 64 ≤ length work
+  pub marks : (x : ℕ) → x < m → get_or work (mark_at x) 0 ≡ mark_word g x
+  pub structs : g.structs ≡ structs_in m es
   pub measured : Ready m es work
 
 -- names, a book, and work words that are 0 but for where the name behind each one starts
 pub record BookAsk (bs : List ℕ) (m : ℕ) (es : List Entry) (work : List ℕ) : Type 0 where
   pub names : accepted bs m ≡ true
   pub book : IsBook m es
-  pub room : nameWords m + 64 ≤ length work
+  pub room : name_words m + 64 ≤ length work
   pub words : NextsAlone 8 5 bs m work
 
 -- the functions stand from the place r on
 pub record BookDone (bs : List ℕ) (m : ℕ) (es : List Entry) (work' : List ℕ) (r : ℕ) : Type 0 where
-  pub functions : FunctionsAt m es (last_of es) r (functionsIn m es)
+  pub functions : FunctionsAt m es (last_of es) r (functions_in m es)
   pub clean : Clean m work'
-  pub shared : (ns : List (List ℕ)) (b : Book) → names_of bs ≡ some ns → decode m es ≡ some b → Shared m es (codegenOf ns b) work'
+  pub shared : (ns : List (List ℕ)) (b : Book) → names_of bs ≡ some ns → decode m es ≡ some b → Shared m es (codegen_of ns b) work'
 
 -- ---- a function
 pub record PrepareAsk (m : ℕ) (es : List Entry) (last a : ℕ) (work : List ℕ) : Type 0 where
   pub fn : FunctionAt m es last a
   pub clean : Clean m work
-  pub room : nameWords m + 64 ≤ length work
+  pub room : name_words m + 64 ≤ length work
   pub measured : Ready m es work
 
 -- the work words hold the context's maps, and the answer the rest of it
 pub record SetUp (g : Codegen) (f : Function) (fr : Places) (m : ℕ) (es : List Entry) (work' : List ℕ) (r : Prepared) : Type 0 where
   pub going : r.refused ≡ 0
   pub maps : Maps m es (context_of g f fr) work'
-  pub slots : (context_of g f fr).bpSlot ≡ r.slots
-  pub size : (context_of g f fr).frameSize ≡ r.size
-  pub framed : (context_of g f fr).hasFrame ≡ r.framed
+  pub slots : (context_of g f fr).bp_slot ≡ r.slots
+  pub size : (context_of g f fr).frame_size ≡ r.size
+  pub framed : (context_of g f fr).has_frame ≡ r.framed
 
 -- by the frame pass's answer. Left free: what the work words hold where it refuses
 abbrev pub PreparedAs : Result Places → Codegen → Function → (m : ℕ) → List Entry → List ℕ → Prepared → Type 0
@@ -87,9 +87,9 @@ PreparedAs (err e) g f m es work' r = Barred e r.refused
 -- the function's entry stands at the place a, its list of blocks at `blocks`, what stands behind it at `end`
 pub record PrepareDone (m : ℕ) (es : List Entry) (a : ℕ) (work work' : List ℕ) (r : Prepared) : Type 0 where
   pub at : r.at ≡ a
-  pub blocks : drop r.blocks es ≡ closed encBasicBlock (functionIn m es a).blocks ++ behindIn m es a
-  pub first-there : r.blocks ≤ length es
-  pub after : drop r.end es ≡ behindIn m es a
+  pub blocks : drop r.blocks es ≡ closed enc_basic_block (function_in m es a).blocks ++ behind_in m es a
+  pub first_there : r.blocks ≤ length es
+  pub after : drop r.end es ≡ behind_in m es a
   pub there : r.end ≤ length es
   pub few : r.slots ≤ 2097152
-  pub says : (g : Codegen) → Shared m es g work → PreparedAs (framePass g.structs (allInsts (functionIn m es a).blocks) noFrame) g (functionIn m es a) m es work' r
+  pub says : (g : Codegen) → Shared m es g work → PreparedAs (frame_pass g.structs (all_insts (function_in m es a).blocks) no_frame) g (function_in m es a) m es work' r

@@ -2,7 +2,7 @@
 // its functions share; those of a function fill words 0 to 3 of names, which are 0, for its context.
 ghost use Rattle.std.specs.Prelude.{◌≡◌, ◌≤◌};
 ghost use Rattle.book.specs.Entry.{entries};
-ghost use Rattle.gen_prepare.specs.Prepare.{preparedOf, BookAsk, BookDone, PrepareAsk, PrepareDone};
+ghost use Rattle.gen_prepare.specs.Prepare.{prepared_of, BookAsk, BookDone, PrepareAsk, PrepareDone};
 
 use gen_blocks::{Placed, find_function, place_function};
 use gen_frame::{Frame, frame_pass};
@@ -26,7 +26,7 @@ pub struct Prepared {
 // The answer, from that of the frame pass.
 fn framed(at: usize, placed: Placed, f: Frame) -> Prepared
     requires { f.off ≤ 2147483648 }
-    ensures { result ≡ preparedOf at placed f }
+    ensures { result ≡ prepared_of at placed f }
 {
     let size = align_up(f.off, 8);
     Prepared {

@@ -2,7 +2,7 @@
 ghost use Rattle.book.specs.Entry.{entries};
 ghost use Rattle.book.specs.Fields.{Meanings};
 ghost use Rattle.lowering.specs.Context.{FnCtx};
-ghost use Rattle.lowering.specs.Arith.{genSelect};
+ghost use Rattle.lowering.specs.Arith.{gen_select};
 ghost use Rattle.gen_lines.specs.Puts.{Puts};
 ghost use Rattle.gen_values.specs.Maps.{Locals};
 ghost use Rattle.gen_values.specs.Fields.{Fields};
@@ -27,7 +27,7 @@ pub fn gen_select(
     requires { There selected names (entries kinds.now words.now) work.now }
     ensures { (c : FnCtx) → Locals c names work.now → (p : Meanings selected)
         → Fields names selected p (entries kinds.now words.now)
-        → Puts (genSelect c p.0 p.1.0 p.1.1.0 p.1.1.1.0) s result lines.old operands.old lines.new operands.new }
+        → Puts (gen_select c p.0 p.1.0 p.1.1.0 p.1.1.1.0) s result lines.old operands.old lines.new operands.new }
 {
     let type_kinds = &kinds[1..];
     let type_words = &words[1..];

@@ -10,9 +10,9 @@ use Rattle.gen_lines.specs.declared.Reached.{Reached}
 use Rattle.gen_lines.specs.Puts.{Puts}
 use Rattle.gen_lines.specs.Follow.{Asked}
 use Rattle.gen_values.specs.Maps.{Maps, Did, maps_after}
-use Rattle.gen_values.specs.Fields.{Fields, type-starts, type-is}
+use Rattle.gen_values.specs.Fields.{Fields, type_starts, type_is}
 use Rattle.gen_size.specs.declared.Bytes.{Bytes}
-use Rattle.gen_size.specs.Sizes.{Measurable, SizeAsked, AlignAsked, size_in, align-in}
+use Rattle.gen_size.specs.Sizes.{Measurable, SizeAsked, AlignAsked, size_in, align_in_lem}
 
 pub record Lent (m : ℕ) (fs : List Field) (es bs : List Entry) (work : List ℕ) : Type 0 where
   pub holds : Meanings fs
@@ -22,15 +22,15 @@ pub record Lent (m : ℕ) (fs : List Field) (es bs : List Entry) (work : List �
 -- the type in front is measured
 module _ {m : ℕ} {fs : List Field} (ks ws : List ℕ) {bs : List Entry} {work : List ℕ} where
   pub measurable : Lent m (Field.plain Item.type ∷ fs) (entries ks ws) bs work → Measurable m (entries ks ws) bs work
-  measurable l = record { front = type-starts ks ws 0 l.fields; ready = l.ready }
+  measurable l = record { front = type_starts ks ws 0 l.fields; ready = l.ready }
 
   module _ {p : Meanings (Field.plain Item.type ∷ fs)} {c : FnCtx} {work' : List ℕ} {s : Reached} {r : Bytes}
       (f : Fields m (Field.plain Item.type ∷ fs) p (entries ks ws)) (k : Maps m bs c work) where
-    pub size-asked : SizeAsked m (entries ks ws) bs work work' s r → Asked (size_of c.codegen.structs p.0) s r.s r.bytes
-    size-asked q = size_in k (type-is ks ws 0 f) q
+    pub size_asked : SizeAsked m (entries ks ws) bs work work' s r → Asked (size_of c.codegen.structs p.0) s r.s r.bytes
+    size_asked q = size_in k (type_is ks ws 0 f) q
 
-    pub align-asked : AlignAsked m (entries ks ws) bs work work' s r → Asked (align_of c.codegen.structs p.0) s r.s r.bytes
-    align-asked q = align-in k (type-is ks ws 0 f) q
+    pub align_asked : AlignAsked m (entries ks ws) bs work work' s r → Asked (align_of c.codegen.structs p.0) s r.s r.bytes
+    align_asked q = align_in_lem k (type_is ks ws 0 f) q
 
 -- the lines are put, and the maps are kept
 pub did : {g : Gen} {m : ℕ} {bs : List Entry} {c : FnCtx} {work work' : List ℕ} {s t : Reached} {ks os ks' os' : List ℕ} → Maps m bs c work → After m bs work work'

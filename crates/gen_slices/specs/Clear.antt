@@ -9,8 +9,8 @@ abbrev pub Blank : List ℕ → Type 0
 Blank work = (i : ℕ) → get_or work i 0 ≡ 0
 
 -- one word more
-pub one_more : (work : List ℕ) (i : ℕ) → i < length work → ((k : ℕ) → k < i → get_or work k 0 ≡ 0) → (k : ℕ) → k < i + 1 → get_or (set work i 0) k 0 ≡ 0
-one_more work i l h k m = go (eqb k i) refl
+pub one_more_lem : (work : List ℕ) (i : ℕ) → i < length work → ((k : ℕ) → k < i → get_or work k 0 ≡ 0) → (k : ℕ) → k < i + 1 → get_or (set work i 0) k 0 ≡ 0
+one_more_lem work i l h k m = go (eqb k i) refl
   where
     go : (b : Bool) → eqb k i ≡ b → get_or (set work i 0) k 0 ≡ 0
     go true e = rw (eqb-true k i e) (get_or-set_same work i 0 0 l)
@@ -23,11 +23,11 @@ cleared work i l h =
 
 -- words that were cleared
 module _ (n : ℕ) (work : List ℕ) (z : work ≡ replicate n 0) where
-  pub clear-long : length work ≡ n
-  clear-long = ap length z ∙ length-replicate n 0
+  pub clear_long : length work ≡ n
+  clear_long = ap length z ∙ length-replicate n 0
 
-  pub clear-blank : Blank work
-  clear-blank i = rw z (go (ltb i n) refl)
+  pub clear_blank : Blank work
+  clear_blank i = rw z (go (ltb i n) refl)
     where
       go : (b : Bool) → ltb i n ≡ b → ◌≡◌ {A = ℕ} (get_or (replicate n 0) i 0) 0
       go true e = get_or-replicate n i 0 0 (ltb-true i n e)

@@ -8,8 +8,8 @@ use Rattle.std.proofs.lemmas.List.Edits.{length-paste}
 use Rattle.lowering.specs.Translate.{over}
 
 pub record CopyAsk (many : ℕ) (from to : List ℕ) : Type 0 where
-  pub from-reaches : many ≤ length from
-  pub to-reaches : many ≤ length to
+  pub from_reaches : many ≤ length from
+  pub to_reaches : many ≤ length to
 
 -- i elements are copied
 pub record Copying (many : ℕ) (from to₀ to : List ℕ) (i : ℕ) : Type 0 where
@@ -17,9 +17,9 @@ pub record Copying (many : ℕ) (from to₀ to : List ℕ) (i : ℕ) : Type 0 wh
   pub is : to ≡ paste to₀ 0 from i
 
 module _ {many : ℕ} {from to₀ : List ℕ} (a : CopyAsk many from to₀) where
-  pub copy-long : {to : List ℕ} {i : ℕ} → Copying many from to₀ to i → length to ≡ length to₀
-  copy-long {to} {i} c =
-      ap length c.is ∙ length-paste to₀ 0 from i (omega (arith, c.within, a.to-reaches)) (omega (arith, c.within, a.from-reaches))
+  pub copy_long : {to : List ℕ} {i : ℕ} → Copying many from to₀ to i → length to ≡ length to₀
+  copy_long {to} {i} c =
+      ap length c.is ∙ length-paste to₀ 0 from i (omega (arith, c.within, a.to_reaches)) (omega (arith, c.within, a.from_reaches))
 
   pub copy_more : {to : List ℕ} {i : ℕ} → Copying many from to₀ to i → i < many → Copying many from to₀ (set to i (get_or from i 0)) (i + 1)
   copy_more {to} {i} c l =
@@ -29,7 +29,7 @@ module _ {many : ℕ} {from to₀ : List ℕ} (a : CopyAsk many from to₀) wher
         within = omega arith;
         is = ap (λ (x : List ℕ). set x i (get_or from i 0)) c.is
             ∙ ap (λ (j : ℕ). set (paste to₀ 0 from i) j (get_or from i 0)) (sym e)
-            ∙ paste-suc to₀ 0 from i 0 (omega (arith, a.to-reaches)) (omega (arith, a.from-reaches))
+            ∙ paste-suc to₀ 0 from i 0 (omega (arith, a.to_reaches)) (omega (arith, a.from_reaches))
             ∙ ap (paste to₀ 0 from) s;
       }
 
@@ -37,7 +37,7 @@ module _ {many : ℕ} {from to₀ : List ℕ} (a : CopyAsk many from to₀) wher
   unfolding over
   copy_done {to} {i} c l =
       let e : i ≡ many = omega (arith, c.within) in
-      let n : 0 + many ≡ length (take many from) = omega (arith, length-take many from, a.from-reaches) in
+      let n : 0 + many ≡ length (take many from) = omega (arith, length-take many from, a.from_reaches) in
       c.is ∙ ap (paste to₀ 0 from) e ∙ ap (λ (j : ℕ). take many from ++ drop j to₀) n
 
 pub copy_start : (many : ℕ) (from to : List ℕ) → Copying many from to to 0

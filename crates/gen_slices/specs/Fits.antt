@@ -10,8 +10,8 @@ FitOf s lines operands (fit.Refused e) = ((s.refused ≡ 0 → ⊥) × (e ≡ s.
 FitOf s lines operands (fit.Lines n) = (s.refused ≡ 0) × ((n ≡ s.at) × (n ≤ min lines operands))
 
 module _ (s : Reached) (lines operands : ℕ) (r : Fit) (f : FitOf s lines operands r) where
-  pub fit-lines : (n : ℕ) → r ≡ fit.Lines n → (s.refused ≡ 0) × ((n ≡ s.at) × (n ≤ min lines operands))
-  fit-lines n e = rw e at f
+  pub fit_lines : (n : ℕ) → r ≡ fit.Lines n → (s.refused ≡ 0) × ((n ≡ s.at) × (n ≤ min lines operands))
+  fit_lines n e = rw e at f
 
   pub fit_refused : (n : ℕ) → r ≡ fit.Refused n → ((s.refused ≡ 0 → ⊥) × (n ≡ s.refused)) ⊎ ((s.refused ≡ 0) × ((min lines operands < s.at) × (n ≡ 20)))
   fit_refused n e = rw e at f

@@ -6,9 +6,9 @@ ghost use Rattle.std.proofs.Math.Option.{Option, some};
 ghost use Rattle.book.specs.Ast.{TypedVal, Value, Terminator};
 ghost use Rattle.book.specs.Entry.{entries};
 ghost use Rattle.book.specs.Kinds.{TermTag};
-ghost use Rattle.book.specs.Fields.{termFields};
+ghost use Rattle.book.specs.Fields.{term_fields};
 ghost use Rattle.lowering.specs.Context.{FnCtx};
-ghost use Rattle.lowering.specs.Term.{emitFrameLeave, retValue, genRet, genBr, genCondBr, genTerm};
+ghost use Rattle.lowering.specs.Term.{emit_frame_leave, ret_value, gen_ret, gen_br, gen_cond_br, gen_term};
 ghost use Rattle.gen_lines.specs.Puts.{Puts};
 ghost use Rattle.gen_values.specs.Fields.{Fields};
 ghost use Rattle.gen_values.specs.Maps.{Locals, Maps};
@@ -42,8 +42,8 @@ fn word(number: u64) -> u64
 
 // `emit_frame_leave`
 fn emit_frame_leave(base: Base, lines: &mut [u16], operands: &mut [u64], s: Reached) -> Reached
-    ensures { (c : FnCtx) → (c.bpSlot ≡ base.slot) × (c.hasFrame ≡ base.framed)
-        → Puts (emitFrameLeave c) s result lines.old operands.old lines.new operands.new }
+    ensures { (c : FnCtx) → (c.bp_slot ≡ base.slot) × (c.has_frame ≡ base.framed)
+        → Puts (emit_frame_leave c) s result lines.old operands.old lines.new operands.new }
 {
     if base.framed {
         let slot = word(base.slot);
@@ -64,9 +64,9 @@ fn ret_value(
     s: Reached,
 ) -> Reached
     requires { RetAsk names kinds.now words.now work.now }
-    ensures { (c : FnCtx) (val : Option TypedVal) → Fields names (termFields TermTag.ret) (val, tt) (drop 1 (entries kinds.now words.now))
+    ensures { (c : FnCtx) (val : Option TypedVal) → Fields names (term_fields TermTag.ret) (val, tt) (drop 1 (entries kinds.now words.now))
         → Locals c names work.now
-        → Puts (retValue c val) s result lines.old operands.old lines.new operands.new }
+        → Puts (ret_value c val) s result lines.old operands.old lines.new operands.new }
 {
     if kinds[1] == entry::ABSENT {
         return put(lines, operands, s, line::PUSH, 0);
@@ -89,9 +89,9 @@ fn gen_ret(
     s: Reached,
 ) -> Reached
     requires { RetAsk names kinds.now words.now work.now }
-    ensures { (c : FnCtx) (val : Option TypedVal) → Fields names (termFields TermTag.ret) (val, tt) (drop 1 (entries kinds.now words.now))
-        → Locals c names work.now → (c.bpSlot ≡ base.slot) × (c.hasFrame ≡ base.framed)
-        → Puts (genRet c val) s result lines.old operands.old lines.new operands.new }
+    ensures { (c : FnCtx) (val : Option TypedVal) → Fields names (term_fields TermTag.ret) (val, tt) (drop 1 (entries kinds.now words.now))
+        → Locals c names work.now → (c.bp_slot ≡ base.slot) × (c.has_frame ≡ base.framed)
+        → Puts (gen_ret c val) s result lines.old operands.old lines.new operands.new }
 {
     let pushed = ret_value(kinds, words, names, work, lines, operands, s);
     let left = emit_frame_leave(base, lines, operands, pushed);
@@ -113,9 +113,9 @@ fn gen_cond_br(
 ) -> Reached
     requires { CondAsk names kinds.now words.now book_kinds.now book_words.now work.now }
     ensures { (c : FnCtx) (cond : Value) (x : ℕ) (y : Option ℕ)
-        → Fields names (termFields TermTag.br) (some cond, (x, (y, tt))) (drop 1 (entries kinds.now words.now))
+        → Fields names (term_fields TermTag.br) (some cond, (x, (y, tt))) (drop 1 (entries kinds.now words.now))
         → Maps names (entries book_kinds.now book_words.now) c work.now
-        → Puts (genCondBr c pred cond x y) s result lines.old operands.old lines.new operands.new }
+        → Puts (gen_cond_br c pred cond x y) s result lines.old operands.old lines.new operands.new }
 {
     if kinds[3] == entry::ABSENT {
         return refuse(s, 19);
@@ -148,9 +148,9 @@ fn gen_br(
 ) -> Reached
     requires { BrAsk names kinds.now words.now book_kinds.now book_words.now work.now }
     ensures { (c : FnCtx) (cond : Option Value) (x : ℕ) (y : Option ℕ)
-        → Fields names (termFields TermTag.br) (cond, (x, (y, tt))) (drop 1 (entries kinds.now words.now))
+        → Fields names (term_fields TermTag.br) (cond, (x, (y, tt))) (drop 1 (entries kinds.now words.now))
         → Maps names (entries book_kinds.now book_words.now) c work.now
-        → Puts (genBr c pred cond x y) s result lines.old operands.old lines.new operands.new }
+        → Puts (gen_br c pred cond x y) s result lines.old operands.old lines.new operands.new }
 {
     if kinds[1] == entry::ABSENT {
         return edge(
@@ -179,8 +179,8 @@ pub fn gen_term(
     requires { TermAsk names kinds.now words.now book_kinds.now book_words.now work.now }
     ensures { (c : FnCtx) (t : Terminator) → TermAt names t (entries kinds.now words.now)
         → Maps names (entries book_kinds.now book_words.now) c work.now
-        → (c.bpSlot ≡ base.slot) × (c.hasFrame ≡ base.framed)
-        → Puts (genTerm c pred t) s result lines.old operands.old lines.new operands.new }
+        → (c.bp_slot ≡ base.slot) × (c.has_frame ≡ base.framed)
+        → Puts (gen_term c pred t) s result lines.old operands.old lines.new operands.new }
 {
     let kind = kinds[0];
     match kind {

@@ -3,9 +3,9 @@ ghost use Rattle.std.specs.Prelude.{◌≡◌, ℕ, suc, ◌+◌, ◌%◌, ◌^�
 ghost use Rattle.book.specs.Ast.{Ty, Value, Case};
 ghost use Rattle.book.specs.Entry.{entries};
 ghost use Rattle.book.specs.Kinds.{TermTag};
-ghost use Rattle.book.specs.Fields.{termFields};
+ghost use Rattle.book.specs.Fields.{term_fields};
 ghost use Rattle.lowering.specs.Context.{FnCtx};
-ghost use Rattle.lowering.specs.Term.{caseTests, caseEdges, genSwitch};
+ghost use Rattle.lowering.specs.Term.{case_tests, case_edges, gen_switch};
 ghost use Rattle.gen_lines.specs.Puts.{Puts};
 ghost use Rattle.gen_values.specs.Fields.{Fields, ValueAt, OperandAt};
 ghost use Rattle.gen_values.specs.Maps.{Locals, Maps};
@@ -59,7 +59,7 @@ fn case_test(
     requires { OperandAt kinds.now words.now 0 work.now }
     ensures { (m : ℕ) (c : FnCtx) (v : Value) (l : ℕ) (k : Case) (more : List Case) → ValueAt m kinds.now words.now 0 v → Locals c m work.now
         → label ≡ l % 2 ^ 64 → value ≡ k.value
-        → Toward (caseTests c width v l (k ∷ more)) (caseTests c width v (suc l) more) s result
+        → Toward (case_tests c width v l (k ∷ more)) (case_tests c width v (suc l) more) s result
         lines.old operands.old lines.new operands.new }
 {
     let pushed = push_value(kinds, words, width, work, lines, operands, s);
@@ -84,7 +84,7 @@ fn case_tests(
     requires { TestsAsk kinds.now words.now case_kinds.now case_words.now work.now }
     ensures { (m : ℕ) (c : FnCtx) (v : Value) (l : ℕ) (cs : List Case) → ValueAt m kinds.now words.now 0 v → Locals c m work.now
         → Cases m cs (entries case_kinds.now case_words.now) → first ≡ l % 2 ^ 64
-        → Puts (caseTests c width v l cs) s result lines.old operands.old lines.new operands.new }
+        → Puts (case_tests c width v l cs) s result lines.old operands.old lines.new operands.new }
 {
     let mut reached = s;
     let mut label = first;
@@ -123,7 +123,7 @@ fn case_edge(
     requires { EdgeAsk names succ book_kinds.now book_words.now work.now }
     ensures { (c : FnCtx) (l : ℕ) (k : Case) (more : List Case) → Maps names (entries book_kinds.now book_words.now) c work.now
         → label ≡ l % 2 ^ 64 → succ ≡ k.label
-        → Toward (caseEdges c pred l (k ∷ more)) (caseEdges c pred (suc l) more) s result
+        → Toward (case_edges c pred l (k ∷ more)) (case_edges c pred (suc l) more) s result
         lines.old operands.old lines.new operands.new }
 {
     let labelled = put(lines, operands, s, line::SW_CASE, label);
@@ -149,7 +149,7 @@ fn case_edges(
     requires { EdgesAsk names kinds.now words.now book_kinds.now book_words.now work.now }
     ensures { (c : FnCtx) (l : ℕ) (cs : List Case) → Maps names (entries book_kinds.now book_words.now) c work.now
         → Cases names cs (entries kinds.now words.now) → first ≡ l % 2 ^ 64
-        → Puts (caseEdges c pred l cs) s result lines.old operands.old lines.new operands.new }
+        → Puts (case_edges c pred l cs) s result lines.old operands.old lines.new operands.new }
 {
     let mut reached = s;
     let mut label = first;
@@ -188,9 +188,9 @@ pub fn gen_switch(
 ) -> Reached
     requires { SwitchAsk names kinds.now words.now book_kinds.now book_words.now work.now }
     ensures { (c : FnCtx) (ty : Ty) (val : Value) (default : ℕ) (cs : List Case)
-        → Fields names (termFields TermTag.switch) (ty, (val, (default, (cs, tt)))) (drop 1 (entries kinds.now words.now))
+        → Fields names (term_fields TermTag.switch) (ty, (val, (default, (cs, tt)))) (drop 1 (entries kinds.now words.now))
         → Maps names (entries book_kinds.now book_words.now) c work.now
-        → Puts (genSwitch c pred ty val default cs) s result lines.old operands.old lines.new operands.new }
+        → Puts (gen_switch c pred ty val default cs) s result lines.old operands.old lines.new operands.new }
 {
     let type_kinds = &kinds[1..];
     let type_words = &words[1..];

@@ -3,16 +3,16 @@ use Rattle.std.specs.Prelude.{ℕ, suc, ◌+◌, ◌-◌, ◌*◌, ◌<◌, ◌�
 use Rattle.std.proofs.Common.{◌∙◌, arith}
 use Rattle.std.proofs.Math.Option.{Option, none, some}
 use Rattle.names.specs.Name.{name_at}
-use Rattle.names.specs.Spelling.{isSyscall, isBcmp, isMemcmp, hasOverflow}
+use Rattle.names.specs.Spelling.{is_syscall, is_bcmp, is_memcmp, has_overflow}
 use Rattle.book.specs.Ast.{BasicBlock}
 use Rattle.book.specs.Entry.{Entry}
-use Rattle.book.specs.Work.{block_at, markAt, nameWords, param_at, placeAt, slot_at}
-use Rattle.book.specs.Encode.{ending, encInst, encTerm}
+use Rattle.book.specs.Work.{block_at, mark_at, name_words, param_at, place_at, slot_at}
+use Rattle.book.specs.Encode.{ending, enc_inst, enc_term}
 use Rattle.book.specs.Limits.{Each, InstLimits, TermLimits}
 use Rattle.book.specs.Map.{Map, lookup}
 use Rattle.book.specs.Decode.{member}
 use Rattle.lowering.specs.Context.{Codegen, FnCtx}
-use Rattle.layout_memo.specs.Work.{Ready, After, kept_word, kept-first, structsIn}
+use Rattle.layout_memo.specs.Work.{Ready, After, kept_word, kept_first, structs_in}
 use Rattle.gen_lines.specs.declared.Reached.{Reached}
 use Rattle.gen_lines.specs.Puts.{Puts}
 use Rattle.lowering.specs.Gen.{Gen}
@@ -29,7 +29,7 @@ pub record Locals (c : FnCtx) (m : ℕ) (work : List ℕ) : Type 0 where
 -- word 2: the place of a block's instructions among the book's entries
 pub record BlockAt (m : ℕ) (bs : List Entry) (bb : BasicBlock) (p : ℕ) : Type 0 where
   pub rest : List Entry
-  pub here : drop p bs ≡ ending encInst (encTerm bb.term) bb.insts ++ rest
+  pub here : drop p bs ≡ ending enc_inst (enc_term bb.term) bb.insts ++ rest
   pub keeps : Each (InstLimits m) bb.insts × TermLimits m bb.term
   pub there : p ≤ length bs
 
@@ -39,23 +39,23 @@ pub record BlockWord (m : ℕ) (bs : List Entry) (found : Option BasicBlock) (w 
 
 -- word 5: how a global is called, by its spelling and whether it is defined here: 2 a syscall, 3 memcmp, 1 a function that is defined, 0 one that is not;
 -- and 4 more where it contains `.with.overflow.`
-unfoldable pub callClass : Codegen → ℕ → ℕ
-callClass g x =
-    cond (isSyscall (name_at g.names x)) 2
-    (cond (isBcmp (name_at g.names x) || isMemcmp (name_at g.names x)) 3
+unfoldable pub call_class : Codegen → ℕ → ℕ
+call_class g x =
+    cond (is_syscall (name_at g.names x)) 2
+    (cond (is_bcmp (name_at g.names x) || is_memcmp (name_at g.names x)) 3
     (cond (member x g.defined) 1 0))
 
-unfoldable pub markWord : Codegen → ℕ → ℕ
-markWord g x = callClass g x + cond (hasOverflow (name_at g.names x)) 4 0
+unfoldable pub mark_word : Codegen → ℕ → ℕ
+mark_word g x = call_class g x + cond (has_overflow (name_at g.names x)) 4 0
 
 -- all words; bs are the book's entries
 pub record Maps (m : ℕ) (bs : List Entry) (c : FnCtx) (work : List ℕ) : Type 0 where
-  pub room : nameWords m + 64 ≤ length work
+  pub room : name_words m + 64 ≤ length work
   pub locals : Locals c m work
   pub blocks : (x : ℕ) → x < m → BlockWord m bs (lookup x c.blocks) (get_or work (block_at x) 0)
-  pub places : (x : ℕ) → x < m → get_or work (placeAt x) 0 ≡ numbered (lookup x c.allocaOffsets)
-  pub marks : (x : ℕ) → x < m → get_or work (markAt x) 0 ≡ markWord c.codegen x
-  pub structs : c.codegen.structs ≡ structsIn m bs
+  pub places : (x : ℕ) → x < m → get_or work (place_at x) 0 ≡ numbered (lookup x c.alloca_offsets)
+  pub marks : (x : ℕ) → x < m → get_or work (mark_at x) 0 ≡ mark_word c.codegen x
+  pub structs : c.codegen.structs ≡ structs_in m bs
   pub measured : Ready m bs work
 
 -- a measurement leaves the maps
@@ -65,7 +65,7 @@ module _ {m : ℕ} {bs : List Entry} {c : FnCtx} {work work' : List ℕ} where
       record {
         room = omega (arith, k.room, a.kept.long);
         locals = record {
-          params = λ x l. kept-first a x l ∙ k.locals.params x l;
+          params = λ x l. kept_first a x l ∙ k.locals.params x l;
           slots = λ x l. kept_word a x 1 l (omega arith) ∙ k.locals.slots x l;
         };
         blocks = λ x l. rw (kept_word a x 2 l (omega arith)) (k.blocks x l);

@@ -5,14 +5,14 @@ ghost use Rattle.book.specs.Work.{slot_at};
 ghost use Rattle.gen_lines.specs.Follow.{Asked};
 ghost use Rattle.gen_values.specs.Fields.{WidthSays, ValueAt, OperandAt};
 ghost use Rattle.lowering.specs.Context.{FnCtx};
-ghost use Rattle.lowering.specs.Operand.{pushValue, pushInt, storeDest, storeOrPop, emitTruncTo, intWidth, sextBit, emitSext, workOf, workBits};
+ghost use Rattle.lowering.specs.Operand.{push_value, push_int, store_dest, store_or_pop, emit_trunc_to, int_width, sext_bit, emit_sext, work_of, work_bits};
 ghost use Rattle.lowering.specs.Gen.{when};
 ghost use Rattle.assembly.specs.Number.{operation as operationOf};
 ghost use Rattle.book.specs.Ast.{Ty, Value};
-ghost use Rattle.gen_lines.specs.Puts.{Puts, madeRefused, or_else};
-ghost use Rattle.gen_values.specs.Values.{width_by, destOf, DestReaches};
+ghost use Rattle.gen_lines.specs.Puts.{Puts, made_refused, or_else};
+ghost use Rattle.gen_values.specs.Values.{width_by, dest_of, DestReaches};
 ghost use Rattle.gen_values.specs.Maps.{Locals};
-ghost use Rattle.gen_values.specs.Widths.{sxKind};
+ghost use Rattle.gen_values.specs.Widths.{sx_kind};
 
 use assembly::line;
 use book::entry;
@@ -22,7 +22,7 @@ use gen_lines::{Reached, put, refuse};
 // A refusal where a test fails.
 pub fn need(s: Reached, test: bool, number: u64) -> Reached
     requires { 0 < number }
-    ensures { result ≡ or_else test s (madeRefused s number) }
+    ensures { result ≡ or_else test s (made_refused s number) }
 {
     if test { s } else { refuse(s, number) }
 }
@@ -60,7 +60,7 @@ pub struct Wide {
 // `int_width` of the type at the front, or its refusal.
 pub fn need_width(kinds: &[u64], words: &[u64], s: Reached) -> Wide
     requires { (0 < length kinds.now) × (0 < length words.now) }
-    ensures { (t : Ty) → WidthSays (width_by (get_or kinds.now 0 0) (get_or words.now 0 0)) (intWidth t) → Asked (intWidth t) s result.s result.width }
+    ensures { (t : Ty) → WidthSays (width_by (get_or kinds.now 0 0) (get_or words.now 0 0)) (int_width t) → Asked (int_width t) s result.s result.width }
 {
     let width = width_of(kinds, words);
     Wide {
@@ -77,7 +77,7 @@ pub fn push_int(
     operands: &mut [u64],
     s: Reached,
 ) -> Reached
-    ensures { Puts (pushInt value width) s result lines.old operands.old lines.new operands.new }
+    ensures { Puts (push_int value width) s result lines.old operands.old lines.new operands.new }
 {
     put(
         lines,
@@ -98,7 +98,7 @@ fn push_local(
 ) -> Reached
     requires { slot_at name < length work.now }
     ensures { (m : ℕ) (c : FnCtx) → name < m → Locals c m work.now
-        → Puts (pushValue c (Value.local name) 0) s result lines.old operands.old lines.new operands.new }
+        → Puts (push_value c (Value.local name) 0) s result lines.old operands.old lines.new operands.new }
 {
     let at = book::work::WORDS * (name as usize);
     let param = work[at];
@@ -124,7 +124,7 @@ pub fn push_value(
 ) -> Reached
     requires { OperandAt kinds.now words.now 0 work.now }
     ensures { (m : ℕ) (c : FnCtx) (v : Value) → ValueAt m kinds.now words.now 0 v → Locals c m work.now
-        → Puts (pushValue c v width) s result lines.old operands.old lines.new operands.new }
+        → Puts (push_value c v width) s result lines.old operands.old lines.new operands.new }
 {
     let word = words[0];
     match value_group(kinds[0]) {
@@ -147,7 +147,7 @@ pub fn store_dest(
 ) -> Reached
     requires { DestReaches dest work.now }
     ensures { (m : ℕ) (c : FnCtx) → dest ≤ m → Locals c m work.now
-        → Puts (storeDest c (destOf dest)) s result lines.old operands.old lines.new operands.new }
+        → Puts (store_dest c (dest_of dest)) s result lines.old operands.old lines.new operands.new }
 {
     if dest == 0 {
         return refuse(s, 5);
@@ -169,7 +169,7 @@ pub fn store_or_pop(
 ) -> Reached
     requires { DestReaches dest work.now }
     ensures { (m : ℕ) (c : FnCtx) → dest ≤ m → Locals c m work.now
-        → Puts (storeOrPop c (destOf dest)) s result lines.old operands.old lines.new operands.new }
+        → Puts (store_or_pop c (dest_of dest)) s result lines.old operands.old lines.new operands.new }
 {
     if dest == 0 {
         return put(lines, operands, s, line::POP, 0);
@@ -244,7 +244,7 @@ fn operation_64(number: u16) -> u16
 // The line kind of an operation or predicate at the working width: 32 for up to 32 bits, else 64.
 pub fn operation(number: u16, width: u32) -> u16
     requires { number < 23 }
-    ensures { result ≡ operationOf number (workOf width) }
+    ensures { result ≡ operationOf number (work_of width) }
 {
     match width {
         0..=32 => operation_32(number),
@@ -254,7 +254,7 @@ pub fn operation(number: u16, width: u32) -> u16
 
 // `emit_trunc_to`
 pub fn emit_trunc_to(width: u32, lines: &mut [u16], operands: &mut [u64], s: Reached) -> Reached
-    ensures { Puts (emitTruncTo width) s result lines.old operands.old lines.new operands.new }
+    ensures { Puts (emit_trunc_to width) s result lines.old operands.old lines.new operands.new }
 {
     match width {
         1 => {
@@ -270,7 +270,7 @@ pub fn emit_trunc_to(width: u32, lines: &mut [u16], operands: &mut [u64], s: Rea
 
 // `emit_sext` from 1 bit: the bit times all ones.
 fn sext_bit(to: u32, lines: &mut [u16], operands: &mut [u64], s: Reached) -> Reached
-    ensures { Puts (sextBit to) s result lines.old operands.old lines.new operands.new }
+    ensures { Puts (sext_bit to) s result lines.old operands.old lines.new operands.new }
 {
     let a = put(lines, operands, s, line::PUSH, 1);
     let b = put(lines, operands, a, operation(7, to), 0);
@@ -286,7 +286,7 @@ fn sext_bit(to: u32, lines: &mut [u16], operands: &mut [u64], s: Reached) -> Rea
 
 // The kind of the line that extends from 8, 16 or 32 bits to the working width; 0 where there is none.
 fn sx_kind(from: u32, to: u32) -> u16
-    ensures { result ≡ sxKind from to }
+    ensures { result ≡ sx_kind from to }
 {
     if to <= 32 {
         match from {
@@ -306,7 +306,7 @@ fn sx_kind(from: u32, to: u32) -> u16
 
 // Truncated to a width that is no working width.
 pub fn trunc_below(width: u32, lines: &mut [u16], operands: &mut [u64], s: Reached) -> Reached
-    ensures { Puts (when (ltb width (workBits width)) (emitTruncTo width)) s result lines.old operands.old lines.new operands.new }
+    ensures { Puts (when (ltb width (work_bits width)) (emit_trunc_to width)) s result lines.old operands.old lines.new operands.new }
 {
     if width == 32 {
         return s;
@@ -319,7 +319,7 @@ pub fn trunc_below(width: u32, lines: &mut [u16], operands: &mut [u64], s: Reach
 
 // `emit_sext`
 pub fn emit_sext(from: u32, to: u32, lines: &mut [u16], operands: &mut [u64], s: Reached) -> Reached
-    ensures { Puts (emitSext from to) s result lines.old operands.old lines.new operands.new }
+    ensures { Puts (emit_sext from to) s result lines.old operands.old lines.new operands.new }
 {
     if from == 1 {
         return sext_bit(to, lines, operands, s);
@@ -340,7 +340,7 @@ pub fn extend(
     operands: &mut [u64],
     s: Reached,
 ) -> Reached
-    ensures { Puts (when (signed && ltb width (workBits width)) (emitSext width (workBits width))) s result lines.old operands.old lines.new operands.new }
+    ensures { Puts (when (signed && ltb width (work_bits width)) (emit_sext width (work_bits width))) s result lines.old operands.old lines.new operands.new }
 {
     if !signed {
         return s;

@@ -5,8 +5,8 @@ use Rattle.std.proofs.Math.Path.{refl}
 use Rattle.std.proofs.Math.Logic.{inl, inr}
 use Rattle.std.proofs.Math.Bool.{true, false}
 use Rattle.book.specs.Ast.{Ty, Tys, StructType}
-use Rattle.book.specs.Result.{Result, ok, err, bind, err-no-ok, bind_ok}
-use Rattle.layout.specs.Layout.{limit, placed, maxAlign, structAlign, sizeFrom, structSize, asType, resolve, align_at, size_at}
+use Rattle.book.specs.Result.{Result, ok, err, bind, err_no_ok, bind_ok}
+use Rattle.layout.specs.Layout.{limit, placed, max_align, struct_align, size_from, struct_size, as_type, resolve, align_at, size_at}
 
 -- the answer n, or 7
 abbrev pub Or7 : Result ℕ → ℕ → Type 0
@@ -23,56 +23,56 @@ first r a f n (inl e) h = rw e h
 first r a f n (inr e) h = rw e (inr refl)
 
 module _ {al al' : Ty → Result ℕ} (a⊒ : SameOr7 al al') where
-  max-align-less : (ts : Tys) (m a : ℕ) → maxAlign al' ts m ≡ ok a → Or7 (maxAlign al ts m) a
-  unfolding maxAlign
-  max-align-less Tys.nil m a h = inl h
-  max-align-less (Tys.cons t ts) m a h =
-      let x = bind_ok (al' t) (λ b. maxAlign al' ts (max m b)) a h in
-      first (al t) x.0 (λ b. maxAlign al ts (max m b)) a (a⊒ t x.0 x.1) (max-align-less ts (max m x.0) a x.2)
+  max_align_less : (ts : Tys) (m a : ℕ) → max_align al' ts m ≡ ok a → Or7 (max_align al ts m) a
+  unfolding max_align
+  max_align_less Tys.nil m a h = inl h
+  max_align_less (Tys.cons t ts) m a h =
+      let x = bind_ok (al' t) (λ b. max_align al' ts (max m b)) a h in
+      first (al t) x.0 (λ b. max_align al ts (max m b)) a (a⊒ t x.0 x.1) (max_align_less ts (max m x.0) a x.2)
 
-  struct-align-less : (p : Bool) (ts : Tys) (a : ℕ) → structAlign al' (record { packed = p; fields = ts }) ≡ ok a → Or7 (structAlign al (record { packed = p; fields = ts })) a
-  unfolding structAlign
-  struct-align-less true ts a h = inl h
-  struct-align-less false ts a h = max-align-less ts 1 a h
+  struct_align_less : (p : Bool) (ts : Tys) (a : ℕ) → struct_align al' (record { packed = p; fields = ts }) ≡ ok a → Or7 (struct_align al (record { packed = p; fields = ts })) a
+  unfolding struct_align
+  struct_align_less true ts a h = inl h
+  struct_align_less false ts a h = max_align_less ts 1 a h
 
 module _ {al al' sz sz' : Ty → Result ℕ} (a⊒ : SameOr7 al al') (s⊒ : SameOr7 sz sz') where
-  size-from-less : (p : Bool) (ts : Tys) (off m s : ℕ) → sizeFrom al' sz' p ts off m ≡ ok s → Or7 (sizeFrom al sz p ts off m) s
-  unfolding sizeFrom
-  size-from-less p Tys.nil off m s h = inl h
-  size-from-less p (Tys.cons t ts) off m s h =
-      let x = bind_ok (al' t) (λ b. bind (sz' t) (λ z. sizeFrom al' sz' p ts (placed p off b + z) (max m b))) s h in
-      let y = bind_ok (sz' t) (λ z. sizeFrom al' sz' p ts (placed p off x.0 + z) (max m x.0)) s x.2 in
-      first (al t) x.0 (λ b. bind (sz t) (λ z. sizeFrom al sz p ts (placed p off b + z) (max m b))) s (a⊒ t x.0 x.1)
-      (first (sz t) y.0 (λ z. sizeFrom al sz p ts (placed p off x.0 + z) (max m x.0)) s (s⊒ t y.0 y.1)
-      (size-from-less p ts (placed p off x.0 + y.0) (max m x.0) s y.2))
+  size_from_less : (p : Bool) (ts : Tys) (off m s : ℕ) → size_from al' sz' p ts off m ≡ ok s → Or7 (size_from al sz p ts off m) s
+  unfolding size_from
+  size_from_less p Tys.nil off m s h = inl h
+  size_from_less p (Tys.cons t ts) off m s h =
+      let x = bind_ok (al' t) (λ b. bind (sz' t) (λ z. size_from al' sz' p ts (placed p off b + z) (max m b))) s h in
+      let y = bind_ok (sz' t) (λ z. size_from al' sz' p ts (placed p off x.0 + z) (max m x.0)) s x.2 in
+      first (al t) x.0 (λ b. bind (sz t) (λ z. size_from al sz p ts (placed p off b + z) (max m b))) s (a⊒ t x.0 x.1)
+      (first (sz t) y.0 (λ z. size_from al sz p ts (placed p off x.0 + z) (max m x.0)) s (s⊒ t y.0 y.1)
+      (size_from_less p ts (placed p off x.0 + y.0) (max m x.0) s y.2))
 
 module _ (structs : List StructType) where
-  pub align-any : (k k' : ℕ) → SameOr7 (align_at structs k) (align_at structs k')
+  pub align_any : (k k' : ℕ) → SameOr7 (align_at structs k) (align_at structs k')
   unfolding align_at bind
-  align-any zero k' t n h = inr refl
-  align-any (suc k) zero t n h = err-no-ok 7 n h
-  align-any (suc k) (suc k') Ty.void n h = inl h
-  align-any (suc k) (suc k') Ty.ptr n h = inl h
-  align-any (suc k) (suc k') (Ty.sizeless s) n h = inl h
-  align-any (suc k) (suc k') (Ty.int w) n h = inl h
-  align-any (suc k) (suc k') (Ty.array p l t) n h = align-any k k' t n h
-  align-any (suc k) (suc k') (Ty.namedStruct x) n h =
-      let b = bind_ok (resolve structs x) (λ b. align_at structs k' (asType b)) n h in
-      rw b.1 (align-any k k' (asType b.0) n b.2)
-  align-any (suc k) (suc k') (Ty.struct p ts) n h = struct-align-less (align-any k k') p ts n h
+  align_any zero k' t n h = inr refl
+  align_any (suc k) zero t n h = err_no_ok 7 n h
+  align_any (suc k) (suc k') Ty.void n h = inl h
+  align_any (suc k) (suc k') Ty.ptr n h = inl h
+  align_any (suc k) (suc k') (Ty.sizeless s) n h = inl h
+  align_any (suc k) (suc k') (Ty.int w) n h = inl h
+  align_any (suc k) (suc k') (Ty.array p l t) n h = align_any k k' t n h
+  align_any (suc k) (suc k') (Ty.named_struct x) n h =
+      let b = bind_ok (resolve structs x) (λ b. align_at structs k' (as_type b)) n h in
+      rw b.1 (align_any k k' (as_type b.0) n b.2)
+  align_any (suc k) (suc k') (Ty.struct p ts) n h = struct_align_less (align_any k k') p ts n h
 
-  pub size-any : (k k' : ℕ) → SameOr7 (size_at structs k) (size_at structs k')
-  unfolding size_at structSize bind
-  size-any zero k' t n h = inr refl
-  size-any (suc k) zero t n h = err-no-ok 7 n h
-  size-any (suc k) (suc k') Ty.void n h = inl h
-  size-any (suc k) (suc k') Ty.ptr n h = inl h
-  size-any (suc k) (suc k') (Ty.sizeless s) n h = inl h
-  size-any (suc k) (suc k') (Ty.int w) n h = inl h
-  size-any (suc k) (suc k') (Ty.array p l t) n h =
+  pub size_any : (k k' : ℕ) → SameOr7 (size_at structs k) (size_at structs k')
+  unfolding size_at struct_size bind
+  size_any zero k' t n h = inr refl
+  size_any (suc k) zero t n h = err_no_ok 7 n h
+  size_any (suc k) (suc k') Ty.void n h = inl h
+  size_any (suc k) (suc k') Ty.ptr n h = inl h
+  size_any (suc k) (suc k') (Ty.sizeless s) n h = inl h
+  size_any (suc k) (suc k') (Ty.int w) n h = inl h
+  size_any (suc k) (suc k') (Ty.array p l t) n h =
       let b = bind_ok (size_at structs k' t) (λ e. limit (l * e)) n h in
-      first (size_at structs k t) b.0 (λ e. limit (l * e)) n (size-any k k' t b.0 b.1) (inl b.2)
-  size-any (suc k) (suc k') (Ty.namedStruct x) n h =
-      let b = bind_ok (resolve structs x) (λ b. size_at structs k' (asType b)) n h in
-      rw b.1 (size-any k k' (asType b.0) n b.2)
-  size-any (suc k) (suc k') (Ty.struct p ts) n h = size-from-less (align-any k k') (size-any k k') p ts 0 1 n h
+      first (size_at structs k t) b.0 (λ e. limit (l * e)) n (size_any k k' t b.0 b.1) (inl b.2)
+  size_any (suc k) (suc k') (Ty.named_struct x) n h =
+      let b = bind_ok (resolve structs x) (λ b. size_at structs k' (as_type b)) n h in
+      rw b.1 (size_any k k' (as_type b.0) n b.2)
+  size_any (suc k) (suc k') (Ty.struct p ts) n h = size_from_less (align_any k k') (size_any k k') p ts 0 1 n h

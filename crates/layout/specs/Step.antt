@@ -2,16 +2,16 @@
 use Rattle.std.specs.Prelude.{ℕ, zero, suc, ◌*◌, ◌%◌, ◌^◌, List}
 use Rattle.std.proofs.Math.Option.{Option, none, some}
 use Rattle.book.specs.Ast.{Ty, Tys, Value, StructBody, StructType}
-use Rattle.book.specs.Result.{Result, ok, err, bind as ◌>>=◌, okOr}
-use Rattle.layout.specs.Layout.{resolve, size_of, fieldOffset}
+use Rattle.book.specs.Result.{Result, ok, err, bind as ◌>>=◌, ok_or}
+use Rattle.layout.specs.Layout.{resolve, size_of, field_offset}
 
 -- an integer's two's complement word, where the value is one
-unfoldable pub constInt : Value → Option ℕ
-constInt (Value.int v) = some v
-constInt (Value.local x) = none
-constInt (Value.global x) = none
-constInt (Value.zero z) = none
-constInt Value.other = none
+unfoldable pub const_int : Value → Option ℕ
+const_int (Value.int v) = some v
+const_int (Value.local x) = none
+const_int (Value.global x) = none
+const_int (Value.zero z) = none
+const_int Value.other = none
 
 -- `body.fields[i]`
 unfoldable pub field_at : Tys → ℕ → Option Ty
@@ -31,28 +31,28 @@ stride size next none = Step.var size next
 
 module _ (structs : List StructType) where
   -- `struct_step`
-  unfoldable pub structStep : StructBody → Value → Result Step
-  structStep body idx = do
-    field ← okOr 14 (constInt idx)
-    next ← okOr 14 (field_at body.fields field)
-    off ← fieldOffset structs body field
+  unfoldable pub struct_step : StructBody → Value → Result Step
+  struct_step body idx = do
+    field ← ok_or 14 (const_int idx)
+    next ← ok_or 14 (field_at body.fields field)
+    off ← field_offset structs body field
     ok (Step.const off next)
 
   -- `gep_step`
-  unfoldable pub gepStep : Ty → Value → Result Step
-  gepStep (Ty.struct p ts) idx = structStep (record { packed = p; fields = ts }) idx
-  gepStep (Ty.namedStruct x) idx = do
+  unfoldable pub gep_step : Ty → Value → Result Step
+  gep_step (Ty.struct p ts) idx = struct_step (record { packed = p; fields = ts }) idx
+  gep_step (Ty.named_struct x) idx = do
     body ← resolve structs x
-    structStep body idx
-  gepStep (Ty.array p n elem) idx = do
+    struct_step body idx
+  gep_step (Ty.array p n elem) idx = do
     size ← size_of structs elem
-    ok (stride size elem (constInt idx))
-  gepStep Ty.void idx = err 14
-  gepStep Ty.ptr idx = err 14
-  gepStep (Ty.int w) idx = err 14
-  gepStep (Ty.sizeless s) idx = err 14
+    ok (stride size elem (const_int idx))
+  gep_step Ty.void idx = err 14
+  gep_step Ty.ptr idx = err 14
+  gep_step (Ty.int w) idx = err 14
+  gep_step (Ty.sizeless s) idx = err 14
 
 -- opens every definition of this file, for an example that computes
-unfoldable pub openStep : Unit {0}
-unfolding constInt field_at stride structStep gepStep
-openStep = tt
+unfoldable pub open_step : Unit {0}
+unfolding const_int field_at stride struct_step gep_step
+open_step = tt

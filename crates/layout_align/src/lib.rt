@@ -2,8 +2,8 @@
 ghost use Rattle.book.specs.Entry.{entries};
 ghost use Rattle.book.specs.Ast.{Ty};
 ghost use Rattle.layout_memo.specs.Front.{ty_of, tys_of};
-ghost use Rattle.layout_memo.specs.Arms.{fieldAligns};
-ghost use Rattle.layout_memo.specs.Work.{Ask, AskFields, AskName, Outcome, structsIn, aligns as aligns_of};
+ghost use Rattle.layout_memo.specs.Arms.{field_aligns};
+ghost use Rattle.layout_memo.specs.Work.{Ask, AskFields, AskName, Outcome, structs_in, aligns as aligns_of};
 
 use book_types::types::{TypeGroup, type_group};
 use layout_memo::ends::type_end;
@@ -24,7 +24,7 @@ pub fn align_of(
 ) -> Measured
     requires { Ask names (entries kinds.now words.now) (entries book_kinds.now book_words.now) work.old level }
     ensures { Outcome names (entries book_kinds.now book_words.now) work.old work.new
-        (aligns_of (structsIn names (entries book_kinds.now book_words.now)) (ty_of names (entries kinds.now words.now))) level result }
+        (aligns_of (structs_in names (entries book_kinds.now book_words.now)) (ty_of names (entries kinds.now words.now))) level result }
 {
     if level == 0 {
         return Measured::Refused(7);
@@ -71,7 +71,7 @@ fn named_align(
 ) -> Measured
     requires { AskName names name (entries book_kinds.now book_words.now) work.old level }
     ensures { Outcome names (entries book_kinds.now book_words.now) work.old work.new
-        (aligns_of (structsIn names (entries book_kinds.now book_words.now)) (Ty.namedStruct name)) level result }
+        (aligns_of (structs_in names (entries book_kinds.now book_words.now)) (Ty.named_struct name)) level result }
 {
     let at = book::work::WORDS * (name as usize);
     let part = work[at + book::work::MEASURED] % 4294967296;
@@ -110,7 +110,7 @@ fn struct_align(
 ) -> Measured
     requires { AskFields names (entries kinds.now words.now) (entries book_kinds.now book_words.now) work.old level }
     ensures { Outcome names (entries book_kinds.now book_words.now) work.old work.new
-        (fieldAligns (structsIn names (entries book_kinds.now book_words.now)) packed (tys_of names (entries kinds.now words.now))) level result }
+        (field_aligns (structs_in names (entries book_kinds.now book_words.now)) packed (tys_of names (entries kinds.now words.now))) level result }
 {
     if packed {
         return Measured::Bytes(1, 0);

@@ -2,8 +2,8 @@
 ghost use Rattle.std.specs.Prelude.{◌≡◌};
 ghost use Rattle.book.specs.Entry.{entries};
 ghost use Rattle.layout_memo.specs.Front.{StartsFields, ty_of, tys_of};
-ghost use Rattle.layout_memo.specs.Work.{Ask, structsIn};
-ghost use Rattle.layout_field.specs.Offsets.{leftFrom, FieldFound, AskStart, AskOffset, StartOutcome, OffsetOutcome, start_of, offset_of};
+ghost use Rattle.layout_memo.specs.Work.{Ask, structs_in};
+ghost use Rattle.layout_field.specs.Offsets.{left_from, FieldFound, AskStart, AskOffset, StartOutcome, OffsetOutcome, start_of, offset_of};
 
 use layout_align::align_of;
 use layout_memo::Measured;
@@ -27,7 +27,7 @@ pub enum Place {
 
 // So many fields are to be passed from the place on.
 pub fn fields_left(at: usize, left: u64, offset: u64) -> Run
-    ensures { result ≡ leftFrom at left offset }
+    ensures { result ≡ left_from at left offset }
 {
     Run {
         at,
@@ -71,7 +71,7 @@ pub fn field_start(
 ) -> Offset
     requires { AskStart names (entries kinds.now words.now) (entries book_kinds.now book_words.now) work.old offset }
     ensures { StartOutcome names (entries book_kinds.now book_words.now) work.old work.new offset
-        (start_of (structsIn names (entries book_kinds.now book_words.now)) packed (ty_of names (entries kinds.now words.now)) offset) result }
+        (start_of (structs_in names (entries book_kinds.now book_words.now)) packed (ty_of names (entries kinds.now words.now)) offset) result }
 {
     if packed {
         return Offset::At(offset);
@@ -96,7 +96,7 @@ pub fn field_offset(
 ) -> Offset
     requires { AskOffset names (entries kinds.now words.now) (entries book_kinds.now book_words.now) work.old offset }
     ensures { OffsetOutcome names (entries book_kinds.now book_words.now) work.old work.new
-        (offset_of (structsIn names (entries book_kinds.now book_words.now)) packed (tys_of names (entries kinds.now words.now)) index offset) result }
+        (offset_of (structs_in names (entries book_kinds.now book_words.now)) packed (tys_of names (entries kinds.now words.now)) index offset) result }
 {
     let mut at: usize = 0;
     let mut taken = offset;

@@ -7,53 +7,53 @@ use mathlib.Core.List.{List, [], ◌∷◌, ◌++◌, append_assoc}
 use Rattle.std.proofs.Math.ListN.{length, drop, length-append, length-drop}
 use Rattle.book.specs.Entry.{Entry, entry, entries}
 use Rattle.book.specs.Ast.{Ty, Tys, Sizeless}
-use Rattle.book.specs.Encode.{encTy, encTys}
-use Rattle.book_types.specs.Laws.{within-kinds}
-use Rattle.layout_memo.specs.Front.{Starts, tyLen, len_is, kind_of, kind-at, enc-pos, encs-pos}
+use Rattle.book.specs.Encode.{enc_ty, enc_tys}
+use Rattle.book_types.specs.Laws.{within_kinds}
+use Rattle.layout_memo.specs.Front.{Starts, ty_len, len_is, kind_of, kind_at_lem, enc_pos, encs_pos}
 
 abbrev pickℕ : Bool → ℕ → ℕ → ℕ
 pickℕ true a b = a
 pickℕ false a b = b
 
 -- the lists that are open behind an entry of this kind
-abbrev pub opensBy : ℕ → ℕ → ℕ
-opensBy kind lists = pickℕ (eqb kind 0) (lists - 1) (pickℕ (eqb kind 16) (lists + 1) (pickℕ (eqb kind 17) (lists + 1) lists))
+abbrev pub opens_by : ℕ → ℕ → ℕ
+opens_by kind lists = pickℕ (eqb kind 0) (lists - 1) (pickℕ (eqb kind 16) (lists + 1) (pickℕ (eqb kind 17) (lists + 1) lists))
 
-abbrev pub arrayKind : ℕ → Bool
-arrayKind kind = eqb kind 13 || eqb kind 14
+abbrev pub array_kind : ℕ → Bool
+array_kind kind = eqb kind 13 || eqb kind 14
 
 module _ (kind lists : ℕ) where
-  pub opens-end : kind ≡ 0 → lists - 1 ≡ opensBy kind lists
-  opens-end e = rw e refl
+  pub opens_end : kind ≡ 0 → lists - 1 ≡ opens_by kind lists
+  opens_end e = rw e refl
 
-  pub opens-struct : kind ≡ 16 → lists + 1 ≡ opensBy kind lists
-  opens-struct e = rw e refl
+  pub opens_struct : kind ≡ 16 → lists + 1 ≡ opens_by kind lists
+  opens_struct e = rw e refl
 
-  pub opens-packed : kind ≡ 17 → lists + 1 ≡ opensBy kind lists
-  opens-packed e = rw e refl
+  pub opens_packed : kind ≡ 17 → lists + 1 ≡ opens_by kind lists
+  opens_packed e = rw e refl
 
-  pub opens-none : (kind ≡ 0 → ⊥) → (kind ≡ 16 → ⊥) → (kind ≡ 17 → ⊥) → lists ≡ opensBy kind lists
-  opens-none a b c = rw (ne_eqb kind 0 a, ne_eqb kind 16 b, ne_eqb kind 17 c) refl
+  pub opens_none : (kind ≡ 0 → ⊥) → (kind ≡ 16 → ⊥) → (kind ≡ 17 → ⊥) → lists ≡ opens_by kind lists
+  opens_none a b c = rw (ne_eqb kind 0 a, ne_eqb kind 16 b, ne_eqb kind 17 c) refl
 
-  pub array_plain : kind ≡ 13 → true ≡ arrayKind kind
+  pub array_plain : kind ≡ 13 → true ≡ array_kind kind
   array_plain e = rw e refl
 
-  pub array-packed : kind ≡ 14 → true ≡ arrayKind kind
-  array-packed e = rw e refl
+  pub array_packed : kind ≡ 14 → true ≡ array_kind kind
+  array_packed e = rw e refl
 
-  pub array-none : (kind ≡ 13 → ⊥) → (kind ≡ 14 → ⊥) → false ≡ arrayKind kind
-  array-none a b = rw (ne_eqb kind 13 a, ne_eqb kind 14 b) refl
+  pub array_none : (kind ≡ 13 → ⊥) → (kind ≡ 14 → ⊥) → false ≡ array_kind kind
+  array_none a b = rw (ne_eqb kind 13 a, ne_eqb kind 14 b) refl
 
 -- lists that are open, the innermost first, and what stands behind them
 unfoldable pub pending : List Tys → List Entry → List Entry
 pending [] rest = rest
-pending (ts ∷ stack) rest = encTys ts ++ pending stack rest
+pending (ts ∷ stack) rest = enc_tys ts ++ pending stack rest
 
 module _ (es rest : List Entry) where
   -- a type at the place
   pub record TypeAt (at : ℕ) : Type 0 where
     pub ty : Ty
-    pub here : drop at es ≡ encTy ty ++ rest
+    pub here : drop at es ≡ enc_ty ty ++ rest
     pub there : at ≤ length es
 
   -- so many open lists at the place
@@ -70,67 +70,67 @@ module _ (es : List Entry) (at : ℕ) {e : Entry} {tail : List Entry} (h : drop 
   further : at ≤ length es → at + 1 ≤ length es
   further l = omega (arith, ap length h, length-drop at es)
 
-  kind-here : kind_of (drop at es) ≡ e.kind
+  kind_here : kind_of (drop at es) ≡ e.kind
   unfolding kind_of
-  kind-here = ap kind_of h
+  kind_here = ap kind_of h
 
 module _ (es rest : List Entry) (at : ℕ) where
   -- a type in front of open lists
-  type-opens : (t : Ty) (ts : Tys) (stack : List Tys) → drop at es ≡ encTy t ++ (encTys ts ++ pending stack rest) → at ≤ length es
-      → OpenAt es rest (at + 1) (opensBy (kind_of (drop at es)) (suc (length stack)))
-  unfolding encTy encTys pending
-  type-opens Ty.void ts stack h l = rw (kind-here es at h) (record { stack = ts ∷ stack; here = behind es at h; count = refl; there = further es at h l })
-  type-opens Ty.ptr ts stack h l = rw (kind-here es at h) (record { stack = ts ∷ stack; here = behind es at h; count = refl; there = further es at h l })
-  type-opens (Ty.sizeless Sizeless.func) ts stack h l = rw (kind-here es at h) (record { stack = ts ∷ stack; here = behind es at h; count = refl; there = further es at h l })
-  type-opens (Ty.sizeless Sizeless.label) ts stack h l = rw (kind-here es at h) (record { stack = ts ∷ stack; here = behind es at h; count = refl; there = further es at h l })
-  type-opens (Ty.sizeless Sizeless.metadata) ts stack h l = rw (kind-here es at h) (record { stack = ts ∷ stack; here = behind es at h; count = refl; there = further es at h l })
-  type-opens (Ty.int w) ts stack h l = rw (kind-here es at h) (record { stack = ts ∷ stack; here = behind es at h; count = refl; there = further es at h l })
-  type-opens (Ty.namedStruct x) ts stack h l = rw (kind-here es at h) (record { stack = ts ∷ stack; here = behind es at h; count = refl; there = further es at h l })
-  type-opens (Ty.array true n t) ts stack h l = rw (kind-here es at h) (record { stack = Tys.cons t ts ∷ stack; here = behind es at h ∙ sym (append_assoc (encTy t) (encTys ts) (pending stack rest)); count = refl; there = further es at h l })
-  type-opens (Ty.array false n t) ts stack h l = rw (kind-here es at h) (record { stack = Tys.cons t ts ∷ stack; here = behind es at h ∙ sym (append_assoc (encTy t) (encTys ts) (pending stack rest)); count = refl; there = further es at h l })
-  type-opens (Ty.struct true us) ts stack h l = rw (kind-here es at h) (record { stack = us ∷ (ts ∷ stack); here = behind es at h; count = omega arith; there = further es at h l })
-  type-opens (Ty.struct false us) ts stack h l = rw (kind-here es at h) (record { stack = us ∷ (ts ∷ stack); here = behind es at h; count = omega arith; there = further es at h l })
+  type_opens : (t : Ty) (ts : Tys) (stack : List Tys) → drop at es ≡ enc_ty t ++ (enc_tys ts ++ pending stack rest) → at ≤ length es
+      → OpenAt es rest (at + 1) (opens_by (kind_of (drop at es)) (suc (length stack)))
+  unfolding enc_ty enc_tys pending
+  type_opens Ty.void ts stack h l = rw (kind_here es at h) (record { stack = ts ∷ stack; here = behind es at h; count = refl; there = further es at h l })
+  type_opens Ty.ptr ts stack h l = rw (kind_here es at h) (record { stack = ts ∷ stack; here = behind es at h; count = refl; there = further es at h l })
+  type_opens (Ty.sizeless Sizeless.func) ts stack h l = rw (kind_here es at h) (record { stack = ts ∷ stack; here = behind es at h; count = refl; there = further es at h l })
+  type_opens (Ty.sizeless Sizeless.label) ts stack h l = rw (kind_here es at h) (record { stack = ts ∷ stack; here = behind es at h; count = refl; there = further es at h l })
+  type_opens (Ty.sizeless Sizeless.metadata) ts stack h l = rw (kind_here es at h) (record { stack = ts ∷ stack; here = behind es at h; count = refl; there = further es at h l })
+  type_opens (Ty.int w) ts stack h l = rw (kind_here es at h) (record { stack = ts ∷ stack; here = behind es at h; count = refl; there = further es at h l })
+  type_opens (Ty.named_struct x) ts stack h l = rw (kind_here es at h) (record { stack = ts ∷ stack; here = behind es at h; count = refl; there = further es at h l })
+  type_opens (Ty.array true n t) ts stack h l = rw (kind_here es at h) (record { stack = Tys.cons t ts ∷ stack; here = behind es at h ∙ sym (append_assoc (enc_ty t) (enc_tys ts) (pending stack rest)); count = refl; there = further es at h l })
+  type_opens (Ty.array false n t) ts stack h l = rw (kind_here es at h) (record { stack = Tys.cons t ts ∷ stack; here = behind es at h ∙ sym (append_assoc (enc_ty t) (enc_tys ts) (pending stack rest)); count = refl; there = further es at h l })
+  type_opens (Ty.struct true us) ts stack h l = rw (kind_here es at h) (record { stack = us ∷ (ts ∷ stack); here = behind es at h; count = omega arith; there = further es at h l })
+  type_opens (Ty.struct false us) ts stack h l = rw (kind_here es at h) (record { stack = us ∷ (ts ∷ stack); here = behind es at h; count = omega arith; there = further es at h l })
 
-  list-opens : (stack : List Tys) → drop at es ≡ pending stack rest → at ≤ length es → (length stack ≡ 0 → ⊥) → OpenAt es rest (at + 1) (opensBy (kind_of (drop at es)) (length stack))
-  unfolding pending encTys
-  list-opens [] h l z = absurd (z refl)
-  list-opens (Tys.nil ∷ stack) h l z = rw (kind-here es at h) (record { stack = stack; here = behind es at h; count = omega arith; there = further es at h l })
-  list-opens (Tys.cons t ts ∷ stack) h l z = type-opens t ts stack (h ∙ append_assoc (encTy t) (encTys ts) (pending stack rest)) l
+  list_opens : (stack : List Tys) → drop at es ≡ pending stack rest → at ≤ length es → (length stack ≡ 0 → ⊥) → OpenAt es rest (at + 1) (opens_by (kind_of (drop at es)) (length stack))
+  unfolding pending enc_tys
+  list_opens [] h l z = absurd (z refl)
+  list_opens (Tys.nil ∷ stack) h l z = rw (kind_here es at h) (record { stack = stack; here = behind es at h; count = omega arith; there = further es at h l })
+  list_opens (Tys.cons t ts ∷ stack) h l z = type_opens t ts stack (h ∙ append_assoc (enc_ty t) (enc_tys ts) (pending stack rest)) l
 
   -- a type alone: an array's element comes next, any other opens a list or is passed
-  type-alone : (t : Ty) → drop at es ≡ encTy t ++ rest → at ≤ length es
-      → (arrayKind (kind_of (drop at es)) ≡ true → TypeAt es rest (at + 1)) × (arrayKind (kind_of (drop at es)) ≡ false → OpenAt es rest (at + 1) (opensBy (kind_of (drop at es)) 0))
-  unfolding encTy pending
-  type-alone Ty.void h l = rw (kind-here es at h) ((λ e. absurd (let z : ◌≡◌ {A = ℕ} 0 1 = cc in omega arith)), λ e. record { stack = []; here = behind es at h; count = refl; there = further es at h l })
-  type-alone Ty.ptr h l = rw (kind-here es at h) ((λ e. absurd (let z : ◌≡◌ {A = ℕ} 0 1 = cc in omega arith)), λ e. record { stack = []; here = behind es at h; count = refl; there = further es at h l })
-  type-alone (Ty.sizeless Sizeless.func) h l = rw (kind-here es at h) ((λ e. absurd (let z : ◌≡◌ {A = ℕ} 0 1 = cc in omega arith)), λ e. record { stack = []; here = behind es at h; count = refl; there = further es at h l })
-  type-alone (Ty.sizeless Sizeless.label) h l = rw (kind-here es at h) ((λ e. absurd (let z : ◌≡◌ {A = ℕ} 0 1 = cc in omega arith)), λ e. record { stack = []; here = behind es at h; count = refl; there = further es at h l })
-  type-alone (Ty.sizeless Sizeless.metadata) h l = rw (kind-here es at h) ((λ e. absurd (let z : ◌≡◌ {A = ℕ} 0 1 = cc in omega arith)), λ e. record { stack = []; here = behind es at h; count = refl; there = further es at h l })
-  type-alone (Ty.int w) h l = rw (kind-here es at h) ((λ e. absurd (let z : ◌≡◌ {A = ℕ} 0 1 = cc in omega arith)), λ e. record { stack = []; here = behind es at h; count = refl; there = further es at h l })
-  type-alone (Ty.namedStruct x) h l = rw (kind-here es at h) ((λ e. absurd (let z : ◌≡◌ {A = ℕ} 0 1 = cc in omega arith)), λ e. record { stack = []; here = behind es at h; count = refl; there = further es at h l })
-  type-alone (Ty.array true n t) h l = rw (kind-here es at h) ((λ e. record { ty = t; here = behind es at h; there = further es at h l }), λ e. absurd (let z : ◌≡◌ {A = ℕ} 0 1 = cc in omega arith))
-  type-alone (Ty.array false n t) h l = rw (kind-here es at h) ((λ e. record { ty = t; here = behind es at h; there = further es at h l }), λ e. absurd (let z : ◌≡◌ {A = ℕ} 0 1 = cc in omega arith))
-  type-alone (Ty.struct true us) h l = rw (kind-here es at h) ((λ e. absurd (let z : ◌≡◌ {A = ℕ} 0 1 = cc in omega arith)), λ e. record { stack = us ∷ []; here = behind es at h; count = refl; there = further es at h l })
-  type-alone (Ty.struct false us) h l = rw (kind-here es at h) ((λ e. absurd (let z : ◌≡◌ {A = ℕ} 0 1 = cc in omega arith)), λ e. record { stack = us ∷ []; here = behind es at h; count = refl; there = further es at h l })
+  type_alone : (t : Ty) → drop at es ≡ enc_ty t ++ rest → at ≤ length es
+      → (array_kind (kind_of (drop at es)) ≡ true → TypeAt es rest (at + 1)) × (array_kind (kind_of (drop at es)) ≡ false → OpenAt es rest (at + 1) (opens_by (kind_of (drop at es)) 0))
+  unfolding enc_ty pending
+  type_alone Ty.void h l = rw (kind_here es at h) ((λ e. absurd (let z : ◌≡◌ {A = ℕ} 0 1 = cc in omega arith)), λ e. record { stack = []; here = behind es at h; count = refl; there = further es at h l })
+  type_alone Ty.ptr h l = rw (kind_here es at h) ((λ e. absurd (let z : ◌≡◌ {A = ℕ} 0 1 = cc in omega arith)), λ e. record { stack = []; here = behind es at h; count = refl; there = further es at h l })
+  type_alone (Ty.sizeless Sizeless.func) h l = rw (kind_here es at h) ((λ e. absurd (let z : ◌≡◌ {A = ℕ} 0 1 = cc in omega arith)), λ e. record { stack = []; here = behind es at h; count = refl; there = further es at h l })
+  type_alone (Ty.sizeless Sizeless.label) h l = rw (kind_here es at h) ((λ e. absurd (let z : ◌≡◌ {A = ℕ} 0 1 = cc in omega arith)), λ e. record { stack = []; here = behind es at h; count = refl; there = further es at h l })
+  type_alone (Ty.sizeless Sizeless.metadata) h l = rw (kind_here es at h) ((λ e. absurd (let z : ◌≡◌ {A = ℕ} 0 1 = cc in omega arith)), λ e. record { stack = []; here = behind es at h; count = refl; there = further es at h l })
+  type_alone (Ty.int w) h l = rw (kind_here es at h) ((λ e. absurd (let z : ◌≡◌ {A = ℕ} 0 1 = cc in omega arith)), λ e. record { stack = []; here = behind es at h; count = refl; there = further es at h l })
+  type_alone (Ty.named_struct x) h l = rw (kind_here es at h) ((λ e. absurd (let z : ◌≡◌ {A = ℕ} 0 1 = cc in omega arith)), λ e. record { stack = []; here = behind es at h; count = refl; there = further es at h l })
+  type_alone (Ty.array true n t) h l = rw (kind_here es at h) ((λ e. record { ty = t; here = behind es at h; there = further es at h l }), λ e. absurd (let z : ◌≡◌ {A = ℕ} 0 1 = cc in omega arith))
+  type_alone (Ty.array false n t) h l = rw (kind_here es at h) ((λ e. record { ty = t; here = behind es at h; there = further es at h l }), λ e. absurd (let z : ◌≡◌ {A = ℕ} 0 1 = cc in omega arith))
+  type_alone (Ty.struct true us) h l = rw (kind_here es at h) ((λ e. absurd (let z : ◌≡◌ {A = ℕ} 0 1 = cc in omega arith)), λ e. record { stack = us ∷ []; here = behind es at h; count = refl; there = further es at h l })
+  type_alone (Ty.struct false us) h l = rw (kind_here es at h) ((λ e. absurd (let z : ◌≡◌ {A = ℕ} 0 1 = cc in omega arith)), λ e. record { stack = us ∷ []; here = behind es at h; count = refl; there = further es at h l })
 
-type-kind : {es : List Entry} (rest : List Entry) (t : Ty) → es ≡ encTy t ++ rest → kind_of es ≡ 0 → ⊥
-unfolding encTy kind_of
-type-kind rest Ty.void h e = omega (arith, ap kind_of h)
-type-kind rest Ty.ptr h e = omega (arith, ap kind_of h)
-type-kind rest (Ty.sizeless Sizeless.func) h e = omega (arith, ap kind_of h)
-type-kind rest (Ty.sizeless Sizeless.label) h e = omega (arith, ap kind_of h)
-type-kind rest (Ty.sizeless Sizeless.metadata) h e = omega (arith, ap kind_of h)
-type-kind rest (Ty.int w) h e = omega (arith, ap kind_of h)
-type-kind rest (Ty.namedStruct x) h e = omega (arith, ap kind_of h)
-type-kind rest (Ty.array true n t) h e = omega (arith, ap kind_of h)
-type-kind rest (Ty.array false n t) h e = omega (arith, ap kind_of h)
-type-kind rest (Ty.struct true us) h e = omega (arith, ap kind_of h)
-type-kind rest (Ty.struct false us) h e = omega (arith, ap kind_of h)
+type_kind : {es : List Entry} (rest : List Entry) (t : Ty) → es ≡ enc_ty t ++ rest → kind_of es ≡ 0 → ⊥
+unfolding enc_ty kind_of
+type_kind rest Ty.void h e = omega (arith, ap kind_of h)
+type_kind rest Ty.ptr h e = omega (arith, ap kind_of h)
+type_kind rest (Ty.sizeless Sizeless.func) h e = omega (arith, ap kind_of h)
+type_kind rest (Ty.sizeless Sizeless.label) h e = omega (arith, ap kind_of h)
+type_kind rest (Ty.sizeless Sizeless.metadata) h e = omega (arith, ap kind_of h)
+type_kind rest (Ty.int w) h e = omega (arith, ap kind_of h)
+type_kind rest (Ty.named_struct x) h e = omega (arith, ap kind_of h)
+type_kind rest (Ty.array true n t) h e = omega (arith, ap kind_of h)
+type_kind rest (Ty.array false n t) h e = omega (arith, ap kind_of h)
+type_kind rest (Ty.struct true us) h e = omega (arith, ap kind_of h)
+type_kind rest (Ty.struct false us) h e = omega (arith, ap kind_of h)
 
-stack-few : (rest : List Entry) (stack : List Tys) → length stack ≤ length (pending stack rest)
+stack_few : (rest : List Entry) (stack : List Tys) → length stack ≤ length (pending stack rest)
 unfolding pending
-stack-few rest [] = omega arith
-stack-few rest (ts ∷ stack) = omega (arith, length-append (encTys ts) (pending stack rest), encs-pos ts, stack-few rest stack)
+stack_few rest [] = omega arith
+stack_few rest (ts ∷ stack) = omega (arith, length-append (enc_tys ts) (pending stack rest), encs_pos ts, stack_few rest stack)
 
 -- ---- over the lent slices
 module _ (m : ℕ) (ks ws : List ℕ) (s : Starts m (entries ks ws)) where
@@ -140,61 +140,61 @@ module _ (m : ℕ) (ks ws : List ℕ) (s : Starts m (entries ks ws)) where
   abbrev pub Opened : ℕ → ℕ → Type 0
   Opened at lists = OpenAt (entries ks ws) s.rest at lists
 
-  pub fronted-start : Fronted 0
-  fronted-start = record { ty = s.ty; here = s.here; there = omega arith }
+  pub fronted_start : Fronted 0
+  fronted_start = record { ty = s.ty; here = s.here; there = omega arith }
 
   module _ {at : ℕ} (f : Fronted at) where
-    type-there : at + 1 ≤ length (entries ks ws)
-    type-there = omega (arith, enc-pos f.ty, ap length f.here, length-append (encTy f.ty) s.rest, length-drop at (entries ks ws))
+    type_there : at + 1 ≤ length (entries ks ws)
+    type_there = omega (arith, enc_pos f.ty, ap length f.here, length-append (enc_ty f.ty) s.rest, length-drop at (entries ks ws))
 
-    pub fronted-kinds : at + 1 ≤ length ks
-    fronted-kinds = within-kinds (at + 1) ks ws type-there
+    pub fronted_kinds : at + 1 ≤ length ks
+    fronted_kinds = within_kinds (at + 1) ks ws type_there
 
-    pub fronted-few : at + 1 ≤ 1048576
-    fronted-few = omega (arith, type-there, s.few)
+    pub fronted_few : at + 1 ≤ 1048576
+    fronted_few = omega (arith, type_there, s.few)
 
-    kind-is : kind_of (drop at (entries ks ws)) ≡ get_or ks at 0
-    kind-is = kind-at ks ws at (omega (arith, type-there))
+    kind_is : kind_of (drop at (entries ks ws)) ≡ get_or ks at 0
+    kind_is = kind_at_lem ks ws at (omega (arith, type_there))
 
-    pub fronted-kind : get_or ks at 0 ≡ 0 → ⊥
-    fronted-kind e = type-kind s.rest f.ty f.here (kind-is ∙ e)
+    pub fronted_kind : get_or ks at 0 ≡ 0 → ⊥
+    fronted_kind e = type_kind s.rest f.ty f.here (kind_is ∙ e)
 
-    pub fronted-array : arrayKind (get_or ks at 0) ≡ true → Fronted (at + 1)
-    fronted-array e = (type-alone (entries ks ws) s.rest at f.ty f.here f.there).0 (rw kind-is e)
+    pub fronted_array : array_kind (get_or ks at 0) ≡ true → Fronted (at + 1)
+    fronted_array e = (type_alone (entries ks ws) s.rest at f.ty f.here f.there).0 (rw kind_is e)
 
-    pub fronted-opens : arrayKind (get_or ks at 0) ≡ false → (lists : ℕ) → lists ≡ opensBy (get_or ks at 0) 0 → Opened (at + 1) lists
-    fronted-opens e lists eo = rw (eo, ← kind-is) ((type-alone (entries ks ws) s.rest at f.ty f.here f.there).1 (rw kind-is e))
+    pub fronted_opens : array_kind (get_or ks at 0) ≡ false → (lists : ℕ) → lists ≡ opens_by (get_or ks at 0) 0 → Opened (at + 1) lists
+    fronted_opens e lists eo = rw (eo, ← kind_is) ((type_alone (entries ks ws) s.rest at f.ty f.here f.there).1 (rw kind_is e))
 
   module _ {at lists : ℕ} (o : Opened at lists) where
-    pub opened-done : lists ≡ 0 → at ≡ tyLen m (entries ks ws)
+    pub opened_done : lists ≡ 0 → at ≡ ty_len m (entries ks ws)
     unfolding pending
-    opened-done z = go o.stack refl
+    opened_done z = go o.stack refl
       where
-        go : (stack : List Tys) → o.stack ≡ stack → at ≡ tyLen m (entries ks ws)
+        go : (stack : List Tys) → o.stack ≡ stack → at ≡ ty_len m (entries ks ws)
         go [] e =
             let h : drop at (entries ks ws) ≡ s.rest = o.here ∙ ap (λ (x : List Tys). pending x s.rest) e in
             let n = len_is s in
-            omega (arith, ap length h, length-drop at (entries ks ws), ap length s.here, length-append (encTy s.ty) s.rest, o.there)
+            omega (arith, ap length h, length-drop at (entries ks ws), ap length s.here, length-append (enc_ty s.ty) s.rest, o.there)
         go (ts ∷ stack) e = absurd (omega (arith, o.count, ap length e))
 
     module _ (z : lists ≡ 0 → ⊥) where
-      next : OpenAt (entries ks ws) s.rest (at + 1) (opensBy (kind_of (drop at (entries ks ws))) (length o.stack))
-      next = list-opens (entries ks ws) s.rest at o.stack o.here o.there (λ e. z (sym o.count ∙ e))
+      next : OpenAt (entries ks ws) s.rest (at + 1) (opens_by (kind_of (drop at (entries ks ws))) (length o.stack))
+      next = list_opens (entries ks ws) s.rest at o.stack o.here o.there (λ e. z (sym o.count ∙ e))
 
-      lists-there : at + 1 ≤ length (entries ks ws)
-      lists-there = next.there
+      lists_there : at + 1 ≤ length (entries ks ws)
+      lists_there = next.there
 
-      pub opened-kinds : at + 1 ≤ length ks
-      opened-kinds = within-kinds (at + 1) ks ws lists-there
+      pub opened_kinds : at + 1 ≤ length ks
+      opened_kinds = within_kinds (at + 1) ks ws lists_there
 
-      pub opened-few : at + 1 ≤ 1048576
-      opened-few = omega (arith, lists-there, s.few)
+      pub opened_few : at + 1 ≤ 1048576
+      opened_few = omega (arith, lists_there, s.few)
 
-      pub opened-next : (r : ℕ) → r ≡ opensBy (get_or ks at 0) lists → Opened (at + 1) r
-      opened-next r e = rw (e, ← o.count, ← kind-at ks ws at (omega (arith, lists-there))) next
+      pub opened_next : (r : ℕ) → r ≡ opens_by (get_or ks at 0) lists → Opened (at + 1) r
+      opened_next r e = rw (e, ← o.count, ← kind_at_lem ks ws at (omega (arith, lists_there))) next
 
-      pub opened-ask : (get_or ks at 0 ≡ 0 → 1 ≤ lists) × (lists ≤ 1048576)
-      opened-ask = ((λ e. positive lists z), omega (arith, stack-few s.rest o.stack, ap length o.here, length-drop at (entries ks ws), o.count, s.few))
+      pub opened_ask : (get_or ks at 0 ≡ 0 → 1 ≤ lists) × (lists ≤ 1048576)
+      opened_ask = ((λ e. positive lists z), omega (arith, stack_few s.rest o.stack, ap length o.here, length-drop at (entries ks ws), o.count, s.few))
         where
           positive : (n : ℕ) → (n ≡ 0 → ⊥) → 1 ≤ n
           positive zero w = absurd (w refl)

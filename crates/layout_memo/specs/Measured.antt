@@ -2,7 +2,7 @@
 use Rattle.std.specs.Prelude.{ℕ, zero, suc, ◌+◌, ◌-◌, ◌<◌, ◌≤◌, max, ◌≡◌, refl, ◌⊎◌}
 use Rattle.std.proofs.Common.{sym, ◌∙◌, arith, sub-one}
 use Rattle.std.proofs.Math.Logic.{⊎_elim}
-use Rattle.numbers.specs.Tests.{lt-or-le}
+use Rattle.numbers.specs.Tests.{lt_or_le}
 use Rattle.book.specs.Result.{Result, ok, err, bind}
 use Rattle.layout_memo.specs.declared.Measured.{Measured}
 use Rattle.layout_memo.specs.declared.Measured.TheVariants.{Bytes, Refused}
@@ -27,60 +27,60 @@ abbrev pub Measures : (f : ℕ → Result ℕ) → ℕ → Measured → Type 0
 Measures f level (Bytes n h) = Gives f level n h
 Measures f level (Refused e) = f level ≡ err e
 
-pub measures-result : (f : ℕ → Result ℕ) (level : ℕ) (r : Measured) → Measures f level r → result_of r ≡ f level
-measures-result f level (Bytes n h) g = sym (g.known.high level g.within)
-measures-result f level (Refused e) g = sym g
+pub measures_result : (f : ℕ → Result ℕ) (level : ℕ) (r : Measured) → Measures f level r → result_of r ≡ f level
+measures_result f level (Bytes n h) g = sym (g.known.high level g.within)
+measures_result f level (Refused e) g = sym g
 
 -- one level more
-abbrev pub oneMore : Measured → Measured
-oneMore (Bytes n h) = Bytes n (h + 1)
-oneMore (Refused e) = Refused e
+abbrev pub one_more : Measured → Measured
+one_more (Bytes n h) = Bytes n (h + 1)
+one_more (Refused e) = Refused e
 
 -- levels that leave room for one more
 abbrev pub Few : Measured → Type 0
 Few (Bytes n h) = h ≤ 64
 Few (Refused e) = Unit {0}
 
-pub measures-few : (f : ℕ → Result ℕ) (level : ℕ) (r : Measured) → level ≤ 64 → Measures f level r → Few r
-measures-few f level (Bytes n h) l g = omega (arith, g.within)
-measures-few f level (Refused e) l g = tt
+pub measures_few : (f : ℕ → Result ℕ) (level : ℕ) (r : Measured) → level ≤ 64 → Measures f level r → Few r
+measures_few f level (Bytes n h) l g = omega (arith, g.within)
+measures_few f level (Refused e) l g = tt
 
 -- ---- a type of one level
 module _ (f : ℕ → Result ℕ) (n : ℕ) (none : f 0 ≡ err 7) (all : (k : ℕ) → f (suc k) ≡ ok n) where
-  leaf-low : (k : ℕ) → k < 1 → f k ≡ err 7
-  leaf-low zero l = none
-  leaf-low (suc k) l = absurd (omega arith)
+  leaf_low : (k : ℕ) → k < 1 → f k ≡ err 7
+  leaf_low zero l = none
+  leaf_low (suc k) l = absurd (omega arith)
 
-  leaf-high : (k : ℕ) → 1 ≤ k → f k ≡ ok n
-  leaf-high zero l = absurd (omega arith)
-  leaf-high (suc k) l = all k
+  leaf_high : (k : ℕ) → 1 ≤ k → f k ≡ ok n
+  leaf_high zero l = absurd (omega arith)
+  leaf_high (suc k) l = all k
 
-  pub leaf-known : (level : ℕ) → (level ≡ 0 → ⊥) → Gives f level n 1
-  leaf-known level z = record { known = record { low = leaf-low; high = leaf-high }; within = positive level z }
+  pub leaf_known : (level : ℕ) → (level ≡ 0 → ⊥) → Gives f level n 1
+  leaf_known level z = record { known = record { low = leaf_low; high = leaf_high }; within = positive level z }
     where
       positive : (l : ℕ) → (l ≡ 0 → ⊥) → 1 ≤ l
       positive zero z = absurd (z refl)
       positive (suc l) z = omega arith
 
-pub leaf-refused : (f : ℕ → Result ℕ) (e level : ℕ) → ((k : ℕ) → f (suc k) ≡ err e) → (level ≡ 0 → ⊥) → f level ≡ err e
-leaf-refused f e zero all z = absurd (z refl)
-leaf-refused f e (suc k) all z = all k
+pub leaf_refused : (f : ℕ → Result ℕ) (e level : ℕ) → ((k : ℕ) → f (suc k) ≡ err e) → (level ≡ 0 → ⊥) → f level ≡ err e
+leaf_refused f e zero all z = absurd (z refl)
+leaf_refused f e (suc k) all z = all k
 
 -- ---- a type whose part is measured with one level less
 module _ (f g : ℕ → Result ℕ) (none : f 0 ≡ err 7) (part : (k : ℕ) → f (suc k) ≡ g k) where
-  up-low : (h : ℕ) → ((k : ℕ) → k < h → g k ≡ err 7) → (k : ℕ) → k < h + 1 → f k ≡ err 7
-  up-low h low zero l = none
-  up-low h low (suc k) l = part k ∙ low k (omega arith)
+  up_low : (h : ℕ) → ((k : ℕ) → k < h → g k ≡ err 7) → (k : ℕ) → k < h + 1 → f k ≡ err 7
+  up_low h low zero l = none
+  up_low h low (suc k) l = part k ∙ low k (omega arith)
 
-  up-high : (n h : ℕ) → ((k : ℕ) → h ≤ k → g k ≡ ok n) → (k : ℕ) → h + 1 ≤ k → f k ≡ ok n
-  up-high n h high zero l = absurd (omega arith)
-  up-high n h high (suc k) l = part k ∙ high k (omega arith)
+  up_high : (n h : ℕ) → ((k : ℕ) → h ≤ k → g k ≡ ok n) → (k : ℕ) → h + 1 ≤ k → f k ≡ ok n
+  up_high n h high zero l = absurd (omega arith)
+  up_high n h high (suc k) l = part k ∙ high k (omega arith)
 
-  pub measures-up : (level : ℕ) → (level ≡ 0 → ⊥) → (r : Measured) → Measures g (level - 1) r → Measures f level (oneMore r)
-  measures-up zero z r m = absurd (z refl)
-  measures-up (suc l) z (Bytes n h) m =
-      record { known = record { low = up-low h m.known.low; high = up-high n h m.known.high }; within = omega (arith, m.within) }
-  measures-up (suc l) z (Refused e) m = part l ∙ rw (sub-one (suc l)) at m
+  pub measures_up : (level : ℕ) → (level ≡ 0 → ⊥) → (r : Measured) → Measures g (level - 1) r → Measures f level (one_more r)
+  measures_up zero z r m = absurd (z refl)
+  measures_up (suc l) z (Bytes n h) m =
+      record { known = record { low = up_low h m.known.low; high = up_high n h m.known.high }; within = omega (arith, m.within) }
+  measures_up (suc l) z (Refused e) m = part l ∙ rw (sub-one (suc l)) at m
 
 -- ---- measures one after the other: what is left to measure, and the levels taken so far
 pub record Progress (whole rest : ℕ → Result ℕ) (h level : ℕ) : Type 0 where
@@ -92,26 +92,26 @@ pub progress_start : (f : ℕ → Result ℕ) (level : ℕ) → Progress f f 0 l
 progress_start f level = record { passed = λ k l. absurd (omega arith); left = λ k l. refl; within = omega arith }
 
 module _ {whole rest : ℕ → Result ℕ} {h level : ℕ} (p : Progress whole rest h level) where
-  pub progress-same : (other : ℕ → Result ℕ) → ((k : ℕ) → rest k ≡ other k) → Progress whole other h level
-  progress-same other e = record { passed = p.passed; left = λ k l. p.left k l ∙ e k; within = p.within }
+  pub progress_same : (other : ℕ → Result ℕ) → ((k : ℕ) → rest k ≡ other k) → Progress whole other h level
+  progress_same other e = record { passed = p.passed; left = λ k l. p.left k l ∙ e k; within = p.within }
 
-  pub progress-bind : (g : ℕ → Result ℕ) (next : ℕ → ℕ → Result ℕ) {a ha : ℕ} → ((k : ℕ) → rest k ≡ bind (g k) (λ a. next a k))
+  pub progress_bind : (g : ℕ → Result ℕ) (next : ℕ → ℕ → Result ℕ) {a ha : ℕ} → ((k : ℕ) → rest k ≡ bind (g k) (λ a. next a k))
       → Gives g level a ha → Progress whole (next a) (max h ha) level
   unfolding bind
-  progress-bind g next {a} {ha} e m =
+  progress_bind g next {a} {ha} e m =
       record {
-        passed = λ k l. ⊎_elim (λ s. p.passed k s) (λ s. p.left k s ∙ e k ∙ (rw (m.known.low k (omega arith)) refl)) (lt-or-le k h);
+        passed = λ k l. ⊎_elim (λ s. p.passed k s) (λ s. p.left k s ∙ e k ∙ (rw (m.known.low k (omega arith)) refl)) (lt_or_le k h);
         left = λ k l. p.left k (omega arith) ∙ e k ∙ (rw (m.known.high k (omega arith)) refl);
         within = omega (arith, p.within, m.within);
       }
 
-  pub progress-refused : (g : ℕ → Result ℕ) (next : ℕ → ℕ → Result ℕ) {x : ℕ} → ((k : ℕ) → rest k ≡ bind (g k) (λ a. next a k)) → g level ≡ err x → whole level ≡ err x
+  pub progress_refused : (g : ℕ → Result ℕ) (next : ℕ → ℕ → Result ℕ) {x : ℕ} → ((k : ℕ) → rest k ≡ bind (g k) (λ a. next a k)) → g level ≡ err x → whole level ≡ err x
   unfolding bind
-  progress-refused g next e m = p.left level p.within ∙ e level ∙ (rw m refl)
+  progress_refused g next e m = p.left level p.within ∙ e level ∙ (rw m refl)
 
   -- nothing is left to measure
-  pub progress-bytes : {n : ℕ} → ((k : ℕ) → rest k ≡ ok n) → Gives whole level n h
-  progress-bytes e = record { known = record { low = p.passed; high = λ k l. p.left k l ∙ e k }; within = p.within }
+  pub progress_bytes : {n : ℕ} → ((k : ℕ) → rest k ≡ ok n) → Gives whole level n h
+  progress_bytes e = record { known = record { low = p.passed; high = λ k l. p.left k l ∙ e k }; within = p.within }
 
-  pub progress-err : {x : ℕ} → ((k : ℕ) → rest k ≡ err x) → whole level ≡ err x
-  progress-err e = p.left level p.within ∙ e level
+  pub progress_err : {x : ℕ} → ((k : ℕ) → rest k ≡ err x) → whole level ≡ err x
+  progress_err e = p.left level p.within ∙ e level

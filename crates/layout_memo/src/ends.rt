@@ -1,15 +1,15 @@
 // Where a type of a sound book ends: nothing of it is tested, so that passing it costs little.
 ghost use Rattle.std.specs.Prelude.{◌≡◌, ◌≤◌};
 ghost use Rattle.book.specs.Entry.{entries};
-ghost use Rattle.layout_memo.specs.Front.{Starts, tyLen};
-ghost use Rattle.layout_memo.specs.Ends.{opensBy, arrayKind};
+ghost use Rattle.layout_memo.specs.Front.{Starts, ty_len};
+ghost use Rattle.layout_memo.specs.Ends.{opens_by, array_kind};
 
 use book::entry;
 
 // The lists that are open behind an entry of this kind.
 fn opened(kind: u64, lists: usize) -> usize
     requires { (kind ≡ 0 → 1 ≤ lists) × (lists ≤ 1048576) }
-    ensures { result ≡ opensBy kind lists }
+    ensures { result ≡ opens_by kind lists }
 {
     if kind == entry::END {
         return lists - 1;
@@ -25,7 +25,7 @@ fn opened(kind: u64, lists: usize) -> usize
 
 // Whether an array begins with an entry of this kind.
 fn is_array(kind: u64) -> bool
-    ensures { result ≡ arrayKind kind }
+    ensures { result ≡ array_kind kind }
 {
     if kind == entry::ARRAY {
         return true;
@@ -39,7 +39,7 @@ fn is_array(kind: u64) -> bool
 // The number of entries of the type at the front.
 pub fn type_end(kinds: &[u64], words: &[u64], names: u64) -> usize
     requires { Starts names (entries kinds.now words.now) }
-    ensures { result ≡ tyLen names (entries kinds.now words.now) }
+    ensures { result ≡ ty_len names (entries kinds.now words.now) }
 {
     let mut at: usize = 0;
     while is_array(kinds[at]) {

@@ -8,9 +8,9 @@ pub mod structs;
 
 ghost use Rattle.std.specs.Prelude.{◌≡◌, max};
 ghost use Rattle.book.specs.Entry.{entries};
-ghost use Rattle.layout_memo.specs.Measured.{oneMore, Few};
-ghost use Rattle.layout_memo.specs.Front.{tyLen};
-ghost use Rattle.layout_memo.specs.Arms.{timesOf, SmallBytes};
+ghost use Rattle.layout_memo.specs.Measured.{one_more, Few};
+ghost use Rattle.layout_memo.specs.Front.{ty_len};
+ghost use Rattle.layout_memo.specs.Arms.{times_of, SmallBytes};
 
 use book_types::Length;
 use book_types::types::type_len;
@@ -25,7 +25,7 @@ pub enum Measured {
 // One level more.
 pub fn one_more(m: Measured) -> Measured
     requires { Few m }
-    ensures { result ≡ oneMore m }
+    ensures { result ≡ one_more m }
 {
     match m {
         Measured::Bytes(n, levels) => Measured::Bytes(n, levels + 1),
@@ -36,7 +36,7 @@ pub fn one_more(m: Measured) -> Measured
 // An array of so many elements: at most 2^24 bytes.
 pub fn array_bytes(len: u64, elem: Measured) -> Measured
     requires { SmallBytes elem }
-    ensures { result ≡ timesOf len elem }
+    ensures { result ≡ times_of len elem }
 {
     match elem {
         Measured::Refused(e) => Measured::Refused(e),
@@ -59,7 +59,7 @@ pub fn array_bytes(len: u64, elem: Measured) -> Measured
 
 // The number of entries of the type at the front, 0 where there is none.
 pub fn skip(kinds: &[u64], words: &[u64], names: u64) -> usize
-    ensures { result ≡ tyLen names (entries kinds.now words.now) }
+    ensures { result ≡ ty_len names (entries kinds.now words.now) }
 {
     match type_len(kinds, words, names, 64) {
         Length::Entries(n) => n,

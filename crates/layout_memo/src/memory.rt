@@ -2,7 +2,7 @@
 ghost use Rattle.std.specs.Prelude.{◌≡◌};
 ghost use Rattle.layout_memo.specs.Arms.{SmallBytes};
 ghost use Rattle.layout_memo.specs.Measured.{Few};
-ghost use Rattle.layout_memo.specs.Work.{recalled as recalledAs, withSize, withAlign};
+ghost use Rattle.layout_memo.specs.Work.{recalled as recalledAs, with_size, with_align};
 
 use crate::Measured;
 
@@ -21,7 +21,7 @@ pub fn recalled(part: u64, level: u32) -> Measured
 // The word with a size that was measured.
 pub fn with_size(word: u64, m: Measured) -> u64
     requires { SmallBytes m × Few m }
-    ensures { result ≡ withSize word m }
+    ensures { result ≡ with_size word m }
 {
     match m {
         Measured::Bytes(n, levels) => (n * 128 + levels as u64) * 4294967296 + word % 4294967296,
@@ -32,7 +32,7 @@ pub fn with_size(word: u64, m: Measured) -> u64
 // The word with an alignment that was measured.
 pub fn with_align(word: u64, m: Measured) -> u64
     requires { SmallBytes m × Few m }
-    ensures { result ≡ withAlign word m }
+    ensures { result ≡ with_align word m }
 {
     match m {
         Measured::Bytes(n, levels) => word / 4294967296 * 4294967296 + (n * 128 + levels as u64),

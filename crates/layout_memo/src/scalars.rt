@@ -1,8 +1,8 @@
 // Fields that are integers or pointers, which are passed without a call for each.
 ghost use Rattle.std.specs.Prelude.{◌≡◌, true, ◌+◌, ◌<◌, ◌≤◌, ◌^◌};
-ghost use Rattle.numbers.specs.Align.{isAlign};
+ghost use Rattle.numbers.specs.Align.{is_align};
 ghost use Rattle.layout.specs.Layout.{placed};
-ghost use Rattle.layout_memo.specs.Scalars.{Scalar, RunFrom, Passes, all_from, reachOf};
+ghost use Rattle.layout_memo.specs.Scalars.{Scalar, RunFrom, Passes, all_from, reach_of};
 
 use crate::{deeper, larger};
 use book::entry;
@@ -48,7 +48,7 @@ fn scalar_bytes(kind: u64, word: u64) -> u64
 
 // Where a field starts that is aligned to its bytes.
 fn scalar_start(packed: bool, offset: u64, bytes: u64) -> u64
-    requires { (isAlign bytes ≡ true) × (offset + bytes < 2 ^ 64) }
+    requires { (is_align bytes ≡ true) × (offset + bytes < 2 ^ 64) }
     ensures { result ≡ placed packed offset bytes }
 {
     if packed {
@@ -93,7 +93,7 @@ pub fn pass_scalars(
 
 // How far a measurement passes scalars: nowhere without a level.
 pub fn reach(length: usize, level: u32) -> usize
-    ensures { result ≡ reachOf length level }
+    ensures { result ≡ reach_of length level }
 {
     if level == 0 { 0 } else { length }
 }

@@ -7,87 +7,87 @@ use Rattle.std.proofs.Math.Dec.{leb}
 use Rattle.book.specs.Entry.{entries}
 use Rattle.book.specs.Ast.{Ty, StructType}
 use Rattle.book.specs.Result.{Result, err, bind, given}
-use Rattle.layout.specs.Layout.{limit, placed, sizeFrom, structSize, align_at, size_at}
-use Rattle.layout_memo.specs.Measured.{Gives, Measures, Progress, progress_start, progress-bind, progress-refused, progress-bytes, progress-err}
-use Rattle.layout_memo.specs.Fields.{AtFields, at-start, at-nil, at_field, at_next, at-cons}
-use Rattle.layout_size.specs.Sums.{SmallSum, SmallField, added, closed, placed-most}
-use Rattle.layout_memo.specs.Front.{StartsFields, ty_of, tys_of, tyLen}
-use Rattle.layout_memo.specs.Work.{sizes, aligns, align-small, size_small, pickMeasured}
-use Rattle.layout_memo.specs.Arms.{fieldSizes}
+use Rattle.layout.specs.Layout.{limit, placed, size_from, struct_size, align_at, size_at}
+use Rattle.layout_memo.specs.Measured.{Gives, Measures, Progress, progress_start, progress_bind, progress_refused, progress_bytes, progress_err}
+use Rattle.layout_memo.specs.Fields.{AtFields, at_start_lem, at_nil, at_field, at_next, at_cons}
+use Rattle.layout_size.specs.Sums.{SmallSum, SmallField, added, closed, placed_most}
+use Rattle.layout_memo.specs.Front.{StartsFields, ty_of, tys_of, ty_len}
+use Rattle.layout_memo.specs.Work.{sizes, aligns, align_small, size_small, pick_measured}
+use Rattle.layout_memo.specs.Arms.{field_sizes}
 use Rattle.layout_memo.specs.declared.Measured.TheVariants.{Bytes, Refused}
 use Rattle.layout_size.specs.declared.Sum.{Sum}
 
 -- ---- size
 module _ (structs : List StructType) (m : ℕ) (ks ws : List ℕ) (packed : Bool) (level : ℕ) (levels : level ≤ 64) where
-  abbrev sizesFrom : ℕ → (off al : ℕ) → ℕ → Result ℕ
-  sizesFrom a off al k = sizeFrom (align_at structs k) (size_at structs k) packed (tys_of m (drop a (entries ks ws))) off al
+  abbrev sizes_from : ℕ → (off al : ℕ) → ℕ → Result ℕ
+  sizes_from a off al k = size_from (align_at structs k) (size_at structs k) packed (tys_of m (drop a (entries ks ws))) off al
 
   pub record SizeLoop (a : ℕ) (sum : Sum) : Type 0 where
     pub place : AtFields m ks ws a
-    pub goes : Progress (fieldSizes structs packed (tys_of m (entries ks ws))) (sizesFrom a sum.offset sum.align) sum.levels level
+    pub goes : Progress (field_sizes structs packed (tys_of m (entries ks ws))) (sizes_from a sum.offset sum.align) sum.levels level
     pub offset : sum.offset ≤ a * 33554432
     pub align : sum.align ≤ 8
 
-  pub size-start : StartsFields m (entries ks ws) → SizeLoop 0 (record { offset = 0; align = 1; levels = 0 })
-  unfolding structSize
-  size-start s = record { place = at-start m ks ws s; goes = progress_start (fieldSizes structs packed (tys_of m (entries ks ws))) level; offset = omega arith; align = omega arith }
+  pub size_start : StartsFields m (entries ks ws) → SizeLoop 0 (record { offset = 0; align = 1; levels = 0 })
+  unfolding struct_size
+  size_start s = record { place = at_start_lem m ks ws s; goes = progress_start (field_sizes structs packed (tys_of m (entries ks ws))) level; offset = omega arith; align = omega arith }
 
   module _ {a : ℕ} {sum : Sum} (l : SizeLoop a sum) where
-    pub small-sum : SmallSum sum.offset sum.align
-    small-sum = (omega (arith, l.offset, l.place.there, l.place.few), l.align)
+    pub small_sum : SmallSum sum.offset sum.align
+    small_sum = (omega (arith, l.offset, l.place.there, l.place.few), l.align)
 
-    pub size-done : get_or ks a 0 ≡ 0 → Measures (fieldSizes structs packed (tys_of m (entries ks ws))) level (closed sum packed)
-    unfolding sizeFrom limit given
-    size-done z = go (leb (placed packed sum.offset sum.align) 16777216) refl
+    pub size_done : get_or ks a 0 ≡ 0 → Measures (field_sizes structs packed (tys_of m (entries ks ws))) level (closed sum packed)
+    unfolding size_from limit given
+    size_done z = go (leb (placed packed sum.offset sum.align) 16777216) refl
       where
         go : (b : Bool) → leb (placed packed sum.offset sum.align) 16777216 ≡ b
-            → Measures (fieldSizes structs packed (tys_of m (entries ks ws))) level (pickMeasured b (Bytes (placed packed sum.offset sum.align) sum.levels) (Refused 7))
-        go true e = progress-bytes l.goes (λ k. rw (at-nil l.place z, e) refl)
-        go false e = progress-err l.goes (λ k. rw (at-nil l.place z, e) refl)
+            → Measures (field_sizes structs packed (tys_of m (entries ks ws))) level (pick_measured b (Bytes (placed packed sum.offset sum.align) sum.levels) (Refused 7))
+        go true e = progress_bytes l.goes (λ k. rw (at_nil l.place z, e) refl)
+        go false e = progress_err l.goes (λ k. rw (at_nil l.place z, e) refl)
 
     module _ (z : get_or ks a 0 ≡ 0 → ⊥) where
       abbrev field : Ty
       field = ty_of m (drop a (entries ks ws))
 
       abbrev next : ℕ
-      next = a + tyLen m (drop a (entries ks ws))
+      next = a + ty_len m (drop a (entries ks ws))
 
-      abbrev behindAlign : ℕ → ℕ → Result ℕ
-      behindAlign b k = bind (sizes structs field k) (λ s. sizesFrom next (placed packed sum.offset b + s) (max sum.align b) k)
+      abbrev behind_align : ℕ → ℕ → Result ℕ
+      behind_align b k = bind (sizes structs field k) (λ s. sizes_from next (placed packed sum.offset b + s) (max sum.align b) k)
 
-      size-field : (k : ℕ) → sizesFrom a sum.offset sum.align k ≡ bind (aligns structs field k) (λ b. behindAlign b k)
-      unfolding sizeFrom
-      size-field k = rw (at-cons l.place z) refl
+      size_field : (k : ℕ) → sizes_from a sum.offset sum.align k ≡ bind (aligns structs field k) (λ b. behind_align b k)
+      unfolding size_from
+      size_field k = rw (at_cons l.place z) refl
 
-      pub size-align-refused : {e : ℕ} → aligns structs field level ≡ err e → fieldSizes structs packed (tys_of m (entries ks ws)) level ≡ err e
-      size-align-refused r = progress-refused l.goes (aligns structs field) behindAlign size-field r
+      pub size_align_refused : {e : ℕ} → aligns structs field level ≡ err e → field_sizes structs packed (tys_of m (entries ks ws)) level ≡ err e
+      size_align_refused r = progress_refused l.goes (aligns structs field) behind_align size_field r
 
       module _ {b hb : ℕ} (g : Gives (aligns structs field) level b hb) where
-        pub field-align : b ≤ 8
-        field-align = (align-small structs field (omega (arith, g.within)) g.known).1
+        pub field_align : b ≤ 8
+        field_align = (align_small structs field (omega (arith, g.within)) g.known).1
 
-        size-aligned : Progress (fieldSizes structs packed (tys_of m (entries ks ws))) (behindAlign b) (max sum.levels hb) level
-        size-aligned = progress-bind l.goes (aligns structs field) behindAlign size-field g
+        size_aligned : Progress (field_sizes structs packed (tys_of m (entries ks ws))) (behind_align b) (max sum.levels hb) level
+        size_aligned = progress_bind l.goes (aligns structs field) behind_align size_field g
 
-        pub size-refused : {e : ℕ} → sizes structs field level ≡ err e → fieldSizes structs packed (tys_of m (entries ks ws)) level ≡ err e
-        size-refused r = progress-refused size-aligned (sizes structs field) (λ s. sizesFrom next (placed packed sum.offset b + s) (max sum.align b)) (λ k. refl) r
+        pub size_refused : {e : ℕ} → sizes structs field level ≡ err e → field_sizes structs packed (tys_of m (entries ks ws)) level ≡ err e
+        size_refused r = progress_refused size_aligned (sizes structs field) (λ s. sizes_from next (placed packed sum.offset b + s) (max sum.align b)) (λ k. refl) r
 
         module _ {s hs : ℕ} (h : Gives (sizes structs field) level s hs) where
-          field-size : s ≤ 16777216
-          field-size = size_small structs field (omega (arith, h.within)) h.known
+          field_size : s ≤ 16777216
+          field_size = size_small structs field (omega (arith, h.within)) h.known
 
-          pub small-field : SmallField sum.offset b s
-          small-field = (small-sum.0, (field-align, field-size))
+          pub small_field : SmallField sum.offset b s
+          small_field = (small_sum.0, (field_align, field_size))
 
-          pub size-next : SizeLoop next (added sum packed b hb s hs)
-          size-next =
-              let n : 1 ≤ tyLen m (drop a (entries ks ws)) = (at_field l.place z).there in
-              let p = placed-most packed sum.offset b field-align in
-              let fs = field-size in
-              let fa = field-align in
+          pub size_next : SizeLoop next (added sum packed b hb s hs)
+          size_next =
+              let n : 1 ≤ ty_len m (drop a (entries ks ws)) = (at_field l.place z).there in
+              let p = placed_most packed sum.offset b field_align in
+              let fs = field_size in
+              let fa = field_align in
               record {
                 place = at_next l.place z;
-                goes = progress-bind size-aligned (sizes structs field) (λ s. sizesFrom next (placed packed sum.offset b + s) (max sum.align b)) (λ k. refl) h;
+                goes = progress_bind size_aligned (sizes structs field) (λ s. sizes_from next (placed packed sum.offset b + s) (max sum.align b)) (λ k. refl) h;
                 offset = omega (arith, l.offset);
                 align = omega (arith, l.align);
               }

@@ -4,9 +4,9 @@ ghost use Rattle.book.specs.Entry.{entries};
 ghost use Rattle.book.specs.Ast.{Ty};
 ghost use Rattle.layout.specs.Layout.{placed as placed_at};
 ghost use Rattle.layout_memo.specs.Front.{ty_of, tys_of};
-ghost use Rattle.layout_memo.specs.Arms.{fieldSizes};
+ghost use Rattle.layout_memo.specs.Arms.{field_sizes};
 ghost use Rattle.layout_size.specs.Sums.{added, closed as closedSum, SmallSum, SmallField};
-ghost use Rattle.layout_memo.specs.Work.{Ask, AskFields, AskName, Outcome, structsIn, sizes as sizesOf};
+ghost use Rattle.layout_memo.specs.Work.{Ask, AskFields, AskName, Outcome, structs_in, sizes as sizesOf};
 
 use book_types::types::{TypeGroup, type_group};
 use layout_align::align_of;
@@ -29,7 +29,7 @@ pub fn size_of(
 ) -> Measured
     requires { Ask names (entries kinds.now words.now) (entries book_kinds.now book_words.now) work.old level }
     ensures { Outcome names (entries book_kinds.now book_words.now) work.old work.new
-        (sizesOf (structsIn names (entries book_kinds.now book_words.now)) (ty_of names (entries kinds.now words.now))) level result }
+        (sizesOf (structs_in names (entries book_kinds.now book_words.now)) (ty_of names (entries kinds.now words.now))) level result }
 {
     if level == 0 {
         return Measured::Refused(7);
@@ -79,7 +79,7 @@ fn named_size(
 ) -> Measured
     requires { AskName names name (entries book_kinds.now book_words.now) work.old level }
     ensures { Outcome names (entries book_kinds.now book_words.now) work.old work.new
-        (sizesOf (structsIn names (entries book_kinds.now book_words.now)) (Ty.namedStruct name)) level result }
+        (sizesOf (structs_in names (entries book_kinds.now book_words.now)) (Ty.named_struct name)) level result }
 {
     let at = book::work::WORDS * (name as usize);
     let part = work[at + book::work::MEASURED] / 4294967296;
@@ -173,7 +173,7 @@ fn struct_size(
 ) -> Measured
     requires { AskFields names (entries kinds.now words.now) (entries book_kinds.now book_words.now) work.old level }
     ensures { Outcome names (entries book_kinds.now book_words.now) work.old work.new
-        (fieldSizes (structsIn names (entries book_kinds.now book_words.now)) packed (tys_of names (entries kinds.now words.now))) level result }
+        (field_sizes (structs_in names (entries book_kinds.now book_words.now)) packed (tys_of names (entries kinds.now words.now))) level result }
 {
     let stop = reach(kinds.len(), level);
     let first = pass_scalars(kinds, words, names, packed, stop, run_from(0, 0, 1, 0));

@@ -9,29 +9,29 @@ use Rattle.std.proofs.Math.Seq.{drop-drop}
 use Rattle.numbers.specs.Wrap.{wrap_mul}
 use Rattle.book.specs.Entry.{Entry, entries}
 use Rattle.book.specs.Ast.{Ty, Tys, Value, StructType}
-use Rattle.book.specs.Kinds.{tyTag}
-use Rattle.book.specs.Result.{Result, ok, err, bind, okOr}
+use Rattle.book.specs.Kinds.{ty_tag}
+use Rattle.book.specs.Result.{Result, ok, err, bind, ok_or}
 use Rattle.book.specs.Work.{body_at}
-use Rattle.book_types.specs.Groups.{typeGroupOf}
-use Rattle.book_types.specs.Laws.{entries-part, within-kinds, within-words}
+use Rattle.book_types.specs.Groups.{type_group_of}
+use Rattle.book_types.specs.Laws.{entries_part, within_kinds, within_words}
 use Rattle.book_types.specs.declared.types.TypeGroup.{TypeGroup}
 use Rattle.book_types.specs.declared.types.TypeGroup.TheVariants as group
-use Rattle.layout.specs.Layout.{asType, resolve, size_of, offsetFrom, fieldOffset}
-use Rattle.layout.specs.Step.{Step as GepStep, constInt, field_at, stride, structStep, gepStep}
+use Rattle.layout.specs.Layout.{as_type, resolve, size_of, offset_from, field_offset}
+use Rattle.layout.specs.Step.{Step as GepStep, const_int, field_at, stride, struct_step, gep_step}
 use Rattle.layout_memo.specs.Measured.{Measures}
 use Rattle.layout_memo.specs.Front.{Starts, StartsFields, ty_of, tys_of, ShapeOf, shape_at}
-use Rattle.layout_memo.specs.Work.{structsIn, BodyAt, sizes, Ready, After, FieldFact, Outcome, Ask, after_none, after_then}
-use Rattle.layout_memo.specs.Helpers.{gives_at, refused-at}
-use Rattle.layout_memo.specs.Calls.{lent, ask-part, ask-fields, part_type, starts-length}
-use Rattle.layout_memo.specs.Fields.{AtFields, at-nil, at_field, at-cons}
-use Rattle.layout_field.specs.Offsets.{FieldFound, FieldPlace, AskStart, StartOutcome, start_of, AskOffset, OffsetOutcome, offset_of, offsetResult}
+use Rattle.layout_memo.specs.Work.{structs_in, BodyAt, sizes, Ready, After, FieldFact, Outcome, Ask, after_none, after_then}
+use Rattle.layout_memo.specs.Helpers.{gives_at, refused_at}
+use Rattle.layout_memo.specs.Calls.{lent, ask_part, ask_fields, part_type, starts_length}
+use Rattle.layout_memo.specs.Fields.{AtFields, at_nil, at_field, at_cons}
+use Rattle.layout_field.specs.Offsets.{FieldFound, FieldPlace, AskStart, StartOutcome, start_of, AskOffset, OffsetOutcome, offset_of, offset_result}
 use Rattle.layout_memo.specs.declared.Measured.{Measured}
 use Rattle.layout_memo.specs.declared.Measured.TheVariants.{Bytes, Refused}
 use Rattle.layout_field.specs.declared.Offset.{Offset}
 use Rattle.layout_field.specs.declared.Offset.TheVariants as offset
 use Rattle.layout_field.specs.declared.Place.{Place}
 use Rattle.layout_field.specs.declared.Place.TheVariants as place
-use Rattle.layout_table.specs.Table.{AskFieldsAt, fields-below}
+use Rattle.layout_table.specs.Table.{AskFieldsAt, fields_below}
 use Rattle.layout_table.specs.Known.{KnownOutcome}
 use Rattle.layout_table.specs.declared.Known.{Known}
 use Rattle.layout_step.specs.declared.Index.{Index}
@@ -45,36 +45,36 @@ index_of index.Varying = none
 
 -- `gep_step` and `struct_step`, by the index where it is constant
 module _ (structs : List StructType) where
-  unfoldable pub structBy : Bool → Tys → Option ℕ → Result GepStep
-  structBy p ts o =
-      bind (okOr 14 o) (λ field. bind (okOr 14 (field_at ts field)) (λ next. bind (fieldOffset structs (record { packed = p; fields = ts }) field) (λ off. ok (GepStep.const off next))))
+  unfoldable pub struct_by : Bool → Tys → Option ℕ → Result GepStep
+  struct_by p ts o =
+      bind (ok_or 14 o) (λ field. bind (ok_or 14 (field_at ts field)) (λ next. bind (field_offset structs (record { packed = p; fields = ts }) field) (λ off. ok (GepStep.const off next))))
 
   -- the field with an index among those from a place on, behind so many bytes
-  unfoldable pub fieldBy : Bool → Tys → (i off : ℕ) → Result GepStep
-  fieldBy p ts i off = bind (okOr 14 (field_at ts i)) (λ next. bind (offset_of structs p ts i off) (λ start. ok (GepStep.const start next)))
+  unfoldable pub field_by : Bool → Tys → (i off : ℕ) → Result GepStep
+  field_by p ts i off = bind (ok_or 14 (field_at ts i)) (λ next. bind (offset_of structs p ts i off) (λ start. ok (GepStep.const start next)))
 
-  unfoldable pub arrayBy : Ty → Option ℕ → Result GepStep
-  arrayBy elem o = bind (size_of structs elem) (λ size. ok (stride size elem o))
+  unfoldable pub array_by : Ty → Option ℕ → Result GepStep
+  array_by elem o = bind (size_of structs elem) (λ size. ok (stride size elem o))
 
-  unfoldable pub stepBy : Ty → Option ℕ → Result GepStep
-  stepBy (Ty.struct p ts) o = structBy p ts o
-  stepBy (Ty.namedStruct x) o = bind (resolve structs x) (λ body. structBy body.packed body.fields o)
-  stepBy (Ty.array p n elem) o = arrayBy elem o
-  stepBy Ty.void o = err 14
-  stepBy Ty.ptr o = err 14
-  stepBy (Ty.int w) o = err 14
-  stepBy (Ty.sizeless s) o = err 14
+  unfoldable pub step_by : Ty → Option ℕ → Result GepStep
+  step_by (Ty.struct p ts) o = struct_by p ts o
+  step_by (Ty.named_struct x) o = bind (resolve structs x) (λ body. struct_by body.packed body.fields o)
+  step_by (Ty.array p n elem) o = array_by elem o
+  step_by Ty.void o = err 14
+  step_by Ty.ptr o = err 14
+  step_by (Ty.int w) o = err 14
+  step_by (Ty.sizeless s) o = err 14
 
   -- the definition's step
-  pub step_by : (t : Ty) (v : Value) → gepStep structs t v ≡ stepBy t (constInt v)
-  unfolding gepStep structStep stepBy structBy arrayBy
-  step_by (Ty.struct p ts) v = refl
-  step_by (Ty.namedStruct x) v = refl
-  step_by (Ty.array p n elem) v = refl
-  step_by Ty.void v = refl
-  step_by Ty.ptr v = refl
-  step_by (Ty.int w) v = refl
-  step_by (Ty.sizeless s) v = refl
+  pub step_by_lem : (t : Ty) (v : Value) → gep_step structs t v ≡ step_by t (const_int v)
+  unfolding gep_step struct_step step_by struct_by array_by
+  step_by_lem (Ty.struct p ts) v = refl
+  step_by_lem (Ty.named_struct x) v = refl
+  step_by_lem (Ty.array p n elem) v = refl
+  step_by_lem Ty.void v = refl
+  step_by_lem Ty.ptr v = refl
+  step_by_lem (Ty.int w) v = refl
+  step_by_lem (Ty.sizeless s) v = refl
 
 -- ---- what is asked
 pub record AskAt (m : ℕ) (es : List Entry) (work : List ℕ) (at : ℕ) : Type 0 where
@@ -112,88 +112,88 @@ module _ (m : ℕ) (bk bw : List ℕ) (work : List ℕ) (at off : ℕ) (k : AskB
   abbrev fields : Tys
   fields = tys_of m (drop at es)
 
-  pub behind-place : AtFields m bk bw at
-  behind-place = record { fields = k.ask.front; there = fields-below k.ask; few = k.ask.ready.few }
+  pub behind_place : AtFields m bk bw at
+  behind_place = record { fields = k.ask.front; there = fields_below k.ask; few = k.ask.ready.few }
 
-  pub behind-front : StartsFields m (lent bk bw at)
-  behind-front = subst (StartsFields m) (sym (entries-part at bk bw)) k.ask.front
+  pub behind_front_lem : StartsFields m (lent bk bw at)
+  behind_front_lem = subst (StartsFields m) (sym (entries_part at bk bw)) k.ask.front
 
-  pub behind-ask : AskOffset m (lent bk bw at) es work off
-  behind-ask = record { ask = ask-fields bk bw at k.ask.front k.ask.ready (omega arith); small = k.small }
+  pub behind_ask : AskOffset m (lent bk bw at) es work off
+  behind_ask = record { ask = ask_fields bk bw at k.ask.front k.ask.ready (omega arith); small = k.small }
 
   module _ (packed : Bool) where
     -- the first one
     abbrev first : Result GepStep
-    first = fieldBy (structsIn m es) packed fields 0 off
+    first = field_by (structs_in m es) packed fields 0 off
 
-    pub first-none : get_or bk at 0 ≡ 0 → StepOutcome m es work work first (step.Refused 14)
-    unfolding fieldBy field_at bind okOr
-    first-none z = record { says = rw (at-nil behind-place z) refl; after = after_none k.ask.ready }
+    pub first_none : get_or bk at 0 ≡ 0 → StepOutcome m es work work first (step.Refused 14)
+    unfolding field_by field_at bind ok_or
+    first_none z = record { says = rw (at_nil behind_place z) refl; after = after_none k.ask.ready }
 
     module _ (z : get_or bk at 0 ≡ 0 → ⊥) where
       front : Starts m (drop at es)
-      front = (at_field behind-place z).field
+      front = (at_field behind_place z).field
 
-      pub first-ask : AskStart m (drop at es) es work off
-      first-ask = record { ask = record { front = front; ready = k.ask.ready; levels = omega arith }; small = omega (arith, k.small) }
+      pub first_ask : AskStart m (drop at es) es work off
+      first_ask = record { ask = record { front = front; ready = k.ask.ready; levels = omega arith }; small = omega (arith, k.small) }
 
       first_field : field_at fields 0 ≡ some (ty_of m (drop at es))
       unfolding field_at
-      first_field = rw (at-cons behind-place z) refl
+      first_field = rw (at_cons behind_place z) refl
 
-      first-offset : offset_of (structsIn m es) packed fields 0 off ≡ start_of (structsIn m es) packed (ty_of m (drop at es)) off
-      unfolding offsetFrom start_of
-      first-offset = rw (at-cons behind-place z) refl
+      first_offset : offset_of (structs_in m es) packed fields 0 off ≡ start_of (structs_in m es) packed (ty_of m (drop at es)) off
+      unfolding offset_from start_of
+      first_offset = rw (at_cons behind_place z) refl
 
-      module _ {work' : List ℕ} (r : Offset) (o : StartOutcome m es work work' off (start_of (structsIn m es) packed (ty_of m (drop at es)) off) r) where
-        first-is : offset_of (structsIn m es) packed fields 0 off ≡ offsetResult r
-        first-is = first-offset ∙ sym o.answer
+      module _ {work' : List ℕ} (r : Offset) (o : StartOutcome m es work work' off (start_of (structs_in m es) packed (ty_of m (drop at es)) off) r) where
+        first_is : offset_of (structs_in m es) packed fields 0 off ≡ offset_result r
+        first_is = first_offset ∙ sym o.answer
 
-        pub first-refused : (e : ℕ) → r ≡ offset.Refused e → StepOutcome m es work work' first (step.Refused e)
-        unfolding fieldBy bind okOr
-        first-refused e er = record { says = rw (first_field, first-is ∙ ap offsetResult er) refl; after = o.after }
+        pub first_refused : (e : ℕ) → r ≡ offset.Refused e → StepOutcome m es work work' first (step.Refused e)
+        unfolding field_by bind ok_or
+        first_refused e er = record { says = rw (first_field, first_is ∙ ap offset_result er) refl; after = o.after }
 
-        pub first-const : (n : ℕ) → r ≡ offset.At n → StepOutcome m es work work' first (step.Constant n at)
-        unfolding fieldBy bind okOr
-        first-const n er = record { says = record { answer = rw (first_field, first-is ∙ ap offsetResult er) refl; front = front }; after = o.after }
+        pub first_const : (n : ℕ) → r ≡ offset.At n → StepOutcome m es work work' first (step.Constant n at)
+        unfolding field_by bind ok_or
+        first_const n er = record { says = record { answer = rw (first_field, first_is ∙ ap offset_result er) refl; front = front }; after = o.after }
 
     -- any one
     module _ (i : ℕ) (q : Place) (found : FieldFound m (lent bk bw at) i q) where
       abbrev later : Result GepStep
-      later = fieldBy (structsIn m es) packed fields i off
+      later = field_by (structs_in m es) packed fields i off
 
       found_here : FieldFound m (drop at es) i q
-      found_here = subst (λ (x : List Entry). FieldFound m x i q) (entries-part at bk bw) found
+      found_here = subst (λ (x : List Entry). FieldFound m x i q) (entries_part at bk bw) found
 
-      pub later-none : q ≡ place.Nothing → StepOutcome m es work work later (step.Refused 14)
-      unfolding fieldBy bind okOr
-      later-none e =
+      pub later_none : q ≡ place.Nothing → StepOutcome m es work work later (step.Refused 14)
+      unfolding field_by bind ok_or
+      later_none e =
           let g : field_at fields i ≡ none = subst (FieldFound m (drop at es) i) e found_here in
           record { says = rw g refl; after = after_none k.ask.ready }
 
       module _ (n : ℕ) (eq : q ≡ place.At n) where
-        field-place : FieldPlace m (drop at es) i n
-        field-place = subst (FieldFound m (drop at es) i) eq found_here
+        field_place : FieldPlace m (drop at es) i n
+        field_place = subst (FieldFound m (drop at es) i) eq found_here
 
-        pub later-fits : at + n + 1 ≤ length bk
-        later-fits = within-kinds (at + n + 1) bk bw (omega (arith, field-place.there, length-drop at es))
+        pub later_fits : at + n + 1 ≤ length bk
+        later_fits = within_kinds (at + n + 1) bk bw (omega (arith, field_place.there, length-drop at es))
 
-        module _ {work' : List ℕ} (r : Offset) (o : OffsetOutcome m es work work' (offset_of (structsIn m es) packed (tys_of m (lent bk bw at)) i off) r) where
-          offset-is : offset_of (structsIn m es) packed fields i off ≡ offsetResult r
-          offset-is = sym (o.answer ∙ ap (λ (x : List Entry). offset_of (structsIn m es) packed (tys_of m x) i off) (entries-part at bk bw))
+        module _ {work' : List ℕ} (r : Offset) (o : OffsetOutcome m es work work' (offset_of (structs_in m es) packed (tys_of m (lent bk bw at)) i off) r) where
+          offset_is : offset_of (structs_in m es) packed fields i off ≡ offset_result r
+          offset_is = sym (o.answer ∙ ap (λ (x : List Entry). offset_of (structs_in m es) packed (tys_of m x) i off) (entries_part at bk bw))
 
-          pub later-refused : (e : ℕ) → r ≡ offset.Refused e → StepOutcome m es work work' later (step.Refused e)
-          unfolding fieldBy bind okOr
-          later-refused e er = record { says = rw (field-place.field, offset-is ∙ ap offsetResult er) refl; after = o.after }
+          pub later_refused : (e : ℕ) → r ≡ offset.Refused e → StepOutcome m es work work' later (step.Refused e)
+          unfolding field_by bind ok_or
+          later_refused e er = record { says = rw (field_place.field, offset_is ∙ ap offset_result er) refl; after = o.after }
 
-          pub later-const : (start : ℕ) → r ≡ offset.At start → StepOutcome m es work work' later (step.Constant start (at + n))
-          unfolding fieldBy bind okOr
-          later-const start er =
+          pub later_const : (start : ℕ) → r ≡ offset.At start → StepOutcome m es work work' later (step.Constant start (at + n))
+          unfolding field_by bind ok_or
+          later_const start er =
               let d : drop n (drop at es) ≡ drop (at + n) es = drop-drop n at es in
               record {
                 says = record {
-                  answer = rw (field-place.field, offset-is ∙ ap offsetResult er) (ap (λ (x : List Entry). ok (GepStep.const start (ty_of m x))) d);
-                  front = subst (Starts m) d field-place.front;
+                  answer = rw (field_place.field, offset_is ∙ ap offset_result er) (ap (λ (x : List Entry). ok (GepStep.const start (ty_of m x))) d);
+                  front = subst (Starts m) d field_place.front;
                 };
                 after = o.after;
               }
@@ -201,180 +201,180 @@ module _ (m : ℕ) (bk bw : List ℕ) (work : List ℕ) (at off : ℕ) (k : AskB
 -- ---- a struct
 module _ (m : ℕ) (es : List Entry) (work : List ℕ) (at : ℕ) (packed : Bool) (i : Index) where
   abbrev answer : Result GepStep
-  answer = structBy (structsIn m es) packed (tys_of m (drop at es)) (index_of i)
+  answer = struct_by (structs_in m es) packed (tys_of m (drop at es)) (index_of i)
 
-  pub struct-varying : AskFieldsAt m es work at → i ≡ index.Varying → StepOutcome m es work work answer (step.Refused 14)
-  unfolding structBy bind okOr
-  struct-varying k e = record { says = rw e refl; after = after_none k.ready }
+  pub struct_varying : AskFieldsAt m es work at → i ≡ index.Varying → StepOutcome m es work work answer (step.Refused 14)
+  unfolding struct_by bind ok_or
+  struct_varying k e = record { says = rw e refl; after = after_none k.ready }
 
   -- the fields behind a fact
   module _ (f : ℕ) (ef : i ≡ index.Constant f) {work' : List ℕ} (v : Known) (w : KnownOutcome m es work work' packed at f v) where
     fact : FieldFact m es packed at v.index v.at v.offset
     fact = w.best.fact
 
-    pub known-ask : AskBehind m es work' v.at v.offset
-    known-ask = record { ask = record { front = fact.fields; there = omega (arith, fact.there); ready = w.after.ready }; small = fact.small }
+    pub known_ask : AskBehind m es work' v.at v.offset
+    known_ask = record { ask = record { front = fact.fields; there = omega (arith, fact.there); ready = w.after.ready }; small = fact.small }
 
     module _ (left : ℕ) (el : left ≡ f - v.index) where
       whole : f ≡ v.index + left
       whole = omega (arith, w.best.before)
 
-      answer-is : answer ≡ fieldBy (structsIn m es) packed (tys_of m (drop v.at es)) left v.offset
-      unfolding structBy fieldBy bind okOr fieldOffset
-      answer-is = rw (ef, whole, fact.places left, fact.offsets left) refl
+      answer_is : answer ≡ field_by (structs_in m es) packed (tys_of m (drop v.at es)) left v.offset
+      unfolding struct_by field_by bind ok_or field_offset
+      answer_is = rw (ef, whole, fact.places left, fact.offsets left) refl
 
-      pub struct_known : {work'' : List ℕ} {r : Step} → StepOutcome m es work' work'' (fieldBy (structsIn m es) packed (tys_of m (drop v.at es)) left v.offset) r
+      pub struct_known : {work'' : List ℕ} {r : Step} → StepOutcome m es work' work'' (field_by (structs_in m es) packed (tys_of m (drop v.at es)) left v.offset) r
           → StepOutcome m es work work'' answer r
-      struct_known {r = r} o = record { says = subst (λ (x : Result GepStep). Steps m es x r) (sym answer-is) o.says; after = after_then w.after o.after }
+      struct_known {r = r} o = record { says = subst (λ (x : Result GepStep). Steps m es x r) (sym answer_is) o.says; after = after_then w.after o.after }
 
 -- ---- an array
 module _ (m : ℕ) (bk bw : List ℕ) (work : List ℕ) (at : ℕ) (i : Index) (k : AskAt m (entries bk bw) work at) where
   at_there : at + 1 ≤ length (entries bk bw)
-  at_there = omega (arith, starts-length k.front, length-drop at (entries bk bw))
+  at_there = omega (arith, starts_length k.front, length-drop at (entries bk bw))
 
-  pub at-kinds : at + 1 ≤ length bk
-  at-kinds = within-kinds (at + 1) bk bw at_there
+  pub at_kinds : at + 1 ≤ length bk
+  at_kinds = within_kinds (at + 1) bk bw at_there
 
   pub at_words : at + 1 ≤ length bw
-  at_words = within-words (at + 1) bk bw at_there
+  at_words = within_words (at + 1) bk bw at_there
 
-  pub array-ask : Ask m (lent bk bw at) (entries bk bw) work 64
-  array-ask = ask-part bk bw at k.front k.ready (omega arith)
+  pub array_ask : Ask m (lent bk bw at) (entries bk bw) work 64
+  array_ask = ask_part bk bw at k.front k.ready (omega arith)
 
   abbrev elem : Ty
   elem = ty_of m (drop at (entries bk bw))
 
-  module _ {work' : List ℕ} (r : Measured) (o : Outcome m (entries bk bw) work work' (sizes (structsIn m (entries bk bw)) (ty_of m (lent bk bw at))) 64 r) where
-    elem-says : Measures (sizes (structsIn m (entries bk bw)) elem) 64 r
-    elem-says = part_type (sizes (structsIn m (entries bk bw))) m bk bw at 64 r o.says
+  module _ {work' : List ℕ} (r : Measured) (o : Outcome m (entries bk bw) work work' (sizes (structs_in m (entries bk bw)) (ty_of m (lent bk bw at))) 64 r) where
+    elem_says : Measures (sizes (structs_in m (entries bk bw)) elem) 64 r
+    elem_says = part_type (sizes (structs_in m (entries bk bw))) m bk bw at 64 r o.says
 
-    pub array-refused : (e : ℕ) → r ≡ Refused e → StepOutcome m (entries bk bw) work work' (arrayBy (structsIn m (entries bk bw)) elem (index_of i)) (step.Refused e)
-    unfolding arrayBy bind size_of
-    array-refused e er =
-        let g : sizes (structsIn m (entries bk bw)) elem 64 ≡ err e = refused-at r _ 64 er elem-says in
+    pub array_refused : (e : ℕ) → r ≡ Refused e → StepOutcome m (entries bk bw) work work' (array_by (structs_in m (entries bk bw)) elem (index_of i)) (step.Refused e)
+    unfolding array_by bind size_of
+    array_refused e er =
+        let g : sizes (structs_in m (entries bk bw)) elem 64 ≡ err e = refused_at r _ 64 er elem_says in
         record { says = rw g refl; after = o.after }
 
     module _ (s h : ℕ) (er : r ≡ Bytes s h) where
-      size_is : sizes (structsIn m (entries bk bw)) elem 64 ≡ ok s
-      size_is = let g = gives_at r er _ 64 elem-says in g.known.high 64 g.within
+      size_is : sizes (structs_in m (entries bk bw)) elem 64 ≡ ok s
+      size_is = let g = gives_at r er _ 64 elem_says in g.known.high 64 g.within
 
-      pub array-const : (c : ℕ) → i ≡ index.Constant c → (v : ℕ) → v ≡ wrap_mul 64 c s → StepOutcome m (entries bk bw) work work' (arrayBy (structsIn m (entries bk bw)) elem (index_of i)) (step.Constant v at)
-      unfolding arrayBy bind size_of stride
-      array-const c e v ev = record { says = record { answer = rw (size_is, e, ev) refl; front = k.front }; after = o.after }
+      pub array_const : (c : ℕ) → i ≡ index.Constant c → (v : ℕ) → v ≡ wrap_mul 64 c s → StepOutcome m (entries bk bw) work work' (array_by (structs_in m (entries bk bw)) elem (index_of i)) (step.Constant v at)
+      unfolding array_by bind size_of stride
+      array_const c e v ev = record { says = record { answer = rw (size_is, e, ev) refl; front = k.front }; after = o.after }
 
-      pub array-varying : i ≡ index.Varying → StepOutcome m (entries bk bw) work work' (arrayBy (structsIn m (entries bk bw)) elem (index_of i)) (step.Varying s at)
-      unfolding arrayBy bind size_of stride
-      array-varying e = record { says = record { answer = rw (size_is, e) refl; front = k.front }; after = o.after }
+      pub array_varying : i ≡ index.Varying → StepOutcome m (entries bk bw) work work' (array_by (structs_in m (entries bk bw)) elem (index_of i)) (step.Varying s at)
+      unfolding array_by bind size_of stride
+      array_varying e = record { says = record { answer = rw (size_is, e) refl; front = k.front }; after = o.after }
 
 -- ---- `gep_step`
-module _ (m : ℕ) (bk bw : List ℕ) (work : List ℕ) (at : ℕ) (i : Index) (k : AskAt m (entries bk bw) work at) (g : TypeGroup) (eg : g ≡ typeGroupOf (tyTag (get_or bk at 0))) where
+module _ (m : ℕ) (bk bw : List ℕ) (work : List ℕ) (at : ℕ) (i : Index) (k : AskAt m (entries bk bw) work at) (g : TypeGroup) (eg : g ≡ type_group_of (ty_tag (get_or bk at 0))) where
   abbrev seen : (h : TypeGroup) → g ≡ h → ShapeOf m (get_or bw at 0) (drop (at + 1) (entries bk bw)) (ty_of m (drop at (entries bk bw))) h
   seen = shape_at m bk bw at k.front g eg
 
-  pub gep-struct-ask : (p : Bool) → g ≡ group.Struct p → AskFieldsAt m (entries bk bw) work (at + 1)
-  gep-struct-ask p e = record { front = (seen (group.Struct p) e).0; there = at_there m bk bw work at i k; ready = k.ready }
+  pub gep_struct_ask : (p : Bool) → g ≡ group.Struct p → AskFieldsAt m (entries bk bw) work (at + 1)
+  gep_struct_ask p e = record { front = (seen (group.Struct p) e).0; there = at_there m bk bw work at i k; ready = k.ready }
 
-  pub gep-array-ask : (p : Bool) → g ≡ group.Array p → AskAt m (entries bk bw) work (at + 1)
-  gep-array-ask p e = record { front = (seen (group.Array p) e).0; ready = k.ready }
+  pub gep_array_ask : (p : Bool) → g ≡ group.Array p → AskAt m (entries bk bw) work (at + 1)
+  gep_array_ask p e = record { front = (seen (group.Array p) e).0; ready = k.ready }
 
-  pub gep-named-ask : g ≡ group.Named → AskNameAt m (entries bk bw) work (get_or bw at 0)
-  gep-named-ask e = record { name = (seen group.Named e).0; ready = k.ready }
+  pub gep_named_ask : g ≡ group.Named → AskNameAt m (entries bk bw) work (get_or bw at 0)
+  gep_named_ask e = record { name = (seen group.Named e).0; ready = k.ready }
 
-  abbrev gepAnswer : Result GepStep
-  gepAnswer = stepBy (structsIn m (entries bk bw)) (ty_of m (drop at (entries bk bw))) (index_of i)
+  abbrev gep_answer : Result GepStep
+  gep_answer = step_by (structs_in m (entries bk bw)) (ty_of m (drop at (entries bk bw))) (index_of i)
 
   module _ {work' : List ℕ} {r : Step} where
-    pub gep-struct : (p : Bool) → g ≡ group.Struct p → StepOutcome m (entries bk bw) work work' (structBy (structsIn m (entries bk bw)) p (tys_of m (drop (at + 1) (entries bk bw))) (index_of i)) r
-        → StepOutcome m (entries bk bw) work work' gepAnswer r
-    unfolding stepBy
-    gep-struct p e o = rw (seen (group.Struct p) e).1 o
+    pub gep_struct : (p : Bool) → g ≡ group.Struct p → StepOutcome m (entries bk bw) work work' (struct_by (structs_in m (entries bk bw)) p (tys_of m (drop (at + 1) (entries bk bw))) (index_of i)) r
+        → StepOutcome m (entries bk bw) work work' gep_answer r
+    unfolding step_by
+    gep_struct p e o = rw (seen (group.Struct p) e).1 o
 
-    pub gep-array : (p : Bool) → g ≡ group.Array p → StepOutcome m (entries bk bw) work work' (arrayBy (structsIn m (entries bk bw)) (ty_of m (drop (at + 1) (entries bk bw))) (index_of i)) r
-        → StepOutcome m (entries bk bw) work work' gepAnswer r
-    unfolding stepBy
-    gep-array p e o = rw (seen (group.Array p) e).1 o
+    pub gep_array : (p : Bool) → g ≡ group.Array p → StepOutcome m (entries bk bw) work work' (array_by (structs_in m (entries bk bw)) (ty_of m (drop (at + 1) (entries bk bw))) (index_of i)) r
+        → StepOutcome m (entries bk bw) work work' gep_answer r
+    unfolding step_by
+    gep_array p e o = rw (seen (group.Array p) e).1 o
 
-    pub gep-named : g ≡ group.Named → StepOutcome m (entries bk bw) work work' (stepBy (structsIn m (entries bk bw)) (Ty.namedStruct (get_or bw at 0)) (index_of i)) r
-        → StepOutcome m (entries bk bw) work work' gepAnswer r
-    gep-named e o = rw (seen group.Named e).1 o
+    pub gep_named : g ≡ group.Named → StepOutcome m (entries bk bw) work work' (step_by (structs_in m (entries bk bw)) (Ty.named_struct (get_or bw at 0)) (index_of i)) r
+        → StepOutcome m (entries bk bw) work work' gep_answer r
+    gep_named e o = rw (seen group.Named e).1 o
 
-  pub gep-void : g ≡ group.Void → StepOutcome m (entries bk bw) work work gepAnswer (step.Refused 14)
-  unfolding stepBy
-  gep-void e = record { says = rw (seen group.Void e) refl; after = after_none k.ready }
+  pub gep_void : g ≡ group.Void → StepOutcome m (entries bk bw) work work gep_answer (step.Refused 14)
+  unfolding step_by
+  gep_void e = record { says = rw (seen group.Void e) refl; after = after_none k.ready }
 
-  pub gep-int : g ≡ group.Int → StepOutcome m (entries bk bw) work work gepAnswer (step.Refused 14)
-  unfolding stepBy
-  gep-int e = record { says = rw (seen group.Int e).0 refl; after = after_none k.ready }
+  pub gep_int : g ≡ group.Int → StepOutcome m (entries bk bw) work work gep_answer (step.Refused 14)
+  unfolding step_by
+  gep_int e = record { says = rw (seen group.Int e).0 refl; after = after_none k.ready }
 
-  pub gep-ptr : g ≡ group.Ptr → StepOutcome m (entries bk bw) work work gepAnswer (step.Refused 14)
-  unfolding stepBy
-  gep-ptr e = record { says = rw (seen group.Ptr e) refl; after = after_none k.ready }
+  pub gep_ptr : g ≡ group.Ptr → StepOutcome m (entries bk bw) work work gep_answer (step.Refused 14)
+  unfolding step_by
+  gep_ptr e = record { says = rw (seen group.Ptr e) refl; after = after_none k.ready }
 
-  pub gep-sizeless : g ≡ group.Sizeless → StepOutcome m (entries bk bw) work work gepAnswer (step.Refused 14)
-  unfolding stepBy
-  gep-sizeless e = record { says = rw (seen group.Sizeless e).1 refl; after = after_none k.ready }
+  pub gep_sizeless : g ≡ group.Sizeless → StepOutcome m (entries bk bw) work work gep_answer (step.Refused 14)
+  unfolding step_by
+  gep_sizeless e = record { says = rw (seen group.Sizeless e).1 refl; after = after_none k.ready }
 
-  pub gep-other : {X : Type 0} → g ≡ group.Other → X
-  gep-other e = absurd (seen group.Other e)
+  pub gep_other : {X : Type 0} → g ≡ group.Other → X
+  gep_other e = absurd (seen group.Other e)
 
 -- ---- a named struct
 module _ (m : ℕ) (bk bw : List ℕ) (work : List ℕ) (x : ℕ) (i : Index) (k : AskNameAt m (entries bk bw) work x) where
-  abbrev namedAnswer : Result GepStep
-  namedAnswer = stepBy (structsIn m (entries bk bw)) (Ty.namedStruct x) (index_of i)
+  abbrev named_answer : Result GepStep
+  named_answer = step_by (structs_in m (entries bk bw)) (Ty.named_struct x) (index_of i)
 
-  pub named-absent : get_or work (body_at x) 0 ≡ 0 → StepOutcome m (entries bk bw) work work namedAnswer (step.Refused 6)
-  unfolding stepBy bind
-  named-absent z = record { says = rw ((k.ready.bodies x k.name).absent z) refl; after = after_none k.ready }
+  pub named_absent : get_or work (body_at x) 0 ≡ 0 → StepOutcome m (entries bk bw) work work named_answer (step.Refused 6)
+  unfolding step_by bind
+  named_absent z = record { says = rw ((k.ready.bodies x k.name).absent z) refl; after = after_none k.ready }
 
   module _ (z : get_or work (body_at x) 0 ≡ 0 → ⊥) where
     abbrev spot : ℕ
     spot = get_or work (body_at x) 0 - 1
 
-    body : BodyAt (structsIn m (entries bk bw)) m (entries bk bw) x spot
+    body : BodyAt (structs_in m (entries bk bw)) m (entries bk bw) x spot
     body = (k.ready.bodies x k.name).present z
 
-    body-there : spot + 1 ≤ length (entries bk bw)
-    body-there = omega (arith, starts-length body.front, length-drop spot (entries bk bw))
+    body_there : spot + 1 ≤ length (entries bk bw)
+    body_there = omega (arith, starts_length body.front, length-drop spot (entries bk bw))
 
-    pub body-kinds : spot + 1 ≤ length bk
-    body-kinds = within-kinds (spot + 1) bk bw body-there
+    pub body_kinds : spot + 1 ≤ length bk
+    body_kinds = within_kinds (spot + 1) bk bw body_there
 
-    module _ (g : TypeGroup) (eg : g ≡ typeGroupOf (tyTag (get_or bk spot 0))) where
+    module _ (g : TypeGroup) (eg : g ≡ type_group_of (ty_tag (get_or bk spot 0))) where
       abbrev looks : (h : TypeGroup) → g ≡ h → ShapeOf m (get_or bw spot 0) (drop (spot + 1) (entries bk bw)) (ty_of m (drop spot (entries bk bw))) h
       looks = shape_at m bk bw spot body.front g eg
 
-      pub named-ask : (p : Bool) → g ≡ group.Struct p → AskFieldsAt m (entries bk bw) work (spot + 1)
-      named-ask p e = record { front = (looks (group.Struct p) e).0; there = body-there; ready = k.ready }
+      pub named_ask : (p : Bool) → g ≡ group.Struct p → AskFieldsAt m (entries bk bw) work (spot + 1)
+      named_ask p e = record { front = (looks (group.Struct p) e).0; there = body_there; ready = k.ready }
 
-      pub named-struct : (p : Bool) → g ≡ group.Struct p → {work' : List ℕ} {r : Step}
-          → StepOutcome m (entries bk bw) work work' (structBy (structsIn m (entries bk bw)) p (tys_of m (drop (spot + 1) (entries bk bw))) (index_of i)) r → StepOutcome m (entries bk bw) work work' namedAnswer r
-      unfolding stepBy bind
-      named-struct p e o =
-          let q : asType body.body ≡ Ty.struct p (tys_of m (drop (spot + 1) (entries bk bw))) = sym body.same ∙ (looks (group.Struct p) e).1 in
+      pub named_struct_lem : (p : Bool) → g ≡ group.Struct p → {work' : List ℕ} {r : Step}
+          → StepOutcome m (entries bk bw) work work' (struct_by (structs_in m (entries bk bw)) p (tys_of m (drop (spot + 1) (entries bk bw))) (index_of i)) r → StepOutcome m (entries bk bw) work work' named_answer r
+      unfolding step_by bind
+      named_struct_lem p e o =
+          let q : as_type body.body ≡ Ty.struct p (tys_of m (drop (spot + 1) (entries bk bw))) = sym body.same ∙ (looks (group.Struct p) e).1 in
           let a : body.body.packed ≡ p = cc in
           let b : body.body.fields ≡ tys_of m (drop (spot + 1) (entries bk bw)) = cc in
           rw (body.resolved, a, b) o
 
-      never : {X : Type 0} (t : Ty) → ty_of m (drop spot (entries bk bw)) ≡ t → (asType body.body ≡ t → ⊥) → X
+      never : {X : Type 0} (t : Ty) → ty_of m (drop spot (entries bk bw)) ≡ t → (as_type body.body ≡ t → ⊥) → X
       never t e n = absurd (n (sym body.same ∙ e))
 
-      pub named-void : {X : Type 0} → g ≡ group.Void → X
-      named-void e = never _ (looks group.Void e) (λ q. let z : ◌≡◌ {A = ℕ} 0 1 = cc in omega arith)
+      pub named_void : {X : Type 0} → g ≡ group.Void → X
+      named_void e = never _ (looks group.Void e) (λ q. let z : ◌≡◌ {A = ℕ} 0 1 = cc in omega arith)
 
-      pub named-int : {X : Type 0} → g ≡ group.Int → X
-      named-int e = never _ (looks group.Int e).0 (λ q. let z : ◌≡◌ {A = ℕ} 0 1 = cc in omega arith)
+      pub named_int : {X : Type 0} → g ≡ group.Int → X
+      named_int e = never _ (looks group.Int e).0 (λ q. let z : ◌≡◌ {A = ℕ} 0 1 = cc in omega arith)
 
-      pub named-ptr : {X : Type 0} → g ≡ group.Ptr → X
-      named-ptr e = never _ (looks group.Ptr e) (λ q. let z : ◌≡◌ {A = ℕ} 0 1 = cc in omega arith)
+      pub named_ptr : {X : Type 0} → g ≡ group.Ptr → X
+      named_ptr e = never _ (looks group.Ptr e) (λ q. let z : ◌≡◌ {A = ℕ} 0 1 = cc in omega arith)
 
-      pub named-array : {X : Type 0} (p : Bool) → g ≡ group.Array p → X
-      named-array p e = never _ (looks (group.Array p) e).1 (λ q. let z : ◌≡◌ {A = ℕ} 0 1 = cc in omega arith)
+      pub named_array : {X : Type 0} (p : Bool) → g ≡ group.Array p → X
+      named_array p e = never _ (looks (group.Array p) e).1 (λ q. let z : ◌≡◌ {A = ℕ} 0 1 = cc in omega arith)
 
-      pub named-named : {X : Type 0} → g ≡ group.Named → X
-      named-named e = never _ (looks group.Named e).1 (λ q. let z : ◌≡◌ {A = ℕ} 0 1 = cc in omega arith)
+      pub named_named : {X : Type 0} → g ≡ group.Named → X
+      named_named e = never _ (looks group.Named e).1 (λ q. let z : ◌≡◌ {A = ℕ} 0 1 = cc in omega arith)
 
-      pub named-sizeless : {X : Type 0} → g ≡ group.Sizeless → X
-      named-sizeless e = never _ (looks group.Sizeless e).1 (λ q. let z : ◌≡◌ {A = ℕ} 0 1 = cc in omega arith)
+      pub named_sizeless : {X : Type 0} → g ≡ group.Sizeless → X
+      named_sizeless e = never _ (looks group.Sizeless e).1 (λ q. let z : ◌≡◌ {A = ℕ} 0 1 = cc in omega arith)
 
       pub named_other : {X : Type 0} → g ≡ group.Other → X
       named_other e = absurd (looks group.Other e)

@@ -4,9 +4,9 @@ ghost use Rattle.book.specs.Entry.{entries};
 ghost use Rattle.book.specs.Ast.{Ty};
 ghost use Rattle.std.specs.Prelude.{drop};
 ghost use Rattle.layout_memo.specs.Front.{ty_of, tys_of};
-ghost use Rattle.layout_memo.specs.Work.{structsIn};
+ghost use Rattle.layout_memo.specs.Work.{structs_in};
 ghost use Rattle.layout_table.specs.Table.{AskFieldsAt};
-ghost use Rattle.layout_step.specs.Steps.{AskAt, AskNameAt, AskBehind, StepOutcome, index_of, stepBy, structBy, fieldBy, arrayBy};
+ghost use Rattle.layout_step.specs.Steps.{AskAt, AskNameAt, AskBehind, StepOutcome, index_of, step_by, struct_by, field_by, array_by};
 
 use book_types::types::{TypeGroup, type_group};
 use layout_field::{Offset, Place, field_at, field_offset};
@@ -44,7 +44,7 @@ fn field_step(
 ) -> Step
     requires { AskBehind names (entries book_kinds.now book_words.now) work.old at offset }
     ensures { StepOutcome names (entries book_kinds.now book_words.now) work.old work.new
-        (fieldBy (structsIn names (entries book_kinds.now book_words.now)) packed
+        (field_by (structs_in names (entries book_kinds.now book_words.now)) packed
         (tys_of names (drop at (entries book_kinds.now book_words.now))) 0 offset) result }
 {
     if book_kinds[at] == book::entry::END {
@@ -69,7 +69,7 @@ fn later_step(
 ) -> Step
     requires { AskBehind names (entries book_kinds.now book_words.now) work.old at offset }
     ensures { StepOutcome names (entries book_kinds.now book_words.now) work.old work.new
-        (fieldBy (structsIn names (entries book_kinds.now book_words.now)) packed
+        (field_by (structs_in names (entries book_kinds.now book_words.now)) packed
         (tys_of names (drop at (entries book_kinds.now book_words.now))) index offset) result }
 {
     let ks = &book_kinds[at..];
@@ -97,7 +97,7 @@ fn struct_step(
 ) -> Step
     requires { AskFieldsAt names (entries book_kinds.now book_words.now) work.old at }
     ensures { StepOutcome names (entries book_kinds.now book_words.now) work.old work.new
-        (structBy (structsIn names (entries book_kinds.now book_words.now)) packed (tys_of names (drop at (entries book_kinds.now book_words.now))) (index_of index)) result }
+        (struct_by (structs_in names (entries book_kinds.now book_words.now)) packed (tys_of names (drop at (entries book_kinds.now book_words.now))) (index_of index)) result }
 {
     let Index::Constant(field) = index else {
         return Step::Refused(14);
@@ -125,7 +125,7 @@ pub fn array_step(
 ) -> Step
     requires { AskAt names (entries book_kinds.now book_words.now) work.old at }
     ensures { StepOutcome names (entries book_kinds.now book_words.now) work.old work.new
-        (arrayBy (structsIn names (entries book_kinds.now book_words.now)) (ty_of names (drop at (entries book_kinds.now book_words.now))) (index_of index)) result }
+        (array_by (structs_in names (entries book_kinds.now book_words.now)) (ty_of names (drop at (entries book_kinds.now book_words.now))) (index_of index)) result }
 {
     match size_of(
         &book_kinds[at..],
@@ -155,7 +155,7 @@ fn named_step(
 ) -> Step
     requires { AskNameAt names (entries book_kinds.now book_words.now) work.old name }
     ensures { StepOutcome names (entries book_kinds.now book_words.now) work.old work.new
-        (stepBy (structsIn names (entries book_kinds.now book_words.now)) (Ty.namedStruct name) (index_of index)) result }
+        (step_by (structs_in names (entries book_kinds.now book_words.now)) (Ty.named_struct name) (index_of index)) result }
 {
     let body = work[book::work::WORDS * (name as usize) + book::work::BODY];
     if body == 0 {
@@ -193,7 +193,7 @@ pub fn gep_step(
 ) -> Step
     requires { AskAt names (entries book_kinds.now book_words.now) work.old at }
     ensures { StepOutcome names (entries book_kinds.now book_words.now) work.old work.new
-        (stepBy (structsIn names (entries book_kinds.now book_words.now)) (ty_of names (drop at (entries book_kinds.now book_words.now))) (index_of index)) result }
+        (step_by (structs_in names (entries book_kinds.now book_words.now)) (ty_of names (drop at (entries book_kinds.now book_words.now))) (index_of index)) result }
 {
     let word = book_words[at];
     match type_group(book_kinds[at]) {

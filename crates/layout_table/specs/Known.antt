@@ -5,29 +5,29 @@ use Rattle.std.proofs.Common.{sym, ap, ◌∙◌, subst, arith}
 use Rattle.book.specs.Entry.{Entry, entries}
 use Rattle.book.specs.Ast.{Ty, Tys, StructType}
 use Rattle.book.specs.Result.{Result, ok, err, bind}
-use Rattle.book_types.specs.Laws.{entries-part}
-use Rattle.layout.specs.Layout.{placed, alignIn, offsetFrom, align_of, size_of}
+use Rattle.book_types.specs.Laws.{entries_part}
+use Rattle.layout.specs.Layout.{placed, align_in, offset_from, align_of, size_of}
 use Rattle.layout.specs.Step.{field_at}
-use Rattle.layout_memo.specs.Front.{ty_of, tys_of, tyLen}
+use Rattle.layout_memo.specs.Front.{ty_of, tys_of, ty_len}
 use Rattle.layout_memo.specs.Measured.{Gives}
-use Rattle.layout_memo.specs.Work.{structsIn, sizes, Ready, After, Outcome, Ask, FieldFact, after_then, size_small}
+use Rattle.layout_memo.specs.Work.{structs_in, sizes, Ready, After, Outcome, Ask, FieldFact, after_then, size_small}
 use Rattle.layout_memo.specs.Helpers.{gives_at}
-use Rattle.layout_memo.specs.Calls.{lent, ask-part, part_type}
-use Rattle.layout_memo.specs.Fields.{AtFields, at_field, at_next, at-cons}
+use Rattle.layout_memo.specs.Calls.{lent, ask_part, part_type}
+use Rattle.layout_memo.specs.Fields.{AtFields, at_field, at_next, at_cons}
 use Rattle.layout_memo.specs.FieldCalls.{skipped}
-use Rattle.layout_memo.specs.Scalars.{Scalar, Passes, none, more, RunFrom, scalar-kind, scalar-type}
+use Rattle.layout_memo.specs.Scalars.{Scalar, Passes, none, more, RunFrom, scalar_kind, scalar_type}
 use Rattle.layout_memo.specs.declared.scalars.Run.{Run}
 use Rattle.layout_memo.specs.declared.Measured.{Measured}
 use Rattle.layout_memo.specs.declared.Measured.TheVariants.{Bytes, Refused}
-use Rattle.layout_field.specs.Offsets.{leftFrom, start_of, offsetResult, AskStart, StartOutcome, StartsBy, through, scalar-starts, scalar-sized}
+use Rattle.layout_field.specs.Offsets.{left_from, start_of, offset_result, AskStart, StartOutcome, StartsBy, through, scalar_starts, scalar_sized}
 use Rattle.layout_field.specs.declared.Offset.{Offset}
 use Rattle.layout_field.specs.declared.Offset.TheVariants as offset
 use Rattle.layout_table.specs.declared.Known.{Known}
 use Rattle.layout_table.specs.Table.{AskNote, Best}
 
 -- nothing is known behind
-abbrev pub isEnded : Known → Known
-isEnded k = record { index = k.index; at = k.at; offset = k.offset; ended = true }
+abbrev pub is_ended : Known → Known
+is_ended k = record { index = k.index; at = k.at; offset = k.offset; ended = true }
 
 -- what passing answers and leaves: a fact with at most so many fields before it
 pub record KnownOutcome (m : ℕ) (es : List Entry) (work work' : List ℕ) (packed : Bool) (p index : ℕ) (r : Known) : Type 0 where
@@ -46,31 +46,31 @@ pub record AskPass (m : ℕ) (es : List Entry) (work : List ℕ) (packed : Bool)
   pub ready : Ready m es work
 
 module _ {m : ℕ} {es : List Entry} {work : List ℕ} {packed : Bool} {p index : ℕ} {k : Known} (a : AskPass m es work packed p index k) where
-  pub pass-run : AskRun m es packed p index k
-  pass-run = record { best = a.best; few = a.few; long = a.ready.few }
+  pub pass_run : AskRun m es packed p index k
+  pass_run = record { best = a.best; few = a.few; long = a.ready.few }
 
-  pub pass-place : k.at ≤ 2 ^ 32
-  pass-place = omega (arith, a.best.fact.there, a.ready.few)
+  pub pass_place : k.at ≤ 2 ^ 32
+  pass_place = omega (arith, a.best.fact.there, a.ready.few)
 
   -- the next ask
-  pub pass-note : {work' : List ℕ} {r : Known} → KnownOutcome m es work work' packed p index r → AskNote m es work' packed p r
-  pass-note o = record { ready = o.after.ready; fact = o.best.fact }
+  pub pass_note : {work' : List ℕ} {r : Known} → KnownOutcome m es work work' packed p index r → AskNote m es work' packed p r
+  pass_note o = record { ready = o.after.ready; fact = o.best.fact }
 
-  pub pass-again : {work' work'' : List ℕ} {r : Known} → KnownOutcome m es work work' packed p index r → After m es work' work'' → AskPass m es work'' packed p index r
-  pass-again o f = record { best = o.best; few = a.few; ready = f.ready }
+  pub pass_again : {work' work'' : List ℕ} {r : Known} → KnownOutcome m es work work' packed p index r → After m es work' work'' → AskPass m es work'' packed p index r
+  pass_again o f = record { best = o.best; few = a.few; ready = f.ready }
 
-  pub pass-then : {work' work'' work''' : List ℕ} {r s : Known} → KnownOutcome m es work work' packed p index r → After m es work' work'' → KnownOutcome m es work'' work''' packed p index s
+  pub pass_then : {work' work'' work''' : List ℕ} {r s : Known} → KnownOutcome m es work work' packed p index r → After m es work' work'' → KnownOutcome m es work'' work''' packed p index s
       → KnownOutcome m es work work''' packed p index s
-  pass-then o f u = record { best = u.best; after = after_then o.after (after_then f u.after) }
+  pass_then o f u = record { best = u.best; after = after_then o.after (after_then f u.after) }
 
-pub best-ended : {m : ℕ} {es : List Entry} {packed : Bool} {p index : ℕ} {k : Known} (r : Known) → r ≡ isEnded k → Best m es packed p index k → Best m es packed p index r
-best-ended r e b = rw e (record { fact = b.fact; before = b.before })
+pub best_ended : {m : ℕ} {es : List Entry} {packed : Bool} {p index : ℕ} {k : Known} (r : Known) → r ≡ is_ended k → Best m es packed p index k → Best m es packed p index r
+best_ended r e b = rw e (record { fact = b.fact; before = b.before })
 
 one_left : (goal l : ℕ) → l ≤ goal → l - 1 ≤ goal
 one_left goal l h = omega arith
 
-one_more : (goal l : ℕ) → l ≤ goal → (l ≡ 0 → ⊥) → goal - l + 1 ≡ goal - (l - 1)
-one_more goal l h n = omega arith
+one_more_lem : (goal l : ℕ) → l ≤ goal → (l ≡ 0 → ⊥) → goal - l + 1 ≡ goal - (l - 1)
+one_more_lem goal l h n = omega arith
 
 -- ---- the fields behind a place, as a fact has them
 module _ (m : ℕ) (bk bw : List ℕ) (packed : Bool) (p : ℕ) where
@@ -78,10 +78,10 @@ module _ (m : ℕ) (bk bw : List ℕ) (packed : Bool) (p : ℕ) where
   es = entries bk bw
 
   abbrev structs : List StructType
-  structs = structsIn m es
+  structs = structs_in m es
 
   abbrev from : (a i off : ℕ) → Result ℕ
-  from a i off = offsetFrom (align_of structs) (size_of structs) packed (tys_of m (drop a es)) i off
+  from a i off = offset_from (align_of structs) (size_of structs) packed (tys_of m (drop a es)) i off
 
   -- a fact but for the bound on its bytes
   pub record Behind (j q off : ℕ) : Type 0 where
@@ -90,8 +90,8 @@ module _ (m : ℕ) (bk bw : List ℕ) (packed : Bool) (p : ℕ) where
     pub places : (i : ℕ) → field_at (tys_of m (drop p es)) (j + i) ≡ field_at (tys_of m (drop q es)) i
     pub offsets : (i : ℕ) → from p (j + i) 0 ≡ from q i off
 
-  pub behind-of : {j q off : ℕ} → FieldFact m es packed p j q off → length es ≤ 2 ^ 20 → Behind j q off
-  behind-of f l = record { place = record { fields = f.fields; there = f.there; few = l }; later = f.later; places = f.places; offsets = f.offsets }
+  pub behind_of : {j q off : ℕ} → FieldFact m es packed p j q off → length es ≤ 2 ^ 20 → Behind j q off
+  behind_of f l = record { place = record { fields = f.fields; there = f.there; few = l }; later = f.later; places = f.places; offsets = f.offsets }
 
   pub fact_of : {j q off : ℕ} → Behind j q off → off ≤ 16777216 → FieldFact m es packed p j q off
   fact_of b l = record { fields = b.place.fields; there = b.place.there; later = b.later; small = l; places = b.places; offsets = b.offsets }
@@ -102,95 +102,95 @@ module _ (m : ℕ) (bk bw : List ℕ) (packed : Bool) (p : ℕ) where
     field = ty_of m (drop q es)
 
     abbrev next : ℕ
-    next = q + tyLen m (drop q es)
+    next = q + ty_len m (drop q es)
 
-    place-later : (i : ℕ) → field_at (tys_of m (drop q es)) (suc i) ≡ field_at (tys_of m (drop next es)) i
+    place_later : (i : ℕ) → field_at (tys_of m (drop q es)) (suc i) ≡ field_at (tys_of m (drop next es)) i
     unfolding field_at
-    place-later i = rw (at-cons b.place z) refl
+    place_later i = rw (at_cons b.place z) refl
 
-    offset-later : (n s : ℕ) → ok n ≡ start_of structs packed field off → sizes structs field 64 ≡ ok s → (i : ℕ) → from q (suc i) off ≡ from next i (n + s)
-    unfolding offsetFrom start_of size_of bind
-    offset-later n s e f i =
-        rw (at-cons b.place z)
-        (through (alignIn (align_of structs) (size_of structs) packed field) (placed packed off) (ok n) (λ o. bind (sizes structs field 64) (λ s. from next i (o + s))) e ∙ rw f refl)
+    offset_later : (n s : ℕ) → ok n ≡ start_of structs packed field off → sizes structs field 64 ≡ ok s → (i : ℕ) → from q (suc i) off ≡ from next i (n + s)
+    unfolding offset_from start_of size_of bind
+    offset_later n s e f i =
+        rw (at_cons b.place z)
+        (through (align_in (align_of structs) (size_of structs) packed field) (placed packed off) (ok n) (λ o. bind (sizes structs field 64) (λ s. from next i (o + s))) e ∙ rw f refl)
 
-    pub behind-next : (n s : ℕ) → ok n ≡ start_of structs packed field off → sizes structs field 64 ≡ ok s → Behind (j + 1) next (n + s)
-    behind-next n s e f =
+    pub behind_next : (n s : ℕ) → ok n ≡ start_of structs packed field off → sizes structs field 64 ≡ ok s → Behind (j + 1) next (n + s)
+    behind_next n s e f =
         record {
           place = at_next b.place z;
           later = omega (arith, b.later);
-          places = λ i. let d : j + 1 + i ≡ j + suc i = omega arith in rw d (b.places (suc i) ∙ place-later i);
-          offsets = λ i. let d : j + 1 + i ≡ j + suc i = omega arith in rw d (b.offsets (suc i) ∙ offset-later n s e f i);
+          places = λ i. let d : j + 1 + i ≡ j + suc i = omega arith in rw d (b.places (suc i) ∙ place_later i);
+          offsets = λ i. let d : j + 1 + i ≡ j + suc i = omega arith in rw d (b.offsets (suc i) ∙ offset_later n s e f i);
         }
 
   -- ---- integers and pointers
-  behind-one : {j : ℕ} (s : Run) (b : ℕ) → Scalar (get_or bk s.at 0) (get_or bw s.at 0) b → (b ≡ 0 → ⊥) → Behind j s.at s.offset → Behind (j + 1) (s.at + 1) (placed packed s.offset b + b)
-  behind-one s b c nz h =
-      let one = (scalar-type h.place nz c).one in
-      rw one at (behind-next h (scalar-kind h.place nz c) (placed packed s.offset b) b (sym (scalar-starts structs packed h.place nz c s.offset)) (scalar-sized structs h.place nz c))
+  behind_one : {j : ℕ} (s : Run) (b : ℕ) → Scalar (get_or bk s.at 0) (get_or bw s.at 0) b → (b ≡ 0 → ⊥) → Behind j s.at s.offset → Behind (j + 1) (s.at + 1) (placed packed s.offset b + b)
+  behind_one s b c nz h =
+      let one = (scalar_type h.place nz c).one in
+      rw one at (behind_next h (scalar_kind h.place nz c) (placed packed s.offset b) b (sym (scalar_starts structs packed h.place nz c s.offset)) (scalar_sized structs h.place nz c))
 
   -- so many are to be passed before the field with the index `goal`
-  behind-run : (goal : ℕ) {stop : ℕ} (r s : Run) → Passes bk bw packed stop r s → r.left ≤ goal → Behind (goal - r.left) r.at r.offset
+  behind_run : (goal : ℕ) {stop : ℕ} (r s : Run) → Passes bk bw packed stop r s → r.left ≤ goal → Behind (goal - r.left) r.at r.offset
       → (s.left ≤ goal) × Behind (goal - s.left) s.at s.offset
-  behind-run goal r s none l h = (l, h)
-  behind-run goal r s (more {s = u} b p c nz w n) l h =
-      let i = behind-run goal r u p l h in (
+  behind_run goal r s none l h = (l, h)
+  behind_run goal r s (more {s = u} b p c nz w n) l h =
+      let i = behind_run goal r u p l h in (
         one_left goal u.left i.0,
-        subst (λ (j : ℕ). Behind j (u.at + 1) (placed packed u.offset b + b)) (one_more goal u.left i.0 n) (behind-one u b c nz i.1),
+        subst (λ (j : ℕ). Behind j (u.at + 1) (placed packed u.offset b + b)) (one_more_lem goal u.left i.0 n) (behind_one u b c nz i.1),
       )
 
-  module _ {index : ℕ} (k : Known) (a : AskRun m es packed p index k) (many : ℕ) (next : Run) (e : next ≡ leftFrom k.at many k.offset) where
+  module _ {index : ℕ} (k : Known) (a : AskRun m es packed p index k) (many : ℕ) (next : Run) (e : next ≡ left_from k.at many k.offset) where
     here : Behind k.index k.at k.offset
-    here = behind-of a.best.fact a.long
+    here = behind_of a.best.fact a.long
 
-    pub run-from : RunFrom m bk bw next
-    run-from = rw e (record { place = here.place; small = omega (arith, a.best.fact.small) })
+    pub run_from : RunFrom m bk bw next
+    run_from = rw e (record { place = here.place; small = omega (arith, a.best.fact.small) })
 
-    pub run-passed : {stop : ℕ} (run : Run) → Passes bk bw packed stop next run → run.left ≡ 0 → run.offset ≤ 16777216 → many ≤ index - k.index
+    pub run_passed : {stop : ℕ} (run : Run) → Passes bk bw packed stop next run → run.left ≡ 0 → run.offset ≤ 16777216 → many ≤ index - k.index
         → Best m es packed p index (record { index = k.index + many; at = run.at; offset = run.offset; ended = false })
-    run-passed run w z l h =
+    run_passed run w z l h =
         let d : k.index ≡ k.index + many - many = omega arith in
         let y : k.index + many - run.left ≡ k.index + many = omega arith in
-        let g = behind-run (k.index + many) (leftFrom k.at many k.offset) run (rw e at w) (omega arith) (subst (λ (j : ℕ). Behind j k.at k.offset) d here) in
+        let g = behind_run (k.index + many) (left_from k.at many k.offset) run (rw e at w) (omega arith) (subst (λ (j : ℕ). Behind j k.at k.offset) d here) in
         record { fact = fact_of (subst (λ (j : ℕ). Behind j run.at run.offset) y g.1) l; before = omega (arith, a.best.before) }
 
   -- ---- any field
   module _ {work : List ℕ} {index : ℕ} (k : Known) (a : AskPass m es work packed p index k) where
     now : Behind k.index k.at k.offset
-    now = behind-of a.best.fact a.ready.few
+    now = behind_of a.best.fact a.ready.few
 
-    pub known-place : AtFields m bk bw k.at
-    known-place = now.place
+    pub known_place : AtFields m bk bw k.at
+    known_place = now.place
 
-    pub field-ended : {work' : List ℕ} (r : Known) → r ≡ isEnded k → After m es work work' → KnownOutcome m es work work' packed p index r
-    field-ended r e f = record { best = best-ended r e a.best; after = f }
+    pub field_ended : {work' : List ℕ} (r : Known) → r ≡ is_ended k → After m es work work' → KnownOutcome m es work work' packed p index r
+    field_ended r e f = record { best = best_ended r e a.best; after = f }
 
     module _ (z : get_or bk k.at 0 ≡ 0 → ⊥) where
-      abbrev here-type : Ty
-      here-type = ty_of m (drop k.at es)
+      abbrev here_type : Ty
+      here_type = ty_of m (drop k.at es)
 
-      pub start-ask : AskStart m (lent bk bw k.at) es work k.offset
-      start-ask = record { ask = ask-part bk bw k.at (at_field known-place z).field a.ready (omega arith); small = omega (arith, a.best.fact.small) }
+      pub start_ask : AskStart m (lent bk bw k.at) es work k.offset
+      start_ask = record { ask = ask_part bk bw k.at (at_field known_place z).field a.ready (omega arith); small = omega (arith, a.best.fact.small) }
 
       module _ {work' : List ℕ} (r : Offset) (o : StartOutcome m es work work' k.offset (start_of structs packed (ty_of m (lent bk bw k.at)) k.offset) r) (n : ℕ) (q : r ≡ offset.At n) where
-        pub size-ask : Ask m (lent bk bw k.at) es work' 64
-        size-ask = ask-part bk bw k.at (at_field known-place z).field o.after.ready (omega arith)
+        pub size_ask : Ask m (lent bk bw k.at) es work' 64
+        size_ask = ask_part bk bw k.at (at_field known_place z).field o.after.ready (omega arith)
 
-        start_is : ok n ≡ start_of structs packed here-type k.offset
-        start_is = ap offsetResult (sym q) ∙ o.answer ∙ ap (λ (x : List Entry). start_of structs packed (ty_of m x) k.offset) (entries-part k.at bk bw)
+        start_is : ok n ≡ start_of structs packed here_type k.offset
+        start_is = ap offset_result (sym q) ∙ o.answer ∙ ap (λ (x : List Entry). start_of structs packed (ty_of m x) k.offset) (entries_part k.at bk bw)
 
-        start-most : n ≤ k.offset + 8
-        start-most = subst (StartsBy (k.offset + 8)) q o.most
+        start_most : n ≤ k.offset + 8
+        start_most = subst (StartsBy (k.offset + 8)) q o.most
 
         module _ {work'' : List ℕ} (s : Measured) (u : Outcome m es work' work'' (sizes structs (ty_of m (lent bk bw k.at))) 64 s) (c h : ℕ) (e : s ≡ Bytes c h) where
-          gives : Gives (sizes structs here-type) 64 c h
+          gives : Gives (sizes structs here_type) 64 c h
           gives = gives_at s e _ 64 (part_type (sizes structs) m bk bw k.at 64 s u.says)
 
           pub next_fits : n + c ≤ 2 ^ 47
-          next_fits = omega (arith, start-most, a.best.fact.small, size_small structs here-type gives.within gives.known)
+          next_fits = omega (arith, start_most, a.best.fact.small, size_small structs here_type gives.within gives.known)
 
-          pub field-passed : n + c ≤ 16777216 → k.index < index → (len : ℕ) → len ≡ tyLen m (lent bk bw k.at)
+          pub field_passed : n + c ≤ 16777216 → k.index < index → (len : ℕ) → len ≡ ty_len m (lent bk bw k.at)
               → KnownOutcome m es work work'' packed p index (record { index = k.index + 1; at = k.at + len; offset = n + c; ended = false })
-          field-passed l w len en =
-              let g = behind-next now z n c start_is (gives.known.high 64 gives.within) in
-              rw (skipped m bk bw k.at known-place z len en) (record { best = record { fact = fact_of g l; before = omega arith }; after = after_then o.after u.after })
+          field_passed l w len en =
+              let g = behind_next now z n c start_is (gives.known.high 64 gives.within) in
+              rw (skipped m bk bw k.at known_place z len en) (record { best = record { fact = fact_of g l; before = omega arith }; after = after_then o.after u.after })

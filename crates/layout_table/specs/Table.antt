@@ -8,11 +8,11 @@ use Rattle.std.proofs.lemmas.Nat.{and_le_r}
 use Rattle.std.proofs.Math.ListN.{length}
 use borrow.Author.Tests.{eqb-true, eqb-false, leb-true, le-leb, lt-leb}
 use Rattle.book.specs.Entry.{Entry}
-use Rattle.book.specs.Check.{workFor}
-use Rattle.book.specs.Work.{factAt, word_at}
-use Rattle.layout_memo.specs.Front.{Starts, StartsFields, fields-there}
-use Rattle.layout_memo.specs.Work.{Ready, After, after_none, FieldFact, AlignFact, FactWords, table_at, table-word, table-other}
-use Rattle.layout_memo.specs.Calls.{starts-length}
+use Rattle.book.specs.Check.{work_for}
+use Rattle.book.specs.Work.{fact_at, word_at}
+use Rattle.layout_memo.specs.Front.{Starts, StartsFields, fields_there}
+use Rattle.layout_memo.specs.Work.{Ready, After, after_none, FieldFact, AlignFact, FactWords, table_at, table_word, table_other}
+use Rattle.layout_memo.specs.Calls.{starts_length}
 use Rattle.layout_table.specs.declared.Known.{Known}
 
 -- what is known of a struct whose first field stands at p
@@ -20,8 +20,8 @@ abbrev pub FactOf : (m : ℕ) (es : List Entry) (packed : Bool) (p : ℕ) → Kn
 FactOf m es packed p k = FieldFact m es packed p k.index k.at k.offset
 
 -- behind no fields
-abbrev pub noFields : ℕ → Known
-noFields p = record { index = 0; at = p; offset = 0; ended = false }
+abbrev pub no_fields : ℕ → Known
+no_fields p = record { index = 0; at = p; offset = 0; ended = false }
 
 -- what is asked about the struct
 pub record AskFieldsAt (m : ℕ) (es : List Entry) (work : List ℕ) (at : ℕ) : Type 0 where
@@ -30,12 +30,12 @@ pub record AskFieldsAt (m : ℕ) (es : List Entry) (work : List ℕ) (at : ℕ) 
   pub ready : Ready m es work
 
 module _ {m : ℕ} {es : List Entry} {work : List ℕ} {p : ℕ} (k : AskFieldsAt m es work p) where
-  pub fields-below : p < length es
-  fields-below = omega (arith, fields-there k.front, length-drop p es)
+  pub fields_below : p < length es
+  fields_below = omega (arith, fields_there k.front, length-drop p es)
 
-  pub fact-none : (packed : Bool) → FieldFact m es packed p 0 p 0
-  fact-none packed =
-      record { fields = k.front; there = fields-below; later = omega arith; small = omega arith; places = λ i. rw (zero-add i) refl; offsets = λ i. rw (zero-add i) refl }
+  pub fact_none : (packed : Bool) → FieldFact m es packed p 0 p 0
+  fact_none packed =
+      record { fields = k.front; there = fields_below; later = omega arith; small = omega arith; places = λ i. rw (zero-add i) refl; offsets = λ i. rw (zero-add i) refl }
 
 -- ---- the words of a fact
 -- the first word of a fact about a struct
@@ -50,14 +50,14 @@ module _ (place index : ℕ) (l : place < 1048576) (h : index < 1048576) where
   start_of : (k : ℕ) → k / 2 ≡ index * 1048576 + place → k / 2 % 1048576 ≡ place
   start_of k e = ap (λ (j : ℕ). j % 1048576) e ∙ mul-add-mod_self_right index 1048576 place ∙ mod-eq_of_lt l
 
-  pub key-packed : (packed : Bool) → packed ≡ true → KeyOf packed place index (index * 2097152 + place * 2 + 2)
-  key-packed packed e =
+  pub key_packed : (packed : Bool) → packed ≡ true → KeyOf packed place index (index * 2097152 + place * 2 + 2)
+  key_packed packed e =
       let x : index * 2097152 + place * 2 + 2 - 1 ≡ 1 + (index * 1048576 + place) * 2 = omega arith in
       let d : (index * 2097152 + place * 2 + 2 - 1) % 2 ≡ 1 = ap (λ (k : ℕ). k % 2) x ∙ add-mul-mod_self_right 1 (index * 1048576 + place) 2 in
       record { some = λ z. omega arith; low = omega arith; packing = rw (d, e) refl; start = start_of _ (omega arith); field = omega arith }
 
-  pub key-free : (packed : Bool) → packed ≡ false → KeyOf packed place index (index * 2097152 + place * 2 + 1)
-  key-free packed e =
+  pub key_free : (packed : Bool) → packed ≡ false → KeyOf packed place index (index * 2097152 + place * 2 + 1)
+  key_free packed e =
       let x : index * 2097152 + place * 2 + 1 - 1 ≡ 0 + (index * 1048576 + place) * 2 = omega arith in
       let d : (index * 2097152 + place * 2 + 1 - 1) % 2 ≡ 0 = ap (λ (k : ℕ). k % 2) x ∙ add-mul-mod_self_right 0 (index * 1048576 + place) 2 in
       record { some = λ z. omega arith; low = omega arith; packing = rw (d, e) refl; start = start_of _ (omega arith); field = omega arith }
@@ -67,8 +67,8 @@ pub record ValueOf (q off value : ℕ) : Type 0 where
   pub place : value / 33554432 ≡ q
   pub offset : value % 33554432 ≡ off
 
-pub value-is : (q off : ℕ) → off ≤ 16777216 → ValueOf q off (q * 33554432 + off)
-value-is q off l =
+pub value_is : (q off : ℕ) → off ≤ 16777216 → ValueOf q off (q * 33554432 + off)
+value_is q off l =
     let h : off < 33554432 = omega arith in
     record { place = omega arith; offset = mul-add-mod_self_right q 33554432 off ∙ mod-eq_of_lt h }
 
@@ -77,37 +77,37 @@ pub words_right : (m : ℕ) (es : List Entry) (packed : Bool) (p j q off key val
 words_right m es packed p j q off key value k v f = record { field = λ z l. rw (k.packing, k.start, k.field, v.place, v.offset) f; align = λ l. absurd (omega (arith, k.low)) }
 
 -- and those of an alignment
-abbrev pub alignKey : ℕ → ℕ
-alignKey place = 2 ^ 43 + place
+abbrev pub align_key : ℕ → ℕ
+align_key place = 2 ^ 43 + place
 
-pub align-words : (m : ℕ) (es : List Entry) (place a key : ℕ) → key ≡ alignKey place → AlignFact m es place a → FactWords m es key a
-align-words m es place a key e f =
+pub align_words : (m : ℕ) (es : List Entry) (place a key : ℕ) → key ≡ align_key place → AlignFact m es place a → FactWords m es key a
+align_words m es place a key e f =
     let d : key - 2 ^ 43 ≡ place = omega arith in
     record { field = λ z l. absurd (omega arith); align = λ l. rw d f }
 
 -- ---- how many facts the table has room for: two words each, of one word for each name and those behind what a translation wants
 unfoldable pub room_for : (length m : ℕ) → ℕ
-room_for length m = cond (leb m 1048576 && leb (workFor m) length) (min (2 ^ 32) ((length - workFor m) / 2 + m / 2)) 0
+room_for length m = cond (leb m 1048576 && leb (work_for m) length) (min (2 ^ 32) ((length - work_for m) / 2 + m / 2)) 0
 
 module _ (length m : ℕ) where
-  pub room-over : 1048576 < m → 0 ≡ room_for length m
+  pub room_over : 1048576 < m → 0 ≡ room_for length m
   unfolding room_for
-  room-over h = rw (lt-leb m 1048576 h) refl
+  room_over h = rw (lt-leb m 1048576 h) refl
 
   module _ (few : m ≤ 1048576) where
-    pub room-short : length < workFor m → 0 ≡ room_for length m
+    pub room_short : length < work_for m → 0 ≡ room_for length m
     unfolding room_for
-    room-short h = rw (le-leb m 1048576 few, lt-leb (workFor m) length h) refl
+    room_short h = rw (le-leb m 1048576 few, lt-leb (work_for m) length h) refl
 
-    pub room-there : workFor m ≤ length → (r : ℕ) → r ≡ min (2 ^ 32) ((length - workFor m) / 2 + m / 2) → r ≡ room_for length m
+    pub room_there : work_for m ≤ length → (r : ℕ) → r ≡ min (2 ^ 32) ((length - work_for m) / 2 + m / 2) → r ≡ room_for length m
     unfolding room_for
-    room-there h r e = rw (le-leb m 1048576 few, le-leb (workFor m) length h) e
+    room_there h r e = rw (le-leb m 1048576 few, le-leb (work_for m) length h) e
 
-pub room-few : (length m r : ℕ) → r ≡ room_for length m → 1 ≤ r → (m ≤ 2 ^ 40) × (r ≤ 2 ^ 32)
+pub room_few : (length m r : ℕ) → r ≡ room_for length m → 1 ≤ r → (m ≤ 2 ^ 40) × (r ≤ 2 ^ 32)
 unfolding room_for
-room-few length m r e l = go (leb m 1048576) refl (leb (workFor m) length) e
+room_few length m r e l = go (leb m 1048576) refl (leb (work_for m) length) e
   where
-    go : (a : Bool) → leb m 1048576 ≡ a → (b : Bool) → r ≡ cond (a && b) (min (2 ^ 32) ((length - workFor m) / 2 + m / 2)) 0 → (m ≤ 2 ^ 40) × (r ≤ 2 ^ 32)
+    go : (a : Bool) → leb m 1048576 ≡ a → (b : Bool) → r ≡ cond (a && b) (min (2 ^ 32) ((length - work_for m) / 2 + m / 2)) 0 → (m ≤ 2 ^ 40) × (r ≤ 2 ^ 32)
     go true q true e = (omega (arith, leb-true m 1048576 q), omega arith)
     go true q false e = absurd (omega arith)
     go false q b e = absurd (omega arith)
@@ -117,16 +117,16 @@ room-few length m r e l = go (leb m 1048576) refl (leb (workFor m) length) e
 abbrev pub Probed : (m : ℕ) (work : List ℕ) (key r : ℕ) → Type 0
 Probed m work key r = (r ≡ 0) ⊎ ((k : ℕ) × ((get_or work (table_at m (2 * k)) 0 ≡ key) × (get_or work (table_at m (2 * k + 1)) 0 ≡ r)))
 
-pub probed-at : (m : ℕ) (work : List ℕ) (key slot at behind : ℕ) → at ≡ table_at m (2 * slot) → behind ≡ table_at m (2 * slot + 1) → get_or work at 0 ≡ key → Probed m work key (get_or work behind 0)
-probed-at m work key slot at behind ea eb e = inr (slot, (rw (← ea) e, rw (← eb) refl))
+pub probed_at : (m : ℕ) (work : List ℕ) (key slot at behind : ℕ) → at ≡ table_at m (2 * slot) → behind ≡ table_at m (2 * slot + 1) → get_or work at 0 ≡ key → Probed m work key (get_or work behind 0)
+probed_at m work key slot at behind ea eb e = inr (slot, (rw (← ea) e, rw (← eb) refl))
 
 -- a right fact about a struct with at most so many fields before it
 pub record Best (m : ℕ) (es : List Entry) (packed : Bool) (p index : ℕ) (r : Known) : Type 0 where
   pub fact : FactOf m es packed p r
   pub before : r.index ≤ index
 
-pub best_none : {m : ℕ} {es : List Entry} {work : List ℕ} {p : ℕ} → AskFieldsAt m es work p → (packed : Bool) (index : ℕ) (r : Known) → r ≡ noFields p → Best m es packed p index r
-best_none k packed index r e = rw e (record { fact = fact-none k packed; before = omega arith })
+pub best_none : {m : ℕ} {es : List Entry} {work : List ℕ} {p : ℕ} → AskFieldsAt m es work p → (packed : Bool) (index : ℕ) (r : Known) → r ≡ no_fields p → Best m es packed p index r
+best_none k packed index r e = rw e (record { fact = fact_none k packed; before = omega arith })
 
 -- what is asked to find a fact
 pub record AskFind (m : ℕ) (es : List Entry) (work : List ℕ) (p index : ℕ) : Type 0 where
@@ -134,18 +134,18 @@ pub record AskFind (m : ℕ) (es : List Entry) (work : List ℕ) (p index : ℕ)
   pub few : index < 1048576
 
 module _ {m : ℕ} {es : List Entry} {work : List ℕ} {p index : ℕ} (k : AskFind m es work p index) (packed : Bool) where
-  pub find-place : p < 1048576
-  find-place = omega (arith, fields-below k.ask, k.ask.ready.few)
+  pub find_place : p < 1048576
+  find_place = omega (arith, fields_below k.ask, k.ask.ready.few)
 
-  pub find-probed : (j key value : ℕ) → KeyOf packed p j key → Probed m work key value → (value ≡ 0 → ⊥) → FieldFact m es packed p j (value / 33554432) (value % 33554432)
-  find-probed j key value c (inl z) n = absurd (n z)
-  find-probed j key value c (inr f) n =
+  pub find_probed : (j key value : ℕ) → KeyOf packed p j key → Probed m work key value → (value ≡ 0 → ⊥) → FieldFact m es packed p j (value / 33554432) (value % 33554432)
+  find_probed j key value c (inl z) n = absurd (n z)
+  find_probed j key value c (inr f) n =
       let g = (k.ask.ready.facts f.0).field (λ z. c.some (sym f.1.0 ∙ z)) (rw f.1.0 c.low) in
       rw (f.1.0, f.1.1, c.packing, c.start, c.field) at g
 
-  pub find-here : (j key value : ℕ) → KeyOf packed p j key → Probed m work key value → (value ≡ 0 → ⊥) → j ≤ index
+  pub find_here : (j key value : ℕ) → KeyOf packed p j key → Probed m work key value → (value ≡ 0 → ⊥) → j ≤ index
       → Best m es packed p index (record { index = j; at = value / 33554432; offset = value % 33554432; ended = false })
-  find-here j key value c f n l = record { fact = find-probed j key value c f n; before = l }
+  find_here j key value c f n l = record { fact = find_probed j key value c f n; before = l }
 
 -- what is asked about the type at a place
 pub record AskTypeAt (m : ℕ) (es : List Entry) (work : List ℕ) (p : ℕ) : Type 0 where
@@ -157,23 +157,23 @@ abbrev pub AlignFound : (m : ℕ) (es : List Entry) (p r : ℕ) → Type 0
 AlignFound m es p r = (r ≡ 0 → ⊥) → AlignFact m es p r
 
 module _ {m : ℕ} {es : List Entry} {work : List ℕ} {p : ℕ} (k : AskTypeAt m es work p) where
-  pub type-below : p < length es
-  type-below = omega (arith, starts-length k.front, length-drop p es)
+  pub type_below : p < length es
+  type_below = omega (arith, starts_length k.front, length-drop p es)
 
-  pub type-place : p < 1048576
-  type-place = omega (arith, type-below, k.ready.few)
+  pub type_place : p < 1048576
+  type_place = omega (arith, type_below, k.ready.few)
 
-  pub align-probed : (key r : ℕ) → key ≡ alignKey p → Probed m work key r → AlignFound m es p r
-  align-probed key r e (inl z) n = absurd (n z)
-  align-probed key r e (inr f) n =
+  pub align_probed : (key r : ℕ) → key ≡ align_key p → Probed m work key r → AlignFound m es p r
+  align_probed key r e (inl z) n = absurd (n z)
+  align_probed key r e (inr f) n =
       let d : key - 2 ^ 43 ≡ p = omega arith in
       let l : 2 ^ 43 ≤ key = omega arith in
       let g = (k.ready.facts f.0).align (rw f.1.0 l) in
       rw (f.1.0, f.1.1, d) at g
 
 -- the lowest set bit is taken off
-pub bit-less : (j : ℕ) → (j ≡ 0 → ⊥) → bit_and j (j - 1) < j
-bit-less j z = omega (arith, and_le_r j (j - 1))
+pub bit_less : (j : ℕ) → (j ≡ 0 → ⊥) → bit_and j (j - 1) < j
+bit_less j z = omega (arith, and_le_r j (j - 1))
 
 -- ---- storing a fact
 -- what is asked to store a fact, or to go on from it
@@ -188,28 +188,28 @@ pub record AskNoteAlign (m : ℕ) (es : List Entry) (work : List ℕ) (p a : ℕ
 
 -- ---- slots
 module _ (x n : ℕ) (l : x < 2 ^ 32) (h : n ≤ 2 ^ 32) where
-  slot-most : x * n ≤ 4294967295 * 2 ^ 32
-  slot-most = let k : x ≤ 4294967295 = omega arith in mul-le-mul k h
+  slot_most : x * n ≤ 4294967295 * 2 ^ 32
+  slot_most = let k : x ≤ 4294967295 = omega arith in mul-le-mul k h
 
-  pub slot-product : x * n < 2 ^ 64
-  slot-product = omega (arith, slot-most)
+  pub slot_product : x * n < 2 ^ 64
+  slot_product = omega (arith, slot_most)
 
   pub slot_small : x * n / 4294967296 ≤ 2 ^ 32
-  slot_small = omega (arith, slot-most)
+  slot_small = omega (arith, slot_most)
 
-pub table-name : (m i : ℕ) → i < m → factAt i ≡ table_at m i
-table-name m i l = ⊎_elim (λ t. sym t.1) (λ t. absurd (omega (arith, t.0))) (table-word m i)
+pub table_name : (m i : ℕ) → i < m → fact_at i ≡ table_at m i
+table_name m i l = ⊎_elim (λ t. sym t.1) (λ t. absurd (omega (arith, t.0))) (table_word m i)
 
-pub table-behind : (m i : ℕ) → m ≤ i → 7 * m + 64 + i ≡ table_at m i
-table-behind m i l = ⊎_elim (λ t. absurd (omega (arith, t.0))) (λ t. sym t.1) (table-word m i)
+pub table_behind : (m i : ℕ) → m ≤ i → 7 * m + 64 + i ≡ table_at m i
+table_behind m i l = ⊎_elim (λ t. absurd (omega (arith, t.0))) (λ t. sym t.1) (table_word m i)
 
 -- the table's words stand apart
-pub table-one : (m i j : ℕ) → table_at m i ≡ table_at m j → i ≡ j
-table-one m i j e =
+pub table_one : (m i j : ℕ) → table_at m i ≡ table_at m j → i ≡ j
+table_one m i j e =
     ⊎_elim
-    (λ a. ⊎_elim (λ b. omega (arith, a.0, a.1, b.0, b.1)) (λ b. omega (arith, a.0, a.1, b.0, b.1)) (table-word m j))
-    (λ a. ⊎_elim (λ b. omega (arith, a.0, a.1, b.0, b.1)) (λ b. omega (arith, a.0, a.1, b.0, b.1)) (table-word m j))
-    (table-word m i)
+    (λ a. ⊎_elim (λ b. omega (arith, a.0, a.1, b.0, b.1)) (λ b. omega (arith, a.0, a.1, b.0, b.1)) (table_word m j))
+    (λ a. ⊎_elim (λ b. omega (arith, a.0, a.1, b.0, b.1)) (λ b. omega (arith, a.0, a.1, b.0, b.1)) (table_word m j))
+    (table_word m i)
 
 module _ {m : ℕ} {es : List Entry} {work : List ℕ} (n key value : ℕ) (r : Ready m es work) (f : FactWords m es key value)
     (a : table_at m (2 * n) < length work) (b : table_at m (2 * n + 1) < length work) where
@@ -220,11 +220,11 @@ module _ {m : ℕ} {es : List Entry} {work : List ℕ} (n key value : ℕ) (r : 
   other i p q = get_or-set_other (set work (table_at m (2 * n)) key) (table_at m (2 * n + 1)) i value 0 q ∙ get_or-set_other work (table_at m (2 * n)) i key 0 p
 
   word : (x j : ℕ) → j < 8 → (j ≡ 6 → ⊥) → x < m → get_or stored (word_at x j) 0 ≡ get_or work (word_at x j) 0
-  word x j l h lx = other (word_at x j) (λ e. table-other m (2 * n) x j l h lx (sym e)) (λ e. table-other m (2 * n + 1) x j l h lx (sym e))
+  word x j l h lx = other (word_at x j) (λ e. table_other m (2 * n) x j l h lx (sym e)) (λ e. table_other m (2 * n + 1) x j l h lx (sym e))
 
-  key-there : get_or stored (table_at m (2 * n)) 0 ≡ key
-  key-there =
-      get_or-set_other (set work (table_at m (2 * n)) key) (table_at m (2 * n + 1)) (table_at m (2 * n)) value 0 (λ e. let z = table-one m (2 * n) (2 * n + 1) e in omega arith)
+  key_there : get_or stored (table_at m (2 * n)) 0 ≡ key
+  key_there =
+      get_or-set_other (set work (table_at m (2 * n)) key) (table_at m (2 * n + 1)) (table_at m (2 * n)) value 0 (λ e. let z = table_one m (2 * n) (2 * n + 1) e in omega arith)
       ∙ get_or-set_same work (table_at m (2 * n)) key 0 a
 
   value_there : get_or stored (table_at m (2 * n + 1)) 0 ≡ value
@@ -234,17 +234,17 @@ module _ {m : ℕ} {es : List Entry} {work : List ℕ} (n key value : ℕ) (r : 
   facts k = go (eqb k n) refl
     where
       go : (t : Bool) → eqb k n ≡ t → FactWords m es (get_or stored (table_at m (2 * k)) 0) (get_or stored (table_at m (2 * k + 1)) 0)
-      go true e = rw (eqb-true k n e, key-there, value_there) f
+      go true e = rw (eqb-true k n e, key_there, value_there) f
       go false e =
           let d = eqb-false k n e in
           rw (
-            other (table_at m (2 * k)) (λ z. d (let y = table-one m (2 * k) (2 * n) z in omega arith)) (λ z. let y = table-one m (2 * k) (2 * n + 1) z in omega arith),
-            other (table_at m (2 * k + 1)) (λ z. let y = table-one m (2 * k + 1) (2 * n) z in omega arith) (λ z. d (let y = table-one m (2 * k + 1) (2 * n + 1) z in omega arith)),
+            other (table_at m (2 * k)) (λ z. d (let y = table_one m (2 * k) (2 * n) z in omega arith)) (λ z. let y = table_one m (2 * k) (2 * n + 1) z in omega arith),
+            other (table_at m (2 * k + 1)) (λ z. let y = table_one m (2 * k + 1) (2 * n) z in omega arith) (λ z. d (let y = table_one m (2 * k + 1) (2 * n + 1) z in omega arith)),
           ) (r.facts k)
 
   -- a right fact may stand anywhere in the table
-  pub after-note : After m es work stored
-  after-note =
+  pub after_note : After m es work stored
+  after_note =
       record {
         ready = record {
           room = omega (arith, r.room, length-set work (table_at m (2 * n)) key, length-set (set work (table_at m (2 * n)) key) (table_at m (2 * n + 1)) value);
@@ -273,21 +273,21 @@ pub store_both : (m : ℕ) (work : List ℕ) (slot at behind key value : ℕ) �
     → Stored m work (set (set work at key) behind value) key value
 store_both m work slot at behind key value ea eb la lb = inr (record { slot = slot; first = rw (← ea) la; second = rw (← eb) lb; same = rw (ea, eb) refl })
 
-pub stored-after : {m : ℕ} {es : List Entry} {work work' : List ℕ} {key value : ℕ} → Ready m es work → FactWords m es key value → Stored m work work' key value → After m es work work'
-stored-after r f (inl e) = rw e (after_none r)
-stored-after {key = key} {value = value} r f (inr s) = rw s.same (after-note s.slot key value r f s.first s.second)
+pub stored_after : {m : ℕ} {es : List Entry} {work work' : List ℕ} {key value : ℕ} → Ready m es work → FactWords m es key value → Stored m work work' key value → After m es work work'
+stored_after r f (inl e) = rw e (after_none r)
+stored_after {key = key} {value = value} r f (inr s) = rw s.same (after_note s.slot key value r f s.first s.second)
 
 pub field_stored : {m : ℕ} {es : List Entry} {work work' : List ℕ} {packed : Bool} {p key value : ℕ} (k : Known) → AskNote m es work packed p k → KeyOf packed p k.index key
     → ValueOf k.at k.offset value → Stored m work work' key value → After m es work work'
 field_stored {m} {es} {packed = packed} {p = p} {key = key} {value = value} k a c v s =
-    stored-after a.ready (words_right m es packed p k.index k.at k.offset key value c v a.fact) s
+    stored_after a.ready (words_right m es packed p k.index k.at k.offset key value c v a.fact) s
 
-pub align-stored : {m : ℕ} {es : List Entry} {work work' : List ℕ} {p a : ℕ} (key : ℕ) → key ≡ alignKey p → AskNoteAlign m es work p a → Stored m work work' key a → After m es work work'
-align-stored {m} {es} {p = p} {a = a} key e k s = stored-after k.ask.ready (align-words m es p a key e k.fact) s
+pub align_stored : {m : ℕ} {es : List Entry} {work work' : List ℕ} {p a : ℕ} (key : ℕ) → key ≡ align_key p → AskNoteAlign m es work p a → Stored m work work' key a → After m es work work'
+align_stored {m} {es} {p = p} {a = a} key e k s = stored_after k.ask.ready (align_words m es p a key e k.fact) s
 
 module _ {m : ℕ} {es : List Entry} {work : List ℕ} {packed : Bool} {p : ℕ} {k : Known} (a : AskNote m es work packed p k) where
-  pub note-place : p < 1048576
-  note-place = omega (arith, a.fact.later, a.fact.there, a.ready.few)
+  pub note_place : p < 1048576
+  note_place = omega (arith, a.fact.later, a.fact.there, a.ready.few)
 
-  pub note-to : k.at < 1048576
-  note-to = omega (arith, a.fact.there, a.ready.few)
+  pub note_to : k.at < 1048576
+  note_to = omega (arith, a.fact.there, a.ready.few)

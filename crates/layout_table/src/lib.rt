@@ -10,7 +10,7 @@ ghost use Rattle.std.specs.Prelude.{◌≡◌, ◌+◌, ◌<◌, ◌≤◌, ◌^
 ghost use Rattle.book.specs.Entry.{entries};
 ghost use Rattle.layout_memo.specs.Work.{After};
 ghost use Rattle.layout_table.specs.Table.{AskFieldsAt, AskNote, Best};
-ghost use Rattle.layout_table.specs.Known.{isEnded, AskRun, AskPass, KnownOutcome};
+ghost use Rattle.layout_table.specs.Known.{is_ended, AskRun, AskPass, KnownOutcome};
 
 use crate::table::{find, no_fields, note, room_for};
 use book::entry;
@@ -42,7 +42,7 @@ pub struct Sought {
 
 // No field more is passed.
 fn ended(known: Known) -> Known
-    ensures { result ≡ isEnded known }
+    ensures { result ≡ is_ended known }
 {
     Known {
         index: known.index,

@@ -2,7 +2,7 @@
 ghost use Rattle.std.specs.Prelude.{◌≡◌, drop};
 ghost use Rattle.book.specs.Entry.{entries};
 ghost use Rattle.layout_memo.specs.Front.{ty_of};
-ghost use Rattle.layout_memo.specs.Work.{After, structsIn};
+ghost use Rattle.layout_memo.specs.Work.{After, structs_in};
 ghost use Rattle.layout_field.specs.Offsets.{AskStart, StartOutcome, start_of};
 ghost use Rattle.layout_table.specs.Table.{AskNoteAlign};
 
@@ -58,7 +58,7 @@ pub fn start_at(
 ) -> Offset
     requires { AskStart names (drop place (entries book_kinds.now book_words.now)) (entries book_kinds.now book_words.now) work.old offset }
     ensures { StartOutcome names (entries book_kinds.now book_words.now) work.old work.new offset
-        (start_of (structsIn names (entries book_kinds.now book_words.now)) packed
+        (start_of (structs_in names (entries book_kinds.now book_words.now)) packed
         (ty_of names (drop place (entries book_kinds.now book_words.now))) offset) result }
 {
     if packed {

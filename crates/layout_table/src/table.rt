@@ -3,7 +3,7 @@
 ghost use Rattle.std.specs.Prelude.{◌≡◌, ◌<◌, ◌≤◌, ◌^◌};
 ghost use Rattle.book.specs.Entry.{entries};
 ghost use Rattle.layout_memo.specs.Work.{After, table_at};
-ghost use Rattle.layout_table.specs.Table.{KeyOf, ValueOf, Probed, Best, AskFind, AskNote, AskTypeAt, AskNoteAlign, AlignFound, Stored, alignKey, noFields, room_for};
+ghost use Rattle.layout_table.specs.Table.{KeyOf, ValueOf, Probed, Best, AskFind, AskNote, AskTypeAt, AskNoteAlign, AlignFound, Stored, align_key, no_fields, room_for};
 
 use crate::Known;
 
@@ -101,7 +101,7 @@ pub fn room_for(length: usize, names: u64) -> usize
 
 // Behind no fields of the struct.
 pub fn no_fields(place: usize) -> Known
-    ensures { result ≡ noFields place }
+    ensures { result ≡ no_fields place }
 {
     Known {
         index: 0,
@@ -226,7 +226,7 @@ pub fn note(
 // The first word of the fact about the type at the place.
 fn align_key(place: usize) -> u64
     requires { place < 1048576 }
-    ensures { result ≡ alignKey place }
+    ensures { result ≡ align_key place }
 {
     8796093022208 + (place as u64)
 }

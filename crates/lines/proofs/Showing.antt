@@ -8,30 +8,30 @@ use lib.ListN.{length, take, drop, length-replicate}
 use Rattle.assembly.specs.Printer as definition
 use Rattle.assembly.specs.Printer.{Printing, refusing, print}
 use Rattle.lowering.specs.Translate.{Translating, translate}
-use Rattle.lowering.specs.Printable.{translate-accepted}
+use Rattle.lowering.specs.Printable.{translate_accepted}
 use Rattle.print.specs.Reply.{Replied, Prints}
 use Rattle.print.specs.declared.passes.Printed.{Printed}
 use Rattle.print.specs.declared.passes.Printed.TheVariants as reply
-use Rattle.translate.specs.Reply.{Answer, accepted-reply, refused-reply}
+use Rattle.translate.specs.Reply.{Answer, accepted_reply, refused_reply}
 use Rattle.gen_passes.specs.Reply.{Numbered}
 use Rattle.gen_passes.specs.declared.Translation.{Translation}
 use Rattle.gen_passes.specs.declared.Translation.TheVariants.{Accepted, Refused}
-use Rattle.lines.proofs.Words.{rest-is}
+use Rattle.lines.proofs.Words.{rest_is}
 use Rattle.lines.proofs.Room.{roomy}
-use Rattle.lines.proofs.Text.{print-inside}
-use Rattle.lines.specs.Shown.{lineRoom, textRoom, zeros, word, words, printed, translated, size, whole, answered, refusal, said_of, said, shown, Begins}
+use Rattle.lines.proofs.Text.{print_inside}
+use Rattle.lines.specs.Shown.{line_room, text_room, zeros, word, words, printed, translated, size, whole, answered, refusal, said_of, said, shown, Begins}
 
 -- ---- a book: what the translator and the printer promise is used here alone
 module _ (d : definition.Printed) where
-  replied-accepted : (m : ℕ) → Replied d (reply.Accepted m) → d ≡ definition.Printed.accepted m
-  replied-accepted m = go d
+  replied_accepted : (m : ℕ) → Replied d (reply.Accepted m) → d ≡ definition.Printed.accepted m
+  replied_accepted m = go d
     where
       go : (d : definition.Printed) → Replied d (reply.Accepted m) → d ≡ definition.Printed.accepted m
       go (definition.Printed.accepted n) e = let i : n ≡ m = cc in ap definition.Printed.accepted i
       go (definition.Printed.refused x) e = absurd (let z : ◌≡◌ {A = ℕ} 0 1 = cc in omega arith)
 
-  replied-refused : (x : ℕ) → Replied d (reply.Refused x) → d ≡ definition.Printed.refused x
-  replied-refused x = go d
+  replied_refused : (x : ℕ) → Replied d (reply.Refused x) → d ≡ definition.Printed.refused x
+  replied_refused x = go d
     where
       go : (d : definition.Printed) → Replied d (reply.Refused x) → d ≡ definition.Printed.refused x
       go (definition.Printed.accepted n) e = absurd (let z : ◌≡◌ {A = ℕ} 0 1 = cc in omega arith)
@@ -40,7 +40,7 @@ module _ (d : definition.Printed) where
 module _ (book names work kinds operands : List ℕ) (r : Translation) (w k o : List ℕ) (a : Answer 0 (translate book names 0 work kinds operands) r w k o) where
   pub lines_fit : (n next : ℕ) → r ≡ Accepted n next → n ≤ min (length kinds) (length operands)
   lines_fit n next h =
-      (translate-accepted book names 0 work kinds operands n next (accepted-reply book names 0 work kinds operands r w k o a n next h)).1
+      (translate_accepted book names 0 work kinds operands n next (accepted_reply book names 0 work kinds operands r w k o a n next h)).1
 
   module _ (text : List ℕ) where
     abbrev t : Translating
@@ -50,60 +50,60 @@ module _ (book names work kinds operands : List ℕ) (r : Translation) (w k o : 
       abbrev q : Printing
       q = print book names (take (n - 0) k) (take (n - 0) o) text
 
-      lines-shown : q ≡ translated book names work kinds operands text
+      lines_shown : q ≡ translated book names work kinds operands text
       unfolding translated printed
-      lines-shown =
+      lines_shown =
           let c : n - 0 ≡ n = omega arith in
           let e : q ≡ print book names (take n t.kinds) (take n t.operands) text = rw (c, a.kinds, a.operands) in
-          e ∙ ap (λ d. printed book names text t d) (sym (accepted-reply book names 0 work kinds operands r w k o a n next h))
+          e ∙ ap (λ d. printed book names text t d) (sym (accepted_reply book names 0 work kinds operands r w k o a n next h))
 
-      pub text-shown : (m : ℕ) → p ≡ reply.Accepted m → Begins (said (translated book names work kinds operands text)) y m
+      pub text_shown : (m : ℕ) → p ≡ reply.Accepted m → Begins (said (translated book names work kinds operands text)) y m
       unfolding said said_of
-      text-shown m i =
-          let e = replied-accepted q.reply m (subst (Replied q.reply) i g.reply) in
+      text_shown m i =
+          let e = replied_accepted q.reply m (subst (Replied q.reply) i g.reply) in
           let is : said q ≡ take m y = ap (said_of q.text) e ∙ ap (take m) (sym g.text) in
           record {
-            fits = rw g.text (print-inside book names (take (n - 0) k) (take (n - 0) o) text m e);
-            front = sym is ∙ ap said lines-shown;
+            fits = rw g.text (print_inside book names (take (n - 0) k) (take (n - 0) o) text m e);
+            front = sym is ∙ ap said lines_shown;
           }
 
       -- what the printer refuses
       pub unprinted : (x : ℕ) → p ≡ reply.Refused x → (z : List ℕ) (m : ℕ) → Begins (refusal x) z m → Begins (said (translated book names work kinds operands text)) z m
       unfolding said said_of
       unprinted x i z m b =
-          let is : said q ≡ refusal x = ap (said_of q.text) (replied-refused q.reply x (subst (Replied q.reply) i g.reply)) in
-          record { fits = b.fits; front = b.front ∙ sym is ∙ ap said lines-shown }
+          let is : said q ≡ refusal x = ap (said_of q.text) (replied_refused q.reply x (subst (Replied q.reply) i g.reply)) in
+          record { fits = b.fits; front = b.front ∙ sym is ∙ ap said lines_shown }
 
     -- what the translator refuses
     pub untranslated : Numbered r → (x : ℕ) → r ≡ Refused x → (z : List ℕ) (m : ℕ) → Begins (refusal x) z m → Begins (said (translated book names work kinds operands text)) z m
     unfolding translated said said_of printed refusing
     untranslated s x h z m b = record {
       fits = b.fits;
-      front = b.front ∙ sym (ap (λ d. said (printed book names text t d)) (refused-reply book names 0 work kinds operands r w k o a s x h));
+      front = b.front ∙ sym (ap (λ d. said (printed book names text t d)) (refused_reply book names 0 work kinds operands r w k o a s x h));
     }
 
 -- ---- the input
 module _ (input kinds operands text : List ℕ) (z : List ℕ) (m : ℕ) where
-  pub longer-shown : 65536 < length input → Begins (refusal 1) z m → Begins (said (answered input kinds operands text)) z m
+  pub longer_shown : 65536 < length input → Begins (refusal 1) z m → Begins (said (answered input kinds operands text)) z m
   unfolding answered whole refusing said said_of
-  longer-shown h b = rw (lt-leb (length input) 65536 h) b
+  longer_shown h b = rw (lt-leb (length input) 65536 h) b
 
-  pub cut-shown : length input ≤ 65536 → length input < 8 * (2 + 2 * word input) → Begins (refusal 1) z m → Begins (said (answered input kinds operands text)) z m
+  pub cut_shown : length input ≤ 65536 → length input < 8 * (2 + 2 * word input) → Begins (refusal 1) z m → Begins (said (answered input kinds operands text)) z m
   unfolding answered whole size refusing said said_of
-  cut-shown l h b = rw (le-leb (length input) 65536 l, lt-leb (8 * (2 + 2 * word input)) (length input) h) b
+  cut_shown l h b = rw (le-leb (length input) 65536 l, lt-leb (8 * (2 + 2 * word input)) (length input) h) b
 
   -- the book and the names are lent as parts, and there are work words enough
-  pub book-shown : (work : List ℕ) → 262144 ≤ length work
+  pub book_shown : (work : List ℕ) → 262144 ≤ length work
       → (count : ℕ) (b : List ℕ) → count ≡ 2 + 2 * word input → length input ≤ 65536 → 8 * count ≤ length input → take count b ≡ words count input
       → Begins (said (translated (take (count - 0) b) (take (length input - 8 * count) (drop (8 * count) input)) work kinds operands text)) z m
       → Begins (said (answered input kinds operands text)) z m
   unfolding answered whole size
-  book-shown work f count b c l h e t =
+  book_shown work f count b c l h e t =
       let d : count - 0 ≡ count = omega arith in
       let w : 8 * (2 + 2 * word input) ≤ length input = omega arith in
       let same =
       ap (λ (j : ℕ). translated (take j b) (take (length input - 8 * count) (drop (8 * count) input)) work kinds operands text) d
-      ∙ ap (λ (x : List ℕ). translated (take count b) x work kinds operands text) (rest-is input (8 * count))
+      ∙ ap (λ (x : List ℕ). translated (take count b) x work kinds operands text) (rest_is input (8 * count))
       ∙ ap (λ (x : List ℕ). translated x (drop (8 * count) input) work kinds operands text) e
       ∙ ap (λ (j : ℕ). translated (words j input) (drop (8 * j) input) work kinds operands text) c
       ∙ roomy input work kinds operands text l f
@@ -112,18 +112,18 @@ module _ (input kinds operands text : List ℕ) (z : List ℕ) (m : ℕ) where
       (record { fits = t.fits; front = t.front ∙ ap said same })
 
 -- ---- the program's own slices
-zeros-long : (n : ℕ) → length (zeros n) ≡ n
+zeros_long : (n : ℕ) → length (zeros n) ≡ n
 unfolding zeros
-zeros-long n = length-replicate {A = ℕ} n 0
+zeros_long n = length-replicate {A = ℕ} n 0
 
 pub room_for : (n : ℕ) (text : List ℕ) → text ≡ zeros n → 21 ≤ n → 21 ≤ length text
-room_for n text e h = omega (arith, ap length e, zeros-long n)
+room_for n text e h = omega (arith, ap length e, zeros_long n)
 
-same-slices : (input : List ℕ) (n j k : ℕ) (kinds operands text z : List ℕ) (m : ℕ) → kinds ≡ zeros j → operands ≡ zeros j → text ≡ zeros k
+same_slices : (input : List ℕ) (n j k : ℕ) (kinds operands text z : List ℕ) (m : ℕ) → kinds ≡ zeros j → operands ≡ zeros j → text ≡ zeros k
     → Begins (said (answered (take (n - 0) input) kinds operands text)) z m → Begins (said (answered (take n input) (zeros j) (zeros j) (zeros k))) z m
-same-slices input n j k kinds operands text z m e f g b = let d : n - 0 ≡ n = omega arith in rw (e, f, g, d) at b
+same_slices input n j k kinds operands text z m e f g b = let d : n - 0 ≡ n = omega arith in rw (e, f, g, d) at b
 
-pub own-shown : (input : List ℕ) (n : ℕ) (kinds operands text z : List ℕ) (m : ℕ) → kinds ≡ zeros lineRoom → operands ≡ zeros lineRoom → text ≡ zeros textRoom
+pub own_shown : (input : List ℕ) (n : ℕ) (kinds operands text z : List ℕ) (m : ℕ) → kinds ≡ zeros line_room → operands ≡ zeros line_room → text ≡ zeros text_room
     → Begins (said (answered (take (n - 0) input) kinds operands text)) z m → Begins (shown (take n input)) z m
 unfolding shown
-own-shown input n kinds operands text z m e f g b = same-slices input n lineRoom textRoom kinds operands text z m e f g b
+own_shown input n kinds operands text z m e f g b = same_slices input n line_room text_room kinds operands text z m e f g b

@@ -9,8 +9,8 @@ use native.Mathlib.Omega.{arith}
 use lib.Dec.{leb}
 use lib.ListN.{length, take, drop, set, length-append, length-set}
 use lib.Seq.{sets, sets-eq, length-sets, take-suc-set, take-append_seam}
-use Rattle.numbers.specs.Digits.{decimal, length-word}
-use Rattle.assembly.specs.Printer.{Printed, Printing, refusing, writing, needed, headed, bookTexts, printLines, print}
+use Rattle.numbers.specs.Digits.{decimal, length_word}
+use Rattle.assembly.specs.Printer.{Printed, Printing, refusing, writing, needed, headed, book_texts, print_lines, print}
 use Rattle.lines.specs.Shown.{refusal, Begins}
 
 -- ---- an accepted answer
@@ -21,48 +21,48 @@ inside text (Printed.refused e) = Unit {0}
 abbrev Inside : Printing → Type 0
 Inside p = inside p.text p.reply
 
-refusing-inside : (e : ℕ) (text : List ℕ) → Inside (refusing e text)
+refusing_inside : (e : ℕ) (text : List ℕ) → Inside (refusing e text)
 unfolding refusing
-refusing-inside e text = tt
+refusing_inside e text = tt
 
-writing-inside : (bs text : List ℕ) → Inside (writing bs text)
+writing_inside : (bs text : List ℕ) → Inside (writing bs text)
 unfolding writing
-writing-inside bs text = go (leb (length bs) (length text))
+writing_inside bs text = go (leb (length bs) (length text))
   where
     go : (t : Bool) → Inside (cond t (record { reply = Printed.accepted (length bs); text = bs ++ drop (length bs) text }) (refusing 20 text))
     go true = omega (arith, length-append bs (drop (length bs) text))
-    go false = refusing-inside 20 text
+    go false = refusing_inside 20 text
 
-needed-inside : {A : Type 0} (e : ℕ) (text : List ℕ) (o : Option A) (go : A → Printing) → ((a : A) → Inside (go a)) → Inside (needed e text o go)
+needed_inside : {A : Type 0} (e : ℕ) (text : List ℕ) (o : Option A) (go : A → Printing) → ((a : A) → Inside (go a)) → Inside (needed e text o go)
 unfolding needed
-needed-inside e text none go h = refusing-inside e text
-needed-inside e text (some a) go h = h a
+needed_inside e text none go h = refusing_inside e text
+needed_inside e text (some a) go h = h a
 
-cond-inside : (t : Bool) (p q : Printing) → Inside p → Inside q → Inside (cond t p q)
-cond-inside true p q h k = h
-cond-inside false p q h k = k
+cond_inside : (t : Bool) (p q : Printing) → Inside p → Inside q → Inside (cond t p q)
+cond_inside true p q h k = h
+cond_inside false p q h k = k
 
-all-inside : (book names kinds operands text : List ℕ) → Inside (print book names kinds operands text)
-unfolding print printLines
-all-inside book names kinds operands text =
-    needed-inside 1 text _ _
-    (λ b. needed-inside 2 text _ _
-    (λ ns. needed-inside 21 text _ _
-    (λ ls. cond-inside (headed ls) _ _ (writing-inside (bookTexts ns b.book.functions ls) text) (refusing-inside 21 text))))
+all_inside : (book names kinds operands text : List ℕ) → Inside (print book names kinds operands text)
+unfolding print print_lines
+all_inside book names kinds operands text =
+    needed_inside 1 text _ _
+    (λ b. needed_inside 2 text _ _
+    (λ ns. needed_inside 21 text _ _
+    (λ ls. cond_inside (headed ls) _ _ (writing_inside (book_texts ns b.book.functions ls) text) (refusing_inside 21 text))))
 
-pub print-inside : (book names kinds operands text : List ℕ) (n : ℕ) → (print book names kinds operands text).reply ≡ Printed.accepted n
+pub print_inside : (book names kinds operands text : List ℕ) (n : ℕ) → (print book names kinds operands text).reply ≡ Printed.accepted n
     → n ≤ length (print book names kinds operands text).text
-print-inside book names kinds operands text n e = subst (inside (print book names kinds operands text).text) e (all-inside book names kinds operands text)
+print_inside book names kinds operands text n e = subst (inside (print book names kinds operands text).text) e (all_inside book names kinds operands text)
 
 -- ---- a refusal
 -- room for every number's digits and the byte behind them
-pub digits-fit : (e : ℕ) → e < 2 ^ 64 → (text : List ℕ) → 21 ≤ length text → length (decimal e) < length text
-digits-fit e h text r = omega (arith, length-word e h)
+pub digits_fit : (e : ℕ) → e < 2 ^ 64 → (text : List ℕ) → 21 ≤ length text → length (decimal e) < length text
+digits_fit e h text r = omega (arith, length_word e h)
 
 -- digits, and then byte 10
-pub refusal-put : (e : ℕ) (x y : List ℕ) (n : ℕ) → length (decimal e) < length x → n ≡ 0 + length (decimal e) → y ≡ sets x 0 (decimal e) → Begins (refusal e) (set y n 10) (n + 1)
+pub refusal_put : (e : ℕ) (x y : List ℕ) (n : ℕ) → length (decimal e) < length x → n ≡ 0 + length (decimal e) → y ≡ sets x 0 (decimal e) → Begins (refusal e) (set y n 10) (n + 1)
 unfolding refusal
-refusal-put e x y n h c p =
+refusal_put e x y n h c p =
     let size : n ≡ length (decimal e) = omega arith in
     let long : length y ≡ length x = ap length p ∙ length-sets x 0 (decimal e) in
     let all : y ≡ decimal e ++ drop (0 + length (decimal e)) x = p ∙ sets-eq (decimal e) x 0 (omega arith) in

@@ -19,15 +19,15 @@ words_more (suc n) bs =
     ∙ ap (λ (d : List ℕ). words n (drop 8 bs) ++ (word d ∷ [])) (drop-drop (8 * n) 8 bs ∙ ap (λ (j : ℕ). drop j bs) k))
 
 -- the rest of a list, as it is lent
-pub rest-is : (bs : List ℕ) (k : ℕ) → take (length bs - k) (drop k bs) ≡ drop k bs
-rest-is bs k = take_all (length bs - k) (drop k bs) (omega (arith, length-drop k bs))
+pub rest_is : (bs : List ℕ) (k : ℕ) → take (length bs - k) (drop k bs) ≡ drop k bs
+rest_is bs k = take_all (length bs - k) (drop k bs) (omega (arith, length-drop k bs))
 
 -- the book with one word more
-pub word-put : (bs book : List ℕ) (i v : ℕ) → i < length book → take i book ≡ words i bs → v ≡ word (take (length bs - 8 * i) (drop (8 * i) bs))
+pub word_put : (bs book : List ℕ) (i v : ℕ) → i < length book → take i book ≡ words i bs → v ≡ word (take (length bs - 8 * i) (drop (8 * i) bs))
     → take (i + 1) (set book i v) ≡ words (i + 1) bs
-word-put bs book i v h e w =
+word_put bs book i v h e w =
     rw (add-one i)
     (take-suc-set book i v h
     ∙ ap (λ (r : List ℕ). r ++ (v ∷ [])) e
-    ∙ ap (λ (x : ℕ). words i bs ++ (x ∷ [])) (w ∙ ap (λ (d : List ℕ). word d) (rest-is bs (8 * i)))
+    ∙ ap (λ (x : ℕ). words i bs ++ (x ∷ [])) (w ∙ ap (λ (d : List ℕ). word d) (rest_is bs (8 * i)))
     ∙ sym (words_more i bs))

@@ -1,11 +1,11 @@
 -- What is shown for the sheet of `add1`, and for its input or the slices cut short.
 use Rattle.std.specs.Prelude.{ℕ, ◌-◌, ◌≡◌, refl, List, [], ◌∷◌, ◌++◌, take, replicate}
 use Prim.Native.String.{String}
-use Rattle.numbers.specs.Open.{openNumbers}
+use Rattle.numbers.specs.Open.{open_numbers}
 use Rattle.assembly.specs.Printer.{Printed, Printing}
 use Rattle.assembly.specs.Cases.{unlines, slice}
-use Rattle.lowering.specs.Open.{openLowering}
-use Rattle.lines.specs.Shown.{answered, said, openShown}
+use Rattle.lowering.specs.Open.{open_lowering}
+use Rattle.lines.specs.Shown.{answered, said, open_shown}
 
 -- words below 256 as bytes
 unfoldable pub bytes_of : List ℕ → List ℕ
@@ -21,8 +21,8 @@ input =
     ((5, 1) ∷ (11, 32) ∷ (6, 1) ∷ (11, 32) ∷ (0, 0) ∷ (7, 2) ∷ (40, 4) ∷ (11, 32) ∷ (30, 0) ∷ (32, 1) ∷ (90, 0) ∷ (11, 32) ∷ (30, 3) ∷ (0, 0) ∷ (0, 0) ∷ []) names)
     ++ unlines names
 
-unfoldable pub theirText : List ℕ
-theirText =
+unfoldable pub their_text : List ℕ
+their_text =
     unlines (
     "# i32 @add1(1 params)" ∷ "add1:" ∷ "push_0n 1;" ∷ "add1__entry:" ∷ "get_arg 0;" ∷ "push 1;" ∷ "add_u32;" ∷ "set_local 0;" ∷ "get_local 0;" ∷ "ret;"
     ∷ "" ∷ [])
@@ -31,30 +31,30 @@ theirText =
 unfoldable pub cut : (bytes lines text : ℕ) → Printing
 cut bytes lines text = answered (take bytes input) (replicate lines 7) (replicate lines 7) (replicate text 33)
 
-pub add1-shown : cut 271 11 113 ≡ record { reply = Printed.accepted 112; text = theirText ++ (33 ∷ []) }
-unfolding openLowering openShown unlines slice bytes_of names input theirText cut
-add1-shown = refl
+pub add1_shown : cut 271 11 113 ≡ record { reply = Printed.accepted 112; text = their_text ++ (33 ∷ []) }
+unfolding open_lowering open_shown unlines slice bytes_of names input their_text cut
+add1_shown = refl
 
 -- inside the book, at its end, where no names are left, inside a name, a line short, a byte short
-pub cuts-shown : ((cut 0 11 112).reply ≡ Printed.refused 1) × ((cut 255 11 112).reply ≡ Printed.refused 1) × ((cut 256 11 112).reply ≡ Printed.refused 2)
+pub cuts_shown : ((cut 0 11 112).reply ≡ Printed.refused 1) × ((cut 255 11 112).reply ≡ Printed.refused 1) × ((cut 256 11 112).reply ≡ Printed.refused 2)
     × ((cut 270 11 112).reply ≡ Printed.refused 2) × ((cut 271 10 112).reply ≡ Printed.refused 20) × ((cut 271 11 111).reply ≡ Printed.refused 20)
-unfolding openLowering openShown unlines slice bytes_of names input theirText cut
-cuts-shown = (refl, refl, refl, refl, refl, refl)
+unfolding open_lowering open_shown unlines slice bytes_of names input their_text cut
+cuts_shown = (refl, refl, refl, refl, refl, refl)
 
 -- line slices that are longer than the lines, and each of another length
-pub longer-slices : answered input (replicate 12 7) (replicate 15 7) (replicate 112 33) ≡ record { reply = Printed.accepted 112; text = theirText }
-unfolding openLowering openShown unlines slice bytes_of names input theirText
-longer-slices = refl
+pub longer_slices : answered input (replicate 12 7) (replicate 15 7) (replicate 112 33) ≡ record { reply = Printed.accepted 112; text = their_text }
+unfolding open_lowering open_shown unlines slice bytes_of names input their_text
+longer_slices = refl
 
 -- what is written of these: the text, and numbers of one and of two digits, each with byte 10
-pub bytes-written : (said (cut 271 12 120) ≡ theirText) × (said (cut 270 11 112) ≡ 50 ∷ 10 ∷ []) × (said (cut 271 10 112) ≡ 50 ∷ 48 ∷ 10 ∷ [])
-unfolding openNumbers openLowering openShown unlines slice bytes_of names input theirText cut
-bytes-written = (refl, refl, refl)
+pub bytes_written : (said (cut 271 12 120) ≡ their_text) × (said (cut 270 11 112) ≡ 50 ∷ 10 ∷ []) × (said (cut 271 10 112) ≡ 50 ∷ 48 ∷ 10 ∷ [])
+unfolding open_numbers open_lowering open_shown unlines slice bytes_of names input their_text cut
+bytes_written = (refl, refl, refl)
 
 -- as many bytes as are taken, and one more: behind the book of `add1` stand bytes that are no names
 unfoldable pub filled : (bytes : ℕ) → List ℕ
 filled bytes = take 256 input ++ replicate (bytes - 256) 0
 
-pub longest-shown : ((answered (filled 65536) [] [] []).reply ≡ Printed.refused 2) × ((answered (filled 65537) [] [] []).reply ≡ Printed.refused 1)
-unfolding openLowering openShown unlines slice bytes_of names input filled
-longest-shown = (refl, refl)
+pub longest_shown : ((answered (filled 65536) [] [] []).reply ≡ Printed.refused 2) × ((answered (filled 65537) [] [] []).reply ≡ Printed.refused 1)
+unfolding open_lowering open_shown unlines slice bytes_of names input filled
+longest_shown = (refl, refl)

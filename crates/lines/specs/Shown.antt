@@ -5,7 +5,7 @@
 use Rattle.std.specs.Prelude.{ℕ, zero, suc, ◌+◌, ◌*◌, ◌≤◌, Bool, false, cond, ◌≡◌, List, [], ◌∷◌, ◌++◌, length, take, drop, get_or, replicate, leb}
 use Rattle.numbers.specs.Digits.{decimal}
 use Rattle.names.specs.Name.{lines}
-use Rattle.book.specs.Check.{workFor}
+use Rattle.book.specs.Check.{work_for}
 use Rattle.assembly.specs.Printer.{Printed, Printing, refusing, print}
 use Rattle.lowering.specs.Translate.{Translation, Translating, translate}
 
@@ -15,11 +15,11 @@ abbrev pub longest : ℕ
 longest = 65536
 
 -- room for so many lines, and for so many bytes of text
-abbrev pub lineRoom : ℕ
-lineRoom = 65536
+abbrev pub line_room : ℕ
+line_room = 65536
 
-abbrev pub textRoom : ℕ
-textRoom = 1048576
+abbrev pub text_room : ℕ
+text_room = 1048576
 
 -- slices are lent full of zeros
 unfoldable pub zeros : ℕ → List ℕ
@@ -48,7 +48,7 @@ whole input = cond (leb (length input) longest) (leb (8 * size input) (length in
 
 -- "at least 8 × names + 64"
 unfoldable pub enough : List ℕ → List ℕ
-enough names = zeros (workFor (length (lines names)))
+enough names = zeros (work_for (length (lines names)))
 
 -- ---- the answer
 -- the text of a translation's lines, or its refusal
@@ -80,7 +80,7 @@ said p = said_of p.text p.reply
 
 -- what the program writes for what it reads
 unfoldable pub shown : (input : List ℕ) → List ℕ
-shown input = said (answered input (zeros lineRoom) (zeros lineRoom) (zeros textRoom))
+shown input = said (answered input (zeros line_room) (zeros line_room) (zeros text_room))
 
 -- a text begins with these bytes, which are r
 pub record Begins (bytes text : List ℕ) (r : ℕ) : Type 0 where
@@ -88,6 +88,6 @@ pub record Begins (bytes text : List ℕ) (r : ℕ) : Type 0 where
   pub front : take r text ≡ bytes
 
 -- opens every definition of this file, for an example that computes
-unfoldable pub openShown : Unit {0}
+unfoldable pub open_shown : Unit {0}
 unfolding zeros words size whole enough printed translated answered refusal said_of said shown
-openShown = tt
+open_shown = tt

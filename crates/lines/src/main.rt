@@ -1,6 +1,6 @@
 // Reads a book and its names from standard input, and writes the text of its lines at counter 0, or the refusal's number.
 ghost use Rattle.std.specs.Prelude.{◌≡◌, ◌≤◌, ◌<◌, ◌*◌, length, take};
-ghost use Rattle.lines.specs.Shown.{longest, textRoom, zeros, word, words, translated, answered, refusal, said, shown, Begins};
+ghost use Rattle.lines.specs.Shown.{longest, text_room, zeros, word, words, translated, answered, refusal, said, shown, Begins};
 
 use gen_passes::Translation;
 use numbers::digits::put_decimal;
@@ -108,7 +108,7 @@ fn show_input(
 // than is taken, so that a longer input is known.
 fn show(input: &[u8], n: usize, text: &mut [u8]) -> usize
     requires n_in_bounds { (n ≤ length input.now) × (longest < length input.now) }
-    requires text_value { text.old ≡ zeros textRoom }
+    requires text_value { text.old ≡ zeros text_room }
     ensures { Begins (shown (take n input.now)) text.new result }
 {
     let mut book = [0u64; 8192];
@@ -127,7 +127,7 @@ fn show(input: &[u8], n: usize, text: &mut [u8]) -> usize
 
 // 1 MiB.
 fn room_for_text() -> [u8; 1048576]
-    ensures { result ≡ zeros textRoom }
+    ensures { result ≡ zeros text_room }
 {
     [0; 1048576]
 }

@@ -7,15 +7,15 @@ use Rattle.std.proofs.Math.Option.{Option, none, some}
 use borrow.Author.Tests.{le-leb, lt-ltb}
 use Rattle.book.specs.Ast.{Ty, Value, BasicBlock, Book}
 use Rattle.book.specs.Rule.{pick}
-use Rattle.book.specs.Result.{ok, okOr, err-no-ok}
+use Rattle.book.specs.Result.{ok, ok_or, err_no_ok}
 use Rattle.book.specs.Limits.{ValueLimits, BlockLimits}
 use Rattle.assembly.specs.Line.{Line, Work}
-use Rattle.assembly.specs.Number.{isName, allowed}
+use Rattle.assembly.specs.Number.{is_name, allowed}
 use Rattle.assembly.specs.Lists.{AllAllowed}
 use Rattle.lowering.specs.Gen.{Gen, line}
 use Rattle.lowering.specs.Context.{FnCtx, named, slot_of}
-use Rattle.lowering.specs.Operand.{truncLines, emitTruncTo, sextBit, sx32To, sxLine, sextMore, emitSext, pushInt, localLine, add64, mul64, pushValue, pushTyped, storeDest, storeOrPop, workOf}
-use Rattle.lowering.specs.Allows.{Allows, lines-allows, line-allows, bind-allows, any-allows, then-allows, when-allows, choose-allows, plain}
+use Rattle.lowering.specs.Operand.{trunc_lines, emit_trunc_to, sext_bit, sx32_to, sx_line, sext_more, emit_sext, push_int, local_line, add64, mul64, push_value, push_typed, store_dest, store_or_pop, work_of}
+use Rattle.lowering.specs.Allows.{Allows, lines_allows, line_allows, bind_allows, any_allows, then_allows, when_allows, choose_allows, plain}
 use Rattle.book.specs.Map.{lookup}
 
 -- how many names a context has
@@ -25,72 +25,72 @@ count c = length c.codegen.names
 -- slots leave room for a second one; the frame's base has the last at most; blocks are the book's
 pub record Within (c : FnCtx) : Type 0 where
   pub slots : (x s : ℕ) → lookup x c.slots ≡ some s → s < 65535
-  pub base : c.bpSlot ≤ 65535
+  pub base : c.bp_slot ≤ 65535
   pub blocks : (x : ℕ) (bb : BasicBlock) → lookup x c.blocks ≡ some bb → BlockLimits (count c) bb
 
 -- what there is, is what was asked for
-pub ok-some : {A : Type 0} (e : ℕ) (o : Option A) (a : A) → okOr e o ≡ ok a → o ≡ some a
-unfolding okOr
-ok-some e none a h = err-no-ok e a h
-ok-some e (some x) a h = let q : x ≡ a = cc in ap some q
+pub ok_some : {A : Type 0} (e : ℕ) (o : Option A) (a : A) → ok_or e o ≡ ok a → o ≡ some a
+unfolding ok_or
+ok_some e none a h = err_no_ok e a h
+ok_some e (some x) a h = let q : x ≡ a = cc in ap some q
 
 module _ (names : List (List ℕ)) (b : Book) where
-  all-cond : (t : Bool) (ls ms : List Line) → AllAllowed names b ls → AllAllowed names b ms → AllAllowed names b (cond t ls ms)
-  all-cond true ls ms p q = p
-  all-cond false ls ms p q = q
+  all_cond : (t : Bool) (ls ms : List Line) → AllAllowed names b ls → AllAllowed names b ms → AllAllowed names b (cond t ls ms)
+  all_cond true ls ms p q = p
+  all_cond false ls ms p q = q
 
-  trunc-lines : (w : ℕ) → AllAllowed names b (truncLines w)
-  unfolding truncLines allowed
-  trunc-lines w =
-      all-cond (eqb w 1) _ _ (AllAllowed.one refl (AllAllowed.one refl AllAllowed.none))
-      (all-cond (eqb w 8) _ _ (AllAllowed.one refl AllAllowed.none)
-      (all-cond (eqb w 16) _ _ (AllAllowed.one refl AllAllowed.none)
-      (all-cond (eqb w 32) _ _ (AllAllowed.one refl AllAllowed.none) AllAllowed.none)))
+  trunc_lines_lem : (w : ℕ) → AllAllowed names b (trunc_lines w)
+  unfolding trunc_lines allowed
+  trunc_lines_lem w =
+      all_cond (eqb w 1) _ _ (AllAllowed.one refl (AllAllowed.one refl AllAllowed.none))
+      (all_cond (eqb w 8) _ _ (AllAllowed.one refl AllAllowed.none)
+      (all_cond (eqb w 16) _ _ (AllAllowed.one refl AllAllowed.none)
+      (all_cond (eqb w 32) _ _ (AllAllowed.one refl AllAllowed.none) AllAllowed.none)))
 
-  pub trunc-allows : (w : ℕ) → Allows names b (emitTruncTo w)
-  unfolding emitTruncTo
-  trunc-allows w = lines-allows names b (truncLines w) (trunc-lines w)
+  pub trunc_allows : (w : ℕ) → Allows names b (emit_trunc_to w)
+  unfolding emit_trunc_to
+  trunc_allows w = lines_allows names b (trunc_lines w) (trunc_lines_lem w)
 
-  sext-bit-allows : (to : ℕ) → Allows names b (sextBit to)
-  unfolding sextBit
-  sext-bit-allows to = search plain
+  sext_bit_allows : (to : ℕ) → Allows names b (sext_bit to)
+  unfolding sext_bit
+  sext_bit_allows to = search plain
 
-  sx32-allowed : (w : Work) (l : Line) → sx32To w ≡ some l → allowed names b l ≡ true
-  unfolding sx32To allowed
-  sx32-allowed Work.w32 l h = absurd (let z : ◌≡◌ {A = ℕ} 0 1 = cc in omega arith)
-  sx32-allowed Work.w64 l h = let q : Line.sx32 ≡ l = cc in rw (← q)
+  sx32_allowed : (w : Work) (l : Line) → sx32_to w ≡ some l → allowed names b l ≡ true
+  unfolding sx32_to allowed
+  sx32_allowed Work.w32 l h = absurd (let z : ◌≡◌ {A = ℕ} 0 1 = cc in omega arith)
+  sx32_allowed Work.w64 l h = let q : Line.sx32 ≡ l = cc in rw (← q)
 
-  sx-allowed : (from : ℕ) (w : Work) (l : Line) → sxLine from w ≡ some l → allowed names b l ≡ true
-  unfolding sxLine allowed
-  sx-allowed from w l h = go (eqb from 8) (eqb from 16) (eqb from 32) h
+  sx_allowed : (from : ℕ) (w : Work) (l : Line) → sx_line from w ≡ some l → allowed names b l ≡ true
+  unfolding sx_line allowed
+  sx_allowed from w l h = go (eqb from 8) (eqb from 16) (eqb from 32) h
     where
-      go : (x y z : Bool) → pick x (some (Line.sx8 w)) (pick y (some (Line.sx16 w)) (pick z (sx32To w) none)) ≡ some l → allowed names b l ≡ true
+      go : (x y z : Bool) → pick x (some (Line.sx8 w)) (pick y (some (Line.sx16 w)) (pick z (sx32_to w) none)) ≡ some l → allowed names b l ≡ true
       go true y z h = let q : Line.sx8 w ≡ l = cc in rw (← q)
       go false true z h = let q : Line.sx16 w ≡ l = cc in rw (← q)
-      go false false true h = sx32-allowed w l h
+      go false false true h = sx32_allowed w l h
       go false false false h = absurd (let z : ◌≡◌ {A = ℕ} 0 1 = cc in omega arith)
 
-  sext-more-allows : (from to : ℕ) → Allows names b (sextMore from to)
-  unfolding sextMore
-  sext-more-allows from to =
-      bind-allows names b _ _ (λ l h.
-      then-allows names b _ _ (line-allows names b l (sx-allowed from (workOf to) l (ok-some 13 _ l h))) (when-allows names b _ _ (trunc-allows to)))
+  sext_more_allows : (from to : ℕ) → Allows names b (sext_more from to)
+  unfolding sext_more
+  sext_more_allows from to =
+      bind_allows names b _ _ (λ l h.
+      then_allows names b _ _ (line_allows names b l (sx_allowed from (work_of to) l (ok_some 13 _ l h))) (when_allows names b _ _ (trunc_allows to)))
 
-  pub sext-allows : (from to : ℕ) → Allows names b (emitSext from to)
-  unfolding emitSext
-  sext-allows from to = choose-allows names b _ _ _ (λ h. sext-bit-allows to) (sext-more-allows from to)
+  pub sext_allows : (from to : ℕ) → Allows names b (emit_sext from to)
+  unfolding emit_sext
+  sext_allows from to = choose_allows names b _ _ _ (λ h. sext_bit_allows to) (sext_more_allows from to)
 
-  pub int-allows : (v w : ℕ) → Allows names b (pushInt v w)
-  unfolding pushInt
-  int-allows v w = search plain
+  pub int_allows : (v w : ℕ) → Allows names b (push_int v w)
+  unfolding push_int
+  int_allows v w = search plain
 
-  pub add-allows : Allows names b add64
+  pub add_allows : Allows names b add64
   unfolding add64
-  add-allows = search plain
+  add_allows = search plain
 
-  pub mul-allows : Allows names b mul64
+  pub mul_allows : Allows names b mul64
   unfolding mul64
-  mul-allows = search plain
+  mul_allows = search plain
 
 module _ (b : Book) (c : FnCtx) (w : Within c) where
   abbrev pub Fine : Gen → Type 0
@@ -100,62 +100,62 @@ module _ (b : Book) (c : FnCtx) (w : Within c) where
   ns = c.codegen.names
 
   -- ---- lines over slots and names
-  pub get-slot : (s : ℕ) → s ≤ 65535 → Fine (line (Line.getLocal s))
+  pub get_slot : (s : ℕ) → s ≤ 65535 → Fine (line (Line.get_local s))
   unfolding allowed
-  get-slot s h = line-allows ns b _ (le-leb s 65535 h)
+  get_slot s h = line_allows ns b _ (le-leb s 65535 h)
 
-  pub set-slot : (s : ℕ) → s ≤ 65535 → Fine (line (Line.setLocal s))
+  pub set_slot : (s : ℕ) → s ≤ 65535 → Fine (line (Line.set_local s))
   unfolding allowed
-  set-slot s h = line-allows ns b _ (le-leb s 65535 h)
+  set_slot s h = line_allows ns b _ (le-leb s 65535 h)
 
-  pub base-line : Fine (line (Line.getLocal c.bpSlot))
-  base-line = get-slot c.bpSlot w.base
+  pub base_line : Fine (line (Line.get_local c.bp_slot))
+  base_line = get_slot c.bp_slot w.base
 
-  pub set-base : Fine (line (Line.setLocal c.bpSlot))
-  set-base = set-slot c.bpSlot w.base
+  pub set_base : Fine (line (Line.set_local c.bp_slot))
+  set_base = set_slot c.bp_slot w.base
 
-  pub is_name : (x : ℕ) → x < count c → isName ns b x ≡ true
-  unfolding isName
-  is_name x h = lt-ltb x (count c) h
+  pub is_name_lem : (x : ℕ) → x < count c → is_name ns b x ≡ true
+  unfolding is_name
+  is_name_lem x h = lt-ltb x (count c) h
 
   -- ---- operands
-  local-allowed : (arg slot : Option ℕ) (l : Line) → ((s : ℕ) → slot ≡ some s → s < 65535) → localLine arg slot ≡ ok l → allowed ns b l ≡ true
-  unfolding localLine allowed
-  local-allowed (some i) slot l k h = let q : Line.getArg i ≡ l = cc in rw (← q)
-  local-allowed none (some s) l k h =
-      let q : Line.getLocal s ≡ l = cc in
+  local_allowed : (arg slot : Option ℕ) (l : Line) → ((s : ℕ) → slot ≡ some s → s < 65535) → local_line arg slot ≡ ok l → allowed ns b l ≡ true
+  unfolding local_line allowed
+  local_allowed (some i) slot l k h = let q : Line.get_arg i ≡ l = cc in rw (← q)
+  local_allowed none (some s) l k h =
+      let q : Line.get_local s ≡ l = cc in
       let p = k s refl in
       rw (← q) (le-leb s 65535 (omega arith))
-  local-allowed none none l k h = err-no-ok 10 l h
+  local_allowed none none l k h = err_no_ok 10 l h
 
-  pub push-allows : (v : Value) (wd : ℕ) → ValueLimits (count c) v → Fine (pushValue c v wd)
-  unfolding pushValue allowed
-  push-allows (Value.local x) wd k =
-      bind-allows ns b _ _ (λ l h. line-allows ns b l (local-allowed (lookup x c.params) (lookup x c.slots) l (λ s e. w.slots x s e) h))
-  push-allows (Value.int v) wd k = int-allows ns b v wd
-  push-allows (Value.zero z) wd k = search plain
-  push-allows (Value.global x) wd k = line-allows ns b _ (is_name x k)
-  push-allows Value.other wd k = search plain
+  pub push_allows : (v : Value) (wd : ℕ) → ValueLimits (count c) v → Fine (push_value c v wd)
+  unfolding push_value allowed
+  push_allows (Value.local x) wd k =
+      bind_allows ns b _ _ (λ l h. line_allows ns b l (local_allowed (lookup x c.params) (lookup x c.slots) l (λ s e. w.slots x s e) h))
+  push_allows (Value.int v) wd k = int_allows ns b v wd
+  push_allows (Value.zero z) wd k = search plain
+  push_allows (Value.global x) wd k = line_allows ns b _ (is_name_lem x k)
+  push_allows Value.other wd k = search plain
 
-  pub typed-allows : (ty : Ty) (v : Value) → ValueLimits (count c) v → Fine (pushTyped c ty v)
-  unfolding pushTyped
-  typed-allows ty v k = any-allows ns b _ _ (λ wd. push-allows v wd k)
+  pub typed_allows : (ty : Ty) (v : Value) → ValueLimits (count c) v → Fine (push_typed c ty v)
+  unfolding push_typed
+  typed_allows ty v k = any_allows ns b _ _ (λ wd. push_allows v wd k)
 
   -- a result's slot
-  named-below : (d : Option ℕ) (s : ℕ) → named d c.slots ≡ some s → s < 65535
+  named_below : (d : Option ℕ) (s : ℕ) → named d c.slots ≡ some s → s < 65535
   unfolding named
-  named-below none s h = absurd (let z : ◌≡◌ {A = ℕ} 0 1 = cc in omega arith)
-  named-below (some x) s h = w.slots x s h
+  named_below none s h = absurd (let z : ◌≡◌ {A = ℕ} 0 1 = cc in omega arith)
+  named_below (some x) s h = w.slots x s h
 
-  pub slot-below : (d : Option ℕ) (s : ℕ) → slot_of c d ≡ ok s → s < 65535
+  pub slot_below : (d : Option ℕ) (s : ℕ) → slot_of c d ≡ ok s → s < 65535
   unfolding slot_of
-  slot-below d s h = named-below d s (ok-some 5 _ s h)
+  slot_below d s h = named_below d s (ok_some 5 _ s h)
 
-  pub dest-allows : (d : Option ℕ) → Fine (storeDest c d)
-  unfolding storeDest
-  dest-allows d = bind-allows ns b _ _ (λ s h. let p = slot-below d s h in set-slot s (omega arith))
+  pub dest_allows : (d : Option ℕ) → Fine (store_dest c d)
+  unfolding store_dest
+  dest_allows d = bind_allows ns b _ _ (λ s h. let p = slot_below d s h in set_slot s (omega arith))
 
-  pub pop-allows : (d : Option ℕ) → Fine (storeOrPop c d)
-  unfolding storeOrPop
-  pop-allows none = search plain
-  pop-allows (some x) = dest-allows (some x)
+  pub pop_allows : (d : Option ℕ) → Fine (store_or_pop c d)
+  unfolding store_or_pop
+  pop_allows none = search plain
+  pop_allows (some x) = dest_allows (some x)

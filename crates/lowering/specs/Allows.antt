@@ -6,7 +6,7 @@ use Rattle.std.proofs.Math.Bool.{true, false}
 use Rattle.std.proofs.Math.Option.{none}
 use mathlib.Core.List.{List, [], ◌∷◌, ◌++◌}
 use Rattle.book.specs.Ast.{BinOp, ICmpPred, Book}
-use Rattle.book.specs.Result.{Result, ok, err, bind, err-no-ok, bind_ok}
+use Rattle.book.specs.Result.{Result, ok, err, bind, err_no_ok, bind_ok}
 use Rattle.book.specs.Limits.{Each}
 use Rattle.assembly.specs.Line.{Line, Work, Mem, Hint}
 use Rattle.assembly.specs.Number.{allowed}
@@ -26,33 +26,33 @@ module _ (names : List (List ℕ)) (b : Book) where
   all_append (AllAllowed.one h p) q = AllAllowed.one h (all_append p q)
 
   -- ---- the ways of generating
-  pub lines-allows : (ls : List Line) → AllAllowed names b ls → Allows (lines ls)
+  pub lines_allows : (ls : List Line) → AllAllowed names b ls → Allows (lines ls)
   unfolding lines lines_of
-  lines-allows ls p = record { allows = λ n o h. subst (AllAllowed names b) (ap lines_of h) p }
+  lines_allows ls p = record { allows = λ n o h. subst (AllAllowed names b) (ap lines_of h) p }
 
-  pub line-allows : (l : Line) → allowed names b l ≡ true → Allows (line l)
+  pub line_allows : (l : Line) → allowed names b l ≡ true → Allows (line l)
   unfolding line
-  line-allows l h = lines-allows (l ∷ []) (AllAllowed.one h AllAllowed.none)
+  line_allows l h = lines_allows (l ∷ []) (AllAllowed.one h AllAllowed.none)
 
-  pub skip-allows : Allows skip
+  pub skip_allows : Allows skip
   unfolding skip
-  skip-allows = lines-allows [] AllAllowed.none
+  skip_allows = lines_allows [] AllAllowed.none
 
-  pub refuse-allows : (e : ℕ) → Allows (refuse e)
+  pub refuse_allows : (e : ℕ) → Allows (refuse e)
   unfolding refuse
-  refuse-allows e = record { allows = λ n o h. err-no-ok e o h }
+  refuse_allows e = record { allows = λ n o h. err_no_ok e o h }
 
-  pub bind-allows : {A : Type 0} (r : Result A) (g : A → Gen) → ((a : A) → r ≡ ok a → Allows (g a)) → Allows (r >>= g)
+  pub bind_allows : {A : Type 0} (r : Result A) (g : A → Gen) → ((a : A) → r ≡ ok a → Allows (g a)) → Allows (r >>= g)
   unfolding ◌>>=◌
-  bind-allows r g t = record { allows = λ n o h. let x = bind_ok r (λ a. g a n) o h in (t x.0 x.1).allows n o x.2 }
+  bind_allows r g t = record { allows = λ n o h. let x = bind_ok r (λ a. g a n) o h in (t x.0 x.1).allows n o x.2 }
 
-  pub any-allows : {A : Type 0} (r : Result A) (g : A → Gen) → ((a : A) → Allows (g a)) → Allows (r >>= g)
-  any-allows r g t = bind-allows r g (λ a h. t a)
+  pub any_allows : {A : Type 0} (r : Result A) (g : A → Gen) → ((a : A) → Allows (g a)) → Allows (r >>= g)
+  any_allows r g t = bind_allows r g (λ a h. t a)
 
   -- what stands behind a test that refuses may count on it
-  pub then-when : (g h : Gen) → Allows g → ((n : ℕ) (o : Out) → g n ≡ ok o → Allows h) → Allows (g >> h)
+  pub then_when : (g h : Gen) → Allows g → ((n : ℕ) (o : Out) → g n ≡ ok o → Allows h) → Allows (g >> h)
   unfolding ◌>>◌ after
-  then-when g h s t = record { allows = go }
+  then_when g h s t = record { allows = go }
     where
       go : (n : ℕ) (o : Out) → bind (g n) (λ p. bind (h p.next) (λ q. ok (after p.lines q))) ≡ ok o → AllAllowed names b o.lines
       go n o e =
@@ -61,141 +61,141 @@ module _ (names : List (List ℕ)) (b : Book) where
           let c : after x.0.lines y.0 ≡ o = cc y.2 in
           subst (λ (z : Out). AllAllowed names b z.lines) c (all_append (s.allows n x.0 x.1) ((t n x.0 x.1).allows x.0.next y.0 y.1))
 
-  pub then-allows : (g h : Gen) → Allows g → Allows h → Allows (g >> h)
-  then-allows g h s t = then-when g h s (λ n o e. t)
+  pub then_allows : (g h : Gen) → Allows g → Allows h → Allows (g >> h)
+  then_allows g h s t = then_when g h s (λ n o e. t)
 
-  pub guard-allows : (t : Bool) (e : ℕ) (h : Gen) → (t ≡ false → Allows h) → Allows (when t (refuse e) >> h)
+  pub guard_allows : (t : Bool) (e : ℕ) (h : Gen) → (t ≡ false → Allows h) → Allows (when t (refuse e) >> h)
   unfolding when refuse
-  guard-allows true e h k = then-when (refuse e) h (refuse-allows e) (λ n o q. err-no-ok e o q)
-  guard-allows false e h k = then-allows skip h skip-allows (k refl)
+  guard_allows true e h k = then_when (refuse e) h (refuse_allows e) (λ n o q. err_no_ok e o q)
+  guard_allows false e h k = then_allows skip h skip_allows (k refl)
 
-  pub when-allows : (t : Bool) (g : Gen) → Allows g → Allows (when t g)
+  pub when_allows : (t : Bool) (g : Gen) → Allows g → Allows (when t g)
   unfolding when
-  when-allows true g k = k
-  when-allows false g k = skip-allows
+  when_allows true g k = k
+  when_allows false g k = skip_allows
 
   pub when_true : (t : Bool) (g : Gen) → (t ≡ true → Allows g) → Allows (when t g)
   unfolding when
   when_true true g k = k refl
-  when_true false g k = skip-allows
+  when_true false g k = skip_allows
 
-  pub choose-allows : (t : Bool) (g h : Gen) → (t ≡ true → Allows g) → Allows h → Allows (choose t g h)
+  pub choose_allows : (t : Bool) (g h : Gen) → (t ≡ true → Allows g) → Allows h → Allows (choose t g h)
   unfolding choose
-  choose-allows true g h s k = s refl
-  choose-allows false g h s k = k
+  choose_allows true g h s k = s refl
+  choose_allows false g h s k = k
 
-  pub fresh-allows : (g : ℕ → Gen) → ((l : ℕ) → Allows (g l)) → Allows (fresh g)
+  pub fresh_allows : (g : ℕ → Gen) → ((l : ℕ) → Allows (g l)) → Allows (fresh g)
   unfolding fresh
-  fresh-allows g t = record { allows = λ n o h. (t n).allows (suc n) o h }
+  fresh_allows g t = record { allows = λ n o h. (t n).allows (suc n) o h }
 
-  pub reserve-allows : (j : ℕ) (g : ℕ → Gen) → ((l : ℕ) → Allows (g l)) → Allows (reserve j g)
+  pub reserve_allows : (j : ℕ) (g : ℕ → Gen) → ((l : ℕ) → Allows (g l)) → Allows (reserve j g)
   unfolding reserve
-  reserve-allows j g t = record { allows = λ n o h. (t n).allows (n + j) o h }
+  reserve_allows j g t = record { allows = λ n o h. (t n).allows (n + j) o h }
 
-  pub each-allows : {A : Type 0} (P : A → Type 0) (f : A → Gen) → ((x : A) → P x → Allows (f x)) → (xs : List A) → Each P xs → Allows (each f xs)
+  pub each_allows : {A : Type 0} (P : A → Type 0) (f : A → Gen) → ((x : A) → P x → Allows (f x)) → (xs : List A) → Each P xs → Allows (each f xs)
   unfolding each
-  each-allows P f t [] p = skip-allows
-  each-allows P f t (x ∷ xs) p = then-allows (f x) (each f xs) (t x p.0) (each-allows P f t xs p.1)
+  each_allows P f t [] p = skip_allows
+  each_allows P f t (x ∷ xs) p = then_allows (f x) (each f xs) (t x p.0) (each_allows P f t xs p.1)
 
   -- ---- a line, and behind it lines that are all allowed
   pub record Opened (l : Line) (ls : List Line) : Type 0 where
     pub rest : List Line
     pub begins : ls ≡ l ∷ rest
-    pub allowed-rest : AllAllowed names b rest
+    pub allowed_rest : AllAllowed names b rest
 
   pub record Opens (l : Line) (g : Gen) : Type 0 where
     pub opens : (n : ℕ) (o : Out) → g n ≡ ok o → Opened l o.lines
 
-  pub line-opens : (l : Line) (h : Gen) → Allows h → Opens l (line l >> h)
+  pub line_opens : (l : Line) (h : Gen) → Allows h → Opens l (line l >> h)
   unfolding ◌>>◌ line lines after bind lines_of
-  line-opens l h s = record {
+  line_opens l h s = record {
     opens = λ n o e.
         let x = bind_ok (h n) (λ q. ok (after (l ∷ []) q)) o e in
-        record { rest = x.0.lines; begins = sym (ap lines_of x.2); allowed-rest = s.allows n x.0 x.1 };
+        record { rest = x.0.lines; begins = sym (ap lines_of x.2); allowed_rest = s.allows n x.0 x.1 };
   }
 
-  pub bind-opens : {A : Type 0} (l : Line) (r : Result A) (g : A → Gen) → ((a : A) → Opens l (g a)) → Opens l (r >>= g)
+  pub bind_opens : {A : Type 0} (l : Line) (r : Result A) (g : A → Gen) → ((a : A) → Opens l (g a)) → Opens l (r >>= g)
   unfolding ◌>>=◌
-  bind-opens l r g t = record { opens = λ n o h. let x = bind_ok r (λ a. g a n) o h in (t x.0).opens n o x.2 }
+  bind_opens l r g t = record { opens = λ n o h. let x = bind_ok r (λ a. g a n) o h in (t x.0).opens n o x.2 }
 
-  pub opens-allows : (l : Line) (g : Gen) → allowed names b l ≡ true → Opens l g → Allows g
-  opens-allows l g h s = record {
+  pub opens_allows : (l : Line) (g : Gen) → allowed names b l ≡ true → Opens l g → Allows g
+  opens_allows l g h s = record {
     allows = λ n o e.
         let x = s.opens n o e in
-        subst (AllAllowed names b) (sym x.begins) (AllAllowed.one h x.allowed-rest);
+        subst (AllAllowed names b) (sym x.begins) (AllAllowed.one h x.allowed_rest);
   }
 
   -- ---- lines that are allowed whatever they say
-  pub push-line : (n : ℕ) → Allows (line (Line.push n))
+  pub push_line : (n : ℕ) → Allows (line (Line.push n))
   unfolding allowed
-  push-line n = line-allows _ refl
+  push_line n = line_allows _ refl
 
-  pub label-line : (h : Hint) (n : ℕ) → Allows (line (Line.label h n))
+  pub label_line : (h : Hint) (n : ℕ) → Allows (line (Line.label h n))
   unfolding allowed
-  label-line h n = line-allows _ refl
+  label_line h n = line_allows _ refl
 
-  pub jump-line : (h : Hint) (n : ℕ) → Allows (line (Line.jump h n))
+  pub jump_line : (h : Hint) (n : ℕ) → Allows (line (Line.jump h n))
   unfolding allowed
-  jump-line h n = line-allows _ refl
+  jump_line h n = line_allows _ refl
 
   pub bin_line : (op : BinOp) (w : Work) → Allows (line (Line.bin op w))
   unfolding allowed
-  bin_line op w = line-allows _ refl
+  bin_line op w = line_allows _ refl
 
-  pub icmp-line : (p : ICmpPred) (w : Work) → Allows (line (Line.icmp p w))
+  pub icmp_line : (p : ICmpPred) (w : Work) → Allows (line (Line.icmp p w))
   unfolding allowed
-  icmp-line p w = line-allows _ refl
+  icmp_line p w = line_allows _ refl
 
   pub load_line : (m : Mem) → Allows (line (Line.load m))
   unfolding allowed
-  load_line m = line-allows _ refl
+  load_line m = line_allows _ refl
 
   pub store_line : (m : Mem) → Allows (line (Line.store m))
   unfolding allowed
-  store_line m = line-allows _ refl
+  store_line m = line_allows _ refl
 
-  pub atomic-load-line : Allows (line Line.atomicLoad)
+  pub atomic_load_line : Allows (line Line.atomic_load)
   unfolding allowed
-  atomic-load-line = line-allows _ refl
+  atomic_load_line = line_allows _ refl
 
-  pub atomic-store-line : Allows (line Line.atomicStore)
+  pub atomic_store_line : Allows (line Line.atomic_store)
   unfolding allowed
-  atomic-store-line = line-allows _ refl
+  atomic_store_line = line_allows _ refl
 
-  pub atomic-cas-line : Allows (line Line.atomicCas)
+  pub atomic_cas_line : Allows (line Line.atomic_cas)
   unfolding allowed
-  atomic-cas-line = line-allows _ refl
+  atomic_cas_line = line_allows _ refl
 
-  pub memcmp-line : Allows (line Line.sysMemcmp)
+  pub memcmp_line : Allows (line Line.sys_memcmp)
   unfolding allowed
-  memcmp-line = line-allows _ refl
+  memcmp_line = line_allows _ refl
 
-  pub dup-line : Allows (line Line.dup)
+  pub dup_line : Allows (line Line.dup)
   unfolding allowed
-  dup-line = line-allows _ refl
+  dup_line = line_allows _ refl
 
-  pub pop-line : Allows (line Line.pop)
+  pub pop_line : Allows (line Line.pop)
   unfolding allowed
-  pop-line = line-allows _ refl
+  pop_line = line_allows _ refl
 
-  pub ret-line : Allows (line Line.ret)
+  pub ret_line : Allows (line Line.ret)
   unfolding allowed
-  ret-line = line-allows _ refl
+  ret_line = line_allows _ refl
 
-  pub panic-line : Allows (line Line.panic)
+  pub panic_line : Allows (line Line.panic)
   unfolding allowed
-  panic-line = line-allows _ refl
+  panic_line = line_allows _ refl
 
-  pub get-line : Allows (line Line.threadGet)
+  pub get_line : Allows (line Line.thread_get)
   unfolding allowed
-  get-line = line-allows _ refl
+  get_line = line_allows _ refl
 
-  pub set_line : Allows (line Line.threadSet)
+  pub set_line_lem : Allows (line Line.thread_set)
   unfolding allowed
-  set_line = line-allows _ refl
+  set_line_lem = line_allows _ refl
 
-  pub blank-line : Allows (line Line.blank)
+  pub blank_line : Allows (line Line.blank)
   unfolding allowed
-  blank-line = line-allows _ refl
+  blank_line = line_allows _ refl
 
-pub ruleset plain = (any-allows, then-allows, when-allows, skip-allows, refuse-allows, push-line, label-line, jump-line, bin_line, icmp-line, load_line, store_line, atomic-load-line, atomic-store-line, atomic-cas-line, memcmp-line, dup-line, pop-line, ret-line, panic-line, get-line, set_line, blank-line)
+pub ruleset plain = (any_allows, then_allows, when_allows, skip_allows, refuse_allows, push_line, label_line, jump_line, bin_line, icmp_line, load_line, store_line, atomic_load_line, atomic_store_line, atomic_cas_line, memcmp_line, dup_line, pop_line, ret_line, panic_line, get_line, set_line_lem, blank_line)

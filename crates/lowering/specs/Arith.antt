@@ -6,123 +6,123 @@ use Rattle.layout.specs.Layout.{size_of}
 use Rattle.assembly.specs.Line.{Line, Hint}
 use Rattle.lowering.specs.Gen.{Gen, line, skip, ◌>>=◌, ◌>>◌, when, fresh}
 use Rattle.lowering.specs.Context.{FnCtx}
-use Rattle.lowering.specs.Operand.{intWidth, workBits, workOf, emitTruncTo, emitSext, pushValue, pushTyped}
+use Rattle.lowering.specs.Operand.{int_width, work_bits, work_of, emit_trunc_to, emit_sext, push_value, push_typed}
 
 -- "sdiv, srem and signed icmp extend both sides, ashr the left only"
-unfoldable pub signedLeft : BinOp → Bool
-signedLeft BinOp.sdiv = true
-signedLeft BinOp.srem = true
-signedLeft BinOp.ashr = true
-signedLeft BinOp.add = false
-signedLeft BinOp.sub = false
-signedLeft BinOp.mul = false
-signedLeft BinOp.udiv = false
-signedLeft BinOp.urem = false
-signedLeft BinOp.and = false
-signedLeft BinOp.or = false
-signedLeft BinOp.xor = false
-signedLeft BinOp.shl = false
-signedLeft BinOp.lshr = false
+unfoldable pub signed_left : BinOp → Bool
+signed_left BinOp.sdiv = true
+signed_left BinOp.srem = true
+signed_left BinOp.ashr = true
+signed_left BinOp.add = false
+signed_left BinOp.sub = false
+signed_left BinOp.mul = false
+signed_left BinOp.udiv = false
+signed_left BinOp.urem = false
+signed_left BinOp.and = false
+signed_left BinOp.or = false
+signed_left BinOp.xor = false
+signed_left BinOp.shl = false
+signed_left BinOp.lshr = false
 
-unfoldable pub signedRight : BinOp → Bool
-signedRight BinOp.sdiv = true
-signedRight BinOp.srem = true
-signedRight BinOp.ashr = false
-signedRight BinOp.add = false
-signedRight BinOp.sub = false
-signedRight BinOp.mul = false
-signedRight BinOp.udiv = false
-signedRight BinOp.urem = false
-signedRight BinOp.and = false
-signedRight BinOp.or = false
-signedRight BinOp.xor = false
-signedRight BinOp.shl = false
-signedRight BinOp.lshr = false
+unfoldable pub signed_right : BinOp → Bool
+signed_right BinOp.sdiv = true
+signed_right BinOp.srem = true
+signed_right BinOp.ashr = false
+signed_right BinOp.add = false
+signed_right BinOp.sub = false
+signed_right BinOp.mul = false
+signed_right BinOp.udiv = false
+signed_right BinOp.urem = false
+signed_right BinOp.and = false
+signed_right BinOp.or = false
+signed_right BinOp.xor = false
+signed_right BinOp.shl = false
+signed_right BinOp.lshr = false
 
-unfoldable pub signedPred : ICmpPred → Bool
-signedPred ICmpPred.eq = false
-signedPred ICmpPred.ne = false
-signedPred ICmpPred.ugt = false
-signedPred ICmpPred.uge = false
-signedPred ICmpPred.ult = false
-signedPred ICmpPred.ule = false
-signedPred ICmpPred.sgt = true
-signedPred ICmpPred.sge = true
-signedPred ICmpPred.slt = true
-signedPred ICmpPred.sle = true
+unfoldable pub signed_pred : ICmpPred → Bool
+signed_pred ICmpPred.eq = false
+signed_pred ICmpPred.ne = false
+signed_pred ICmpPred.ugt = false
+signed_pred ICmpPred.uge = false
+signed_pred ICmpPred.ult = false
+signed_pred ICmpPred.ule = false
+signed_pred ICmpPred.sgt = true
+signed_pred ICmpPred.sge = true
+signed_pred ICmpPred.slt = true
+signed_pred ICmpPred.sle = true
 
 -- `emit_conv_op`
-unfoldable pub emitConvOp : ConvOp → (fw tw : ℕ) → Gen
-emitConvOp ConvOp.trunc fw tw = emitTruncTo tw
-emitConvOp ConvOp.zext fw tw = skip
-emitConvOp ConvOp.sext fw tw = emitSext fw tw
-emitConvOp ConvOp.ptrToInt fw tw = when (ltb tw 64) (emitTruncTo tw)
-emitConvOp ConvOp.intToPtr fw tw = skip
-emitConvOp ConvOp.bitCast fw tw = skip
+unfoldable pub emit_conv_op : ConvOp → (fw tw : ℕ) → Gen
+emit_conv_op ConvOp.trunc fw tw = emit_trunc_to tw
+emit_conv_op ConvOp.zext fw tw = skip
+emit_conv_op ConvOp.sext fw tw = emit_sext fw tw
+emit_conv_op ConvOp.ptr_to_int fw tw = when (ltb tw 64) (emit_trunc_to tw)
+emit_conv_op ConvOp.int_to_ptr fw tw = skip
+emit_conv_op ConvOp.bit_cast fw tw = skip
 
 -- the width of a type that has one, else 8 bits for each byte
-unfoldable pub widthOr : Result ℕ → (size : ℕ) → ℕ
-widthOr (ok w) size = w
-widthOr (err e) size = size * 8
+unfoldable pub width_or : Result ℕ → (size : ℕ) → ℕ
+width_or (ok w) size = w
+width_or (err e) size = size * 8
 
 module _ (c : FnCtx) where
   -- `gen_bin`: "Bin and icmp work at 32 or 64", "Bin results under 32 are truncated"
-  unfoldable pub genBin : BinOp → Ty → (lhs rhs : Value) → Gen
-  genBin op ty lhs rhs = do
-    w ← intWidth ty
-    pushValue c lhs w
-    when (signedLeft op && ltb w (workBits w)) (emitSext w (workBits w))
-    pushValue c rhs w
-    when (signedRight op && ltb w (workBits w)) (emitSext w (workBits w))
-    line (Line.bin op (workOf w))
-    when (ltb w 32) (emitTruncTo w)
+  unfoldable pub gen_bin : BinOp → Ty → (lhs rhs : Value) → Gen
+  gen_bin op ty lhs rhs = do
+    w ← int_width ty
+    push_value c lhs w
+    when (signed_left op && ltb w (work_bits w)) (emit_sext w (work_bits w))
+    push_value c rhs w
+    when (signed_right op && ltb w (work_bits w)) (emit_sext w (work_bits w))
+    line (Line.bin op (work_of w))
+    when (ltb w 32) (emit_trunc_to w)
 
   -- `gen_icmp`
-  unfoldable pub genIcmp : ICmpPred → Ty → (lhs rhs : Value) → Gen
-  genIcmp pred ty lhs rhs = do
-    w ← intWidth ty
-    pushValue c lhs w
-    when (signedPred pred && ltb w (workBits w)) (emitSext w (workBits w))
-    pushValue c rhs w
-    when (signedPred pred && ltb w (workBits w)) (emitSext w (workBits w))
-    line (Line.icmp pred (workOf w))
+  unfoldable pub gen_icmp : ICmpPred → Ty → (lhs rhs : Value) → Gen
+  gen_icmp pred ty lhs rhs = do
+    w ← int_width ty
+    push_value c lhs w
+    when (signed_pred pred && ltb w (work_bits w)) (emit_sext w (work_bits w))
+    push_value c rhs w
+    when (signed_pred pred && ltb w (work_bits w)) (emit_sext w (work_bits w))
+    line (Line.icmp pred (work_of w))
 
   -- `gen_conv`: a bitcast asks for no target width
-  unfoldable pub genWidths : ConvOp → Ty → Value → Ty → Gen
-  genWidths op fromTy val toTy = do
-    fw ← intWidth fromTy
-    tw ← intWidth toTy
-    pushValue c val fw
-    emitConvOp op fw tw
+  unfoldable pub gen_widths : ConvOp → Ty → Value → Ty → Gen
+  gen_widths op fromTy val toTy = do
+    fw ← int_width fromTy
+    tw ← int_width toTy
+    push_value c val fw
+    emit_conv_op op fw tw
 
-  unfoldable pub genConv : ConvOp → Ty → Value → Ty → Gen
-  genConv ConvOp.bitCast fromTy val toTy = pushTyped c fromTy val
-  genConv ConvOp.trunc fromTy val toTy = genWidths ConvOp.trunc fromTy val toTy
-  genConv ConvOp.zext fromTy val toTy = genWidths ConvOp.zext fromTy val toTy
-  genConv ConvOp.sext fromTy val toTy = genWidths ConvOp.sext fromTy val toTy
-  genConv ConvOp.ptrToInt fromTy val toTy = genWidths ConvOp.ptrToInt fromTy val toTy
-  genConv ConvOp.intToPtr fromTy val toTy = genWidths ConvOp.intToPtr fromTy val toTy
+  unfoldable pub gen_conv : ConvOp → Ty → Value → Ty → Gen
+  gen_conv ConvOp.bit_cast fromTy val toTy = push_typed c fromTy val
+  gen_conv ConvOp.trunc fromTy val toTy = gen_widths ConvOp.trunc fromTy val toTy
+  gen_conv ConvOp.zext fromTy val toTy = gen_widths ConvOp.zext fromTy val toTy
+  gen_conv ConvOp.sext fromTy val toTy = gen_widths ConvOp.sext fromTy val toTy
+  gen_conv ConvOp.ptr_to_int fromTy val toTy = gen_widths ConvOp.ptr_to_int fromTy val toTy
+  gen_conv ConvOp.int_to_ptr fromTy val toTy = gen_widths ConvOp.int_to_ptr fromTy val toTy
 
   -- `gen_select`
-  unfoldable pub genSelect : Value → Ty → (tval fval : Value) → Gen
-  genSelect cond ty tval fval = do
-    w ← intWidth ty
+  unfoldable pub gen_select : Value → Ty → (tval fval : Value) → Gen
+  gen_select cond ty tval fval = do
+    w ← int_width ty
     fresh λ lFalse. fresh λ lDone. do
-      pushValue c cond 1
-      line (Line.jump Hint.selFalse lFalse)
-      pushValue c tval w
-      line (Line.jump Hint.selDone lDone)
-      line (Line.label Hint.selFalse lFalse)
-      pushValue c fval w
-      line (Line.label Hint.selDone lDone)
+      push_value c cond 1
+      line (Line.jump Hint.sel_false lFalse)
+      push_value c tval w
+      line (Line.jump Hint.sel_done lDone)
+      line (Line.label Hint.sel_false lFalse)
+      push_value c fval w
+      line (Line.label Hint.sel_done lDone)
 
   -- `freeze` measures its type first, whatever it is
-  unfoldable pub genFreeze : Ty → Value → Gen
-  genFreeze ty val = do
+  unfoldable pub gen_freeze : Ty → Value → Gen
+  gen_freeze ty val = do
     size ← size_of c.codegen.structs ty
-    pushValue c val (widthOr (intWidth ty) size)
+    push_value c val (width_or (int_width ty) size)
 
 -- opens every definition of this file, for an example that computes
-unfoldable pub openArith : Unit {0}
-unfolding signedLeft signedRight signedPred emitConvOp widthOr genBin genIcmp genWidths genConv genSelect genFreeze
-openArith = tt
+unfoldable pub open_arith : Unit {0}
+unfolding signed_left signed_right signed_pred emit_conv_op width_or gen_bin gen_icmp gen_widths gen_conv gen_select gen_freeze
+open_arith = tt

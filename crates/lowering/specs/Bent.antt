@@ -1,7 +1,7 @@
 -- "Lowering that is easily bent": a small book for each sentence, from raw entries to text bytes: one table, one theorem.
 use Rattle.std.specs.Prelude.{◌≡◌, refl, List, [], ◌∷◌, map}
 use Rattle.assembly.specs.Cases.{unlines}
-use Rattle.lowering.specs.Sheet.{Sheet, Answer, answers, says_of, openSheet}
+use Rattle.lowering.specs.Sheet.{Sheet, Answer, answers, says_of, open_sheet}
 
 unfoldable pub bent : List Sheet
 bent =
@@ -225,6 +225,6 @@ bent =
     } ∷
     []
 
-pub bent-holds : map answers bent ≡ map says_of bent
-unfolding openSheet bent
-bent-holds = refl
+pub bent_holds : map answers bent ≡ map says_of bent
+unfolding open_sheet bent
+bent_holds = refl

@@ -4,7 +4,7 @@
 -- written by `compare written`, in whose notation each book stands over its row.
 use Rattle.std.specs.Prelude.{◌≡◌, refl, List, [], ◌∷◌, map}
 use Rattle.assembly.specs.Cases.{unlines}
-use Rattle.lowering.specs.Sheet.{Sheet, Answer, answers, says_of, openSheet}
+use Rattle.lowering.specs.Sheet.{Sheet, Answer, answers, says_of, open_sheet}
 
 unfoldable pub chains : List Sheet
 chains =
@@ -471,6 +471,6 @@ chains =
     } ∷
     []
 
-pub chains-hold : map answers chains ≡ map says_of chains
-unfolding openSheet chains
-chains-hold = refl
+pub chains_hold : map answers chains ≡ map says_of chains
+unfolding open_sheet chains
+chains_hold = refl

@@ -3,7 +3,7 @@
 -- written by `compare written`, in whose notation each book stands over its row.
 use Rattle.std.specs.Prelude.{◌≡◌, refl, List, [], ◌∷◌, map}
 use Rattle.assembly.specs.Cases.{unlines}
-use Rattle.lowering.specs.Sheet.{Sheet, Answer, answers, says_of, openSheet}
+use Rattle.lowering.specs.Sheet.{Sheet, Answer, answers, says_of, open_sheet}
 
 unfoldable pub corners : List Sheet
 corners =
@@ -413,6 +413,6 @@ corners =
     } ∷
     []
 
-pub corners-hold : map answers corners ≡ map says_of corners
-unfolding openSheet corners
-corners-hold = refl
+pub corners_hold : map answers corners ≡ map says_of corners
+unfolding open_sheet corners
+corners_hold = refl

@@ -63,14 +63,14 @@ each f (x ∷ xs) = do
   each f xs
 
 -- opens every definition of this file, for an example that computes
-unfoldable pub openGen : Unit {0}
+unfoldable pub open_gen : Unit {0}
 unfolding lines line skip refuse after ◌>>=◌ ◌>>◌ when choose fresh reserve each
-openGen = tt
+open_gen = tt
 
 -- nothing behind g is g
-pub then-skip : (g : Gen) → (g >> skip) ≡ g
+pub then_skip : (g : Gen) → (g >> skip) ≡ g
 unfolding ◌>>◌ skip lines after bind
-then-skip g i n = go (g n) i
+then_skip g i n = go (g n) i
   where
     go : (r : Result Out) → bind r (λ p. bind (skip p.next) (λ q. ok (after p.lines q))) ≡ r
     go (ok p) = λ j. ok (record { lines = append-nil p.lines j; next = p.next })

@@ -1,21 +1,21 @@
 -- opens every definition that a translation is computed by: an example says `unfolding openLowering`
-use Rattle.layout.specs.Layout.{openLayout}
-use Rattle.layout.specs.Step.{openStep}
-use Rattle.assembly.specs.Open.{openAssembly}
-use Rattle.lowering.specs.Gen.{openGen}
-use Rattle.lowering.specs.Context.{openContext}
-use Rattle.lowering.specs.Operand.{openOperand}
-use Rattle.lowering.specs.Arith.{openArith}
-use Rattle.lowering.specs.Memory.{openMemory}
-use Rattle.lowering.specs.Gep.{openGep}
-use Rattle.lowering.specs.Call.{openCall}
-use Rattle.lowering.specs.Inst.{openInst}
-use Rattle.lowering.specs.Edge.{openEdge}
-use Rattle.lowering.specs.Term.{openTerm}
-use Rattle.layout.specs.Frame.{openFrame}
-use Rattle.lowering.specs.Function.{openFunction}
-use Rattle.lowering.specs.Translate.{openTranslate}
+use Rattle.layout.specs.Layout.{open_layout}
+use Rattle.layout.specs.Step.{open_step}
+use Rattle.assembly.specs.Open.{open_assembly}
+use Rattle.lowering.specs.Gen.{open_gen}
+use Rattle.lowering.specs.Context.{open_context}
+use Rattle.lowering.specs.Operand.{open_operand}
+use Rattle.lowering.specs.Arith.{open_arith}
+use Rattle.lowering.specs.Memory.{open_memory}
+use Rattle.lowering.specs.Gep.{open_gep}
+use Rattle.lowering.specs.Call.{open_call}
+use Rattle.lowering.specs.Inst.{open_inst}
+use Rattle.lowering.specs.Edge.{open_edge}
+use Rattle.lowering.specs.Term.{open_term}
+use Rattle.layout.specs.Frame.{open_frame}
+use Rattle.lowering.specs.Function.{open_function}
+use Rattle.lowering.specs.Translate.{open_translate}
 
-unfoldable pub openLowering : Unit {0}
-unfolding openLayout openStep openAssembly openGen openContext openOperand openArith openMemory openGep openCall openInst openEdge openTerm openFrame openFunction openTranslate
-openLowering = tt
+unfoldable pub open_lowering : Unit {0}
+unfolding open_layout open_step open_assembly open_gen open_context open_operand open_arith open_memory open_gep open_call open_inst open_edge open_term open_frame open_function open_translate
+open_lowering = tt

@@ -1,7 +1,7 @@
 -- Every operation, comparison, conversion and access, from raw entries to text bytes: one table, one theorem.
 use Rattle.std.specs.Prelude.{◌≡◌, refl, List, [], ◌∷◌, map}
 use Rattle.assembly.specs.Cases.{unlines}
-use Rattle.lowering.specs.Sheet.{Sheet, Answer, answers, says_of, openSheet}
+use Rattle.lowering.specs.Sheet.{Sheet, Answer, answers, says_of, open_sheet}
 
 unfoldable pub operations : List Sheet
 operations =
@@ -94,6 +94,6 @@ operations =
     } ∷
     []
 
-pub operations-hold : map answers operations ≡ map says_of operations
-unfolding openSheet operations
-operations-hold = refl
+pub operations_hold : map answers operations ≡ map says_of operations
+unfolding open_sheet operations
+operations_hold = refl

@@ -1,6 +1,6 @@
 -- Which of two faults is met first: "the first fault `Codegen::gen_function` meets in its own statement order". One table, one theorem.
 use Rattle.std.specs.Prelude.{◌≡◌, refl, List, [], ◌∷◌, map}
-use Rattle.lowering.specs.Sheet.{Sheet, Answer, answers, says_of, openSheet}
+use Rattle.lowering.specs.Sheet.{Sheet, Answer, answers, says_of, open_sheet}
 
 unfoldable pub orders : List Sheet
 orders =
@@ -186,6 +186,6 @@ orders =
     } ∷
     []
 
-pub orders-hold : map answers orders ≡ map says_of orders
-unfolding openSheet orders
-orders-hold = refl
+pub orders_hold : map answers orders ≡ map says_of orders
+unfolding open_sheet orders
+orders_hold = refl

@@ -3,7 +3,7 @@
 -- each book stands over its row.
 use Rattle.std.specs.Prelude.{◌^◌, ◌≡◌, refl, List, [], ◌∷◌, map}
 use Rattle.assembly.specs.Cases.{unlines}
-use Rattle.lowering.specs.Sheet.{Sheet, Answer, answersAt, answers, says_of, openSheet}
+use Rattle.lowering.specs.Sheet.{Sheet, Answer, answers_at, answers, says_of, open_sheet}
 
 unfoldable pub pieces : List Sheet
 pieces =
@@ -663,9 +663,9 @@ pieces =
     } ∷
     []
 
-pub pieces-hold : map answers pieces ≡ map says_of pieces
-unfolding openSheet pieces
-pieces-hold = refl
+pub pieces_hold : map answers pieces ≡ map says_of pieces
+unfolding open_sheet pieces
+pieces_hold = refl
 
 -- at the largest counter, so that only a later function begins above it
 unfoldable pub largest : List Sheet
@@ -694,6 +694,6 @@ largest =
     } ∷
     []
 
-pub largest-hold : map (answersAt (2 ^ 32)) largest ≡ map says_of largest
-unfolding openSheet largest
-largest-hold = refl
+pub largest_hold : map (answers_at (2 ^ 32)) largest ≡ map says_of largest
+unfolding open_sheet largest
+largest_hold = refl

@@ -1,6 +1,6 @@
 -- A small book for each refusal that a book alone shows, from raw entries: one table, one theorem.
 use Rattle.std.specs.Prelude.{◌≡◌, refl, List, [], ◌∷◌, map}
-use Rattle.lowering.specs.Sheet.{Sheet, Answer, answers, says_of, openSheet}
+use Rattle.lowering.specs.Sheet.{Sheet, Answer, answers, says_of, open_sheet}
 
 unfoldable pub refusals : List Sheet
 refusals =
@@ -270,6 +270,6 @@ refusals =
     } ∷
     []
 
-pub refusals-hold : map answers refusals ≡ map says_of refusals
-unfolding openSheet refusals
-refusals-hold = refl
+pub refusals_hold : map answers refusals ≡ map says_of refusals
+unfolding open_sheet refusals
+refusals_hold = refl

@@ -4,7 +4,7 @@ use Prim.Native.String.{String}
 use Rattle.assembly.specs.Printer.{Printed, print}
 use Rattle.assembly.specs.Cases.{unlines, slice}
 use Rattle.lowering.specs.Translate.{Translation, translate}
-use Rattle.lowering.specs.Open.{openLowering}
+use Rattle.lowering.specs.Open.{open_lowering}
 
 -- the text with the counter that follows, or a refusal
 pub data Answer : Type 0 where
@@ -33,16 +33,16 @@ pub record Sheet : Type 0 where
   pub names : List String
   pub says : Answer
 
-unfoldable pub answersAt : (counter : ℕ) → Sheet → Answer
-answersAt counter s = answer_in 1024 512 8192 (slice s.entries s.names) (unlines s.names) counter
+unfoldable pub answers_at : (counter : ℕ) → Sheet → Answer
+answers_at counter s = answer_in 1024 512 8192 (slice s.entries s.names) (unlines s.names) counter
 
 unfoldable pub answers : Sheet → Answer
-answers s = answersAt 0 s
+answers s = answers_at 0 s
 
 abbrev pub says_of : Sheet → Answer
 says_of s = s.says
 
 -- opens every definition of this file, for an example that computes
-unfoldable pub openSheet : Unit {0}
-unfolding openLowering unlines slice printed listed answer_in answersAt answers
-openSheet = tt
+unfoldable pub open_sheet : Unit {0}
+unfolding open_lowering unlines slice printed listed answer_in answers_at answers
+open_sheet = tt

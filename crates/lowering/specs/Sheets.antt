@@ -1,9 +1,9 @@
 -- The cases marked M of "Sheets to check": one table, one theorem. Books go from raw entries to text bytes; {i8, i32, i8} is measured.
 use Rattle.std.specs.Prelude.{ℕ, ◌≡◌, refl, true, false, List, [], ◌∷◌, map}
 use Rattle.book.specs.Result.{Result, ok}
-use Rattle.layout.specs.Cases.{measured, three-holds}
+use Rattle.layout.specs.Cases.{measured, three_holds}
 use Rattle.assembly.specs.Cases.{unlines}
-use Rattle.lowering.specs.Sheet.{Sheet, Answer, answers, says_of, openSheet}
+use Rattle.lowering.specs.Sheet.{Sheet, Answer, answers, says_of, open_sheet}
 
 unfoldable pub sheets : List Sheet
 sheets =
@@ -88,6 +88,6 @@ sheets =
 unfoldable pub sizes : List (List (Result ℕ))
 sizes = (ok 12 ∷ ok 0 ∷ ok 4 ∷ ok 8 ∷ []) ∷ (ok 6 ∷ ok 0 ∷ ok 1 ∷ ok 5 ∷ []) ∷ []
 
-pub sheets-hold : (map answers sheets ≡ map says_of sheets) × (map measured (false ∷ true ∷ []) ≡ sizes)
-unfolding openSheet sheets sizes
-sheets-hold = (refl, three-holds)
+pub sheets_hold : (map answers sheets ≡ map says_of sheets) × (map measured (false ∷ true ∷ []) ≡ sizes)
+unfolding open_sheet sheets sizes
+sheets_hold = (refl, three_holds)

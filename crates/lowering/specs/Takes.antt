@@ -1,7 +1,7 @@
 -- How many labels a way of generating takes: what the law of `Labels` is made of.
 use Rattle.std.specs.Prelude.{ℕ, suc, ◌+◌, ◌≡◌, Bool, true, false, List, [], ◌∷◌}
 use Rattle.std.proofs.Common.{ap, arith}
-use Rattle.book.specs.Result.{Result, ok, err, bind, err-no-ok, bind_ok}
+use Rattle.book.specs.Result.{Result, ok, err, bind, err_no_ok, bind_ok}
 use Rattle.assembly.specs.Line.{Line}
 use Rattle.lowering.specs.Gen.{Out, Gen, lines, line, skip, refuse, after, ◌>>=◌, ◌>>◌, when, choose, fresh, reserve, each}
 
@@ -10,37 +10,37 @@ pub record Takes (g : Gen) (k : ℕ) : Type 0 where
   pub takes : (n : ℕ) (o : Out) → g n ≡ ok o → o.next ≡ n + k
 
 -- ---- the ways of generating
-pub lines-takes : (ls : List Line) → Takes (lines ls) 0
+pub lines_takes : (ls : List Line) → Takes (lines ls) 0
 unfolding lines
-lines-takes ls = record { takes = λ n o h. let e : n ≡ o.next = ap next_of h in omega arith }
+lines_takes ls = record { takes = λ n o h. let e : n ≡ o.next = ap next_of h in omega arith }
   where
     next_of : Result Out → ℕ
     next_of (ok o) = o.next
     next_of (err e) = 0
 
-pub line-takes : (l : Line) → Takes (line l) 0
+pub line_takes : (l : Line) → Takes (line l) 0
 unfolding line
-line-takes l = lines-takes (l ∷ [])
+line_takes l = lines_takes (l ∷ [])
 
-pub skip-takes : Takes skip 0
+pub skip_takes : Takes skip 0
 unfolding skip
-skip-takes = lines-takes []
+skip_takes = lines_takes []
 
-pub refuse-takes : (e k : ℕ) → Takes (refuse e) k
+pub refuse_takes : (e k : ℕ) → Takes (refuse e) k
 unfolding refuse
-refuse-takes e k = record { takes = λ n o h. err-no-ok e o h }
+refuse_takes e k = record { takes = λ n o h. err_no_ok e o h }
 
-pub bind-takes : {A : Type 0} {k : ℕ} (r : Result A) (g : A → Gen) → ((a : A) → Takes (g a) k) → Takes (r >>= g) k
+pub bind_takes : {A : Type 0} {k : ℕ} (r : Result A) (g : A → Gen) → ((a : A) → Takes (g a) k) → Takes (r >>= g) k
 unfolding ◌>>=◌
-bind-takes r g t = record { takes = λ n o h. let x = bind_ok r (λ a. g a n) o h in (t x.0).takes n o x.2 }
+bind_takes r g t = record { takes = λ n o h. let x = bind_ok r (λ a. g a n) o h in (t x.0).takes n o x.2 }
 
 after_next : (ls : List Line) (q o : Out) → ok (after ls q) ≡ ok o → q.next ≡ o.next
 unfolding after
 after_next ls q o h = let e : after ls q ≡ o = cc in ap (λ (p : Out). p.next) e
 
-pub then-takes : {j k : ℕ} (g h : Gen) → Takes g j → Takes h k → Takes (g >> h) (j + k)
+pub then_takes : {j k : ℕ} (g h : Gen) → Takes g j → Takes h k → Takes (g >> h) (j + k)
 unfolding ◌>>◌
-then-takes {j} {k} g h s t = record { takes = go }
+then_takes {j} {k} g h s t = record { takes = go }
   where
     go : (n : ℕ) (o : Out) → bind (g n) (λ p. bind (h p.next) (λ q. ok (after p.lines q))) ≡ ok o → o.next ≡ n + (j + k)
     go n o e =
@@ -52,32 +52,32 @@ then-takes {j} {k} g h s t = record { takes = go }
         omega arith
 
 pub quiet_then : (g h : Gen) → Takes g 0 → Takes h 0 → Takes (g >> h) 0
-quiet_then g h s t = then-takes g h s t
+quiet_then g h s t = then_takes g h s t
 
 pub as_many : {g : Gen} {j k : ℕ} → Takes g j → j ≡ k → Takes g k
 as_many t q = record { takes = λ n o h. let e = t.takes n o h in omega arith }
 
-pub when-takes : (b : Bool) (g : Gen) → Takes g 0 → Takes (when b g) 0
+pub when_takes : (b : Bool) (g : Gen) → Takes g 0 → Takes (when b g) 0
 unfolding when
-when-takes true g t = t
-when-takes false g t = skip-takes
+when_takes true g t = t
+when_takes false g t = skip_takes
 
-pub choose-takes : {k : ℕ} (b : Bool) (g h : Gen) → Takes g k → Takes h k → Takes (choose b g h) k
+pub choose_takes : {k : ℕ} (b : Bool) (g h : Gen) → Takes g k → Takes h k → Takes (choose b g h) k
 unfolding choose
-choose-takes true g h s t = s
-choose-takes false g h s t = t
+choose_takes true g h s t = s
+choose_takes false g h s t = t
 
-pub fresh-takes : {k : ℕ} (g : ℕ → Gen) → ((l : ℕ) → Takes (g l) k) → Takes (fresh g) (suc k)
+pub fresh_takes : {k : ℕ} (g : ℕ → Gen) → ((l : ℕ) → Takes (g l) k) → Takes (fresh g) (suc k)
 unfolding fresh
-fresh-takes g t = record { takes = λ n o h. let e = (t n).takes (suc n) o h in omega arith }
+fresh_takes g t = record { takes = λ n o h. let e = (t n).takes (suc n) o h in omega arith }
 
-pub reserve-takes : {k : ℕ} (j : ℕ) (g : ℕ → Gen) → ((l : ℕ) → Takes (g l) k) → Takes (reserve j g) (j + k)
+pub reserve_takes : {k : ℕ} (j : ℕ) (g : ℕ → Gen) → ((l : ℕ) → Takes (g l) k) → Takes (reserve j g) (j + k)
 unfolding reserve
-reserve-takes j g t = record { takes = λ n o h. let e = (t n).takes (n + j) o h in omega arith }
+reserve_takes j g t = record { takes = λ n o h. let e = (t n).takes (n + j) o h in omega arith }
 
-pub each-takes : {A : Type 0} (f : A → Gen) (xs : List A) → ((x : A) → Takes (f x) 0) → Takes (each f xs) 0
+pub each_takes : {A : Type 0} (f : A → Gen) (xs : List A) → ((x : A) → Takes (f x) 0) → Takes (each f xs) 0
 unfolding each
-each-takes f [] t = skip-takes
-each-takes f (x ∷ xs) t = quiet_then (f x) (each f xs) (t x) (each-takes f xs t)
+each_takes f [] t = skip_takes
+each_takes f (x ∷ xs) t = quiet_then (f x) (each f xs) (t x) (each_takes f xs t)
 
-pub ruleset quiet = (bind-takes, quiet_then, line-takes, lines-takes, skip-takes, refuse-takes, when-takes, choose-takes, each-takes)
+pub ruleset quiet = (bind_takes, quiet_then, line_takes, lines_takes, skip_takes, refuse_takes, when_takes, choose_takes, each_takes)

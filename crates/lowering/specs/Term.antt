@@ -2,76 +2,76 @@
 use Rattle.std.specs.Prelude.{ℕ, suc, List, [], ◌∷◌, length}
 use Rattle.std.proofs.Math.Option.{Option, none, some}
 use Rattle.book.specs.Ast.{Ty, Value, TypedVal, ICmpPred, Case, Terminator}
-use Rattle.book.specs.Result.{okOr}
+use Rattle.book.specs.Result.{ok_or}
 use Rattle.assembly.specs.Line.{Line, Hint}
 use Rattle.lowering.specs.Gen.{Gen, line, skip, ◌>>=◌, ◌>>◌, when, fresh, reserve}
 use Rattle.lowering.specs.Context.{FnCtx}
-use Rattle.lowering.specs.Operand.{intWidth, workOf, pushInt, pushValue, pushTyped}
+use Rattle.lowering.specs.Operand.{int_width, work_of, push_int, push_value, push_typed}
 use Rattle.lowering.specs.Edge.{edge}
 
 module _ (c : FnCtx) where
-  unfoldable pub emitFrameLeave : Gen
-  emitFrameLeave = when c.hasFrame (do
-    line (Line.getLocal c.bpSlot)
-    line Line.threadSet)
+  unfoldable pub emit_frame_leave : Gen
+  emit_frame_leave = when c.has_frame (do
+    line (Line.get_local c.bp_slot)
+    line Line.thread_set)
 
   -- `ret`: a value, 0 for void
-  unfoldable pub retValue : Option TypedVal → Gen
-  retValue none = line (Line.push 0)
-  retValue (some tv) = pushTyped c tv.ty tv.val
+  unfoldable pub ret_value : Option TypedVal → Gen
+  ret_value none = line (Line.push 0)
+  ret_value (some tv) = push_typed c tv.ty tv.val
 
-  unfoldable pub genRet : Option TypedVal → Gen
-  genRet val = do
-    retValue val
-    emitFrameLeave
+  unfoldable pub gen_ret : Option TypedVal → Gen
+  gen_ret val = do
+    ret_value val
+    emit_frame_leave
     line Line.ret
 
-  unfoldable pub genCondBr : (pred : ℕ) → Value → (ifTrue : ℕ) → Option ℕ → Gen
-  genCondBr pred cond ifTrue ifFalse = do
-    false ← okOr 19 ifFalse
-    pushValue c cond 1
+  unfoldable pub gen_cond_br : (pred : ℕ) → Value → (if_true : ℕ) → Option ℕ → Gen
+  gen_cond_br pred cond if_true if_false = do
+    false ← ok_or 19 if_false
+    push_value c cond 1
     fresh λ lFalse. do
-      line (Line.jump Hint.brFalse lFalse)
-      edge c pred ifTrue
-      line (Line.label Hint.brFalse lFalse)
+      line (Line.jump Hint.br_false lFalse)
+      edge c pred if_true
+      line (Line.label Hint.br_false lFalse)
       edge c pred false
 
-  unfoldable pub genBr : (pred : ℕ) → Option Value → (ifTrue : ℕ) → Option ℕ → Gen
-  genBr pred none ifTrue ifFalse = edge c pred ifTrue
-  genBr pred (some cond) ifTrue ifFalse = genCondBr pred cond ifTrue ifFalse
+  unfoldable pub gen_br : (pred : ℕ) → Option Value → (if_true : ℕ) → Option ℕ → Gen
+  gen_br pred none if_true if_false = edge c pred if_true
+  gen_br pred (some cond) if_true if_false = gen_cond_br pred cond if_true if_false
 
   -- ---- `switch`: the tests of the cases, whose labels count up from l; then their edges
-  unfoldable pub caseTests : (w : ℕ) → Value → (l : ℕ) → List Case → Gen
-  caseTests w val l [] = skip
-  caseTests w val l (k ∷ ks) = do
-    pushValue c val w
-    pushInt k.value w
-    line (Line.icmp ICmpPred.eq (workOf w))
-    line (Line.jump Hint.swCase l)
-    caseTests w val (suc l) ks
+  unfoldable pub case_tests : (w : ℕ) → Value → (l : ℕ) → List Case → Gen
+  case_tests w val l [] = skip
+  case_tests w val l (k ∷ ks) = do
+    push_value c val w
+    push_int k.value w
+    line (Line.icmp ICmpPred.eq (work_of w))
+    line (Line.jump Hint.sw_case l)
+    case_tests w val (suc l) ks
 
-  unfoldable pub caseEdges : (pred l : ℕ) → List Case → Gen
-  caseEdges pred l [] = skip
-  caseEdges pred l (k ∷ ks) = do
-    line (Line.label Hint.swCase l)
+  unfoldable pub case_edges : (pred l : ℕ) → List Case → Gen
+  case_edges pred l [] = skip
+  case_edges pred l (k ∷ ks) = do
+    line (Line.label Hint.sw_case l)
     edge c pred k.label
-    caseEdges pred (suc l) ks
+    case_edges pred (suc l) ks
 
-  unfoldable pub genSwitch : (pred : ℕ) → Ty → Value → (default : ℕ) → List Case → Gen
-  genSwitch pred ty val default cases = do
-    w ← intWidth ty
+  unfoldable pub gen_switch : (pred : ℕ) → Ty → Value → (default : ℕ) → List Case → Gen
+  gen_switch pred ty val default cases = do
+    w ← int_width ty
     reserve (length cases) λ l. do
-      caseTests w val l cases
+      case_tests w val l cases
       edge c pred default
-      caseEdges pred l cases
+      case_edges pred l cases
 
-  unfoldable pub genTerm : (pred : ℕ) → Terminator → Gen
-  genTerm pred (Terminator.ret val) = genRet val
-  genTerm pred (Terminator.br cond ifTrue ifFalse) = genBr pred cond ifTrue ifFalse
-  genTerm pred (Terminator.switch ty val default cases) = genSwitch pred ty val default cases
-  genTerm pred Terminator.unreachable = line Line.panic
+  unfoldable pub gen_term : (pred : ℕ) → Terminator → Gen
+  gen_term pred (Terminator.ret val) = gen_ret val
+  gen_term pred (Terminator.br cond if_true if_false) = gen_br pred cond if_true if_false
+  gen_term pred (Terminator.switch ty val default cases) = gen_switch pred ty val default cases
+  gen_term pred Terminator.unreachable = line Line.panic
 
 -- opens every definition of this file, for an example that computes
-unfoldable pub openTerm : Unit {0}
-unfolding emitFrameLeave retValue genRet genCondBr genBr caseTests caseEdges genSwitch genTerm
-openTerm = tt
+unfoldable pub open_term : Unit {0}
+unfolding emit_frame_leave ret_value gen_ret gen_cond_br gen_br case_tests case_edges gen_switch gen_term
+open_term = tt

@@ -3,17 +3,17 @@
 -- The work slice is all zero after every call." Order: 1, 2, 3, 4 over the whole book, then the first fault of `gen_function`, then 20.
 use Rattle.std.specs.Prelude.{ℕ, min, List, ◌++◌, map, length, drop, replicate, leb}
 use Rattle.book.specs.Result.{Result, ok, err, bind as ◌>>=◌, given}
-use Rattle.assembly.specs.Number.{kind_of, operandOf}
+use Rattle.assembly.specs.Number.{kind_of, operand_of}
 use Rattle.book.specs.Check.{checked}
 use Rattle.lowering.specs.Gen.{Out}
-use Rattle.lowering.specs.Context.{codegenOf}
-use Rattle.lowering.specs.Function.{genFunctions}
+use Rattle.lowering.specs.Context.{codegen_of}
+use Rattle.lowering.specs.Function.{gen_functions}
 
 -- ---- what is generated, for a work slice of `workLen` words and room for `room` lines
 unfoldable pub generated : (book names : List ℕ) → (counter workLen room : ℕ) → Result Out
 generated book names counter workLen room = do
   s ← checked book names counter workLen
-  out ← genFunctions (codegenOf s.names s.book) s.book.functions counter
+  out ← gen_functions (codegen_of s.names s.book) s.book.functions counter
   given (leb (length out.lines) room) 20 out
 
 -- ---- the reply
@@ -22,17 +22,17 @@ pub data Translation : Type 0 where
   refused : (number : ℕ) → Translation
 
 -- document 01's number, line count and counter of a reply, for the counter that was handed in; 0 is no refusal
-unfoldable pub translationNumber : Translation → ℕ
-translationNumber (Translation.accepted n next) = 0
-translationNumber (Translation.refused e) = e
+unfoldable pub translation_number : Translation → ℕ
+translation_number (Translation.accepted n next) = 0
+translation_number (Translation.refused e) = e
 
-unfoldable pub translationLines : Translation → ℕ
-translationLines (Translation.accepted n next) = n
-translationLines (Translation.refused e) = 0
+unfoldable pub translation_lines : Translation → ℕ
+translation_lines (Translation.accepted n next) = n
+translation_lines (Translation.refused e) = 0
 
-unfoldable pub translationCounter : (counter : ℕ) → Translation → ℕ
-translationCounter counter (Translation.accepted n next) = next
-translationCounter counter (Translation.refused e) = counter
+unfoldable pub translation_counter : (counter : ℕ) → Translation → ℕ
+translation_counter counter (Translation.accepted n next) = next
+translation_counter counter (Translation.refused e) = counter
 
 -- the reply, and the lent slices after the call
 pub record Translating : Type 0 where
@@ -51,7 +51,7 @@ replied (ok out) work kinds operands =
       reply = Translation.accepted (length out.lines) out.next;
       work = replicate (length work) 0;
       kinds = over (map kind_of out.lines) kinds;
-      operands = over (map operandOf out.lines) operands;
+      operands = over (map operand_of out.lines) operands;
     }
 replied (err e) work kinds operands =
     record { reply = Translation.refused e; work = replicate (length work) 0; kinds = kinds; operands = operands }
@@ -62,6 +62,6 @@ translate book names counter work kinds operands =
     replied (generated book names counter (length work) (min (length kinds) (length operands))) work kinds operands
 
 -- opens every definition of this file, for an example that computes
-unfoldable pub openTranslate : Unit {0}
-unfolding generated translationNumber translationLines translationCounter over replied translate
-openTranslate = tt
+unfoldable pub open_translate : Unit {0}
+unfolding generated translation_number translation_lines translation_counter over replied translate
+open_translate = tt

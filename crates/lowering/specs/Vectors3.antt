@@ -2,7 +2,7 @@
 -- `compare table 3 34 FILE`; the number over a book is its index under seed 3.
 use Rattle.std.specs.Prelude.{◌≡◌, refl, List, [], ◌∷◌, map}
 use Rattle.assembly.specs.Cases.{unlines}
-use Rattle.lowering.specs.Sheet.{Sheet, Answer, answers, says_of, openSheet}
+use Rattle.lowering.specs.Sheet.{Sheet, Answer, answers, says_of, open_sheet}
 
 unfoldable pub vectors : List Sheet
 vectors =
@@ -437,6 +437,6 @@ vectors =
     } ∷
     []
 
-pub vectors-hold : map answers vectors ≡ map says_of vectors
-unfolding openSheet vectors
-vectors-hold = refl
+pub vectors_hold : map answers vectors ≡ map says_of vectors
+unfolding open_sheet vectors
+vectors_hold = refl

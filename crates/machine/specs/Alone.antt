@@ -34,15 +34,15 @@ left (Effect.ends v e) = none
 left Effect.fails = none
 
 -- the frame after it, and one without anything where there is none
-unfoldable pub frameAfter : Effect → Frame
+unfoldable pub frame_after : Effect → Frame
 unfolding frame
-frameAfter (Effect.goes e o) = e
-frameAfter (Effect.passes e o) = e
-frameAfter (Effect.jumps t e o) = e
-frameAfter (Effect.ends v e) = e
-frameAfter Effect.fails = record { args = []; slots = []; memory = λ a. 0; calls = []; sp = 0 }
+frame_after (Effect.goes e o) = e
+frame_after (Effect.passes e o) = e
+frame_after (Effect.jumps t e o) = e
+frame_after (Effect.ends v e) = e
+frame_after Effect.fails = record { args = []; slots = []; memory = λ a. 0; calls = []; sp = 0 }
 
 -- opens every definition of this file, for a table that computes
-unfoldable pub openAlone : Unit {0}
-unfolding names frame on_memory alone left frameAfter holding world
-openAlone = tt
+unfoldable pub open_alone : Unit {0}
+unfolding names frame on_memory alone left frame_after holding world
+open_alone = tt

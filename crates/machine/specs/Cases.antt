@@ -8,7 +8,7 @@ use Rattle.machine.specs.Memory.{Memory, peek}
 use Rattle.machine.specs.State.{Target, Call, World}
 use Rattle.machine.specs.Labels.{placed}
 use Rattle.machine.specs.Run.{Outcome, running, returned, failed, steps, start}
-use Rattle.machine.specs.Open.{openMachine}
+use Rattle.machine.specs.Open.{open_machine}
 
 -- what a program gives back: its value, the calls listed, and the 8 bytes at address 4096
 pub record Summary : Type 0 where
@@ -19,7 +19,7 @@ pub record Summary : Type 0 where
 -- it returns, fails, or is still running
 pub data End : Type 0 where
   returns : Summary → End
-  fails goesOn : End
+  fails goes_on : End
 
 pub record Program : Type 0 where
   pub lines : List Line
@@ -43,7 +43,7 @@ world = record {
 }
 
 ended : Outcome → End
-ended (running x) = End.goesOn
+ended (running x) = End.goes_on
 ended (returned v e n) = End.returns (record { value = v; calls = e.calls; bytes = peek 8 e.memory 4096 })
 ended failed = End.fails
 
@@ -109,38 +109,38 @@ programs =
     failing (Line.ret ∷ []) ∷
     failing (Line.push 1 ∷ []) ∷
     failing (Line.push 1 ∷ Line.bin BinOp.add Work.w64 ∷ Line.ret ∷ []) ∷
-    failing (Line.getArg 2 ∷ Line.ret ∷ []) ∷
-    failing (Line.push0n 1 ∷ Line.getLocal 1 ∷ Line.ret ∷ []) ∷
-    failing (Line.jmpBlock 1 ∷ []) ∷
+    failing (Line.get_arg 2 ∷ Line.ret ∷ []) ∷
+    failing (Line.push0n 1 ∷ Line.get_local 1 ∷ Line.ret ∷ []) ∷
+    failing (Line.jmp_block 1 ∷ []) ∷
     -- widths
     gives 255 (one 511 (Line.trunc Narrow.n8)) ∷
     gives (2 ^ 32 - 56) (one 456 (Line.sx8 Work.w32)) ∷
     gives (2 ^ 64 - 56) (one 200 (Line.sx8 Work.w64)) ∷
     gives (2 ^ 64 - 1) (one (2 ^ 33 - 1) Line.sx32) ∷
     -- "`push_0n` adds slots of 0, a get pushes, a set pops"
-    gives 0 (Line.push0n 1 ∷ Line.getLocal 0 ∷ Line.ret ∷ []) ∷
-    gives 9 (Line.push0n 2 ∷ Line.push 9 ∷ Line.setLocal 1 ∷ Line.getLocal 1 ∷ Line.ret ∷ []) ∷
-    gives 12 (Line.getArg 1 ∷ Line.ret ∷ []) ∷
-    gives 8194 (Line.pushName 2 ∷ Line.ret ∷ []) ∷
+    gives 0 (Line.push0n 1 ∷ Line.get_local 0 ∷ Line.ret ∷ []) ∷
+    gives 9 (Line.push0n 2 ∷ Line.push 9 ∷ Line.set_local 1 ∷ Line.get_local 1 ∷ Line.ret ∷ []) ∷
+    gives 12 (Line.get_arg 1 ∷ Line.ret ∷ []) ∷
+    gives 8194 (Line.push_name 2 ∷ Line.ret ∷ []) ∷
     -- "a jump goes to its label, by a popped cell if conditional": where it is 0, and for a switch's where it is not
-    gives 2 (Line.push 0 ∷ either Hint.brFalse) ∷
-    gives 1 (Line.push 3 ∷ either Hint.brFalse) ∷
-    gives 2 (Line.push 0 ∷ either Hint.selFalse) ∷
-    gives 1 (Line.push 0 ∷ either Hint.swCase) ∷
-    gives 2 (Line.push 3 ∷ either Hint.swCase) ∷
-    gives 2 (either Hint.selDone) ∷
-    gives 4 (Line.jmpBlock 1 ∷ Line.panic ∷ Line.blockLabel 1 ∷ Line.push 4 ∷ Line.ret ∷ []) ∷
+    gives 2 (Line.push 0 ∷ either Hint.br_false) ∷
+    gives 1 (Line.push 3 ∷ either Hint.br_false) ∷
+    gives 2 (Line.push 0 ∷ either Hint.sel_false) ∷
+    gives 1 (Line.push 0 ∷ either Hint.sw_case) ∷
+    gives 2 (Line.push 3 ∷ either Hint.sw_case) ∷
+    gives 2 (either Hint.sel_done) ∷
+    gives 4 (Line.jmp_block 1 ∷ Line.panic ∷ Line.block_label 1 ∷ Line.push 4 ∷ Line.ret ∷ []) ∷
     -- "stores pop the value first"; "memory (2^64 bytes, wrapping, little-endian)"
     stores 5 1799 (Line.push 4097 ∷ Line.push 7 ∷ Line.store Mem.m8 ∷ Line.push 5 ∷ Line.ret ∷ []) ∷
     gives 258 (Line.push (2 ^ 64 - 1) ∷ Line.push 66051 ∷ Line.store Mem.m32 ∷ Line.push 0 ∷ Line.load Mem.m16 ∷ Line.ret ∷ []) ∷
     -- "compare-and-swap pushes the cell found", and stores where that is the one compared with
-    stores 7 9 (Line.push 4096 ∷ Line.push 7 ∷ Line.push 9 ∷ Line.atomicCas ∷ Line.ret ∷ []) ∷
-    stores 7 7 (Line.push 4096 ∷ Line.push 8 ∷ Line.push 9 ∷ Line.atomicCas ∷ Line.ret ∷ []) ∷
+    stores 7 9 (Line.push 4096 ∷ Line.push 7 ∷ Line.push 9 ∷ Line.atomic_cas ∷ Line.ret ∷ []) ∷
+    stores 7 7 (Line.push 4096 ∷ Line.push 8 ∷ Line.push 9 ∷ Line.atomic_cas ∷ Line.ret ∷ []) ∷
     -- "`thread_get 0` is the stack pointer"
-    gives 1004 (Line.threadGet ∷ Line.push 4 ∷ Line.bin BinOp.add Work.w64 ∷ Line.threadSet ∷ Line.threadGet ∷ Line.ret ∷ []) ∷
+    gives 1004 (Line.thread_get ∷ Line.push 4 ∷ Line.bin BinOp.add Work.w64 ∷ Line.thread_set ∷ Line.thread_get ∷ Line.ret ∷ []) ∷
     -- "A call pops its arguments and any address called, is listed, takes its reply's memory and pushes its cell"
     record {
-      lines = Line.push 1 ∷ Line.push 2 ∷ Line.call 2 2 ∷ Line.push 3 ∷ Line.push 600 ∷ Line.callFp 2 ∷ Line.ret ∷ [];
+      lines = Line.push 1 ∷ Line.push 2 ∷ Line.call 2 2 ∷ Line.push 3 ∷ Line.push 600 ∷ Line.call_fp 2 ∷ Line.ret ∷ [];
       says = End.returns (record { value = 41; calls = asked (Target.address 600) (40 ∷ 3 ∷ []) ∷ asked (Target.function 2) (1 ∷ 2 ∷ []) ∷ []; bytes = 51 });
     } ∷
     -- "Syscall names have a fixed argument count and a reply or none: one without takes the memory of its position all the same and pushes no cell"
@@ -150,14 +150,14 @@ programs =
     } ∷
     -- "memcmp has 3 and a reply"
     record {
-      lines = Line.push 1 ∷ Line.push 2 ∷ Line.push 3 ∷ Line.sysMemcmp ∷ Line.ret ∷ [];
+      lines = Line.push 1 ∷ Line.push 2 ∷ Line.push 3 ∷ Line.sys_memcmp ∷ Line.ret ∷ [];
       says = End.returns (record { value = 40; calls = asked (Target.syscall (bytes "memcmp")) (1 ∷ 2 ∷ 3 ∷ []) ∷ []; bytes = 50 });
     } ∷
-    failing (Line.push 1 ∷ Line.push 2 ∷ Line.sysMemcmp ∷ Line.ret ∷ []) ∷
+    failing (Line.push 1 ∷ Line.push 2 ∷ Line.sys_memcmp ∷ Line.ret ∷ []) ∷
     -- a block that jumps to itself
-    record { lines = Line.blockLabel 1 ∷ Line.jmpBlock 1 ∷ []; says = End.goesOn } ∷
+    record { lines = Line.block_label 1 ∷ Line.jmp_block 1 ∷ []; says = End.goes_on } ∷
     []
 
-pub programs-hold : map runs programs ≡ map expected programs
-unfolding openMachine runs programs
-programs-hold = refl
+pub programs_hold : map runs programs ≡ map expected programs
+unfolding open_machine runs programs
+programs_hold = refl

@@ -5,9 +5,9 @@ use Rattle.std.proofs.Math.Option.{Option, none, some}
 use Rattle.assembly.specs.Line.{Line}
 use Rattle.assembly.specs.Number.{form_of}
 use Rattle.machine.specs.Line.{Effect}
-use Rattle.machine.specs.Open.{openMachine}
-use Rattle.machine.specs.Sweep.{OnAll, downFrom, each, openSweep}
-use Rattle.machine.specs.Alone.{alone, left, openAlone}
+use Rattle.machine.specs.Open.{open_machine}
+use Rattle.machine.specs.Sweep.{OnAll, down_from, each, open_sweep}
+use Rattle.machine.specs.Alone.{alone, left, open_alone}
 
 pub record Kind : Type 0 where
   pub number : ℕ
@@ -46,22 +46,22 @@ grouped =
     []
 
 -- `thread_get 0;`, `thread_set 0;` and the empty line, behind `ret` and `panic`
-unfoldable pub groupedLast : List Kinds
+unfoldable pub grouped_last : List Kinds
 unfolding kinds
-groupedLast = kinds 1 0 0 1 ∷ kinds 1 0 1 0 ∷ kinds 1 0 0 0 ∷ []
+grouped_last = kinds 1 0 0 1 ∷ kinds 1 0 1 0 ∷ kinds 1 0 0 0 ∷ []
 
 numbered : (from many : ℕ) → Kinds → List Kind
 numbered n zero k = []
 numbered n (suc m) k = record { number = n; operand = k.operand; pops = k.pops; pushes = k.pushes } ∷ numbered (suc n) m k
 
-oneByOne : (from : ℕ) → List Kinds → List Kind
-oneByOne n [] = []
-oneByOne n (k ∷ ks) = numbered n k.many k ++ oneByOne (n + k.many) ks
+one_by_one : (from : ℕ) → List Kinds → List Kind
+one_by_one n [] = []
+one_by_one n (k ∷ ks) = numbered n k.many k ++ one_by_one (n + k.many) ks
 
 -- kinds 0 to 88, and 91 to 93
 unfoldable pub table : List Kind
-unfolding grouped groupedLast numbered oneByOne
-table = oneByOne 0 grouped ++ oneByOne 91 groupedLast
+unfolding grouped grouped_last numbered one_by_one
+table = one_by_one 0 grouped ++ one_by_one 91 grouped_last
 
 -- the line of a kind on operands; none where there is no such line
 formed : Option Line → List ℕ → Option (List ℕ)
@@ -83,28 +83,28 @@ many none = none
 many (some o) = some (length o)
 
 -- every kind but `ret` and `panic` is there
-pub kinds-counted : length table ≡ 92
+pub kinds_counted : length table ≡ 92
 unfolding table
-kinds-counted = refl
+kinds_counted = refl
 
 -- as many cells as a line pops, each 1: it goes on, and leaves what it pushes
-pub enough-goes : OnAll table (λ (k : Kind). many (leaves k (replicate k.pops 1))) (λ (k : Kind). some k.pushes)
-unfolding openMachine openAlone openSweep table leaves many
-enough-goes = refl
+pub enough_goes : OnAll table (λ (k : Kind). many (leaves k (replicate k.pops 1))) (λ (k : Kind). some k.pushes)
+unfolding open_machine open_alone open_sweep table leaves many
+enough_goes = refl
 
 -- two cells more: they are left below
 pub below_stays : OnAll table (λ (k : Kind). below k.pushes (leaves k (replicate k.pops 1 ++ 71 ∷ 72 ∷ []))) (λ (k : Kind). some (71 ∷ 72 ∷ []))
-unfolding openMachine openAlone openSweep table leaves below
+unfolding open_machine open_alone open_sweep table leaves below
 below_stays = refl
 
 -- any number of cells below that: it fails
-unfoldable pub tooFew : List (Kind × ℕ)
-unfolding each downFrom
-tooFew = each (λ (k : Kind). map (λ (n : ℕ). (k, k.pops - n)) (downFrom k.pops)) table
+unfoldable pub too_few : List (Kind × ℕ)
+unfolding each down_from
+too_few = each (λ (k : Kind). map (λ (n : ℕ). (k, k.pops - n)) (down_from k.pops)) table
 
-pub fewer-fails : OnAll tooFew (λ (p : Kind × ℕ). leaves p.0 (replicate p.1 1)) (λ (p : Kind × ℕ). none)
-unfolding openMachine openAlone openSweep table tooFew leaves
-fewer-fails = refl
+pub fewer_fails : OnAll too_few (λ (p : Kind × ℕ). leaves p.0 (replicate p.1 1)) (λ (p : Kind × ℕ). none)
+unfolding open_machine open_alone open_sweep table too_few leaves
+fewer_fails = refl
 
 -- "`ret` pops the value and ends", "`panic` .. fails"
 unfoldable pub ended : Effect → Option ℕ
@@ -114,10 +114,10 @@ ended (Effect.passes e o) = none
 ended (Effect.jumps t e o) = none
 ended Effect.fails = none
 
-pub ret-ends : map (λ (o : List ℕ). ended (alone Line.ret o)) ([] ∷ (5 ∷ []) ∷ (6 ∷ 5 ∷ []) ∷ []) ≡ none ∷ some 5 ∷ some 6 ∷ []
-unfolding openMachine openAlone ended
-ret-ends = refl
+pub ret_ends : map (λ (o : List ℕ). ended (alone Line.ret o)) ([] ∷ (5 ∷ []) ∷ (6 ∷ 5 ∷ []) ∷ []) ≡ none ∷ some 5 ∷ some 6 ∷ []
+unfolding open_machine open_alone ended
+ret_ends = refl
 
-pub panic-fails : map (λ (o : List ℕ). alone Line.panic o) ([] ∷ (5 ∷ []) ∷ (6 ∷ 5 ∷ []) ∷ []) ≡ Effect.fails ∷ Effect.fails ∷ Effect.fails ∷ []
-unfolding openMachine openAlone
-panic-fails = refl
+pub panic_fails : map (λ (o : List ℕ). alone Line.panic o) ([] ∷ (5 ∷ []) ∷ (6 ∷ 5 ∷ []) ∷ []) ≡ Effect.fails ∷ Effect.fails ∷ Effect.fails ∷ []
+unfolding open_machine open_alone
+panic_fails = refl

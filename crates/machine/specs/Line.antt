@@ -5,9 +5,9 @@ use Rattle.names.specs.Name.{name_at}
 use Rattle.assembly.specs.Line.{Line, Work, Mem, Narrow, Hint}
 use Rattle.assembly.specs.Text.{hinted}
 use Rattle.machine.specs.Memory.{Memory, peek, poke}
-use Rattle.machine.specs.Labels.{blockIn}
-use Rattle.machine.specs.State.{Target, Call, Reply, World, Frame, setSlots, setMemory, setSp, called, cell_at, globalAt, memcmp, shape_of, printedName}
-use Rattle.machine.specs.Values.{word_op, wordTest, extended, flag}
+use Rattle.machine.specs.Labels.{block_in}
+use Rattle.machine.specs.State.{Target, Call, Reply, World, Frame, set_slots, set_memory, set_sp, called, cell_at, global_at, memcmp, shape_of, printed_name}
+use Rattle.machine.specs.Values.{word_op, word_test, extended, flag}
 
 -- on to the next line, past a block's label, to the line with a label, the end with a value, or a failure
 pub data Effect : Type 0 where
@@ -17,9 +17,9 @@ pub data Effect : Type 0 where
   fails : Effect
 
 -- ---- "anything missing fails"
-abbrev pub orFails : {A : Type 0} → Option A → (A → Effect) → Effect
-orFails none k = fails
-orFails (some a) k = k a
+abbrev pub or_fails : {A : Type 0} → Option A → (A → Effect) → Effect
+or_fails none k = fails
+or_fails (some a) k = k a
 
 abbrev pub pop1 : List ℕ → (ℕ → List ℕ → Effect) → Effect
 pop1 [] k = fails
@@ -38,30 +38,30 @@ pop3 (z ∷ y ∷ []) k = fails
 pop3 (z ∷ y ∷ x ∷ o) k = k x y z o
 
 -- n cells, the one pushed first first, in front of those given
-unfoldable pub popN : (n : ℕ) → (popped operands : List ℕ) → (List ℕ → List ℕ → Effect) → Effect
-popN zero xs o k = k xs o
-popN (suc n) xs [] k = fails
-popN (suc n) xs (x ∷ o) k = popN n (x ∷ xs) o k
+unfoldable pub pop_n : (n : ℕ) → (popped operands : List ℕ) → (List ℕ → List ℕ → Effect) → Effect
+pop_n zero xs o k = k xs o
+pop_n (suc n) xs [] k = fails
+pop_n (suc n) xs (x ∷ o) k = pop_n n (x ∷ xs) o k
 
 -- ---- widths
-abbrev pub workWidth : Work → ℕ
-workWidth Work.w32 = 32
-workWidth Work.w64 = 64
+abbrev pub work_width : Work → ℕ
+work_width Work.w32 = 32
+work_width Work.w64 = 64
 
-abbrev pub memBytes : Mem → ℕ
-memBytes Mem.m8 = 1
-memBytes Mem.m16 = 2
-memBytes Mem.m32 = 4
-memBytes Mem.m64 = 8
+abbrev pub mem_bytes : Mem → ℕ
+mem_bytes Mem.m8 = 1
+mem_bytes Mem.m16 = 2
+mem_bytes Mem.m32 = 4
+mem_bytes Mem.m64 = 8
 
-abbrev pub narrowWidth : Narrow → ℕ
-narrowWidth Narrow.n8 = 8
-narrowWidth Narrow.n16 = 16
-narrowWidth Narrow.n32 = 32
+abbrev pub narrow_width : Narrow → ℕ
+narrow_width Narrow.n8 = 8
+narrow_width Narrow.n16 = 16
+narrow_width Narrow.n32 = 32
 
 -- "u32 and i32 ones take low halves"
 abbrev pub word : Work → ℕ → ℕ
-word w x = x % 2 ^ workWidth w
+word w x = x % 2 ^ work_width w
 
 -- ---- memory
 -- "compare-and-swap pushes the cell found", and stores the new one where it is the one compared with
@@ -75,77 +75,77 @@ branch false t e o = goes e o
 
 -- "by a popped cell if conditional"
 unfoldable pub jump : Hint → (label : List ℕ) → Frame → List ℕ → Effect
-jump Hint.selDone t e o = jumps t e o
-jump Hint.selFalse t e o = pop1 o (λ x r. branch (eqb x 0) t e r)
-jump Hint.brFalse t e o = pop1 o (λ x r. branch (eqb x 0) t e r)
-jump Hint.swCase t e o = pop1 o (λ x r. branch (not (eqb x 0)) t e r)
+jump Hint.sel_done t e o = jumps t e o
+jump Hint.sel_false t e o = pop1 o (λ x r. branch (eqb x 0) t e r)
+jump Hint.br_false t e o = pop1 o (λ x r. branch (eqb x 0) t e r)
+jump Hint.sw_case t e o = pop1 o (λ x r. branch (not (eqb x 0)) t e r)
 
 -- ---- calls
 module _ (world : World) where
-  abbrev pub replyTo : List Call → Reply
-  replyTo cs = world.replies (length cs)
+  abbrev pub reply_to : List Call → Reply
+  reply_to cs = world.replies (length cs)
 
   -- "is listed, takes its reply's memory and pushes its cell"
   abbrev pub calls : Target → Frame → (args operands : List ℕ) → Effect
-  calls t e xs o = goes (called e (record { target = t; args = xs }) (replyTo e.calls).memory) ((replyTo e.calls).cell ∷ o)
+  calls t e xs o = goes (called e (record { target = t; args = xs }) (reply_to e.calls).memory) ((reply_to e.calls).cell ∷ o)
 
   -- "one without takes the memory of its position all the same and pushes no cell"
-  abbrev pub callsQuietly : Target → Frame → (args operands : List ℕ) → Effect
-  callsQuietly t e xs o = goes (called e (record { target = t; args = xs }) (replyTo e.calls).memory) o
+  abbrev pub calls_quietly : Target → Frame → (args operands : List ℕ) → Effect
+  calls_quietly t e xs o = goes (called e (record { target = t; args = xs }) (reply_to e.calls).memory) o
 
   unfoldable pub replying : Bool → Target → Frame → (args operands : List ℕ) → Effect
   replying true = calls
-  replying false = callsQuietly
+  replying false = calls_quietly
 
-  unfoldable pub systemCall : (printed : List ℕ) → Frame → List ℕ → Effect
-  systemCall t e o = orFails (shape_of world t) (λ s. popN s.args [] o (replying s.replies (Target.syscall t) e))
+  unfoldable pub system_call : (printed : List ℕ) → Frame → List ℕ → Effect
+  system_call t e o = or_fails (shape_of world t) (λ s. pop_n s.args [] o (replying s.replies (Target.syscall t) e))
 
 -- f: the function that the line belongs to
 module _ (names : List (List ℕ)) (f : Option ℕ) (world : World) where
   unfoldable pub does : Line → Frame → List ℕ → Effect
   does (Line.comment x) e o = goes e o
-  does (Line.fnLabel x) e o = goes e o
+  does (Line.fn_label x) e o = goes e o
   does (Line.label h n) e o = goes e o
   does Line.blank e o = goes e o
   -- a block's label, and a jump to one, have a function
-  does (Line.blockLabel x) e o = orFails (blockIn names f x) (λ t. passes e o)
-  does (Line.jmpBlock x) e o = orFails (blockIn names f x) (λ t. jumps t e o)
+  does (Line.block_label x) e o = or_fails (block_in names f x) (λ t. passes e o)
+  does (Line.jmp_block x) e o = or_fails (block_in names f x) (λ t. jumps t e o)
   does (Line.jump h n) e o = jump h (hinted h n) e o
   -- "`push_0n` adds slots of 0, a get pushes, a set pops"
-  does (Line.push0n n) e o = goes (setSlots e (e.slots ++ replicate n 0)) o
+  does (Line.push0n n) e o = goes (set_slots e (e.slots ++ replicate n 0)) o
   does (Line.push n) e o = goes e (n ∷ o)
-  does (Line.pushName x) e o = goes e (globalAt world x ∷ o)
-  does (Line.getArg i) e o = orFails (cell_at e.args i) (λ x. goes e (x ∷ o))
-  does (Line.getLocal i) e o = orFails (cell_at e.slots i) (λ x. goes e (x ∷ o))
-  does (Line.setLocal i) e o = pop1 o (λ x r. cond (ltb i (length e.slots)) (goes (setSlots e (set e.slots i x)) r) fails)
+  does (Line.push_name x) e o = goes e (global_at world x ∷ o)
+  does (Line.get_arg i) e o = or_fails (cell_at e.args i) (λ x. goes e (x ∷ o))
+  does (Line.get_local i) e o = or_fails (cell_at e.slots i) (λ x. goes e (x ∷ o))
+  does (Line.set_local i) e o = pop1 o (λ x r. cond (ltb i (length e.slots)) (goes (set_slots e (set e.slots i x)) r) fails)
   -- "operations pop what the Rust pushed and push the result"
-  does (Line.bin op w) e o = pop2 o (λ a b r. orFails (word_op op (workWidth w) (word w a) (word w b)) (λ x. goes e (x ∷ r)))
-  does (Line.icmp p w) e o = pop2 o (λ a b r. goes e (flag (wordTest p (workWidth w) (word w a) (word w b)) ∷ r))
-  does (Line.trunc n) e o = pop1 o (λ x r. goes e (x % 2 ^ narrowWidth n ∷ r))
-  does (Line.sx8 w) e o = pop1 o (λ x r. goes e (extended 8 (workWidth w) x ∷ r))
-  does (Line.sx16 w) e o = pop1 o (λ x r. goes e (extended 16 (workWidth w) x ∷ r))
+  does (Line.bin op w) e o = pop2 o (λ a b r. or_fails (word_op op (work_width w) (word w a) (word w b)) (λ x. goes e (x ∷ r)))
+  does (Line.icmp p w) e o = pop2 o (λ a b r. goes e (flag (word_test p (work_width w) (word w a) (word w b)) ∷ r))
+  does (Line.trunc n) e o = pop1 o (λ x r. goes e (x % 2 ^ narrow_width n ∷ r))
+  does (Line.sx8 w) e o = pop1 o (λ x r. goes e (extended 8 (work_width w) x ∷ r))
+  does (Line.sx16 w) e o = pop1 o (λ x r. goes e (extended 16 (work_width w) x ∷ r))
   does Line.sx32 e o = pop1 o (λ x r. goes e (extended 32 64 x ∷ r))
   -- "stores pop the value first"
-  does (Line.load m) e o = pop1 o (λ a r. goes e (peek (memBytes m) e.memory a ∷ r))
-  does (Line.store m) e o = pop2 o (λ a x r. goes (setMemory e (poke (memBytes m) e.memory a x)) r)
-  does Line.atomicLoad e o = pop1 o (λ a r. goes e (peek 8 e.memory a ∷ r))
-  does Line.atomicStore e o = pop2 o (λ a x r. goes (setMemory e (poke 8 e.memory a x)) r)
-  does Line.atomicCas e o = pop3 o (λ a c x r. goes (setMemory e (swapped e.memory a c x)) (peek 8 e.memory a ∷ r))
+  does (Line.load m) e o = pop1 o (λ a r. goes e (peek (mem_bytes m) e.memory a ∷ r))
+  does (Line.store m) e o = pop2 o (λ a x r. goes (set_memory e (poke (mem_bytes m) e.memory a x)) r)
+  does Line.atomic_load e o = pop1 o (λ a r. goes e (peek 8 e.memory a ∷ r))
+  does Line.atomic_store e o = pop2 o (λ a x r. goes (set_memory e (poke 8 e.memory a x)) r)
+  does Line.atomic_cas e o = pop3 o (λ a c x r. goes (set_memory e (swapped e.memory a c x)) (peek 8 e.memory a ∷ r))
   -- "`thread_get 0` is the stack pointer"
-  does Line.threadGet e o = goes e (e.sp ∷ o)
-  does Line.threadSet e o = pop1 o (λ x r. goes (setSp e x) r)
+  does Line.thread_get e o = goes e (e.sp ∷ o)
+  does Line.thread_set e o = pop1 o (λ x r. goes (set_sp e x) r)
   does Line.dup e o = pop1 o (λ x r. goes e (x ∷ x ∷ r))
   does Line.pop e o = pop1 o (λ x r. goes e r)
   -- "A call pops its arguments and any address called"
-  does (Line.call x n) e o = popN n [] o (calls world (Target.function x) e)
-  does (Line.callFp n) e o = pop1 o (λ a r. popN n [] r (calls world (Target.address a) e))
-  does (Line.syscall x) e o = systemCall world (printedName (name_at names x)) e o
-  does Line.sysMemcmp e o = systemCall world memcmp e o
+  does (Line.call x n) e o = pop_n n [] o (calls world (Target.function x) e)
+  does (Line.call_fp n) e o = pop1 o (λ a r. pop_n n [] r (calls world (Target.address a) e))
+  does (Line.syscall x) e o = system_call world (printed_name (name_at names x)) e o
+  does Line.sys_memcmp e o = system_call world memcmp e o
   -- "`ret` pops the value and ends", "`panic` .. fails"
   does Line.ret e o = pop1 o (λ x r. ends x e)
   does Line.panic e o = fails
 
 -- opens every definition of this file, for an example that computes
-unfoldable pub openLine : Unit {0}
-unfolding popN swapped branch jump replying systemCall does
-openLine = tt
+unfoldable pub open_line : Unit {0}
+unfolding pop_n swapped branch jump replying system_call does
+open_line = tt

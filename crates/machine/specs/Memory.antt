@@ -17,12 +17,12 @@ poke zero m a v = m
 poke (suc n) m a v = poke n (λ x. cond (eqb x (a % 2 ^ 64)) (v % 256) (m x)) (suc a) (v / 256)
 
 -- opens every definition of this file, for an example that computes
-unfoldable pub openMemory : Unit {0}
+unfoldable pub open_memory : Unit {0}
 unfolding peek poke
-openMemory = tt
+open_memory = tt
 
 -- n bytes hold a number of 8n bits
-pub peek-lt : (n : ℕ) (m : Memory) (a : ℕ) → peek n m a < 2 ^ (8 * n)
+pub peek_lt : (n : ℕ) (m : Memory) (a : ℕ) → peek n m a < 2 ^ (8 * n)
 unfolding peek
-peek-lt zero m a = omega arith
-peek-lt (suc n) m a = rw (mul-suc, pow-add) (let h = peek-lt n m (suc a) in omega arith)
+peek_lt zero m a = omega arith
+peek_lt (suc n) m a = rw (mul-suc, pow-add) (let h = peek_lt n m (suc a) in omega arith)

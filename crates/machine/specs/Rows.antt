@@ -39,9 +39,9 @@ always w h m =
     []
 
 -- where 1 is a positive signed number
-unfoldable pub fromTwo : (h m q : ℕ) → List Row
+unfoldable pub from_two : (h m q : ℕ) → List Row
 unfolding row
-fromTwo h m q =
+from_two h m q =
     row BinOp.udiv (m - 1) 2 (h - 1) ∷ row BinOp.udiv (m - 2) (m - 1) 0 ∷ row BinOp.urem (m - 1) 2 1 ∷ row BinOp.urem (m - 2) (m - 1) (m - 2) ∷
     -- beside the overflowing pair
     row BinOp.sdiv h 1 h ∷ row BinOp.sdiv (h + 1) (m - 1) (h - 1) ∷ row BinOp.sdiv (h - 1) (m - 1) (h + 1) ∷
@@ -50,9 +50,9 @@ fromTwo h m q =
     []
 
 -- where 2 and 3 are; q is a quarter of m
-unfoldable pub fromThree : (h m q : ℕ) → List Row
+unfoldable pub from_three : (h m q : ℕ) → List Row
 unfolding row
-fromThree h m q =
+from_three h m q =
     -- "rounded towards zero", "the same sign as the dividend": -1, -3 and 3 by 2, 3 by -2, the least number by -2 and by itself
     row BinOp.sdiv (m - 1) 2 0 ∷ row BinOp.sdiv (m - 3) 2 (m - 1) ∷ row BinOp.sdiv 3 2 1 ∷ row BinOp.sdiv 3 (m - 2) (m - 1) ∷ row BinOp.sdiv h (m - 2) q ∷ row BinOp.sdiv h h 1 ∷
     row BinOp.srem (m - 1) 2 (m - 1) ∷ row BinOp.srem (m - 3) 2 (m - 1) ∷ row BinOp.srem 3 2 1 ∷ row BinOp.srem 3 (m - 2) 1 ∷ row BinOp.srem h (m - 2) 0 ∷ row BinOp.srem h h 0 ∷
@@ -60,19 +60,19 @@ fromThree h m q =
     []
 
 -- ---- what each predicate says, in ast.rs order, of the least signed number and the greatest, the other way round, and of two equal ones
-unfoldable pub leastGreatest : List Bool
-leastGreatest = false ∷ true ∷ true ∷ true ∷ false ∷ false ∷ false ∷ false ∷ true ∷ true ∷ []
+unfoldable pub least_greatest : List Bool
+least_greatest = false ∷ true ∷ true ∷ true ∷ false ∷ false ∷ false ∷ false ∷ true ∷ true ∷ []
 
-unfoldable pub greatestLeast : List Bool
-greatestLeast = false ∷ true ∷ false ∷ false ∷ true ∷ true ∷ true ∷ true ∷ false ∷ false ∷ []
+unfoldable pub greatest_least : List Bool
+greatest_least = false ∷ true ∷ false ∷ false ∷ true ∷ true ∷ true ∷ true ∷ false ∷ false ∷ []
 
 unfoldable pub equals : List Bool
 equals = true ∷ false ∷ false ∷ true ∷ false ∷ true ∷ false ∷ true ∷ false ∷ true ∷ []
 
 unfoldable pub rows_at : (w : ℕ) → List Row
-rows_at w = always w (2 ^ (w - 1)) (2 ^ w) ++ (fromTwo (2 ^ (w - 1)) (2 ^ w) (2 ^ (w - 2)) ++ fromThree (2 ^ (w - 1)) (2 ^ w) (2 ^ (w - 2)))
+rows_at w = always w (2 ^ (w - 1)) (2 ^ w) ++ (from_two (2 ^ (w - 1)) (2 ^ w) (2 ^ (w - 2)) ++ from_three (2 ^ (w - 1)) (2 ^ w) (2 ^ (w - 2)))
 
 -- opens every definition of this file, for a table that computes
 unfoldable pub open_rows : Unit {0}
-unfolding always fromTwo fromThree leastGreatest greatestLeast equals rows_at
+unfolding always from_two from_three least_greatest greatest_least equals rows_at
 open_rows = tt

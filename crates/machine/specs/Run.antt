@@ -36,12 +36,12 @@ module _ (names : List (List ℕ)) (world : World) (lines : List Placed) where
   follow p n Effect.fails = failed
 
   -- the lines from the position on are the ones given
-  unfoldable pub stepAt : List Placed → State → Outcome
-  stepAt [] s = failed
-  stepAt (l ∷ ls) s = follow s.pos s.passed (does names l.function world l.line s.frame s.operands)
+  unfoldable pub step_at : List Placed → State → Outcome
+  step_at [] s = failed
+  step_at (l ∷ ls) s = follow s.pos s.passed (does names l.function world l.line s.frame s.operands)
 
   unfoldable pub step : State → Outcome
-  step s = stepAt (drop s.pos lines) s
+  step s = step_at (drop s.pos lines) s
 
   unfoldable pub steps : ℕ → Outcome → Outcome
   steps zero x = x
@@ -54,6 +54,6 @@ unfoldable pub start : (p : ℕ) → (args : List ℕ) → Memory → (sp : ℕ)
 start p args m sp = state p (record { args = args; slots = []; memory = m; calls = []; sp = sp }) [] 0
 
 -- opens every definition of this file, for an example that computes
-unfoldable pub openRun : Unit {0}
-unfolding found follow stepAt step steps start
-openRun = tt
+unfoldable pub open_run : Unit {0}
+unfolding found follow step_at step steps start
+open_run = tt

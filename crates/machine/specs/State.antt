@@ -39,22 +39,22 @@ pub record Frame : Type 0 where
   pub calls : List Call
   pub sp : ℕ
 
-abbrev pub setSlots : Frame → List ℕ → Frame
-setSlots e s = record { args = e.args; slots = s; memory = e.memory; calls = e.calls; sp = e.sp }
+abbrev pub set_slots : Frame → List ℕ → Frame
+set_slots e s = record { args = e.args; slots = s; memory = e.memory; calls = e.calls; sp = e.sp }
 
-abbrev pub setMemory : Frame → Memory → Frame
-setMemory e m = record { args = e.args; slots = e.slots; memory = m; calls = e.calls; sp = e.sp }
+abbrev pub set_memory : Frame → Memory → Frame
+set_memory e m = record { args = e.args; slots = e.slots; memory = m; calls = e.calls; sp = e.sp }
 
-abbrev pub setSp : Frame → ℕ → Frame
-setSp e n = record { args = e.args; slots = e.slots; memory = e.memory; calls = e.calls; sp = n }
+abbrev pub set_sp : Frame → ℕ → Frame
+set_sp e n = record { args = e.args; slots = e.slots; memory = e.memory; calls = e.calls; sp = n }
 
 -- a call listed, with the memory after it
 abbrev pub called : Frame → Call → Memory → Frame
 called e c m = record { args = e.args; slots = e.slots; memory = m; calls = c ∷ e.calls; sp = e.sp }
 
 -- the address of a global, a number of 64 bits
-unfoldable pub globalAt : World → (name : ℕ) → ℕ
-globalAt world x = world.globals x % 2 ^ 64
+unfoldable pub global_at : World → (name : ℕ) → ℕ
+global_at world x = world.globals x % 2 ^ 64
 
 unfoldable pub memcmp : List ℕ
 memcmp = bytes "memcmp"
@@ -64,8 +64,8 @@ unfoldable pub shape_of : World → (printed : List ℕ) → Option Shape
 shape_of world t = cond (same t memcmp) (some (record { args = 3; replies = true })) (world.shapes t)
 
 -- the printed name of a syscall: "`__uvm_` names without the prefix"
-unfoldable pub printedName : List ℕ → List ℕ
-printedName n = drop (length (bytes "__uvm_")) n
+unfoldable pub printed_name : List ℕ → List ℕ
+printed_name n = drop (length (bytes "__uvm_")) n
 
 -- the cell at a place, where there is one
 unfoldable pub cell_at : {A : Type 0} → List A → ℕ → Option A
@@ -74,6 +74,6 @@ cell_at (x ∷ xs) zero = some x
 cell_at (x ∷ xs) (suc i) = cell_at xs i
 
 -- opens every definition of this file, for an example that computes
-unfoldable pub openState : Unit {0}
-unfolding globalAt memcmp shape_of printedName cell_at
-openState = tt
+unfoldable pub open_state : Unit {0}
+unfolding global_at memcmp shape_of printed_name cell_at
+open_state = tt

@@ -5,9 +5,9 @@ abbrev pub OnAll : {A B : Type 0} → List A → (definition rule : A → B) →
 OnAll xs f g = map f xs ≡ map g xs
 
 -- n, .., 1; and 1, .., n
-unfoldable pub downFrom : ℕ → List ℕ
-downFrom zero = []
-downFrom (suc n) = suc n ∷ downFrom n
+unfoldable pub down_from : ℕ → List ℕ
+down_from zero = []
+down_from (suc n) = suc n ∷ down_from n
 
 unfoldable pub up_to : ℕ → List ℕ
 up_to zero = []
@@ -30,6 +30,6 @@ little [] = 0
 little (b ∷ bs) = b + 256 * little bs
 
 -- opens every definition of this file, for a table that computes
-unfoldable pub openSweep : Unit {0}
-unfolding downFrom up_to pairs each little
-openSweep = tt
+unfoldable pub open_sweep : Unit {0}
+unfolding down_from up_to pairs each little
+open_sweep = tt

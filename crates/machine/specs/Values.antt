@@ -27,17 +27,17 @@ word_op BinOp.shl w a b = when (ltb b w) (a * 2 ^ b % 2 ^ w)
 word_op BinOp.lshr w a b = when (ltb b w) (a / 2 ^ b)
 word_op BinOp.ashr w a b = when (ltb b w) (unsigned w (shr_z (signed w a) (2 ^ b)))
 
-unfoldable pub wordTest : ICmpPred → (w : ℕ) → (a b : ℕ) → Bool
-wordTest ICmpPred.eq w a b = eqb a b
-wordTest ICmpPred.ne w a b = not (eqb a b)
-wordTest ICmpPred.ugt w a b = ltb b a
-wordTest ICmpPred.uge w a b = leb b a
-wordTest ICmpPred.ult w a b = ltb a b
-wordTest ICmpPred.ule w a b = leb a b
-wordTest ICmpPred.sgt w a b = lt_z (signed w b) (signed w a)
-wordTest ICmpPred.sge w a b = le_z (signed w b) (signed w a)
-wordTest ICmpPred.slt w a b = lt_z (signed w a) (signed w b)
-wordTest ICmpPred.sle w a b = le_z (signed w a) (signed w b)
+unfoldable pub word_test : ICmpPred → (w : ℕ) → (a b : ℕ) → Bool
+word_test ICmpPred.eq w a b = eqb a b
+word_test ICmpPred.ne w a b = not (eqb a b)
+word_test ICmpPred.ugt w a b = ltb b a
+word_test ICmpPred.uge w a b = leb b a
+word_test ICmpPred.ult w a b = ltb a b
+word_test ICmpPred.ule w a b = leb a b
+word_test ICmpPred.sgt w a b = lt_z (signed w b) (signed w a)
+word_test ICmpPred.sge w a b = le_z (signed w b) (signed w a)
+word_test ICmpPred.slt w a b = lt_z (signed w a) (signed w b)
+word_test ICmpPred.sle w a b = le_z (signed w a) (signed w b)
 
 -- the low n bits, signed, as a word of w bits
 unfoldable pub extended : (n w : ℕ) → ℕ → ℕ
@@ -48,6 +48,6 @@ unfoldable pub flag : Bool → ℕ
 flag t = cond t 1 0
 
 -- opens every definition of this file, for an example that computes
-unfoldable pub openValues : Unit {0}
-unfolding divides word_op wordTest extended flag
-openValues = tt
+unfoldable pub open_values : Unit {0}
+unfolding divides word_op word_test extended flag
+open_values = tt

@@ -5,17 +5,17 @@ use Rattle.std.proofs.Math.Option.{Option, some}
 use Rattle.names.specs.Name.{name_at}
 use Rattle.book.specs.Ast.{BinOp, ICmpPred}
 use Rattle.assembly.specs.Line.{Line, Work, Mem, Narrow, Hint}
-use Rattle.assembly.specs.Text.{blockText, hinted}
-use Rattle.machine.specs.Signed.{signed, least, minusOne}
-use Rattle.machine.specs.State.{Shape, World, Frame, cell_at, memcmp, shape_of, printedName}
+use Rattle.assembly.specs.Text.{block_text, hinted}
+use Rattle.machine.specs.Signed.{signed, least, minus_one}
+use Rattle.machine.specs.State.{Shape, World, Frame, cell_at, memcmp, shape_of, printed_name}
 use Rattle.machine.specs.Labels.{Placed, label_of}
-use Rattle.machine.specs.Line.{workWidth, word}
+use Rattle.machine.specs.Line.{work_width, word}
 use Rattle.machine.specs.Run.{State}
 
 -- ---- operations
 -- a divisor other than 0, and no overflow: not the least number by −1
 abbrev pub Divides : (w a b : ℕ) → Type 0
-Divides w a b = (0 < b) × ¬ ((signed w a ≡ least w) × (signed w b ≡ minusOne))
+Divides w a b = (0 < b) × ¬ ((signed w a ≡ least w) × (signed w b ≡ minus_one))
 
 abbrev pub Defined : BinOp → (w a b : ℕ) → Type 0
 Defined BinOp.add w a b = Unit {0}
@@ -45,26 +45,26 @@ module _ (names : List (List ℕ)) (world : World) (lines : List Placed) where
   -- ---- a line of a function, with the operands that it pops, the latest first. There is no way for `panic`
   pub data Works (f : Option ℕ) (e : Frame) : Line → (operands : List ℕ) → Type 0 where
     comment : {x : ℕ} {o : List ℕ} → Works f e (Line.comment x) o
-    fnLabel : {x : ℕ} {o : List ℕ} → Works f e (Line.fnLabel x) o
+    fn_label : {x : ℕ} {o : List ℕ} → Works f e (Line.fn_label x) o
     label : {h : Hint} {n : ℕ} {o : List ℕ} → Works f e (Line.label h n) o
     blank : {o : List ℕ} → Works f e Line.blank o
     -- a comment line has come before a block's label, and before a jump to one
-    blockLabel : {g x : ℕ} {o : List ℕ} → f ≡ some g → Works f e (Line.blockLabel x) o
+    block_label : {g x : ℕ} {o : List ℕ} → f ≡ some g → Works f e (Line.block_label x) o
     -- a jump that is taken has its label: one of a condition where the cell is 0, a switch's where it is not
-    jmpBlock : {g x : ℕ} {o : List ℕ} → f ≡ some g → Labelled names lines (blockText names g x) → Works f e (Line.jmpBlock x) o
-    selDone : {n : ℕ} {o : List ℕ} → Labelled names lines (hinted Hint.selDone n) → Works f e (Line.jump Hint.selDone n) o
-    selFalse : {n x : ℕ} {o : List ℕ} → (x ≡ 0 → Labelled names lines (hinted Hint.selFalse n)) → Works f e (Line.jump Hint.selFalse n) (x ∷ o)
-    brFalse : {n x : ℕ} {o : List ℕ} → (x ≡ 0 → Labelled names lines (hinted Hint.brFalse n)) → Works f e (Line.jump Hint.brFalse n) (x ∷ o)
-    swCase : {n x : ℕ} {o : List ℕ} → (¬ (x ≡ 0) → Labelled names lines (hinted Hint.swCase n)) → Works f e (Line.jump Hint.swCase n) (x ∷ o)
+    jmp_block : {g x : ℕ} {o : List ℕ} → f ≡ some g → Labelled names lines (block_text names g x) → Works f e (Line.jmp_block x) o
+    sel_done : {n : ℕ} {o : List ℕ} → Labelled names lines (hinted Hint.sel_done n) → Works f e (Line.jump Hint.sel_done n) o
+    sel_false : {n x : ℕ} {o : List ℕ} → (x ≡ 0 → Labelled names lines (hinted Hint.sel_false n)) → Works f e (Line.jump Hint.sel_false n) (x ∷ o)
+    br_false : {n x : ℕ} {o : List ℕ} → (x ≡ 0 → Labelled names lines (hinted Hint.br_false n)) → Works f e (Line.jump Hint.br_false n) (x ∷ o)
+    sw_case : {n x : ℕ} {o : List ℕ} → (¬ (x ≡ 0) → Labelled names lines (hinted Hint.sw_case n)) → Works f e (Line.jump Hint.sw_case n) (x ∷ o)
     -- slots and arguments that are there
     push0n : {n : ℕ} {o : List ℕ} → Works f e (Line.push0n n) o
     push : {n : ℕ} {o : List ℕ} → Works f e (Line.push n) o
-    pushName : {x : ℕ} {o : List ℕ} → Works f e (Line.pushName x) o
-    getArg : {i : ℕ} {o : List ℕ} → i < length e.args → Works f e (Line.getArg i) o
-    getLocal : {i : ℕ} {o : List ℕ} → i < length e.slots → Works f e (Line.getLocal i) o
-    setLocal : {i x : ℕ} {o : List ℕ} → i < length e.slots → Works f e (Line.setLocal i) (x ∷ o)
+    push_name : {x : ℕ} {o : List ℕ} → Works f e (Line.push_name x) o
+    get_arg : {i : ℕ} {o : List ℕ} → i < length e.args → Works f e (Line.get_arg i) o
+    get_local : {i : ℕ} {o : List ℕ} → i < length e.slots → Works f e (Line.get_local i) o
+    set_local : {i x : ℕ} {o : List ℕ} → i < length e.slots → Works f e (Line.set_local i) (x ∷ o)
     -- operations, on low halves at 32
-    bin : {op : BinOp} {w : Work} {a b : ℕ} {o : List ℕ} → Defined op (workWidth w) (word w a) (word w b) → Works f e (Line.bin op w) (b ∷ a ∷ o)
+    bin : {op : BinOp} {w : Work} {a b : ℕ} {o : List ℕ} → Defined op (work_width w) (word w a) (word w b) → Works f e (Line.bin op w) (b ∷ a ∷ o)
     icmp : {p : ICmpPred} {w : Work} {a b : ℕ} {o : List ℕ} → Works f e (Line.icmp p w) (b ∷ a ∷ o)
     trunc : {n : Narrow} {x : ℕ} {o : List ℕ} → Works f e (Line.trunc n) (x ∷ o)
     sx8 : {w : Work} {x : ℕ} {o : List ℕ} → Works f e (Line.sx8 w) (x ∷ o)
@@ -73,18 +73,18 @@ module _ (names : List (List ℕ)) (world : World) (lines : List Placed) where
     -- memory: every address can be read and written
     load : {m : Mem} {a : ℕ} {o : List ℕ} → Works f e (Line.load m) (a ∷ o)
     store : {m : Mem} {x a : ℕ} {o : List ℕ} → Works f e (Line.store m) (x ∷ a ∷ o)
-    atomicLoad : {a : ℕ} {o : List ℕ} → Works f e Line.atomicLoad (a ∷ o)
-    atomicStore : {x a : ℕ} {o : List ℕ} → Works f e Line.atomicStore (x ∷ a ∷ o)
-    atomicCas : {x c a : ℕ} {o : List ℕ} → Works f e Line.atomicCas (x ∷ c ∷ a ∷ o)
-    threadGet : {o : List ℕ} → Works f e Line.threadGet o
-    threadSet : {x : ℕ} {o : List ℕ} → Works f e Line.threadSet (x ∷ o)
+    atomic_load : {a : ℕ} {o : List ℕ} → Works f e Line.atomic_load (a ∷ o)
+    atomic_store : {x a : ℕ} {o : List ℕ} → Works f e Line.atomic_store (x ∷ a ∷ o)
+    atomic_cas : {x c a : ℕ} {o : List ℕ} → Works f e Line.atomic_cas (x ∷ c ∷ a ∷ o)
+    thread_get : {o : List ℕ} → Works f e Line.thread_get o
+    thread_set : {x : ℕ} {o : List ℕ} → Works f e Line.thread_set (x ∷ o)
     dup : {x : ℕ} {o : List ℕ} → Works f e Line.dup (x ∷ o)
     pop : {x : ℕ} {o : List ℕ} → Works f e Line.pop (x ∷ o)
     -- calls: as many operands as arguments, and the address called
     call : {x n : ℕ} {o : List ℕ} → n ≤ length o → Works f e (Line.call x n) o
-    callFp : {n a : ℕ} {o : List ℕ} → n ≤ length o → Works f e (Line.callFp n) (a ∷ o)
-    syscall : {x : ℕ} {o : List ℕ} → Answered world (printedName (name_at names x)) o → Works f e (Line.syscall x) o
-    sysMemcmp : {o : List ℕ} → Answered world memcmp o → Works f e Line.sysMemcmp o
+    call_fp : {n a : ℕ} {o : List ℕ} → n ≤ length o → Works f e (Line.call_fp n) (a ∷ o)
+    syscall : {x : ℕ} {o : List ℕ} → Answered world (printed_name (name_at names x)) o → Works f e (Line.syscall x) o
+    sys_memcmp : {o : List ℕ} → Answered world memcmp o → Works f e Line.sys_memcmp o
     ret : {x : ℕ} {o : List ℕ} → Works f e Line.ret (x ∷ o)
 
   -- there is a line, and it works

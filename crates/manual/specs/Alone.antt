@@ -4,11 +4,11 @@ use Rattle.std.proofs.Math.Option.{Option, some}
 use Rattle.names.specs.Text.{bytes}
 use Rattle.book.specs.Ast.{Ty, Tys, Value, Zero, TypedVal, Sizeless, InstKind, Terminator, BasicBlock, StructType}
 use Rattle.book.specs.Result.{Result, ok, err, bind}
-use Rattle.layout.specs.Frame.{Places, noFrame}
+use Rattle.layout.specs.Frame.{Places, no_frame}
 use Rattle.machine.specs.Cases.{holding, world}
 use Rattle.manual.specs.State.{Cell, Env, Given, Source, nothing, with}
-use Rattle.manual.specs.Inst.{runInst}
-use Rattle.manual.specs.Term.{Stand, edge, runTerm}
+use Rattle.manual.specs.Inst.{run_inst}
+use Rattle.manual.specs.Term.{Stand, edge, run_term}
 
 -- names 0 and 1 are functions, 2 to 7 are called as syscalls, 8 to 12 are spelled almost so
 unfoldable pub names : List (List ℕ)
@@ -24,7 +24,7 @@ scalars = Ty.int 1 ∷ Ty.int 8 ∷ Ty.int 16 ∷ Ty.int 32 ∷ Ty.int 64 ∷ Ty
 -- "struct, packed struct, array or packed array type"; name 5 is a struct
 unfoldable pub aggregates : List Ty
 aggregates =
-    Ty.struct false (Tys.cons (Ty.int 8) Tys.nil) ∷ Ty.struct true (Tys.cons Ty.ptr Tys.nil) ∷ Ty.struct false Tys.nil ∷ Ty.namedStruct 5
+    Ty.struct false (Tys.cons (Ty.int 8) Tys.nil) ∷ Ty.struct true (Tys.cons Ty.ptr Tys.nil) ∷ Ty.struct false Tys.nil ∷ Ty.named_struct 5
     ∷ Ty.array false 8 (Ty.int 8) ∷ Ty.array true 1 (Ty.int 64) ∷ Ty.array false 0 Ty.ptr ∷ []
 
 -- types of no value
@@ -51,7 +51,7 @@ unfolding names structs empty
 given t fr bs = record {
   names = names;
   structs = structs;
-  function = record { name = 0; retTy = t; params = []; blocks = empty 7 ∷ empty 8 ∷ empty 9 ∷ bs };
+  function = record { name = 0; ret_ty = t; params = []; blocks = empty 7 ∷ empty 8 ∷ empty 9 ∷ bs };
   frame = fr;
   world = world;
   base = 65536;
@@ -59,7 +59,7 @@ given t fr bs = record {
 
 -- ---- what an instruction gives its name, 200
 unfoldable pub gives : Env → InstKind → Result (Option Cell)
-gives ρ k = bind (runInst (given Ty.void noFrame []) (record { dest = some 200; kind = k }) (standing ρ)) λ σ. ok (σ.env 200)
+gives ρ k = bind (run_inst (given Ty.void no_frame []) (record { dest = some 200; kind = k }) (standing ρ)) λ σ. ok (σ.env 200)
 
 -- where a terminator of block 7 leads: a block, or back with a value
 pub data Went : Type 0 where
@@ -72,14 +72,14 @@ went (Stand.gave v σ) = Went.back v
 
 unfoldable pub ends : (result : Ty) → Env → Terminator → Result Went
 unfolding given standing went
-ends t ρ r = bind (runTerm (given t noFrame []) 7 r (standing ρ)) λ s. ok (went s)
+ends t ρ r = bind (run_term (given t no_frame []) 7 r (standing ρ)) λ s. ok (went s)
 
 -- the edge from block 7 to a block, 10, that begins with a phi of this type and value
 unfoldable pub phi_of : Ty → Value → BasicBlock
 phi_of t v = record { label = 10; insts = record { dest = some 200; kind = InstKind.phi t (record { val = v; label = 7 } ∷ []) } ∷ []; term = Terminator.unreachable }
 
 unfoldable pub crosses : Ty → Value → Result Went
-crosses t v = bind (edge (given Ty.void noFrame (phi_of t v ∷ [])) 7 10 (standing furnished)) λ s. ok (went s)
+crosses t v = bind (edge (given Ty.void no_frame (phi_of t v ∷ [])) 7 10 (standing furnished)) λ s. ok (went s)
 
 -- ---- answers
 unfoldable pub among : List ℕ → ℕ → Bool
@@ -94,18 +94,18 @@ module _ {A : Type 0} where
   number (err n) = n
 
   -- 0 for a stop whose reason is one of these, whichever is looked at first
-  unfoldable pub forOneOf : List ℕ → Result A → Result A
-  forOneOf ns (ok a) = ok a
-  forOneOf ns (err n) = err (cond (among ns n) 0 n)
+  unfoldable pub for_one_of : List ℕ → Result A → Result A
+  for_one_of ns (ok a) = ok a
+  for_one_of ns (err n) = err (cond (among ns n) 0 n)
 
 unfoldable pub typed : Ty → Value → TypedVal
 typed t v = record { ty = t; val = v }
 
 -- the four operands that are 0
 unfoldable pub zeros : List Value
-zeros = Value.zero Zero.null ∷ Value.zero Zero.undef ∷ Value.zero Zero.poison ∷ Value.zero Zero.zeroInit ∷ []
+zeros = Value.zero Zero.null ∷ Value.zero Zero.undef ∷ Value.zero Zero.poison ∷ Value.zero Zero.zero_init ∷ []
 
 -- opens every definition of this file, for a table that computes
-unfoldable pub openAlone : Unit {0}
-unfolding names scalars aggregates valueless structs furnished standing empty given gives went ends phi_of crosses number among forOneOf typed zeros holding world
-openAlone = tt
+unfoldable pub open_alone : Unit {0}
+unfolding names scalars aggregates valueless structs furnished standing empty given gives went ends phi_of crosses number among for_one_of typed zeros holding world
+open_alone = tt

@@ -3,13 +3,13 @@ use Rattle.std.specs.Prelude.{ℕ, ◌+◌, ◌-◌, ◌^◌, ◌≡◌, refl, B
 use Rattle.std.proofs.Math.Option.{Option, none, some}
 use Rattle.book.specs.Ast.{Ty, Value, ICmpPred, InstKind}
 use Rattle.book.specs.Result.{Result, ok}
-use Rattle.machine.specs.Sweep.{OnAll, downFrom, openSweep}
-use Rattle.machine.specs.Rows.{Row, always, fromTwo, fromThree, leastGreatest, greatestLeast, equals, open_rows}
+use Rattle.machine.specs.Sweep.{OnAll, down_from, open_sweep}
+use Rattle.machine.specs.Rows.{Row, always, from_two, from_three, least_greatest, greatest_least, equals, open_rows}
 use Rattle.manual.specs.Stop.{Stop, stops}
 use Rattle.manual.specs.State.{Cell, Env, nothing, with}
 use Rattle.manual.specs.Cases.{predicates}
-use Rattle.manual.specs.Open.{openManual}
-use Rattle.manual.specs.Alone.{gives, openAlone}
+use Rattle.manual.specs.Open.{open_manual}
+use Rattle.manual.specs.Alone.{gives, open_alone}
 
 -- %0 and %1 of w bits
 unfoldable pub operands : (w x y : ℕ) → Env
@@ -25,24 +25,24 @@ cell w (some v) = ok (some (Cell.one w v))
 unfoldable pub said : (w : ℕ) → Row → Result (Option Cell)
 said w r = cell w r.says
 
-openThis : Unit {0}
-unfolding openManual openSweep open_rows openAlone operands computed cell said
-openThis = tt
+open_this : Unit {0}
+unfolding open_manual open_sweep open_rows open_alone operands computed cell said
+open_this = tt
 
-pub every-width : OnAll (downFrom 64) (λ (w : ℕ). map (computed w) (always w (2 ^ (w - 1)) (2 ^ w))) (λ (w : ℕ). map (said w) (always w (2 ^ (w - 1)) (2 ^ w)))
-unfolding openThis
-every-width = refl
+pub every_width : OnAll (down_from 64) (λ (w : ℕ). map (computed w) (always w (2 ^ (w - 1)) (2 ^ w))) (λ (w : ℕ). map (said w) (always w (2 ^ (w - 1)) (2 ^ w)))
+unfolding open_this
+every_width = refl
 
 -- widths from 2 on, and from 3 on
-pub from-two :
-    OnAll (map (λ (n : ℕ). n + 1) (downFrom 63)) (λ (w : ℕ). map (computed w) (fromTwo (2 ^ (w - 1)) (2 ^ w) (2 ^ (w - 2)))) (λ (w : ℕ). map (said w) (fromTwo (2 ^ (w - 1)) (2 ^ w) (2 ^ (w - 2))))
-unfolding openThis
-from-two = refl
+pub from_two_lem :
+    OnAll (map (λ (n : ℕ). n + 1) (down_from 63)) (λ (w : ℕ). map (computed w) (from_two (2 ^ (w - 1)) (2 ^ w) (2 ^ (w - 2)))) (λ (w : ℕ). map (said w) (from_two (2 ^ (w - 1)) (2 ^ w) (2 ^ (w - 2))))
+unfolding open_this
+from_two_lem = refl
 
-pub from-three :
-    OnAll (map (λ (n : ℕ). n + 2) (downFrom 62)) (λ (w : ℕ). map (computed w) (fromThree (2 ^ (w - 1)) (2 ^ w) (2 ^ (w - 2)))) (λ (w : ℕ). map (said w) (fromThree (2 ^ (w - 1)) (2 ^ w) (2 ^ (w - 2))))
-unfolding openThis
-from-three = refl
+pub from_three_lem :
+    OnAll (map (λ (n : ℕ). n + 2) (down_from 62)) (λ (w : ℕ). map (computed w) (from_three (2 ^ (w - 1)) (2 ^ w) (2 ^ (w - 2)))) (λ (w : ℕ). map (said w) (from_three (2 ^ (w - 1)) (2 ^ w) (2 ^ (w - 2))))
+unfolding open_this
+from_three_lem = refl
 
 -- ---- "'icmp' Instruction": every predicate at every width, and on pointers
 unfoldable pub compared : Ty → (w x y : ℕ) → List (Result (Option Cell))
@@ -51,20 +51,20 @@ compared t w x y = map (λ (p : ICmpPred). gives (operands w x y) (InstKind.icmp
 unfoldable pub bits : List Bool → List (Result (Option Cell))
 bits bs = map (λ (b : Bool). ok (some (Cell.one 1 (cond b 1 0)))) bs
 
-pub comparisons-hold :
-    (OnAll (downFrom 64) (λ (w : ℕ). compared (Ty.int w) w (2 ^ (w - 1)) (2 ^ (w - 1) - 1)) (λ (w : ℕ). bits leastGreatest))
-    × (OnAll (downFrom 64) (λ (w : ℕ). compared (Ty.int w) w (2 ^ (w - 1) - 1) (2 ^ (w - 1))) (λ (w : ℕ). bits greatestLeast))
-    × (OnAll (downFrom 64) (λ (w : ℕ). compared (Ty.int w) w (2 ^ (w - 1)) (2 ^ (w - 1))) (λ (w : ℕ). bits equals))
-    × (compared Ty.ptr 64 (2 ^ 63) (2 ^ 63 - 1) ≡ bits leastGreatest)
-unfolding openThis compared bits
-comparisons-hold = (refl, refl, refl, refl)
+pub comparisons_hold :
+    (OnAll (down_from 64) (λ (w : ℕ). compared (Ty.int w) w (2 ^ (w - 1)) (2 ^ (w - 1) - 1)) (λ (w : ℕ). bits least_greatest))
+    × (OnAll (down_from 64) (λ (w : ℕ). compared (Ty.int w) w (2 ^ (w - 1) - 1) (2 ^ (w - 1))) (λ (w : ℕ). bits greatest_least))
+    × (OnAll (down_from 64) (λ (w : ℕ). compared (Ty.int w) w (2 ^ (w - 1)) (2 ^ (w - 1))) (λ (w : ℕ). bits equals))
+    × (compared Ty.ptr 64 (2 ^ 63) (2 ^ 63 - 1) ≡ bits least_greatest)
+unfolding open_this compared bits
+comparisons_hold = (refl, refl, refl, refl)
 
 -- ---- "'select' Instruction": 1 takes the first, 0 the second; the other need not be set
 unfoldable pub selected : (w : ℕ) → (c : ℕ) → (a b : ℕ) → Result (Option Cell)
 selected w c a b = gives (with 0 (Cell.one w 1) (with 2 (Cell.one 1 c) nothing)) (InstKind.select (Value.local 2) (Ty.int w) (Value.local a) (Value.local b))
 
-pub selects-hold :
-    OnAll (downFrom 64) (λ (w : ℕ). selected w 1 0 3 ∷ selected w 0 3 0 ∷ selected w 1 3 0 ∷ selected w 0 0 3 ∷ [])
+pub selects_hold :
+    OnAll (down_from 64) (λ (w : ℕ). selected w 1 0 3 ∷ selected w 0 3 0 ∷ selected w 1 3 0 ∷ selected w 0 0 3 ∷ [])
     (λ (w : ℕ). ok (some (Cell.one w 1)) ∷ ok (some (Cell.one w 1)) ∷ stops Stop.unset ∷ stops Stop.unset ∷ [])
-unfolding openThis selected
-selects-hold = refl
+unfolding open_this selected
+selects_hold = refl

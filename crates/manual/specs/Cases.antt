@@ -5,13 +5,13 @@ use Rattle.book.specs.Ast.{Ty, Tys, Value, Zero, TypedVal, BinOp, ConvOp, ICmpPr
 use Rattle.book.specs.Result.{Result, ok, bind}
 use Rattle.machine.specs.State.{World}
 use Rattle.manual.specs.Stop.{Stop, stops}
-use Rattle.manual.specs.Values.{bin_value, icmpValue, convValue, convWidths}
+use Rattle.manual.specs.Values.{bin_value, icmp_value, conv_value, conv_widths}
 use Rattle.manual.specs.State.{Cell, Env, nothing, with}
 use Rattle.manual.specs.Operand.{value}
 use Rattle.manual.specs.Gep.{offset}
-use Rattle.manual.specs.Inst.{placeAbove}
-use Rattle.manual.specs.Term.{Phi, takePhis, caseFor}
-use Rattle.manual.specs.Open.{openManual}
+use Rattle.manual.specs.Inst.{place_above}
+use Rattle.manual.specs.Term.{Phi, take_phis, case_for}
+use Rattle.manual.specs.Open.{open_manual}
 
 -- ---- "Binary Operations", "Bitwise Binary Operations"
 pub record Bin : Type 0 where
@@ -65,19 +65,19 @@ bins =
     bin BinOp.ashr 8 129 8 (stops Stop.undefined) ∷
     []
 
-pub bins-hold : map (λ (b : Bin). bin_value b.op b.width b.x b.y) bins ≡ map (λ (b : Bin). b.says) bins
-unfolding openManual bins
-bins-hold = refl
+pub bins_hold : map (λ (b : Bin). bin_value b.op b.width b.x b.y) bins ≡ map (λ (b : Bin). b.says) bins
+unfolding open_manual bins
+bins_hold = refl
 
 -- ---- "'icmp' Instruction": what each predicate says of two numbers of 8 bits, 200 and 100, and 100 and 100
 abbrev pub predicates : List ICmpPred
 predicates = ICmpPred.eq ∷ ICmpPred.ne ∷ ICmpPred.ugt ∷ ICmpPred.uge ∷ ICmpPred.ult ∷ ICmpPred.ule ∷ ICmpPred.sgt ∷ ICmpPred.sge ∷ ICmpPred.slt ∷ ICmpPred.sle ∷ []
 
-pub icmps-hold : (map (λ p. icmpValue p 8 200 100) predicates ≡ false ∷ true ∷ true ∷ true ∷ false ∷ false ∷ false ∷ false ∷ true ∷ true ∷ [])
-    × (map (λ p. icmpValue p 8 100 100) predicates ≡ true ∷ false ∷ false ∷ true ∷ false ∷ true ∷ false ∷ true ∷ false ∷ true ∷ [])
-    × (map (λ p. icmpValue p 16 200 100) predicates ≡ false ∷ true ∷ true ∷ true ∷ false ∷ false ∷ true ∷ true ∷ false ∷ false ∷ [])
-unfolding openManual
-icmps-hold = (refl, refl, refl)
+pub icmps_hold : (map (λ p. icmp_value p 8 200 100) predicates ≡ false ∷ true ∷ true ∷ true ∷ false ∷ false ∷ false ∷ false ∷ true ∷ true ∷ [])
+    × (map (λ p. icmp_value p 8 100 100) predicates ≡ true ∷ false ∷ false ∷ true ∷ false ∷ true ∷ false ∷ true ∷ false ∷ true ∷ [])
+    × (map (λ p. icmp_value p 16 200 100) predicates ≡ false ∷ true ∷ true ∷ true ∷ false ∷ false ∷ true ∷ true ∷ false ∷ false ∷ [])
+unfolding open_manual
+icmps_hold = (refl, refl, refl)
 
 -- ---- "Conversion Operations"
 pub record Conv : Type 0 where
@@ -102,17 +102,17 @@ convs =
     conv ConvOp.sext 1 8 1 true 255 ∷
     conv ConvOp.sext 33 64 (2 ^ 32) true (2 ^ 64 - 2 ^ 32) ∷
     conv ConvOp.sext 16 8 200 false 200 ∷
-    conv ConvOp.ptrToInt 64 32 (2 ^ 32 + 5) true 5 ∷
-    conv ConvOp.ptrToInt 32 32 5 false 5 ∷
-    conv ConvOp.intToPtr 16 64 65535 true 65535 ∷
-    conv ConvOp.bitCast 32 32 7 true 7 ∷
-    conv ConvOp.bitCast 32 64 7 false 7 ∷
+    conv ConvOp.ptr_to_int 64 32 (2 ^ 32 + 5) true 5 ∷
+    conv ConvOp.ptr_to_int 32 32 5 false 5 ∷
+    conv ConvOp.int_to_ptr 16 64 65535 true 65535 ∷
+    conv ConvOp.bit_cast 32 32 7 true 7 ∷
+    conv ConvOp.bit_cast 32 64 7 false 7 ∷
     []
 
-pub convs-hold : (map (λ (c : Conv). convWidths c.op c.from c.to) convs ≡ map (λ (c : Conv). c.allowed) convs)
-    × (map (λ (c : Conv). convValue c.op c.from c.to c.x) convs ≡ map (λ (c : Conv). c.says) convs)
-unfolding openManual convs
-convs-hold = (refl, refl)
+pub convs_hold : (map (λ (c : Conv). conv_widths c.op c.from c.to) convs ≡ map (λ (c : Conv). c.allowed) convs)
+    × (map (λ (c : Conv). conv_value c.op c.from c.to c.x) convs ≡ map (λ (c : Conv). c.says) convs)
+unfolding open_manual convs
+convs_hold = (refl, refl)
 
 -- ---- operands: "an integer outside both the signed and the unsigned range of its width"
 abbrev pub world : World
@@ -122,15 +122,15 @@ world = record { globals = λ x. 8192 + x; shapes = λ t. none; replies = λ n. 
 abbrev pub env : Env
 env = with 0 (Cell.one 8 10) (with 1 (Cell.one 8 11) (with 2 (Cell.two 64 5 1) nothing))
 
-pub operands-hold :
+pub operands_hold :
     map (λ (v : Value). value world env 8 v) (Value.int 255 ∷ Value.int 256 ∷ Value.int (2 ^ 64 - 128) ∷ Value.int (2 ^ 64 - 129) ∷ Value.zero Zero.poison ∷ Value.local 1 ∷ Value.local 2 ∷ Value.local 3 ∷ Value.global 4 ∷ [])
-    ≡ ok 255 ∷ stops Stop.integerRange ∷ ok 128 ∷ stops Stop.integerRange ∷ ok 0 ∷ ok 11 ∷ stops Stop.aggregate ∷ stops Stop.unset ∷ stops Stop.illFormed ∷ []
-unfolding openManual
-operands-hold = refl
+    ≡ ok 255 ∷ stops Stop.integer_range ∷ ok 128 ∷ stops Stop.integer_range ∷ ok 0 ∷ ok 11 ∷ stops Stop.aggregate ∷ stops Stop.unset ∷ stops Stop.ill_formed ∷ []
+unfolding open_manual
+operands_hold = refl
 
-pub widths-hold : map (λ (w : ℕ). value world env w (Value.local 0)) (8 ∷ 16 ∷ []) ≡ ok 10 ∷ stops Stop.otherWidth ∷ []
-unfolding openManual
-widths-hold = refl
+pub widths_hold : map (λ (w : ℕ). value world env w (Value.local 0)) (8 ∷ 16 ∷ []) ≡ ok 10 ∷ stops Stop.other_width ∷ []
+unfolding open_manual
+widths_hold = refl
 
 -- ---- edges: "leading phis are taken on the edge"; each reads what stood before it. From block 7, %0 takes %1 and %1 takes %0; the first pair for 7 counts
 abbrev pub swapping : List Phi
@@ -140,19 +140,19 @@ swapping =
     []
 
 abbrev pub after : ℕ → Result (Option Cell)
-after x = bind (takePhis world 7 swapping env) λ ρ. ok (ρ x)
+after x = bind (take_phis world 7 swapping env) λ ρ. ok (ρ x)
 
-pub edge-holds : map after (0 ∷ 1 ∷ []) ≡ ok (some (Cell.one 8 11)) ∷ ok (some (Cell.one 8 10)) ∷ []
-unfolding openManual
-edge-holds = refl
+pub edge_holds : map after (0 ∷ 1 ∷ []) ≡ ok (some (Cell.one 8 11)) ∷ ok (some (Cell.one 8 10)) ∷ []
+unfolding open_manual
+edge_holds = refl
 
 -- "'switch' Instruction": the first equal case, -1 of 8 bits among them; a case outside both ranges stops
 abbrev pub cases : List Case
 cases = record { value = 5; label = 1 } ∷ record { value = 2 ^ 64 - 1; label = 2 } ∷ record { value = 255; label = 3 } ∷ record { value = 256; label = 4 } ∷ []
 
-pub switch-holds : map (λ (x : ℕ). caseFor 8 x 9 cases) (5 ∷ 255 ∷ 6 ∷ []) ≡ ok 1 ∷ ok 2 ∷ stops Stop.integerRange ∷ []
-unfolding openManual
-switch-holds = refl
+pub switch_holds : map (λ (x : ℕ). case_for 8 x 9 cases) (5 ∷ 255 ∷ 6 ∷ []) ≡ ok 1 ∷ ok 2 ∷ stops Stop.integer_range ∷ []
+unfolding open_manual
+switch_holds = refl
 
 -- ---- "'getelementptr' Instruction": over {i8, i32, i8} of 12 bytes, whose fields stand at 0, 4 and 8
 abbrev pub triple : Ty
@@ -162,14 +162,14 @@ abbrev pub i32 : ℕ → TypedVal
 i32 n = record { ty = Ty.int 32; val = Value.int n }
 
 -- %0 of 8 bits, 250, is -6; constant indices; a field that is not constant; an index outside its type's signed range
-pub gep-holds :
+pub gep_holds :
     map (λ (is : List TypedVal). offset world [] (with 0 (Cell.one 8 250) nothing) triple is)
     ((i32 1 ∷ i32 2 ∷ []) ∷ (i32 (2 ^ 64 - 1) ∷ i32 0 ∷ []) ∷ (record { ty = Ty.int 8; val = Value.local 0 } ∷ i32 1 ∷ []) ∷ (i32 0 ∷ record { ty = Ty.int 8; val = Value.local 0 } ∷ []) ∷ (record { ty = Ty.int 8; val = Value.int 128 } ∷ []) ∷ [])
-    ≡ ok 20 ∷ ok (2 ^ 64 - 12) ∷ ok (2 ^ 64 - 68) ∷ stops Stop.illFormed ∷ stops Stop.indexRange ∷ []
-unfolding openManual
-gep-holds = refl
+    ≡ ok 20 ∷ ok (2 ^ 64 - 12) ∷ ok (2 ^ 64 - 68) ∷ stops Stop.ill_formed ∷ stops Stop.index_range ∷ []
+unfolding open_manual
+gep_holds = refl
 
 -- ---- varying places: rounded up to 8 at least, and modulo 2^64
-pub places-hold : map (λ (p : ℕ × ℕ). placeAbove p.0 p.1) ((1001, 4) ∷ (1008, 1) ∷ (1001, 64) ∷ (2 ^ 64 - 1, 8) ∷ []) ≡ 1008 ∷ 1008 ∷ 1024 ∷ 0 ∷ []
-unfolding openManual
-places-hold = refl
+pub places_hold : map (λ (p : ℕ × ℕ). place_above p.0 p.1) ((1001, 4) ∷ (1008, 1) ∷ (1001, 64) ∷ (2 ^ 64 - 1, 8) ∷ []) ≡ 1008 ∷ 1008 ∷ 1024 ∷ 0 ∷ []
+unfolding open_manual
+places_hold = refl

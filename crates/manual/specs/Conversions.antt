@@ -4,22 +4,22 @@ use Rattle.std.specs.Prelude.{ℕ, ◌-◌, ◌^◌, ◌≡◌, refl, List, [], 
 use Rattle.std.proofs.Math.Option.{Option, some}
 use Rattle.book.specs.Ast.{Ty, Value, ConvOp, InstKind}
 use Rattle.book.specs.Result.{Result, ok}
-use Rattle.machine.specs.Sweep.{OnAll, downFrom, each, openSweep}
+use Rattle.machine.specs.Sweep.{OnAll, down_from, each, open_sweep}
 use Rattle.manual.specs.Stop.{Stop, stops}
 use Rattle.manual.specs.State.{Cell, nothing, with}
-use Rattle.manual.specs.Open.{openManual}
-use Rattle.manual.specs.Alone.{gives, openAlone}
+use Rattle.manual.specs.Open.{open_manual}
+use Rattle.manual.specs.Alone.{gives, open_alone}
 
 unfoldable pub widths : List ℕ
-unfolding downFrom
-widths = downFrom 64
+unfolding down_from
+widths = down_from 64
 
 -- (a, b) with a above b; (a, b) with a at most b
 unfoldable pub wider : List (ℕ × ℕ)
-wider = each (λ (a : ℕ). map (λ (b : ℕ). (a, b)) (downFrom (a - 1))) widths
+wider = each (λ (a : ℕ). map (λ (b : ℕ). (a, b)) (down_from (a - 1))) widths
 
-unfoldable pub notWider : List (ℕ × ℕ)
-notWider = each (λ (b : ℕ). map (λ (a : ℕ). (a, b)) (downFrom b)) widths
+unfoldable pub not_wider : List (ℕ × ℕ)
+not_wider = each (λ (b : ℕ). map (λ (a : ℕ). (a, b)) (down_from b)) widths
 
 -- ---- two numbers of w bits: the top bit alone, and all the others
 unfoldable pub telling : ℕ → List ℕ
@@ -43,53 +43,53 @@ unfoldable pub up : ConvOp → ℕ × ℕ → List (Result (Option Cell))
 up op p = both op (Ty.int p.1) (Ty.int p.0) p.1
 
 -- what is ill-formed is so whatever the value
-unfoldable pub downOne : ConvOp → ℕ × ℕ → Result (Option Cell)
-downOne op p = converted op (Ty.int p.0) (Ty.int p.1) p.0 1
+unfoldable pub down_one : ConvOp → ℕ × ℕ → Result (Option Cell)
+down_one op p = converted op (Ty.int p.0) (Ty.int p.1) p.0 1
 
-unfoldable pub upOne : ConvOp → ℕ × ℕ → Result (Option Cell)
-upOne op p = converted op (Ty.int p.1) (Ty.int p.0) p.1 1
+unfoldable pub up_one : ConvOp → ℕ × ℕ → Result (Option Cell)
+up_one op p = converted op (Ty.int p.1) (Ty.int p.0) p.1 1
 
-unfoldable pub illFormed : ℕ × ℕ → Result (Option Cell)
-illFormed p = stops Stop.illFormed
+unfoldable pub ill_formed : ℕ × ℕ → Result (Option Cell)
+ill_formed p = stops Stop.ill_formed
 
-openThis : Unit {0}
-unfolding openManual openSweep openAlone widths wider notWider telling converted both values down up downOne upOne illFormed
-openThis = tt
+open_this : Unit {0}
+unfolding open_manual open_sweep open_alone widths wider not_wider telling converted both values down up down_one up_one ill_formed
+open_this = tt
 
 -- "The bit size of the value must be larger than the bit size of the destination type": the low bits are left
-pub truncs-hold : (OnAll wider (down ConvOp.trunc) (λ (p : ℕ × ℕ). values p.1 (0 ∷ (2 ^ p.1 - 1) ∷ []))) × (OnAll notWider (downOne ConvOp.trunc) illFormed)
-unfolding openThis
-truncs-hold = (refl, refl)
+pub truncs_hold : (OnAll wider (down ConvOp.trunc) (λ (p : ℕ × ℕ). values p.1 (0 ∷ (2 ^ p.1 - 1) ∷ []))) × (OnAll not_wider (down_one ConvOp.trunc) ill_formed)
+unfolding open_this
+truncs_hold = (refl, refl)
 
 -- ".. must be smaller ..": "fills the high order bits of the value with zero bits", or with "the sign bit (highest order bit) of the value"
-pub zexts-hold : (OnAll wider (up ConvOp.zext) (λ (p : ℕ × ℕ). values p.0 (telling p.1))) × (OnAll notWider (upOne ConvOp.zext) illFormed)
-unfolding openThis
-zexts-hold = (refl, refl)
+pub zexts_hold : (OnAll wider (up ConvOp.zext) (λ (p : ℕ × ℕ). values p.0 (telling p.1))) × (OnAll not_wider (up_one ConvOp.zext) ill_formed)
+unfolding open_this
+zexts_hold = (refl, refl)
 
-pub sexts-hold :
+pub sexts_hold :
     (OnAll wider (up ConvOp.sext) (λ (p : ℕ × ℕ). values p.0 ((2 ^ p.0 - 2 ^ (p.1 - 1)) ∷ (2 ^ (p.1 - 1) - 1) ∷ [])))
-    × (OnAll notWider (upOne ConvOp.sext) illFormed)
-unfolding openThis
-sexts-hold = (refl, refl)
+    × (OnAll not_wider (up_one ConvOp.sext) ill_formed)
+unfolding open_this
+sexts_hold = (refl, refl)
 
 -- "It is always a no-op cast because no bits change": between the same widths alone, and from a pointer to a pointer
-pub bitcasts-hold :
-    (OnAll widths (λ (w : ℕ). both ConvOp.bitCast (Ty.int w) (Ty.int w) w) (λ (w : ℕ). values w (telling w))) × (both ConvOp.bitCast Ty.ptr Ty.ptr 64 ≡ values 64 (telling 64))
-    × (OnAll wider (downOne ConvOp.bitCast) illFormed) × (OnAll wider (upOne ConvOp.bitCast) illFormed)
-unfolding openThis
-bitcasts-hold = (refl, refl, refl, refl)
+pub bitcasts_hold :
+    (OnAll widths (λ (w : ℕ). both ConvOp.bit_cast (Ty.int w) (Ty.int w) w) (λ (w : ℕ). values w (telling w))) × (both ConvOp.bit_cast Ty.ptr Ty.ptr 64 ≡ values 64 (telling 64))
+    × (OnAll wider (down_one ConvOp.bit_cast) ill_formed) × (OnAll wider (up_one ConvOp.bit_cast) ill_formed)
+unfolding open_this
+bitcasts_hold = (refl, refl, refl, refl)
 
 -- a pointer to an integer of every width, "truncating or zero extending"; from an integer narrower than a pointer it is ill-formed, to any width
-pub ptrtoints-hold :
-    (OnAll (downFrom 63) (λ (w : ℕ). both ConvOp.ptrToInt Ty.ptr (Ty.int w) 64) (λ (w : ℕ). values w (0 ∷ (2 ^ w - 1) ∷ [])))
-    × (both ConvOp.ptrToInt Ty.ptr (Ty.int 64) 64 ≡ values 64 (telling 64))
-    × (OnAll wider (upOne ConvOp.ptrToInt) illFormed) × (OnAll (downFrom 63) (λ (w : ℕ). converted ConvOp.ptrToInt (Ty.int w) (Ty.int w) w 1) (λ (w : ℕ). stops Stop.illFormed))
-unfolding openThis
-ptrtoints-hold = (refl, refl, refl, refl)
+pub ptrtoints_hold :
+    (OnAll (down_from 63) (λ (w : ℕ). both ConvOp.ptr_to_int Ty.ptr (Ty.int w) 64) (λ (w : ℕ). values w (0 ∷ (2 ^ w - 1) ∷ [])))
+    × (both ConvOp.ptr_to_int Ty.ptr (Ty.int 64) 64 ≡ values 64 (telling 64))
+    × (OnAll wider (up_one ConvOp.ptr_to_int) ill_formed) × (OnAll (down_from 63) (λ (w : ℕ). converted ConvOp.ptr_to_int (Ty.int w) (Ty.int w) w 1) (λ (w : ℕ). stops Stop.ill_formed))
+unfolding open_this
+ptrtoints_hold = (refl, refl, refl, refl)
 
 -- an integer of every width to a pointer; to an integer narrower than a pointer it is ill-formed, from any width
-pub inttoptrs-hold :
-    (OnAll widths (λ (w : ℕ). both ConvOp.intToPtr (Ty.int w) Ty.ptr w) (λ (w : ℕ). values 64 (telling w)))
-    × (OnAll wider (downOne ConvOp.intToPtr) illFormed) × (OnAll (downFrom 63) (λ (w : ℕ). converted ConvOp.intToPtr (Ty.int w) (Ty.int w) w 1) (λ (w : ℕ). stops Stop.illFormed))
-unfolding openThis
-inttoptrs-hold = (refl, refl, refl)
+pub inttoptrs_hold :
+    (OnAll widths (λ (w : ℕ). both ConvOp.int_to_ptr (Ty.int w) Ty.ptr w) (λ (w : ℕ). values 64 (telling w)))
+    × (OnAll wider (down_one ConvOp.int_to_ptr) ill_formed) × (OnAll (down_from 63) (λ (w : ℕ). converted ConvOp.int_to_ptr (Ty.int w) (Ty.int w) w 1) (λ (w : ℕ). stops Stop.ill_formed))
+unfolding open_this
+inttoptrs_hold = (refl, refl, refl)

@@ -8,8 +8,8 @@ use Rattle.machine.specs.Memory.{peek}
 use Rattle.machine.specs.State.{Target}
 use Rattle.machine.specs.Cases.{Summary, holding, world}
 use Rattle.manual.specs.Term.{Stand}
-use Rattle.manual.specs.Run.{sourceRun}
-use Rattle.manual.specs.Open.{openManual}
+use Rattle.manual.specs.Run.{source_run}
+use Rattle.manual.specs.Open.{open_manual}
 
 -- ---- short ways to write a function
 i1 : Ty
@@ -55,7 +55,7 @@ give t v = Terminator.ret (some (typed t v))
 
 -- the function is name 0, of a book without named structs; name 1 is defined too
 function : Ty → List Param → List BasicBlock → Function
-function t ps bs = record { name = 0; retTy = t; params = ps; blocks = bs }
+function t ps bs = record { name = 0; ret_ty = t; params = ps; blocks = bs }
 
 -- ---- a run
 pub record Try : Type 0 where
@@ -74,14 +74,14 @@ summary : Stand → Option Summary
 summary (Stand.at b σ) = none
 summary (Stand.gave v σ) = some (record { value = v; calls = σ.calls; bytes = peek 8 σ.memory 4096 })
 
-unfoldable pub orNone : {A : Type 0} → Result A → (A → Option Summary) → Option Summary
-orNone (ok a) f = f a
-orNone (err n) f = none
+unfoldable pub or_none : {A : Type 0} → Result A → (A → Option Summary) → Option Summary
+or_none (ok a) f = f a
+or_none (err n) f = none
 
 -- 12 blocks, with the byte 7 at address 4096 and the stack pointer 65536
-unfoldable pub bySource : Try → Option Summary
-unfolding names world holding summary orNone
-bySource t = orNone (sourceRun names [] t.function world t.args (holding 4096 7) 65536 12) summary
+unfoldable pub by_source : Try → Option Summary
+unfolding names world holding summary or_none
+by_source t = or_none (source_run names [] t.function world t.args (holding 4096 7) 65536 12) summary
 
 abbrev pub expected : Try → Option Summary
 expected t = some t.says
@@ -95,7 +95,7 @@ swap : Value → Function
 unfolding i1 i64 set param give typed block function
 swap c =
     function i64 (param 11 Ty.ptr ∷ []) (
-    block 7 (set 12 (InstKind.cmpxchg i64 (Value.local 11) c (Value.int 9)) ∷ set 13 (InstKind.extractValue (Value.local 12) 0) ∷ set 14 (InstKind.extractValue (Value.local 12) 1)
+    block 7 (set 12 (InstKind.cmpxchg i64 (Value.local 11) c (Value.int 9)) ∷ set 13 (InstKind.extract_value (Value.local 12) 0) ∷ set 14 (InstKind.extract_value (Value.local 12) 1)
     ∷ set 15 (InstKind.conv ConvOp.zext i1 (Value.local 14) i64) ∷ set 16 (InstKind.bin BinOp.shl i64 (Value.local 15) (Value.int 8))
     ∷ set 17 (InstKind.bin BinOp.add i64 (Value.local 13) (Value.local 16)) ∷ [])
     (give i64 (Value.local 17)) ∷ [])
@@ -126,7 +126,7 @@ tries =
       function = function i64 (param 11 i8 ∷ []) (
           block 7 (set 12 (InstKind.alloca i8 none none) ∷ act (InstKind.store i8 (Value.int 200) (Value.local 12) none) ∷ []) (Terminator.br none 8 none)
           ∷ block 8 (set 13 (InstKind.alloca i32 none none) ∷ act (InstKind.store i32 (Value.int 70000) (Value.local 13) none) ∷ set 14 (InstKind.alloca i8 (some (typed i8 (Value.local 11))) none)
-          ∷ set 15 (InstKind.load i64 (Value.local 12) none) ∷ set 16 (InstKind.conv ConvOp.ptrToInt Ty.ptr (Value.local 14) i64) ∷ set 17 (InstKind.bin BinOp.sub i64 (Value.local 16) (Value.local 15)) ∷ [])
+          ∷ set 15 (InstKind.load i64 (Value.local 12) none) ∷ set 16 (InstKind.conv ConvOp.ptr_to_int Ty.ptr (Value.local 14) i64) ∷ set 17 (InstKind.bin BinOp.sub i64 (Value.local 16) (Value.local 15)) ∷ [])
           (give i64 (Value.local 17)) ∷ []);
       args = 3 ∷ [];
       says = quiet (2 ^ 64 + 65544 - (200 + 70000 * 2 ^ 32));
@@ -150,8 +150,8 @@ tries =
     -- a varying index of -2 over i32, a signed comparison, a select
     record {
       function = function i64 (param 11 i8 ∷ []) (
-          block 7 (set 12 (InstKind.getElementPtr i32 (Value.global 1) (typed i8 (Value.local 11) ∷ [])) ∷ set 13 (InstKind.icmp ICmpPred.slt i8 (Value.local 11) (Value.int 1))
-          ∷ set 14 (InstKind.select (Value.local 13) Ty.ptr (Value.local 12) (Value.zero Zero.null)) ∷ set 15 (InstKind.conv ConvOp.ptrToInt Ty.ptr (Value.local 14) i64) ∷ []) (give i64 (Value.local 15)) ∷ []);
+          block 7 (set 12 (InstKind.get_element_ptr i32 (Value.global 1) (typed i8 (Value.local 11) ∷ [])) ∷ set 13 (InstKind.icmp ICmpPred.slt i8 (Value.local 11) (Value.int 1))
+          ∷ set 14 (InstKind.select (Value.local 13) Ty.ptr (Value.local 12) (Value.zero Zero.null)) ∷ set 15 (InstKind.conv ConvOp.ptr_to_int Ty.ptr (Value.local 14) i64) ∷ []) (give i64 (Value.local 15)) ∷ []);
       args = 254 ∷ [];
       says = quiet 8185;
     } ∷
@@ -159,7 +159,7 @@ tries =
     record {
       function = function i32 (param 11 i8 ∷ []) (
           block 7 (set 12 (InstKind.conv ConvOp.sext i8 (Value.local 11) i32) ∷ set 13 (InstKind.conv ConvOp.trunc i32 (Value.local 12) i16) ∷ set 14 (InstKind.conv ConvOp.zext i16 (Value.local 13) i64)
-          ∷ set 15 (InstKind.conv ConvOp.intToPtr i64 (Value.local 14) Ty.ptr) ∷ set 16 (InstKind.conv ConvOp.ptrToInt Ty.ptr (Value.local 15) i32) ∷ set 17 (InstKind.conv ConvOp.bitCast i32 (Value.local 16) i32)
+          ∷ set 15 (InstKind.conv ConvOp.int_to_ptr i64 (Value.local 14) Ty.ptr) ∷ set 16 (InstKind.conv ConvOp.ptr_to_int Ty.ptr (Value.local 15) i32) ∷ set 17 (InstKind.conv ConvOp.bit_cast i32 (Value.local 16) i32)
           ∷ set 18 (InstKind.freeze i32 (Value.local 17)) ∷ []) (give i32 (Value.local 18)) ∷ []);
       args = 200 ∷ [];
       says = quiet 65480;
@@ -167,10 +167,10 @@ tries =
     -- stores and loads of each width, a pointer among them, atomic ones, a fence: 513 + 770 + 1 + 4096
     record {
       function = function i64 (param 11 Ty.ptr ∷ []) (
-          block 7 (act (InstKind.store i16 (Value.int 513) (Value.local 11) none) ∷ set 12 (InstKind.load i16 (Value.local 11) none) ∷ act (InstKind.atomicStore i64 (Value.int 770) (Value.local 11))
-          ∷ act InstKind.fence ∷ set 13 (InstKind.atomicLoad i64 (Value.local 11)) ∷ act (InstKind.store i1 (Value.int 1) (Value.local 11) none) ∷ set 14 (InstKind.load i1 (Value.local 11) none)
+          block 7 (act (InstKind.store i16 (Value.int 513) (Value.local 11) none) ∷ set 12 (InstKind.load i16 (Value.local 11) none) ∷ act (InstKind.atomic_store i64 (Value.int 770) (Value.local 11))
+          ∷ act InstKind.fence ∷ set 13 (InstKind.atomic_load i64 (Value.local 11)) ∷ act (InstKind.store i1 (Value.int 1) (Value.local 11) none) ∷ set 14 (InstKind.load i1 (Value.local 11) none)
           ∷ act (InstKind.store Ty.ptr (Value.local 11) (Value.local 11) none) ∷ set 15 (InstKind.load Ty.ptr (Value.local 11) none) ∷ set 16 (InstKind.conv ConvOp.zext i16 (Value.local 12) i64)
-          ∷ set 17 (InstKind.conv ConvOp.zext i1 (Value.local 14) i64) ∷ set 18 (InstKind.conv ConvOp.ptrToInt Ty.ptr (Value.local 15) i64) ∷ set 19 (InstKind.bin BinOp.add i64 (Value.local 16) (Value.local 13))
+          ∷ set 17 (InstKind.conv ConvOp.zext i1 (Value.local 14) i64) ∷ set 18 (InstKind.conv ConvOp.ptr_to_int Ty.ptr (Value.local 15) i64) ∷ set 19 (InstKind.bin BinOp.add i64 (Value.local 16) (Value.local 13))
           ∷ set 20 (InstKind.bin BinOp.add i64 (Value.local 19) (Value.local 17)) ∷ set 21 (InstKind.bin BinOp.add i64 (Value.local 20) (Value.local 18)) ∷ [])
           (give i64 (Value.local 21)) ∷ []);
       args = 4096 ∷ [];
@@ -196,7 +196,7 @@ tries =
     record { function = function Ty.void [] (block 7 [] (Terminator.ret none) ∷ []); args = []; says = quiet 0 } ∷
     record {
       function = function Ty.ptr (param 11 Ty.ptr ∷ []) (
-          block 7 (set 12 (InstKind.getElementPtr (Ty.struct false (Tys.cons i8 (Tys.cons i32 (Tys.cons i8 Tys.nil)))) (Value.local 11) (typed i64 (Value.int 1) ∷ typed i32 (Value.int 2) ∷ [])) ∷ [])
+          block 7 (set 12 (InstKind.get_element_ptr (Ty.struct false (Tys.cons i8 (Tys.cons i32 (Tys.cons i8 Tys.nil)))) (Value.local 11) (typed i64 (Value.int 1) ∷ typed i32 (Value.int 2) ∷ [])) ∷ [])
           (give Ty.ptr (Value.local 12)) ∷ []);
       args = 4096 ∷ [];
       says = quiet 4116;
@@ -212,6 +212,6 @@ tries =
     } ∷
     []
 
-pub functions-run : map bySource tries ≡ map expected tries
-unfolding openManual bySource tries
-functions-run = refl
+pub functions_run : map by_source tries ≡ map expected tries
+unfolding open_manual by_source tries
+functions_run = refl

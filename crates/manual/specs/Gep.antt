@@ -2,13 +2,13 @@
 use Rattle.std.specs.Prelude.{ℕ, ◌+◌, ◌*◌, ◌%◌, ◌^◌, List, [], ◌∷◌}
 use Rattle.std.proofs.Math.Option.{Option, none, some}
 use Rattle.book.specs.Ast.{Ty, Value, TypedVal, StructBody, StructType}
-use Rattle.book.specs.Result.{Result, ok, bind as ◌>>=◌, okOr}
-use Rattle.layout.specs.Layout.{resolve, size_of, fieldOffset}
-use Rattle.layout.specs.Step.{constInt, field_at}
+use Rattle.book.specs.Result.{Result, ok, bind as ◌>>=◌, ok_or}
+use Rattle.layout.specs.Layout.{resolve, size_of, field_offset}
+use Rattle.layout.specs.Step.{const_int, field_at}
 use Rattle.machine.specs.State.{World}
 use Rattle.machine.specs.Signed.{signed, unsigned}
-use Rattle.manual.specs.Stop.{Stop, stops, stopNumber, need}
-use Rattle.manual.specs.Values.{inSignedRange}
+use Rattle.manual.specs.Stop.{Stop, stops, stop_number, need}
+use Rattle.manual.specs.Values.{in_signed_range}
 use Rattle.manual.specs.State.{Env}
 use Rattle.manual.specs.Operand.{width_of, value}
 
@@ -19,60 +19,60 @@ module _ (world : World) (structs : List StructType) (ρ : Env) where
     x ← value world ρ w v
     ok (unsigned 64 (signed w x))
   index_at w v (some c) = do
-    _ ← need (inSignedRange w c) Stop.indexRange
+    _ ← need (in_signed_range w c) Stop.index_range
     ok c
 
   unfoldable pub index : TypedVal → Result ℕ
   index i = do
     w ← width_of i.ty
-    index_at w i.val (constInt i.val)
+    index_at w i.val (const_int i.val)
 
   -- a step over elements of this type
-  unfoldable pub overElements : Ty → TypedVal → Result ℕ
-  overElements ty i = do
+  unfoldable pub over_elements : Ty → TypedVal → Result ℕ
+  over_elements ty i = do
     size ← size_of structs ty
     n ← index i
     ok (n * size % 2 ^ 64)
 
   -- "When indexing into a (optionally packed) structure, only i32 integer constants are allowed": here those of any width, and within the fields
-  unfoldable pub overFields : StructBody → TypedVal → Result (ℕ × Ty)
-  overFields body i = do
+  unfoldable pub over_fields : StructBody → TypedVal → Result (ℕ × Ty)
+  over_fields body i = do
     n ← index i
-    k ← okOr (stopNumber Stop.illFormed) (constInt i.val)
-    next ← okOr (stopNumber Stop.illFormed) (field_at body.fields k)
-    off ← fieldOffset structs body k
+    k ← ok_or (stop_number Stop.ill_formed) (const_int i.val)
+    next ← ok_or (stop_number Stop.ill_formed) (field_at body.fields k)
+    off ← field_offset structs body k
     ok (off, next)
 
   -- one index into a type: the offset, and the type it leads to
   unfoldable pub into : Ty → TypedVal → Result (ℕ × Ty)
-  into (Ty.struct p ts) i = overFields (record { packed = p; fields = ts }) i
-  into (Ty.namedStruct x) i = do
+  into (Ty.struct p ts) i = over_fields (record { packed = p; fields = ts }) i
+  into (Ty.named_struct x) i = do
     body ← resolve structs x
-    overFields body i
+    over_fields body i
   into (Ty.array p n elem) i = do
-    off ← overElements elem i
+    off ← over_elements elem i
     ok (off, elem)
-  into Ty.void i = stops Stop.illFormed
-  into Ty.ptr i = stops Stop.illFormed
-  into (Ty.int w) i = stops Stop.illFormed
-  into (Ty.sizeless s) i = stops Stop.illFormed
+  into Ty.void i = stops Stop.ill_formed
+  into Ty.ptr i = stops Stop.ill_formed
+  into (Ty.int w) i = stops Stop.ill_formed
+  into (Ty.sizeless s) i = stops Stop.ill_formed
 
-  unfoldable pub offsetIn : Ty → List TypedVal → Result ℕ
-  offsetIn ty [] = ok 0
-  offsetIn ty (i ∷ is) = do
+  unfoldable pub offset_in : Ty → List TypedVal → Result ℕ
+  offset_in ty [] = ok 0
+  offset_in ty (i ∷ is) = do
     step ← into ty i
-    rest ← offsetIn step.1 is
+    rest ← offset_in step.1 is
     ok ((step.0 + rest) % 2 ^ 64)
 
   -- "The first index always indexes the pointer value given as the second argument"
   unfoldable pub offset : Ty → List TypedVal → Result ℕ
   offset ty [] = ok 0
   offset ty (i ∷ is) = do
-    off ← overElements ty i
-    rest ← offsetIn ty is
+    off ← over_elements ty i
+    rest ← offset_in ty is
     ok ((off + rest) % 2 ^ 64)
 
 -- opens every definition of this file, for an example that computes
-unfoldable pub openGep : Unit {0}
-unfolding index_at index overElements overFields into offsetIn offset
-openGep = tt
+unfoldable pub open_gep : Unit {0}
+unfolding index_at index over_elements over_fields into offset_in offset
+open_gep = tt

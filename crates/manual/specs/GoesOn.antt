@@ -5,14 +5,14 @@ use Rattle.book.specs.Ast.{Ty, Value, TypedVal, Incoming, Case, Inst, Terminator
 use Rattle.book.specs.Limits.{Each}
 use Rattle.book.specs.Result.{Result, ok}
 use Rattle.book.specs.Rule.{find}
-use Rattle.book.specs.Shape.{Shape, shape, allInsts}
-use Rattle.layout.specs.Frame.{Places, framePass, noFrame}
+use Rattle.book.specs.Shape.{Shape, shape, all_insts}
+use Rattle.layout.specs.Frame.{Places, frame_pass, no_frame}
 use Rattle.machine.specs.Memory.{Memory}
 use Rattle.machine.specs.State.{World}
 use Rattle.manual.specs.State.{Given, Source}
-use Rattle.manual.specs.Inst.{runInst}
+use Rattle.manual.specs.Inst.{run_inst}
 use Rattle.manual.specs.Term.{Stand}
-use Rattle.manual.specs.Run.{run, sourceRun}
+use Rattle.manual.specs.Run.{run, source_run}
 use Rattle.manual.specs.Goes.{Scalar, Integer, Answers, InRange, Reads, Goes}
 use Rattle.manual.specs.Measured.{Measured}
 
@@ -54,19 +54,19 @@ pub data Chooses (w x d : ℕ) : List Case → (label : ℕ) → Type 0 where
 -- "unreachable" stops: there is no way for it
 pub data GoesTerm (g : Given) (σ : Source) (pred : ℕ) : Terminator → Type 0 where
   -- "void returns 0"; a value has the width of the function's result
-  retVoid : Answers g.function.retTy none → GoesTerm g σ pred (Terminator.ret none)
-  ret : {v : TypedVal} {w n : ℕ} → Answers g.function.retTy (some w) → Scalar v.ty w → Reads g σ w v.val n → GoesTerm g σ pred (Terminator.ret (some v))
+  ret_void : Answers g.function.ret_ty none → GoesTerm g σ pred (Terminator.ret none)
+  ret : {v : TypedVal} {w n : ℕ} → Answers g.function.ret_ty (some w) → Scalar v.ty w → Reads g σ w v.val n → GoesTerm g σ pred (Terminator.ret (some v))
   jump : {t : ℕ} {f : Option ℕ} → Edge g σ pred t → GoesTerm g σ pred (Terminator.br none t f)
   -- a condition has two targets
-  brTrue : {c : Value} {t f n : ℕ} → Reads g σ 1 c n → 0 < n → Edge g σ pred t → GoesTerm g σ pred (Terminator.br (some c) t (some f))
-  brFalse : {c : Value} {t f : ℕ} → Reads g σ 1 c 0 → Edge g σ pred f → GoesTerm g σ pred (Terminator.br (some c) t (some f))
+  br_true : {c : Value} {t f n : ℕ} → Reads g σ 1 c n → 0 < n → Edge g σ pred t → GoesTerm g σ pred (Terminator.br (some c) t (some f))
+  br_false : {c : Value} {t f : ℕ} → Reads g σ 1 c 0 → Edge g σ pred f → GoesTerm g σ pred (Terminator.br (some c) t (some f))
   switch : {ty : Ty} {c : Value} {d : ℕ} {ks : List Case} {w n b : ℕ} → Integer ty w → Reads g σ w c n → Chooses w n d ks b → Edge g σ pred b → GoesTerm g σ pred (Terminator.switch ty c d ks)
 
 -- ---- a block
 -- its instructions one after the other, each in the state that the one before leaves, then its terminator
 pub data GoesInsts (g : Given) (pred : ℕ) (t : Terminator) : List Inst → Source → Type 0 where
   end : {σ : Source} → GoesTerm g σ pred t → GoesInsts g pred t [] σ
-  step : {i : Inst} {is : List Inst} {σ : Source} → Goes g σ i.dest i.kind → ((τ : Source) → runInst g i σ ≡ ok τ → GoesInsts g pred t is τ) → GoesInsts g pred t (i ∷ is) σ
+  step : {i : Inst} {is : List Inst} {σ : Source} → Goes g σ i.dest i.kind → ((τ : Source) → run_inst g i σ ≡ ok τ → GoesInsts g pred t is τ) → GoesInsts g pred t (i ∷ is) σ
 
 -- the leading phis, which the edge has taken, are passed over
 pub data GoesBody (g : Given) (pred : ℕ) (t : Terminator) : List Inst → Source → Type 0 where
@@ -93,11 +93,11 @@ pub data HasBlock : List BasicBlock → Type 0 where
 
 -- the frame by the Rust's formula
 abbrev pub places_of : List StructType → Function → Result Places
-places_of structs f = framePass structs (allInsts f.blocks) noFrame
+places_of structs f = frame_pass structs (all_insts f.blocks) no_frame
 
 abbrev pub given_of : (names : List (List ℕ)) → List StructType → Function → World → (sp : ℕ) → Places → Given
 given_of names structs f world sp fr = record { names = names; structs = structs; function = f; frame = fr; world = world; base = sp }
 
 abbrev pub SourceGoes : (names : List (List ℕ)) → List StructType → Function → World → (args : List ℕ) → Memory → (sp n : ℕ) → Type 0
 SourceGoes names structs f world args m sp n = HasBlock f.blocks
-    × ((fr : Places) → places_of structs f ≡ ok fr → (k c : ℕ) (σ : Source) → k < n → sourceRun names structs f world args m sp k ≡ ok (Stand.at c σ) → GoesBlock (given_of names structs f world sp fr) c σ)
+    × ((fr : Places) → places_of structs f ≡ ok fr → (k c : ℕ) (σ : Source) → k < n → source_run names structs f world args m sp k ≡ ok (Stand.at c σ) → GoesBlock (given_of names structs f world sp fr) c σ)

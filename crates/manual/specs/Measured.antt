@@ -5,7 +5,7 @@ use Rattle.std.proofs.Math.Option.{Option, none, some}
 use Rattle.book.specs.Ast.{Ty, Value, TypedVal, InstKind, StructBody, StructType}
 use Rattle.book.specs.Map.{lookup}
 use Rattle.book.specs.Result.{ok}
-use Rattle.layout.specs.Layout.{resolve, align_of, size_of, fieldOffset}
+use Rattle.layout.specs.Layout.{resolve, align_of, size_of, field_offset}
 use Rattle.layout.specs.Frame.{count_of}
 use Rattle.manual.specs.State.{Given}
 use Rattle.manual.specs.Goes.{Leads}
@@ -20,11 +20,11 @@ Aligned structs none ty = (a : ℕ) × (align_of structs ty ≡ ok a)
 
 -- the field that a constant names
 abbrev pub Offset : List StructType → StructBody → Value → Type 0
-Offset structs body v = (k : ℕ) → v ≡ Value.int k → (off : ℕ) × (fieldOffset structs body k ≡ ok off)
+Offset structs body v = (k : ℕ) → v ≡ Value.int k → (off : ℕ) × (field_offset structs body k ≡ ok off)
 
 abbrev pub MeasuredStep : List StructType → Ty → Value → Type 0
 MeasuredStep structs (Ty.struct p ts) v = Offset structs (record { packed = p; fields = ts }) v
-MeasuredStep structs (Ty.namedStruct x) v = (body : StructBody) × (resolve structs x ≡ ok body) × Offset structs body v
+MeasuredStep structs (Ty.named_struct x) v = (body : StructBody) × (resolve structs x ≡ ok body) × Offset structs body v
 MeasuredStep structs (Ty.array p n elem) v = Sized structs elem
 MeasuredStep structs Ty.void v = Unit {0}
 MeasuredStep structs Ty.ptr v = Unit {0}
@@ -47,11 +47,11 @@ MeasuredPlace g x ty none align = Sized g.structs ty × Aligned g.structs align 
 abbrev pub Measured : Given → (dest : Option ℕ) → InstKind → Type 0
 Measured g dest (InstKind.load ty p align) = Sized g.structs ty
 Measured g dest (InstKind.store ty v p align) = Sized g.structs ty
-Measured g dest (InstKind.atomicLoad ty p) = Sized g.structs ty
-Measured g dest (InstKind.atomicStore ty v p) = Sized g.structs ty
+Measured g dest (InstKind.atomic_load ty p) = Sized g.structs ty
+Measured g dest (InstKind.atomic_store ty v p) = Sized g.structs ty
 Measured g dest (InstKind.cmpxchg ty p c n) = Sized g.structs ty
 Measured g dest (InstKind.alloca ty count align) = (x : ℕ) × (dest ≡ some x) × MeasuredPlace g x ty (count_of count) align
-Measured g dest (InstKind.getElementPtr ty p is) = MeasuredIndices g.structs ty is
+Measured g dest (InstKind.get_element_ptr ty p is) = MeasuredIndices g.structs ty is
 Measured g dest (InstKind.bin op ty a b) = Unit {0}
 Measured g dest (InstKind.conv op from v to) = Unit {0}
 Measured g dest (InstKind.icmp p ty a b) = Unit {0}
@@ -59,5 +59,5 @@ Measured g dest (InstKind.select c ty a b) = Unit {0}
 Measured g dest (InstKind.phi ty incoming) = Unit {0}
 Measured g dest (InstKind.call ty callee args) = Unit {0}
 Measured g dest (InstKind.freeze ty v) = Unit {0}
-Measured g dest (InstKind.extractValue a k) = Unit {0}
+Measured g dest (InstKind.extract_value a k) = Unit {0}
 Measured g dest InstKind.fence = Unit {0}

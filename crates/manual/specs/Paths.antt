@@ -4,13 +4,13 @@ use Rattle.std.specs.Prelude.{ℕ, zero, suc, ◌+◌, ◌-◌, ◌*◌, ◌%◌
 use Rattle.std.proofs.Math.Option.{some}
 use Rattle.book.specs.Ast.{Ty, Tys, Value, TypedVal, StructType}
 use Rattle.book.specs.Result.{Result, ok}
-use Rattle.layout.specs.Frame.{noFrame}
-use Rattle.machine.specs.Sweep.{OnAll, up_to, pairs, openSweep}
+use Rattle.layout.specs.Frame.{no_frame}
+use Rattle.machine.specs.Sweep.{OnAll, up_to, pairs, open_sweep}
 use Rattle.manual.specs.Stop.{Stop, stops}
 use Rattle.manual.specs.State.{Cell, nothing, with}
-use Rattle.manual.specs.Inst.{evalGep}
-use Rattle.manual.specs.Open.{openManual}
-use Rattle.manual.specs.Alone.{standing, given, typed, openAlone}
+use Rattle.manual.specs.Inst.{eval_gep}
+use Rattle.manual.specs.Open.{open_manual}
+use Rattle.manual.specs.Alone.{standing, given, typed, open_alone}
 
 -- names 20 and 21 are structs of an i8 and an i64, ten of each in turn, the second packed
 unfoldable pub listed : List Ty → Tys
@@ -29,7 +29,7 @@ structs = record { name = 20; body = some (record { packed = false; fields = lis
 unfoldable pub leads : Ty → (address index : ℕ) → List TypedVal → Result ℕ
 unfolding structs
 leads t a n is =
-    evalGep (record { names = []; structs = structs; function = (given Ty.void noFrame []).function; frame = noFrame; world = (given Ty.void noFrame []).world; base = 0 })
+    eval_gep (record { names = []; structs = structs; function = (given Ty.void no_frame []).function; frame = no_frame; world = (given Ty.void no_frame []).world; base = 0 })
     (standing (with 0 (Cell.one 64 a) (with 1 (Cell.one 64 n) nothing))) t (Value.local 0) is
 
 unfoldable pub word : ℕ → TypedVal
@@ -44,53 +44,53 @@ unfoldable pub sized : List Sized
 sized =
     record { ty = Ty.int 1; bytes = 1 } ∷ record { ty = Ty.int 16; bytes = 2 } ∷ record { ty = Ty.int 32; bytes = 4 } ∷ record { ty = Ty.ptr; bytes = 8 } ∷
     record { ty = Ty.array false 3 (Ty.int 32); bytes = 12 } ∷ record { ty = Ty.array true 0 Ty.ptr; bytes = 0 } ∷
-    record { ty = Ty.namedStruct 20; bytes = 160 } ∷ record { ty = Ty.namedStruct 21; bytes = 90 } ∷ []
+    record { ty = Ty.named_struct 20; bytes = 160 } ∷ record { ty = Ty.named_struct 21; bytes = 90 } ∷ []
 
 unfoldable pub numbers : List ℕ
 numbers = 0 ∷ 1 ∷ 2 ∷ (2 ^ 31 - 1) ∷ 2 ^ 63 ∷ (2 ^ 64 - 2 ^ 31) ∷ (2 ^ 64 - 2) ∷ (2 ^ 64 - 1) ∷ []
 
-pub steps-hold :
+pub steps_hold :
     OnAll (pairs sized (pairs numbers numbers))
     (λ (p : Sized × (ℕ × ℕ)). leads p.0.ty p.1.0 0 (word p.1.1 ∷ []) ∷ leads p.0.ty p.1.0 p.1.1 (typed (Ty.int 64) (Value.local 1) ∷ []) ∷ [])
     (λ (p : Sized × (ℕ × ℕ)). replicate 2 (ok ((p.1.0 + p.1.1 * p.0.bytes) % 2 ^ 64)))
-unfolding openManual openSweep openAlone leads word sized numbers
-steps-hold = refl
+unfolding open_manual open_sweep open_alone leads word sized numbers
+steps_hold = refl
 
 -- ---- fields: of n i8 the k-th lies at k; behind the last there is none
-pub fields-hold :
+pub fields_hold :
     OnAll (0 ∷ up_to 40) (λ (k : ℕ). map (λ (p : Bool). leads (Ty.struct p (listed (replicate 40 (Ty.int 8)))) 4096 0 (word 0 ∷ typed (Ty.int 32) (Value.int k) ∷ [])) (false ∷ true ∷ []))
-    (λ (k : ℕ). replicate 2 (cond (ltb k 40) (ok (4096 + k)) (stops Stop.illFormed)))
-unfolding openManual openSweep openAlone leads word listed
-fields-hold = refl
+    (λ (k : ℕ). replicate 2 (cond (ltb k 40) (ok (4096 + k)) (stops Stop.ill_formed)))
+unfolding open_manual open_sweep open_alone leads word listed
+fields_hold = refl
 
 -- an i8 and an i64 in turn: 16 bytes a pair, 9 where packed; the same named and not
 unfoldable pub field_of : (t : Ty) → (k : ℕ) → Result ℕ
 unfolding word
 field_of t k = leads t 4096 0 (word 1 ∷ typed (Ty.int 8) (Value.int k) ∷ [])
 
-pub packed-hold :
-    (OnAll (0 ∷ up_to 9) (λ (j : ℕ). map (λ (t : Ty). (field_of t (2 * j) ∷ field_of t (2 * j + 1) ∷ [])) (Ty.namedStruct 20 ∷ Ty.struct false (listed (in_turn 10)) ∷ []))
+pub packed_hold :
+    (OnAll (0 ∷ up_to 9) (λ (j : ℕ). map (λ (t : Ty). (field_of t (2 * j) ∷ field_of t (2 * j + 1) ∷ [])) (Ty.named_struct 20 ∷ Ty.struct false (listed (in_turn 10)) ∷ []))
     (λ (j : ℕ). replicate 2 (ok (4256 + 16 * j) ∷ ok (4264 + 16 * j) ∷ [])))
-    × (OnAll (0 ∷ up_to 9) (λ (j : ℕ). map (λ (t : Ty). (field_of t (2 * j) ∷ field_of t (2 * j + 1) ∷ [])) (Ty.namedStruct 21 ∷ Ty.struct true (listed (in_turn 10)) ∷ []))
+    × (OnAll (0 ∷ up_to 9) (λ (j : ℕ). map (λ (t : Ty). (field_of t (2 * j) ∷ field_of t (2 * j + 1) ∷ [])) (Ty.named_struct 21 ∷ Ty.struct true (listed (in_turn 10)) ∷ []))
     (λ (j : ℕ). replicate 2 (ok (4186 + 9 * j) ∷ ok (4187 + 9 * j) ∷ [])))
-    × (map (λ (x : ℕ). field_of (Ty.namedStruct x) 20) (20 ∷ 21 ∷ []) ≡ replicate 2 (stops Stop.illFormed))
-unfolding openManual openSweep openAlone leads field_of listed in_turn
-packed-hold = (refl, refl, refl)
+    × (map (λ (x : ℕ). field_of (Ty.named_struct x) 20) (20 ∷ 21 ∷ []) ≡ replicate 2 (stops Stop.ill_formed))
+unfolding open_manual open_sweep open_alone leads field_of listed in_turn
+packed_hold = (refl, refl, refl)
 
 -- a field that is not constant; an element may be, also behind a field
-pub constant-fields :
-    (map (λ (t : Ty). leads t 4096 0 (word 0 ∷ typed (Ty.int 64) (Value.local 1) ∷ [])) (Ty.namedStruct 20 ∷ Ty.struct true (listed (in_turn 1)) ∷ Ty.array false 2 (Ty.int 8) ∷ [])
-    ≡ stops Stop.illFormed ∷ stops Stop.illFormed ∷ ok 4096 ∷ [])
+pub constant_fields :
+    (map (λ (t : Ty). leads t 4096 0 (word 0 ∷ typed (Ty.int 64) (Value.local 1) ∷ [])) (Ty.named_struct 20 ∷ Ty.struct true (listed (in_turn 1)) ∷ Ty.array false 2 (Ty.int 8) ∷ [])
+    ≡ stops Stop.ill_formed ∷ stops Stop.ill_formed ∷ ok 4096 ∷ [])
     × (leads (Ty.struct false (listed (Ty.int 8 ∷ Ty.array false 4 (Ty.int 32) ∷ []))) 4096 3 (word 0 ∷ word 1 ∷ typed (Ty.int 64) (Value.local 1) ∷ []) ≡ ok 4112)
-unfolding openManual openAlone leads word listed in_turn
-constant-fields = (refl, refl)
+unfolding open_manual open_alone leads word listed in_turn
+constant_fields = (refl, refl)
 
 -- ---- pairs in pairs: index 1 at every depth, from the whole down to a byte
 unfoldable pub nest : ℕ → Ty
 nest zero = Ty.int 8
 nest (suc d) = Ty.array false 2 (nest d)
 
-pub depths-hold : OnAll (0 ∷ up_to 20) (λ (d : ℕ). leads (nest d) 0 1 (replicate (d + 1) (word 1)) ∷ leads (nest d) 0 1 (replicate (d + 1) (typed (Ty.int 64) (Value.local 1))) ∷ [])
+pub depths_hold : OnAll (0 ∷ up_to 20) (λ (d : ℕ). leads (nest d) 0 1 (replicate (d + 1) (word 1)) ∷ leads (nest d) 0 1 (replicate (d + 1) (typed (Ty.int 64) (Value.local 1))) ∷ [])
     (λ (d : ℕ). replicate 2 (ok (2 ^ (d + 1) - 1)))
-unfolding openManual openSweep openAlone leads word nest
-depths-hold = refl
+unfolding open_manual open_sweep open_alone leads word nest
+depths_hold = refl

@@ -4,10 +4,10 @@ use Rattle.std.specs.Prelude.{ℕ, ◌-◌, ◌%◌, ◌^◌, ◌≡◌, refl, t
 use Rattle.std.proofs.Math.Option.{none, some}
 use Rattle.book.specs.Ast.{Ty, Value, BinOp, ConvOp, ICmpPred, InstKind, Terminator}
 use Rattle.layout.specs.Frame.{Places}
-use Rattle.machine.specs.Sweep.{OnAll, openSweep}
-use Rattle.manual.specs.Inst.{runInst}
-use Rattle.manual.specs.Open.{openManual}
-use Rattle.manual.specs.Alone.{furnished, standing, given, gives, ends, crosses, number, typed, zeros, openAlone}
+use Rattle.machine.specs.Sweep.{OnAll, open_sweep}
+use Rattle.manual.specs.Inst.{run_inst}
+use Rattle.manual.specs.Open.{open_manual}
+use Rattle.manual.specs.Alone.{furnished, standing, given, gives, ends, crosses, number, typed, zeros, open_alone}
 
 -- a place: the width it reads at, the stop for an integer out of range, and what a run with the operand there answers, 0 where it goes on
 pub record Place : Type 0 where
@@ -27,7 +27,7 @@ phi w t = record { width = w; beyond = 105; answer = λ v. number (crosses t v) 
 
 -- a getelementptr's index
 index : (w : ℕ) → Ty → Place
-index w t = record { width = w; beyond = 106; answer = λ v. number (gives furnished (InstKind.getElementPtr (Ty.int 8) (Value.int 0) (typed t v ∷ []))) }
+index w t = record { width = w; beyond = 106; answer = λ v. number (gives furnished (InstKind.get_element_ptr (Ty.int 8) (Value.int 0) (typed t v ∷ []))) }
 
 one : Value
 one = Value.int 1
@@ -36,14 +36,14 @@ unfoldable pub places : List Place
 unfolding inst term phi index one
 places =
     inst 8 (λ v. InstKind.bin BinOp.udiv (Ty.int 8) v one) ∷ inst 8 (λ v. InstKind.bin BinOp.add (Ty.int 8) one v) ∷ inst 64 (λ v. InstKind.bin BinOp.xor (Ty.int 64) v v) ∷
-    inst 8 (λ v. InstKind.conv ConvOp.zext (Ty.int 8) v (Ty.int 64)) ∷ inst 64 (λ v. InstKind.conv ConvOp.ptrToInt Ty.ptr v (Ty.int 8)) ∷
+    inst 8 (λ v. InstKind.conv ConvOp.zext (Ty.int 8) v (Ty.int 64)) ∷ inst 64 (λ v. InstKind.conv ConvOp.ptr_to_int Ty.ptr v (Ty.int 8)) ∷
     inst 8 (λ v. InstKind.icmp ICmpPred.slt (Ty.int 8) v one) ∷ inst 1 (λ v. InstKind.icmp ICmpPred.eq (Ty.int 1) one v) ∷ inst 64 (λ v. InstKind.icmp ICmpPred.ult Ty.ptr v one) ∷
     -- the condition, and the side that is taken
     inst 1 (λ v. InstKind.select v (Ty.int 8) one one) ∷ inst 8 (λ v. InstKind.select one (Ty.int 8) v one) ∷ inst 64 (λ v. InstKind.select (Value.int 0) Ty.ptr one v) ∷
     inst 64 (λ v. InstKind.load (Ty.int 8) v none) ∷ inst 8 (λ v. InstKind.store (Ty.int 8) v one none) ∷ inst 64 (λ v. InstKind.store (Ty.int 8) one v none) ∷
-    inst 64 (λ v. InstKind.atomicLoad (Ty.int 64) v) ∷ inst 64 (λ v. InstKind.atomicStore (Ty.int 64) v one) ∷ inst 64 (λ v. InstKind.atomicStore (Ty.int 64) one v) ∷
+    inst 64 (λ v. InstKind.atomic_load (Ty.int 64) v) ∷ inst 64 (λ v. InstKind.atomic_store (Ty.int 64) v one) ∷ inst 64 (λ v. InstKind.atomic_store (Ty.int 64) one v) ∷
     inst 64 (λ v. InstKind.cmpxchg (Ty.int 8) v one one) ∷ inst 8 (λ v. InstKind.cmpxchg (Ty.int 8) one v one) ∷ inst 64 (λ v. InstKind.cmpxchg Ty.ptr one one v) ∷
-    inst 64 (λ v. InstKind.getElementPtr (Ty.int 8) v []) ∷ index 8 (Ty.int 8) ∷ index 1 (Ty.int 1) ∷ index 64 (Ty.int 64) ∷
+    inst 64 (λ v. InstKind.get_element_ptr (Ty.int 8) v []) ∷ index 8 (Ty.int 8) ∷ index 1 (Ty.int 1) ∷ index 64 (Ty.int 64) ∷
     inst 8 (λ v. InstKind.call (Ty.int 8) (Value.global 1) (typed (Ty.int 8) v ∷ [])) ∷ inst 64 (λ v. InstKind.call (Ty.int 8) (Value.global 1) (typed (Ty.int 8) one ∷ typed Ty.ptr v ∷ [])) ∷
     inst 8 (λ v. InstKind.freeze (Ty.int 8) v) ∷ inst 64 (λ v. InstKind.freeze Ty.ptr v) ∷ phi 8 (Ty.int 8) ∷ phi 64 Ty.ptr ∷
     term 8 (Ty.int 8) (λ v. Terminator.ret (some (typed (Ty.int 8) v))) ∷ term 64 Ty.ptr (λ v. Terminator.ret (some (typed Ty.ptr v))) ∷
@@ -51,28 +51,28 @@ places =
     []
 
 -- ---- locals: of this width, of another, not set, a cmpxchg's
-unfoldable pub localsAt : Place → List ℕ
-localsAt p = map (λ (x : ℕ). p.answer (Value.local x)) (p.width ∷ 16 ∷ 99 ∷ 100 ∷ [])
+unfoldable pub locals_at : Place → List ℕ
+locals_at p = map (λ (x : ℕ). p.answer (Value.local x)) (p.width ∷ 16 ∷ 99 ∷ 100 ∷ [])
 
-pub locals-hold : OnAll places localsAt (λ (p : Place). 0 ∷ 102 ∷ 101 ∷ 108 ∷ [])
-unfolding openManual openSweep openAlone places localsAt
-locals-hold = refl
+pub locals_hold : OnAll places locals_at (λ (p : Place). 0 ∷ 102 ∷ 101 ∷ 108 ∷ [])
+unfolding open_manual open_sweep open_alone places locals_at
+locals_hold = refl
 
 -- ---- integers: 0, -1, and what is beyond the width; of 64 bits every word is in range
 unfoldable pub integers_at : Place → List ℕ
 integers_at p = map (λ (x : ℕ). p.answer (Value.int x)) (0 ∷ (2 ^ 64 - 1) ∷ 2 ^ p.width % 2 ^ 64 ∷ [])
 
-pub integers-hold : OnAll places integers_at (λ (p : Place). 0 ∷ 0 ∷ cond (eqb p.width 64) 0 p.beyond ∷ [])
-unfolding openManual openSweep openAlone places integers_at
-integers-hold = refl
+pub integers_hold : OnAll places integers_at (λ (p : Place). 0 ∷ 0 ∷ cond (eqb p.width 64) 0 p.beyond ∷ [])
+unfolding open_manual open_sweep open_alone places integers_at
+integers_hold = refl
 
 -- ---- the four zeros; a global, whose address is a pointer; any other constant
-unfoldable pub constantsAt : Place → List ℕ
-constantsAt p = map p.answer (zeros ++ (Value.global 1 ∷ Value.other ∷ []))
+unfoldable pub constants_at : Place → List ℕ
+constants_at p = map p.answer (zeros ++ (Value.global 1 ∷ Value.other ∷ []))
 
-pub constants-hold : OnAll places constantsAt (λ (p : Place). 0 ∷ 0 ∷ 0 ∷ 0 ∷ cond (eqb p.width 64) 0 103 ∷ 103 ∷ [])
-unfolding openManual openSweep openAlone places constantsAt
-constants-hold = refl
+pub constants_hold : OnAll places constants_at (λ (p : Place). 0 ∷ 0 ∷ 0 ∷ 0 ∷ cond (eqb p.width 64) 0 103 ∷ 103 ∷ [])
+unfolding open_manual open_sweep open_alone places constants_at
+constants_hold = refl
 
 -- ---- a callee that is a local, and a place's count, which is fixed where it is an integer: here in a function with such a place
 framed : Places
@@ -80,7 +80,7 @@ framed = record { offsets = (200, 16) ∷ []; off = 24; dynamic = true }
 
 unfoldable pub counted : Ty → Value → ℕ
 unfolding framed
-counted t v = number (runInst (given Ty.void framed []) (record { dest = some 200; kind = InstKind.alloca (Ty.int 8) (some (typed t v)) none }) (standing furnished))
+counted t v = number (run_inst (given Ty.void framed []) (record { dest = some 200; kind = InstKind.alloca (Ty.int 8) (some (typed t v)) none }) (standing furnished))
 
 unfoldable pub others : List Place
 unfolding inst counted
@@ -88,7 +88,7 @@ others =
     inst 64 (λ v. InstKind.call (Ty.int 8) v []) ∷ record { width = 8; beyond = 0; answer = counted (Ty.int 8) } ∷ record { width = 1; beyond = 0; answer = counted (Ty.int 1) } ∷
     record { width = 64; beyond = 0; answer = counted (Ty.int 64) } ∷ []
 
-pub others-hold : (OnAll others localsAt (λ (p : Place). 0 ∷ 102 ∷ 101 ∷ 108 ∷ []))
+pub others_hold : (OnAll others locals_at (λ (p : Place). 0 ∷ 102 ∷ 101 ∷ 108 ∷ []))
     × (map (counted (Ty.int 8)) (zeros ++ (Value.int 0 ∷ Value.int 255 ∷ Value.global 1 ∷ Value.other ∷ [])) ≡ 0 ∷ 0 ∷ 0 ∷ 0 ∷ 0 ∷ 0 ∷ 103 ∷ 103 ∷ [])
-unfolding openManual openSweep openAlone others localsAt counted
-others-hold = (refl, refl)
+unfolding open_manual open_sweep open_alone others locals_at counted
+others_hold = (refl, refl)

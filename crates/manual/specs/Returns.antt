@@ -3,10 +3,10 @@ use Rattle.std.specs.Prelude.{ℕ, refl, cond, List, [], ◌∷◌, ◌++◌, ma
 use Rattle.std.proofs.Math.Option.{Option, none, some}
 use Rattle.book.specs.Ast.{Ty, Sizeless, Value, Terminator}
 use Rattle.book.specs.Result.{Result, ok, err}
-use Rattle.machine.specs.Sweep.{OnAll, pairs, openSweep}
+use Rattle.machine.specs.Sweep.{OnAll, pairs, open_sweep}
 use Rattle.manual.specs.State.{nothing}
-use Rattle.manual.specs.Open.{openManual}
-use Rattle.manual.specs.Alone.{Went, aggregates, ends, forOneOf, typed, openAlone}
+use Rattle.manual.specs.Open.{open_manual}
+use Rattle.manual.specs.Alone.{Went, aggregates, ends, for_one_of, typed, open_alone}
 
 pub data Sort : Type 0 where
   void : Sort
@@ -28,19 +28,19 @@ sorts =
     map aggregate aggregates
 
 -- the reasons to stop: "a function's .. result type not integer, pointer or void"; "a value of struct .. type"
-ofFunction : Sort → List ℕ
-ofFunction void = []
-ofFunction (integer w) = []
-ofFunction pointer = []
-ofFunction (aggregate t) = 109 ∷ []
-ofFunction (valueless s) = 109 ∷ []
+of_function : Sort → List ℕ
+of_function void = []
+of_function (integer w) = []
+of_function pointer = []
+of_function (aggregate t) = 109 ∷ []
+of_function (valueless s) = 109 ∷ []
 
-ofValue : Sort → List ℕ
-ofValue void = 103 ∷ []
-ofValue (integer w) = []
-ofValue pointer = []
-ofValue (aggregate t) = 108 ∷ []
-ofValue (valueless s) = 103 ∷ []
+of_value : Sort → List ℕ
+of_value void = 103 ∷ []
+of_value (integer w) = []
+of_value pointer = []
+of_value (aggregate t) = 108 ∷ []
+of_value (valueless s) = 103 ∷ []
 
 -- the width of what can be returned
 bits_of : Sort → Option ℕ
@@ -57,8 +57,8 @@ matches (some w) none = 103 ∷ []
 matches (some w) (some v) = cond (eqb w v) [] (103 ∷ [])
 
 unfoldable pub reasons : Sort × Sort → List ℕ
-unfolding ofFunction ofValue bits_of matches
-reasons p = ofFunction p.0 ++ (ofValue p.1 ++ matches (bits_of p.0) (bits_of p.1))
+unfolding of_function of_value bits_of matches
+reasons p = of_function p.0 ++ (of_value p.1 ++ matches (bits_of p.0) (bits_of p.1))
 
 answer : List ℕ → Went → Result Went
 answer [] a = ok a
@@ -66,32 +66,32 @@ answer (n ∷ ns) a = err 0
 
 unfoldable pub returned : Sort × Sort → Result Went
 unfolding type_of
-returned p = forOneOf (reasons p) (ends (type_of p.0) nothing (Terminator.ret (some (typed (type_of p.1) (Value.int 1)))))
+returned p = for_one_of (reasons p) (ends (type_of p.0) nothing (Terminator.ret (some (typed (type_of p.1) (Value.int 1)))))
 
 unfoldable pub expected : Sort × Sort → Result Went
 unfolding answer
 expected p = answer (reasons p) (Went.back 1)
 
-pub returns-hold : OnAll (pairs sorts sorts) returned expected
-unfolding openManual openSweep openAlone sorts reasons returned expected
-returns-hold = refl
+pub returns_hold : OnAll (pairs sorts sorts) returned expected
+unfolding open_manual open_sweep open_alone sorts reasons returned expected
+returns_hold = refl
 
 -- "void returns 0"; a value is due from any other
-nothingDue : Sort → List ℕ
-nothingDue void = []
-nothingDue (integer w) = 103 ∷ []
-nothingDue pointer = 103 ∷ []
-nothingDue (aggregate t) = 109 ∷ 103 ∷ []
-nothingDue (valueless s) = 109 ∷ 103 ∷ []
+nothing_due : Sort → List ℕ
+nothing_due void = []
+nothing_due (integer w) = 103 ∷ []
+nothing_due pointer = 103 ∷ []
+nothing_due (aggregate t) = 109 ∷ 103 ∷ []
+nothing_due (valueless s) = 109 ∷ 103 ∷ []
 
-unfoldable pub returnedNone : Sort → Result Went
-unfolding nothingDue type_of
-returnedNone f = forOneOf (nothingDue f) (ends (type_of f) nothing (Terminator.ret none))
+unfoldable pub returned_none : Sort → Result Went
+unfolding nothing_due type_of
+returned_none f = for_one_of (nothing_due f) (ends (type_of f) nothing (Terminator.ret none))
 
-unfoldable pub expectedNone : Sort → Result Went
-unfolding nothingDue answer
-expectedNone f = answer (nothingDue f) (Went.back 0)
+unfoldable pub expected_none : Sort → Result Went
+unfolding nothing_due answer
+expected_none f = answer (nothing_due f) (Went.back 0)
 
-pub void-returns : OnAll sorts returnedNone expectedNone
-unfolding openManual openAlone sorts returnedNone expectedNone
-void-returns = refl
+pub void_returns : OnAll sorts returned_none expected_none
+unfolding open_manual open_alone sorts returned_none expected_none
+void_returns = refl

@@ -4,26 +4,26 @@ use Rattle.std.proofs.Math.Option.{Option}
 use Rattle.numbers.specs.Align.{align_up}
 use Rattle.book.specs.Ast.{BasicBlock, Param, StructType, Function}
 use Rattle.book.specs.Result.{Result, ok, err, bind as ◌>>=◌}
-use Rattle.book.specs.Shape.{allInsts}
+use Rattle.book.specs.Shape.{all_insts}
 use Rattle.machine.specs.Memory.{Memory}
 use Rattle.machine.specs.State.{World}
 use Rattle.manual.specs.Stop.{Stop, stops}
 use Rattle.manual.specs.State.{Cell, Env, Given, Source, nothing, assign, unassign}
 use Rattle.manual.specs.Operand.{width_of}
-use Rattle.manual.specs.Inst.{runInsts}
-use Rattle.manual.specs.Term.{Stand, body, blockNamed, runTerm}
-use Rattle.layout.specs.Frame.{Places, framePass, noFrame, framed}
+use Rattle.manual.specs.Inst.{run_insts}
+use Rattle.manual.specs.Term.{Stand, body, block_named, run_term}
+use Rattle.layout.specs.Frame.{Places, frame_pass, no_frame, framed}
 
 module _ (g : Given) where
   -- a block, from its label to the next block's or the return
-  unfoldable pub runBlock : (block : ℕ) → Source → Result Stand
-  runBlock b σ = do
-    bb ← blockNamed g b
-    τ ← runInsts g (body bb.insts) σ
-    runTerm g bb.label bb.term τ
+  unfoldable pub run_block : (block : ℕ) → Source → Result Stand
+  run_block b σ = do
+    bb ← block_named g b
+    τ ← run_insts g (body bb.insts) σ
+    run_term g bb.label bb.term τ
 
   unfoldable pub go : Stand → Result Stand
-  go (Stand.at b σ) = runBlock b σ
+  go (Stand.at b σ) = run_block b σ
   go (Stand.gave v σ) = ok (Stand.gave v σ)
 
   -- n blocks
@@ -39,45 +39,45 @@ unfoldable pub valued : Result ℕ → (name : Option ℕ) → ℕ → Env → E
 valued (ok w) x v ρ = assign x (Cell.one w v) ρ
 valued (err e) x v ρ = unassign x ρ
 
-unfoldable pub paramEnv : List Param → (args : List ℕ) → Env → Env
-paramEnv [] vs ρ = ρ
-paramEnv (p ∷ ps) [] ρ = ρ
-paramEnv (p ∷ ps) (v ∷ vs) ρ = paramEnv ps vs (valued (width_of p.ty) p.name v ρ)
+unfoldable pub param_env : List Param → (args : List ℕ) → Env → Env
+param_env [] vs ρ = ρ
+param_env (p ∷ ps) [] ρ = ρ
+param_env (p ∷ ps) (v ∷ vs) ρ = param_env ps vs (valued (width_of p.ty) p.name v ρ)
 
 -- "arguments fit their widths": a cell of 64 bits for each parameter, of the width of its type where that has one
-unfoldable pub fitsIn : Result ℕ → ℕ → Bool
-fitsIn (ok w) v = ltb v (2 ^ w)
-fitsIn (err e) v = ltb v (2 ^ 64)
+unfoldable pub fits_in : Result ℕ → ℕ → Bool
+fits_in (ok w) v = ltb v (2 ^ w)
+fits_in (err e) v = ltb v (2 ^ 64)
 
-unfoldable pub argsFit : List Param → (args : List ℕ) → Bool
-argsFit [] [] = true
-argsFit [] (v ∷ vs) = false
-argsFit (p ∷ ps) [] = false
-argsFit (p ∷ ps) (v ∷ vs) = fitsIn (width_of p.ty) v && argsFit ps vs
+unfoldable pub args_fit : List Param → (args : List ℕ) → Bool
+args_fit [] [] = true
+args_fit [] (v ∷ vs) = false
+args_fit (p ∷ ps) [] = false
+args_fit (p ∷ ps) (v ∷ vs) = fits_in (width_of p.ty) v && args_fit ps vs
 
 -- ---- the beginning
 -- "the stack pointer moved at entry .. as the Rust moves it"
 unfoldable pub entered : Places → (sp : ℕ) → ℕ
 entered fr sp = cond (framed fr) ((sp + align_up fr.off 8) % 2 ^ 64) sp
 
-unfoldable pub firstBlock : List BasicBlock → Result ℕ
-firstBlock [] = stops Stop.no_block
-firstBlock (b ∷ bs) = ok b.label
+unfoldable pub first_block : List BasicBlock → Result ℕ
+first_block [] = stops Stop.no_block
+first_block (b ∷ bs) = ok b.label
 
 unfoldable pub begin : Given → (args : List ℕ) → Memory → Result Stand
 begin g args m = do
-  b ← firstBlock g.function.blocks
-  ok (Stand.at b (record { env = paramEnv g.function.params args nothing; memory = m; calls = []; sp = entered g.frame g.base }))
+  b ← first_block g.function.blocks
+  ok (Stand.at b (record { env = param_env g.function.params args nothing; memory = m; calls = []; sp = entered g.frame g.base }))
 
 -- a function, of a book with these names and named structs, after n blocks
-unfoldable pub sourceRun : (names : List (List ℕ)) → List StructType → Function → World → (args : List ℕ) → Memory → (sp n : ℕ) → Result Stand
-sourceRun names structs f world args m sp n = do
-  fr ← framePass structs (allInsts f.blocks) noFrame
+unfoldable pub source_run : (names : List (List ℕ)) → List StructType → Function → World → (args : List ℕ) → Memory → (sp n : ℕ) → Result Stand
+source_run names structs f world args m sp n = do
+  fr ← frame_pass structs (all_insts f.blocks) no_frame
   let g : Given = record { names = names; structs = structs; function = f; frame = fr; world = world; base = sp } in do
     s ← begin g args m
     run g n s
 
 -- opens every definition of this file, for an example that computes
-unfoldable pub openRun : Unit {0}
-unfolding runBlock go run valued paramEnv fitsIn argsFit entered firstBlock begin sourceRun
-openRun = tt
+unfoldable pub open_run : Unit {0}
+unfolding run_block go run valued param_env fits_in args_fit entered first_block begin source_run
+open_run = tt

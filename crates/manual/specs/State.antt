@@ -30,11 +30,11 @@ pub record Source : Type 0 where
   pub calls : List Call
   pub sp : ℕ
 
-abbrev pub setEnv : Source → Env → Source
-setEnv σ ρ = record { env = ρ; memory = σ.memory; calls = σ.calls; sp = σ.sp }
+abbrev pub set_env : Source → Env → Source
+set_env σ ρ = record { env = ρ; memory = σ.memory; calls = σ.calls; sp = σ.sp }
 
-abbrev pub setWorld : Source → Memory → List Call → Source
-setWorld σ m k = record { env = σ.env; memory = m; calls = k; sp = σ.sp }
+abbrev pub set_world : Source → Memory → List Call → Source
+set_world σ m k = record { env = σ.env; memory = m; calls = k; sp = σ.sp }
 
 abbrev pub set_stack : Source → ℕ → Source
 set_stack σ n = record { env = σ.env; memory = σ.memory; calls = σ.calls; sp = n }
@@ -59,13 +59,13 @@ unassign none ρ = ρ
 unassign (some x) ρ = without x ρ
 
 abbrev pub put : Option ℕ → (width value : ℕ) → Source → Source
-put dest w v σ = setEnv σ (assign dest (Cell.one w v) σ.env)
+put dest w v σ = set_env σ (assign dest (Cell.one w v) σ.env)
 
 unfoldable pub is_set : Option Cell → Bool
 is_set (some c) = true
 is_set none = false
 
 -- opens every definition of this file, for an example that computes
-unfoldable pub openState : Unit {0}
+unfoldable pub open_state : Unit {0}
 unfolding nothing with without assign unassign is_set
-openState = tt
+open_state = tt

@@ -49,53 +49,53 @@ bin_value BinOp.ashr w x y = do
   ok (unsigned w (shr_z (signed w x) (2 ^ y)))
 
 -- "'icmp' Instruction"
-unfoldable pub icmpValue : ICmpPred → (w : ℕ) → (x y : ℕ) → Bool
-icmpValue ICmpPred.eq w x y = eqb x y
-icmpValue ICmpPred.ne w x y = not (eqb x y)
-icmpValue ICmpPred.ugt w x y = ltb y x
-icmpValue ICmpPred.uge w x y = leb y x
-icmpValue ICmpPred.ult w x y = ltb x y
-icmpValue ICmpPred.ule w x y = leb x y
-icmpValue ICmpPred.sgt w x y = lt_z (signed w y) (signed w x)
-icmpValue ICmpPred.sge w x y = le_z (signed w y) (signed w x)
-icmpValue ICmpPred.slt w x y = lt_z (signed w x) (signed w y)
-icmpValue ICmpPred.sle w x y = le_z (signed w x) (signed w y)
+unfoldable pub icmp_value : ICmpPred → (w : ℕ) → (x y : ℕ) → Bool
+icmp_value ICmpPred.eq w x y = eqb x y
+icmp_value ICmpPred.ne w x y = not (eqb x y)
+icmp_value ICmpPred.ugt w x y = ltb y x
+icmp_value ICmpPred.uge w x y = leb y x
+icmp_value ICmpPred.ult w x y = ltb x y
+icmp_value ICmpPred.ule w x y = leb x y
+icmp_value ICmpPred.sgt w x y = lt_z (signed w y) (signed w x)
+icmp_value ICmpPred.sge w x y = le_z (signed w y) (signed w x)
+icmp_value ICmpPred.slt w x y = lt_z (signed w x) (signed w y)
+icmp_value ICmpPred.sle w x y = le_z (signed w x) (signed w y)
 
 -- "Conversion Operations", from fw bits to tw; a pointer has 64
-unfoldable pub convValue : ConvOp → (fw tw : ℕ) → ℕ → ℕ
-convValue ConvOp.trunc fw tw x = x % 2 ^ tw
-convValue ConvOp.zext fw tw x = x
-convValue ConvOp.sext fw tw x = unsigned tw (signed fw x)
+unfoldable pub conv_value : ConvOp → (fw tw : ℕ) → ℕ → ℕ
+conv_value ConvOp.trunc fw tw x = x % 2 ^ tw
+conv_value ConvOp.zext fw tw x = x
+conv_value ConvOp.sext fw tw x = unsigned tw (signed fw x)
 -- "either truncating or zero extending that value to the size of the integer type"
-convValue ConvOp.ptrToInt fw tw x = x % 2 ^ tw
-convValue ConvOp.intToPtr fw tw x = x % 2 ^ tw
+conv_value ConvOp.ptr_to_int fw tw x = x % 2 ^ tw
+conv_value ConvOp.int_to_ptr fw tw x = x % 2 ^ tw
 -- "no bits change with this conversion"
-convValue ConvOp.bitCast fw tw x = x
+conv_value ConvOp.bit_cast fw tw x = x
 
 -- the widths that a conversion may have: "The bit size of the value must be larger than the bit size of the destination type", smaller for the extensions;
 -- "The bit sizes of value and the destination type .. must be identical"
-unfoldable pub convWidths : ConvOp → (fw tw : ℕ) → Bool
-convWidths ConvOp.trunc fw tw = ltb tw fw
-convWidths ConvOp.zext fw tw = ltb fw tw
-convWidths ConvOp.sext fw tw = ltb fw tw
-convWidths ConvOp.ptrToInt fw tw = eqb fw 64
-convWidths ConvOp.intToPtr fw tw = eqb tw 64
-convWidths ConvOp.bitCast fw tw = eqb fw tw
+unfoldable pub conv_widths : ConvOp → (fw tw : ℕ) → Bool
+conv_widths ConvOp.trunc fw tw = ltb tw fw
+conv_widths ConvOp.zext fw tw = ltb fw tw
+conv_widths ConvOp.sext fw tw = ltb fw tw
+conv_widths ConvOp.ptr_to_int fw tw = eqb fw 64
+conv_widths ConvOp.int_to_ptr fw tw = eqb tw 64
+conv_widths ConvOp.bit_cast fw tw = eqb fw tw
 
 -- a constant's word, in the signed or the unsigned range of w bits
 unfoldable pub in_range : (w : ℕ) → ℕ → Bool
 in_range w v = ltb v (2 ^ w) || leb (2 ^ 64 - 2 ^ (w - 1)) v
 
 -- in the signed range alone
-unfoldable pub inSignedRange : (w : ℕ) → ℕ → Bool
-inSignedRange w v = ltb v (2 ^ (w - 1)) || leb (2 ^ 64 - 2 ^ (w - 1)) v
+unfoldable pub in_signed_range : (w : ℕ) → ℕ → Bool
+in_signed_range w v = ltb v (2 ^ (w - 1)) || leb (2 ^ 64 - 2 ^ (w - 1)) v
 
 unfoldable pub constant : (w : ℕ) → ℕ → Result ℕ
 constant w v = do
-  _ ← need (in_range w v) Stop.integerRange
+  _ ← need (in_range w v) Stop.integer_range
   ok (v % 2 ^ w)
 
 -- opens every definition of this file, for an example that computes
-unfoldable pub openValues : Unit {0}
-unfolding bin_value icmpValue convValue convWidths in_range inSignedRange constant
-openValues = tt
+unfoldable pub open_values : Unit {0}
+unfolding bin_value icmp_value conv_value conv_widths in_range in_signed_range constant
+open_values = tt

@@ -19,15 +19,15 @@ unfoldable pub order : List ℕ → List ℕ → Order
 order a b = order_by (before a b) (before b a)
 
 -- "one a .. byte pair, up to the first that differs"
-unfoldable pub byteSteps : List ℕ → List ℕ → ℕ
-byteSteps [] b = 0
-byteSteps (x ∷ a) [] = 0
-byteSteps (x ∷ a) (y ∷ b) = suc (cond (eqb x y) (byteSteps a b) 0)
+unfoldable pub byte_steps : List ℕ → List ℕ → ℕ
+byte_steps [] b = 0
+byte_steps (x ∷ a) [] = 0
+byte_steps (x ∷ a) (y ∷ b) = suc (cond (eqb x y) (byte_steps a b) 0)
 
 -- "one a word", so many of them, "up to the first that differs", and then the byte pairs
-unfoldable pub wordSteps : ℕ → List ℕ → List ℕ → ℕ
-wordSteps zero a b = byteSteps a b
-wordSteps (suc w) a b = suc (cond (same (take 8 a) (take 8 b)) (wordSteps w (drop 8 a) (drop 8 b)) 0)
+unfoldable pub word_steps : ℕ → List ℕ → List ℕ → ℕ
+word_steps zero a b = byte_steps a b
+word_steps (suc w) a b = suc (cond (same (take 8 a) (take 8 b)) (word_steps w (drop 8 a) (drop 8 b)) 0)
 
 -- the bytes of the shorter name
 abbrev pub shorter : List ℕ → List ℕ → ℕ
@@ -35,9 +35,9 @@ shorter a b = min (length a) (length b)
 
 -- "by u64 words while eight bytes of both remain"
 unfoldable pub steps : List ℕ → List ℕ → ℕ
-steps a b = wordSteps (shorter a b / 8) a b
+steps a b = word_steps (shorter a b / 8) a b
 
 -- opens every definition of this file, for an example that computes
-unfoldable pub openCompare : Unit {0}
-unfolding order_by order byteSteps wordSteps steps
-openCompare = tt
+unfoldable pub open_compare : Unit {0}
+unfolding order_by order byte_steps word_steps steps
+open_compare = tt

@@ -5,17 +5,17 @@ use Rattle.std.proofs.Common.{sym, ap, ◌∙◌, ⊎_elim, arith, eqb-true, leb
 use Rattle.std.proofs.Math.Path.{ap₂}
 use Rattle.std.proofs.lemmas.Bool.{false≢true, eqb-false, lt-leb}
 use Rattle.names.specs.Text.{within}
-use Rattle.names.specs.Utf8.{Range, to, tail, table, has, begins, behind, follow, wellFormed, scalar, six, encode, everyScalar, encodes}
+use Rattle.names.specs.Utf8.{Range, to, tail, table, has, begins, behind, follow, well_formed, scalar, six, encode, every_scalar, encodes}
 use Rattle.names.specs.Tests.{both, either, or_right, decide}
 use Rattle.names.specs.Texts.{in_within}
-use Rattle.names.specs.Lead.{tails, bound, lowest, highest, lead-behind, lead-begins, lead-octet}
-use Rattle.names.specs.Characters.{exactly, is_char, char-first, char-alone, char-ascii}
+use Rattle.names.specs.Lead.{tails, bound, lowest, highest, lead_behind, lead_begins, lead_octet}
+use Rattle.names.specs.Characters.{exactly, is_char, char_first, char_alone, char_ascii}
 
 -- ---- the encoding, by the range of the number
 
 -- what holds in each of the four ranges of section 3's table holds
-pub by-range : (c : ℕ) {P : Type 0} → (c ≤ 0x7F → P) → (0x7F < c → c ≤ 0x7FF → P) → (0x7FF < c → c ≤ 0xFFFF → P) → (0xFFFF < c → P) → P
-by-range c one two three four =
+pub by_range : (c : ℕ) {P : Type 0} → (c ≤ 0x7F → P) → (0x7F < c → c ≤ 0x7FF → P) → (0x7FF < c → c ≤ 0xFFFF → P) → (0xFFFF < c → P) → P
+by_range c one two three four =
     ⊎_elim (λ e. one (leb-true c 0x7F e))
     (λ e. ⊎_elim (λ f. two (leb-false c 0x7F e) (leb-true c 0x7FF f))
     (λ f. ⊎_elim (λ g. three (leb-false c 0x7FF f) (leb-true c 0xFFFF g)) (λ g. four (leb-false c 0xFFFF g)) (decide (leb c 0xFFFF))) (decide (leb c 0x7FF)))
@@ -25,44 +25,44 @@ pub encode_one : (c : ℕ) → c ≤ 0x7F → encode c ≡ c ∷ []
 unfolding encode
 encode_one c h = rw (le-leb c 0x7F h)
 
-pub encode-two : (c : ℕ) → 0x7F < c → c ≤ 0x7FF → encode c ≡ (0xC0 + c / 0x40) ∷ six c ∷ []
+pub encode_two : (c : ℕ) → 0x7F < c → c ≤ 0x7FF → encode c ≡ (0xC0 + c / 0x40) ∷ six c ∷ []
 unfolding encode
-encode-two c l h = rw (lt-leb c 0x7F l, le-leb c 0x7FF h)
+encode_two c l h = rw (lt-leb c 0x7F l, le-leb c 0x7FF h)
 
-pub encode-three : (c : ℕ) → 0x7FF < c → c ≤ 0xFFFF → encode c ≡ (0xE0 + c / 0x1000) ∷ six (c / 0x40) ∷ six c ∷ []
+pub encode_three : (c : ℕ) → 0x7FF < c → c ≤ 0xFFFF → encode c ≡ (0xE0 + c / 0x1000) ∷ six (c / 0x40) ∷ six c ∷ []
 unfolding encode
-encode-three c l h = rw (lt-leb c 0x7F (omega arith), lt-leb c 0x7FF l, le-leb c 0xFFFF h)
+encode_three c l h = rw (lt-leb c 0x7F (omega arith), lt-leb c 0x7FF l, le-leb c 0xFFFF h)
 
-pub encode-four : (c : ℕ) → 0xFFFF < c → encode c ≡ (0xF0 + c / 0x40000) ∷ six (c / 0x1000) ∷ six (c / 0x40) ∷ six c ∷ []
+pub encode_four : (c : ℕ) → 0xFFFF < c → encode c ≡ (0xF0 + c / 0x40000) ∷ six (c / 0x1000) ∷ six (c / 0x40) ∷ six c ∷ []
 unfolding encode
-encode-four c l = rw (lt-leb c 0x7F (omega arith), lt-leb c 0x7FF (omega arith), lt-leb c 0xFFFF l)
+encode_four c l = rw (lt-leb c 0x7F (omega arith), lt-leb c 0x7FF (omega arith), lt-leb c 0xFFFF l)
 
 -- a range in comparisons
-in-range : (l h b : ℕ) → has (to l h) b ≡ true → (l ≤ b) × (b ≤ h)
+in_range_lem : (l h b : ℕ) → has (to l h) b ≡ true → (l ≤ b) × (b ≤ h)
 unfolding has to
-in-range l h b e = in_within l h b e
+in_range_lem l h b e = in_within l h b e
 
-to-range : (l h b : ℕ) → l ≤ b → b ≤ h → has (to l h) b ≡ true
+to_range : (l h b : ℕ) → l ≤ b → b ≤ h → has (to l h) b ≡ true
 unfolding has to within
-to-range l h b p q = rw (le-leb l b p, le-leb b h q)
+to_range l h b p q = rw (le-leb l b p, le-leb b h q)
 
 in_tail : (b : ℕ) → has tail b ≡ true → (0x80 ≤ b) × (b ≤ 0xBF)
 unfolding tail
-in_tail b e = in-range 0x80 0xBF b e
+in_tail b e = in_range_lem 0x80 0xBF b e
 
-to-tail : (b : ℕ) → 0x80 ≤ b → b ≤ 0xBF → has tail b ≡ true
+to_tail : (b : ℕ) → 0x80 ≤ b → b ≤ 0xBF → has tail b ≡ true
 unfolding tail
-to-tail b p q = to-range 0x80 0xBF b p q
+to_tail b p q = to_range 0x80 0xBF b p q
 
-pub six-tail : (x : ℕ) → has tail (six x) ≡ true
+pub six_tail : (x : ℕ) → has tail (six x) ≡ true
 unfolding six
-six-tail x = to-tail (six x) (omega arith) (omega arith)
+six_tail x = to_tail (six x) (omega arith) (omega arith)
 
 -- the numbers that are encoded, in comparisons
-to-scalar : (c : ℕ) → c ≤ 0x10FFFF → (0xD7FF < c → 0xE000 ≤ c) → scalar c ≡ true
+to_scalar : (c : ℕ) → c ≤ 0x10FFFF → (0xD7FF < c → 0xE000 ≤ c) → scalar c ≡ true
 unfolding scalar has to
-to-scalar c h past =
-    ⊎_elim (λ e. rw (to-range 0 0xD7FF c (omega arith) (leb-true c 0xD7FF e))) (λ e. or_right (within 0 0xD7FF c) _ (to-range 0xE000 0x10FFFF c (past (leb-false c 0xD7FF e)) h))
+to_scalar c h past =
+    ⊎_elim (λ e. rw (to_range 0 0xD7FF c (omega arith) (leb-true c 0xD7FF e))) (λ e. or_right (within 0 0xD7FF c) _ (to_range 0xE000 0x10FFFF c (past (leb-false c 0xD7FF e)) h))
     (decide (leb c 0xD7FF))
 
 pub by_scalar : (c : ℕ) {P : Type 0} → scalar c ≡ true → (c ≤ 0xD7FF → P) → (0xE000 ≤ c → c ≤ 0x10FFFF → P) → P
@@ -74,72 +74,72 @@ by_scalar c e low high =
 -- ---- one character: the grammar takes the encodings
 
 -- the ranges of the others behind a first byte, where there are n + 1
-char-many : (b n : ℕ) (p : List ℕ) → b < 256 → tails b ≡ suc n → is_char (b ∷ p) ≡ exactly (to (lowest b) (highest b) ∷ replicate n tail) p
+char_many : (b n : ℕ) (p : List ℕ) → b < 256 → tails b ≡ suc n → is_char (b ∷ p) ≡ exactly (to (lowest b) (highest b) ∷ replicate n tail) p
 unfolding is_char
-char-many b n p l e = rw (lead-begins b l, lead-behind b l, e, lt-ltb 0 (suc n) (omega arith), or_right (ltb b 0x80) true refl)
+char_many b n p l e = rw (lead_begins b l, lead_behind b l, e, lt-ltb 0 (suc n) (omega arith), or_right (ltb b 0x80) true refl)
 
-pub tails-two : (b : ℕ) → 0xC2 ≤ b → b < 0xE0 → tails b ≡ 1
-tails-two b l h = rw (le-ltb b 0xC2 l, lt-ltb b 0xE0 h)
+pub tails_two : (b : ℕ) → 0xC2 ≤ b → b < 0xE0 → tails b ≡ 1
+tails_two b l h = rw (le-ltb b 0xC2 l, lt-ltb b 0xE0 h)
 
-pub tails-three : (b : ℕ) → 0xE0 ≤ b → b < 0xF0 → tails b ≡ 2
-tails-three b l h = rw (le-ltb b 0xC2 (omega arith), le-ltb b 0xE0 l, lt-ltb b 0xF0 h)
+pub tails_three : (b : ℕ) → 0xE0 ≤ b → b < 0xF0 → tails b ≡ 2
+tails_three b l h = rw (le-ltb b 0xC2 (omega arith), le-ltb b 0xE0 l, lt-ltb b 0xF0 h)
 
-pub tails-four : (b : ℕ) → 0xF0 ≤ b → b < 0xF5 → tails b ≡ 3
-tails-four b l h = rw (le-ltb b 0xC2 (omega arith), le-ltb b 0xE0 (omega arith), le-ltb b 0xF0 l, lt-ltb b 0xF5 h)
+pub tails_four : (b : ℕ) → 0xF0 ≤ b → b < 0xF5 → tails b ≡ 3
+tails_four b l h = rw (le-ltb b 0xC2 (omega arith), le-ltb b 0xE0 (omega arith), le-ltb b 0xF0 l, lt-ltb b 0xF5 h)
 
 -- where the second byte may lie, by the first: two first bytes have a bound of their own
 module _ (b x p y q r : ℕ) where
-  by-bound : {P : Type 0} → (b ≡ x → bound b x p y q r ≡ p → P) → (b ≡ y → bound b x p y q r ≡ q → P) → (b ≢ x → b ≢ y → bound b x p y q r ≡ r → P) → P
-  by-bound one two other =
+  by_bound : {P : Type 0} → (b ≡ x → bound b x p y q r ≡ p → P) → (b ≡ y → bound b x p y q r ≡ q → P) → (b ≢ x → b ≢ y → bound b x p y q r ≡ r → P) → P
+  by_bound one two other =
       ⊎_elim (λ e. one (eqb-true b x e) (rw e))
       (λ (e : eqb b x ≡ false). ⊎_elim (λ f. two (eqb-true b y f) (rw (e, f))) (λ f. other (eqb-false b x e) (eqb-false b y f) (rw (e, f))) (decide (eqb b y)))
       (decide (eqb b x))
 
-by-lowest : (b : ℕ) {P : Type 0} → (b ≡ 0xE0 → lowest b ≡ 0xA0 → P) → (b ≡ 0xF0 → lowest b ≡ 0x90 → P) → (b ≢ 0xE0 → b ≢ 0xF0 → lowest b ≡ 0x80 → P) → P
-by-lowest b = by-bound b 0xE0 0xA0 0xF0 0x90 0x80
+by_lowest : (b : ℕ) {P : Type 0} → (b ≡ 0xE0 → lowest b ≡ 0xA0 → P) → (b ≡ 0xF0 → lowest b ≡ 0x90 → P) → (b ≢ 0xE0 → b ≢ 0xF0 → lowest b ≡ 0x80 → P) → P
+by_lowest b = by_bound b 0xE0 0xA0 0xF0 0x90 0x80
 
-by-highest : (b : ℕ) {P : Type 0} → (b ≡ 0xED → highest b ≡ 0x9F → P) → (b ≡ 0xF4 → highest b ≡ 0x8F → P) → (b ≢ 0xED → b ≢ 0xF4 → highest b ≡ 0xBF → P) → P
-by-highest b = by-bound b 0xED 0x9F 0xF4 0x8F 0xBF
+by_highest : (b : ℕ) {P : Type 0} → (b ≡ 0xED → highest b ≡ 0x9F → P) → (b ≡ 0xF4 → highest b ≡ 0x8F → P) → (b ≢ 0xED → b ≢ 0xF4 → highest b ≡ 0xBF → P) → P
+by_highest b = by_bound b 0xED 0x9F 0xF4 0x8F 0xBF
 
-char-two : (b s : ℕ) → 0xC2 ≤ b → b < 0xE0 → lowest b ≤ s → s ≤ highest b → is_char (b ∷ s ∷ []) ≡ true
+char_two : (b s : ℕ) → 0xC2 ≤ b → b < 0xE0 → lowest b ≤ s → s ≤ highest b → is_char (b ∷ s ∷ []) ≡ true
 unfolding exactly
-char-two b s l h p q = rw (char-many b 0 (s ∷ []) (omega arith) (tails-two b l h), to-range (lowest b) (highest b) s p q)
+char_two b s l h p q = rw (char_many b 0 (s ∷ []) (omega arith) (tails_two b l h), to_range (lowest b) (highest b) s p q)
 
-char-three : (b s t : ℕ) → 0xE0 ≤ b → b < 0xF0 → lowest b ≤ s → s ≤ highest b → has tail t ≡ true → is_char (b ∷ s ∷ t ∷ []) ≡ true
+char_three : (b s t : ℕ) → 0xE0 ≤ b → b < 0xF0 → lowest b ≤ s → s ≤ highest b → has tail t ≡ true → is_char (b ∷ s ∷ t ∷ []) ≡ true
 unfolding exactly
-char-three b s t l h p q e = rw (char-many b 1 (s ∷ t ∷ []) (omega arith) (tails-three b l h), to-range (lowest b) (highest b) s p q, e)
+char_three b s t l h p q e = rw (char_many b 1 (s ∷ t ∷ []) (omega arith) (tails_three b l h), to_range (lowest b) (highest b) s p q, e)
 
-char-four : (b s t u : ℕ) → 0xF0 ≤ b → b < 0xF5 → lowest b ≤ s → s ≤ highest b → has tail t ≡ true → has tail u ≡ true → is_char (b ∷ s ∷ t ∷ u ∷ []) ≡ true
+char_four : (b s t u : ℕ) → 0xF0 ≤ b → b < 0xF5 → lowest b ≤ s → s ≤ highest b → has tail t ≡ true → has tail u ≡ true → is_char (b ∷ s ∷ t ∷ u ∷ []) ≡ true
 unfolding exactly
-char-four b s t u l h p q e f = rw (char-many b 2 (s ∷ t ∷ u ∷ []) (omega arith) (tails-four b l h), to-range (lowest b) (highest b) s p q, e, f)
+char_four b s t u l h p q e f = rw (char_many b 2 (s ∷ t ∷ u ∷ []) (omega arith) (tails_four b l h), to_range (lowest b) (highest b) s p q, e, f)
 
 module _ (c : ℕ) (e : scalar c ≡ true) where
-  encoded-two : 0x7F < c → c ≤ 0x7FF → is_char (encode c) ≡ true
+  encoded_two : 0x7F < c → c ≤ 0x7FF → is_char (encode c) ≡ true
   unfolding six
-  encoded-two l h =
+  encoded_two l h =
       let b = 0xC0 + c / 0x40 in
-      rw (encode-two c l h)
-      (char-two b (six c) (omega arith) (omega arith)
-      (by-lowest b (omega arith) (omega arith) (omega arith)) (by-highest b (omega arith) (omega arith) (omega arith)))
+      rw (encode_two c l h)
+      (char_two b (six c) (omega arith) (omega arith)
+      (by_lowest b (omega arith) (omega arith) (omega arith)) (by_highest b (omega arith) (omega arith) (omega arith)))
 
-  encoded-three : 0x7FF < c → c ≤ 0xFFFF → is_char (encode c) ≡ true
+  encoded_three : 0x7FF < c → c ≤ 0xFFFF → is_char (encode c) ≡ true
   unfolding six
-  encoded-three l h =
+  encoded_three l h =
       let b = 0xE0 + c / 0x1000 in
-      let under : six (c / 0x40) ≤ highest b = by-highest b (by_scalar c e (omega arith) (omega arith)) (omega arith) (omega arith) in
-      rw (encode-three c l h) (char-three b (six (c / 0x40)) (six c) (omega arith) (omega arith) (by-lowest b (omega arith) (omega arith) (omega arith)) under (six-tail c))
+      let under : six (c / 0x40) ≤ highest b = by_highest b (by_scalar c e (omega arith) (omega arith)) (omega arith) (omega arith) in
+      rw (encode_three c l h) (char_three b (six (c / 0x40)) (six c) (omega arith) (omega arith) (by_lowest b (omega arith) (omega arith) (omega arith)) under (six_tail c))
 
-  encoded-four : 0xFFFF < c → is_char (encode c) ≡ true
+  encoded_four : 0xFFFF < c → is_char (encode c) ≡ true
   unfolding six
-  encoded-four l =
+  encoded_four l =
       let b = 0xF0 + c / 0x40000 in
       let most : c ≤ 0x10FFFF = by_scalar c e (omega arith) (omega arith) in
-      rw (encode-four c l)
-      (char-four b (six (c / 0x1000)) (six (c / 0x40)) (six c) (omega arith) (omega arith)
-      (by-lowest b (omega arith) (omega arith) (omega arith)) (by-highest b (omega arith) (omega arith) (omega arith)) (six-tail (c / 0x40)) (six-tail c))
+      rw (encode_four c l)
+      (char_four b (six (c / 0x1000)) (six (c / 0x40)) (six c) (omega arith) (omega arith)
+      (by_lowest b (omega arith) (omega arith) (omega arith)) (by_highest b (omega arith) (omega arith) (omega arith)) (six_tail (c / 0x40)) (six_tail c))
 
-  pub encoded-char : is_char (encode c) ≡ true
-  encoded-char = by-range c (λ h. rw (encode_one c h) (char-ascii c (omega arith))) encoded-two encoded-three encoded-four
+  pub encoded_char : is_char (encode c) ≡ true
+  encoded_char = by_range c (λ h. rw (encode_one c h) (char_ascii c (omega arith))) encoded_two encoded_three encoded_four
 
 -- ---- one character: what the grammar takes is an encoding
 
@@ -158,16 +158,16 @@ abbrev pub four : ℕ → ℕ → ℕ → ℕ → ℕ
 four b s t u = (b - 0xF0) * 0x40000 + (s - 0x80) * 0x1000 + (t - 0x80) * 0x40 + (u - 0x80)
 
 -- every second byte is a tail
-second-tail : (b s : ℕ) → has (to (lowest b) (highest b)) s ≡ true → (0x80 ≤ s) × (s ≤ 0xBF)
-second-tail b s e =
-    let r = in-range (lowest b) (highest b) s e in
-    (by-lowest b (omega arith) (omega arith) (omega arith), by-highest b (omega arith) (omega arith) (omega arith))
+second_tail : (b s : ℕ) → has (to (lowest b) (highest b)) s ≡ true → (0x80 ≤ s) × (s ≤ 0xBF)
+second_tail b s e =
+    let r = in_range_lem (lowest b) (highest b) s e in
+    (by_lowest b (omega arith) (omega arith) (omega arith), by_highest b (omega arith) (omega arith) (omega arith))
 
 -- by the first byte: a range for each number of bytes
-by-lead : (b : ℕ) {P : Type 0} → begins table b ≡ true → (b < 0x80 → P) → (0xC2 ≤ b → b < 0xE0 → P) → (0xE0 ≤ b → b < 0xF0 → P) → (0xF0 ≤ b → b < 0xF5 → P) → P
-by-lead b {P} e one two three four =
-    let l = lead-octet b e in
-    ⊎_elim (λ f. one (ltb-true b 0x80 f)) (λ f. more _ _ _ _ refl refl refl refl (ltb-true 0 (tails b) f)) (either (ltb b 0x80) (ltb 0 (tails b)) (rw (lead-begins b l) at e))
+by_lead : (b : ℕ) {P : Type 0} → begins table b ≡ true → (b < 0x80 → P) → (0xC2 ≤ b → b < 0xE0 → P) → (0xE0 ≤ b → b < 0xF0 → P) → (0xF0 ≤ b → b < 0xF5 → P) → P
+by_lead b {P} e one two three four =
+    let l = lead_octet b e in
+    ⊎_elim (λ f. one (ltb-true b 0x80 f)) (λ f. more _ _ _ _ refl refl refl refl (ltb-true 0 (tails b) f)) (either (ltb b 0x80) (ltb 0 (tails b)) (rw (lead_begins b l) at e))
   where
     more : (t u v w : Bool) → ltb b 0xC2 ≡ t → ltb b 0xE0 ≡ u → ltb b 0xF0 ≡ v → ltb b 0xF5 ≡ w → 0 < cond t 0 (cond u 1 (cond v 2 (cond w 3 0))) → P
     more true u v w t' u' v' w' m = absurd (omega arith)
@@ -181,67 +181,67 @@ abbrev Each : List Range → (List ℕ → Type 0) → Type 0
 Each [] P = P []
 Each (r ∷ rs) P = (b : ℕ) → has r b ≡ true → Each rs (λ p. P (b ∷ p))
 
-by-exactly : (rs : List Range) (P : List ℕ → Type 0) → Each rs P → (p : List ℕ) → exactly rs p ≡ true → P p
+by_exactly : (rs : List Range) (P : List ℕ → Type 0) → Each rs P → (p : List ℕ) → exactly rs p ≡ true → P p
 unfolding exactly
-by-exactly [] P f [] e = f
-by-exactly [] P f (b ∷ p) e = absurd (false≢true e)
-by-exactly (r ∷ rs) P f [] e = absurd (false≢true e)
-by-exactly (r ∷ rs) P f (b ∷ p) e = let k = both (has r b) (exactly rs p) e in by-exactly rs (λ q. P (b ∷ q)) (f b k.0) p k.1
+by_exactly [] P f [] e = f
+by_exactly [] P f (b ∷ p) e = absurd (false≢true e)
+by_exactly (r ∷ rs) P f [] e = absurd (false≢true e)
+by_exactly (r ∷ rs) P f (b ∷ p) e = let k = both (has r b) (exactly rs p) e in by_exactly rs (λ q. P (b ∷ q)) (f b k.0) p k.1
 
 -- bytes, number by number
-same-three : {x x' y y' z z' : ℕ} → x ≡ x' → y ≡ y' → z ≡ z' → x ∷ y ∷ z ∷ [] ≡ x' ∷ y' ∷ z' ∷ []
-same-three p q r = cc
+same_three : {x x' y y' z z' : ℕ} → x ≡ x' → y ≡ y' → z ≡ z' → x ∷ y ∷ z ∷ [] ≡ x' ∷ y' ∷ z' ∷ []
+same_three p q r = cc
 
-same-four : {w w' x x' y y' z z' : ℕ} → w ≡ w' → x ≡ x' → y ≡ y' → z ≡ z' → w ∷ x ∷ y ∷ z ∷ [] ≡ w' ∷ x' ∷ y' ∷ z' ∷ []
-same-four p q r s = cc
+same_four : {w w' x x' y y' z z' : ℕ} → w ≡ w' → x ≡ x' → y ≡ y' → z ≡ z' → w ∷ x ∷ y ∷ z ∷ [] ≡ w' ∷ x' ∷ y' ∷ z' ∷ []
+same_four p q r s = cc
 
 module _ (b : ℕ) where
-  read-two : 0xC2 ≤ b → b < 0xE0 → Each (to (lowest b) (highest b) ∷ []) (λ p. Encoded (b ∷ p))
+  read_two : 0xC2 ≤ b → b < 0xE0 → Each (to (lowest b) (highest b) ∷ []) (λ p. Encoded (b ∷ p))
   unfolding six
-  read-two l h s e =
+  read_two l h s e =
       let c = two b s in
-      let s' = second-tail b s e in
-      (c, to-scalar c (omega arith) (omega arith), encode-two c (omega arith) (omega arith) ∙ ap₂ (λ x y. x ∷ y ∷ []) (omega arith) (omega arith))
+      let s' = second_tail b s e in
+      (c, to_scalar c (omega arith) (omega arith), encode_two c (omega arith) (omega arith) ∙ ap₂ (λ x y. x ∷ y ∷ []) (omega arith) (omega arith))
 
-  read-three : 0xE0 ≤ b → b < 0xF0 → Each (to (lowest b) (highest b) ∷ tail ∷ []) (λ p. Encoded (b ∷ p))
+  read_three : 0xE0 ≤ b → b < 0xF0 → Each (to (lowest b) (highest b) ∷ tail ∷ []) (λ p. Encoded (b ∷ p))
   unfolding six
-  read-three l h s e t f =
+  read_three l h s e t f =
       let c = three b s t in
-      let r = in-range (lowest b) (highest b) s e in
-      let s' = second-tail b s e in
+      let r = in_range_lem (lowest b) (highest b) s e in
+      let s' = second_tail b s e in
       let t' = in_tail t f in
-      let least : 0x7FF < c = by-lowest b (omega arith) (omega arith) (omega arith) in
-      let past : 0xD7FF < c → 0xE000 ≤ c = by-highest b (omega arith) (omega arith) (omega arith) in
-      (c, to-scalar c (omega arith) past, encode-three c least (omega arith) ∙ same-three (omega arith) (omega arith) (omega arith))
+      let least : 0x7FF < c = by_lowest b (omega arith) (omega arith) (omega arith) in
+      let past : 0xD7FF < c → 0xE000 ≤ c = by_highest b (omega arith) (omega arith) (omega arith) in
+      (c, to_scalar c (omega arith) past, encode_three c least (omega arith) ∙ same_three (omega arith) (omega arith) (omega arith))
 
-  read-four : 0xF0 ≤ b → b < 0xF5 → Each (to (lowest b) (highest b) ∷ tail ∷ tail ∷ []) (λ p. Encoded (b ∷ p))
+  read_four : 0xF0 ≤ b → b < 0xF5 → Each (to (lowest b) (highest b) ∷ tail ∷ tail ∷ []) (λ p. Encoded (b ∷ p))
   unfolding six
-  read-four l h s e t f u g =
+  read_four l h s e t f u g =
       let c = four b s t u in
-      let r = in-range (lowest b) (highest b) s e in
-      let s' = second-tail b s e in
+      let r = in_range_lem (lowest b) (highest b) s e in
+      let s' = second_tail b s e in
       let t' = in_tail t f in
       let u' = in_tail u g in
-      let least : 0xFFFF < c = by-lowest b (omega arith) (omega arith) (omega arith) in
-      let most : c ≤ 0x10FFFF = by-highest b (omega arith) (omega arith) (omega arith) in
-      (c, to-scalar c most (omega arith), encode-four c least ∙ same-four (omega arith) (omega arith) (omega arith) (omega arith))
+      let least : 0xFFFF < c = by_lowest b (omega arith) (omega arith) (omega arith) in
+      let most : c ≤ 0x10FFFF = by_highest b (omega arith) (omega arith) (omega arith) in
+      (c, to_scalar c most (omega arith), encode_four c least ∙ same_four (omega arith) (omega arith) (omega arith) (omega arith))
 
-pub char-encoded : (p : List ℕ) → is_char p ≡ true → Encoded p
+pub char_encoded : (p : List ℕ) → is_char p ≡ true → Encoded p
 unfolding is_char
-char-encoded [] e = absurd (false≢true e)
-char-encoded (b ∷ p) e =
-    by-lead b (both (begins table b) (exactly (behind table b) p) e).0
-    (λ h. behind-first [] (b, to-scalar b (omega arith) (omega arith), encode_one b (omega arith)) (sym (char-alone b p h) ∙ e))
-    (λ l h. behind-first _ (read-two b l h) (sym (char-many b 0 p (omega arith) (tails-two b l h)) ∙ e))
-    (λ l h. behind-first _ (read-three b l h) (sym (char-many b 1 p (omega arith) (tails-three b l h)) ∙ e))
-    (λ l h. behind-first _ (read-four b l h) (sym (char-many b 2 p (omega arith) (tails-four b l h)) ∙ e))
+char_encoded [] e = absurd (false≢true e)
+char_encoded (b ∷ p) e =
+    by_lead b (both (begins table b) (exactly (behind table b) p) e).0
+    (λ h. behind_first_lem [] (b, to_scalar b (omega arith) (omega arith), encode_one b (omega arith)) (sym (char_alone b p h) ∙ e))
+    (λ l h. behind_first_lem _ (read_two b l h) (sym (char_many b 0 p (omega arith) (tails_two b l h)) ∙ e))
+    (λ l h. behind_first_lem _ (read_three b l h) (sym (char_many b 1 p (omega arith) (tails_three b l h)) ∙ e))
+    (λ l h. behind_first_lem _ (read_four b l h) (sym (char_many b 2 p (omega arith) (tails_four b l h)) ∙ e))
   where
-    behind-first : (rs : List Range) → Each rs (λ q. Encoded (b ∷ q)) → exactly rs p ≡ true → Encoded (b ∷ p)
-    behind-first rs f h = by-exactly rs (λ q. Encoded (b ∷ q)) f p h
+    behind_first_lem : (rs : List Range) → Each rs (λ q. Encoded (b ∷ q)) → exactly rs p ≡ true → Encoded (b ∷ p)
+    behind_first_lem rs f h = by_exactly rs (λ q. Encoded (b ∷ q)) f p h
 
 -- UTF8-char is what section 3 encodes
-pub char-iff : (p : List ℕ) → (is_char p ≡ true) ↔ Encoded p
-char-iff p = (char-encoded p, λ x. rw x.2 at (encoded-char x.0 x.1))
+pub char_iff : (p : List ℕ) → (is_char p ≡ true) ↔ Encoded p
+char_iff p = (char_encoded p, λ x. rw x.2 at (encoded_char x.0 x.1))
 
 -- ---- texts
 
@@ -249,13 +249,13 @@ joined : {a b : Bool} → a ≡ true → b ≡ true → (a && b) ≡ true
 joined e f = rw (e, f)
 
 -- what follows a character that was begun: its other bytes, then encodings
-read : (rs : List Range) (bs : List ℕ) → follow rs bs ≡ true → (p cs : List ℕ) × (exactly rs p ≡ true) × (everyScalar cs ≡ true) × (bs ≡ p ++ encodes cs)
-unfolding follow exactly is_char everyScalar encodes
+read : (rs : List Range) (bs : List ℕ) → follow rs bs ≡ true → (p cs : List ℕ) × (exactly rs p ≡ true) × (every_scalar cs ≡ true) × (bs ≡ p ++ encodes cs)
+unfolding follow exactly is_char every_scalar encodes
 read [] [] e = ([], [], refl, refl, refl)
 read [] (b ∷ bs) e =
     let k = both (begins table b) (follow (behind table b) bs) e in
     let r = read (behind table b) bs k.1 in
-    let x = char-encoded (b ∷ r.0) (joined k.0 r.2) in
+    let x = char_encoded (b ∷ r.0) (joined k.0 r.2) in
     ([], x.0 ∷ r.1, refl, joined x.1 r.3, ap (λ t. b ∷ t) r.4 ∙ ap (λ t. t ++ encodes r.1) (sym x.2))
 read (r ∷ rs) [] e = absurd (false≢true e)
 read (r ∷ rs) (b ∷ bs) e =
@@ -263,19 +263,19 @@ read (r ∷ rs) (b ∷ bs) e =
     let q = read rs bs k.1 in
     (b ∷ q.0, q.1, joined k.0 q.2, q.3, ap (λ t. b ∷ t) q.4)
 
-encodes-wellFormed : (cs : List ℕ) → everyScalar cs ≡ true → wellFormed (encodes cs) ≡ true
-unfolding everyScalar encodes wellFormed follow
-encodes-wellFormed [] e = refl
-encodes-wellFormed (c ∷ cs) e =
-    let k = both (scalar c) (everyScalar cs) e in
-    char-first (encode c) (encodes cs) (encoded-char c k.0) ∙ encodes-wellFormed cs k.1
+encodes_well_formed : (cs : List ℕ) → every_scalar cs ≡ true → well_formed (encodes cs) ≡ true
+unfolding every_scalar encodes well_formed follow
+encodes_well_formed [] e = refl
+encodes_well_formed (c ∷ cs) e =
+    let k = both (scalar c) (every_scalar cs) e in
+    char_first (encode c) (encodes cs) (encoded_char c k.0) ∙ encodes_well_formed cs k.1
 
-wellFormed-encodes : (bs : List ℕ) → wellFormed bs ≡ true → (cs : List ℕ) × (everyScalar cs ≡ true) × (encodes cs ≡ bs)
-unfolding wellFormed
-wellFormed-encodes bs e =
+well_formed_encodes : (bs : List ℕ) → well_formed bs ≡ true → (cs : List ℕ) × (every_scalar cs ≡ true) × (encodes cs ≡ bs)
+unfolding well_formed
+well_formed_encodes bs e =
     let r = read [] bs e in
-    (r.1, r.3, by-exactly [] (λ p. bs ≡ p ++ encodes r.1 → encodes r.1 ≡ bs) (λ q. sym q) r.0 r.2 r.4)
+    (r.1, r.3, by_exactly [] (λ p. bs ≡ p ++ encodes r.1 → encodes r.1 ≡ bs) (λ q. sym q) r.0 r.2 r.4)
 
 -- the grammar takes exactly the encodings of the numbers U+0000 to U+D7FF and U+E000 to U+10FFFF
-pub utf8-iff : (bs : List ℕ) → (wellFormed bs ≡ true) ↔ ((cs : List ℕ) × (everyScalar cs ≡ true) × (encodes cs ≡ bs))
-utf8-iff bs = (wellFormed-encodes bs, λ x. rw x.2 at (encodes-wellFormed x.0 x.1))
+pub utf8_iff : (bs : List ℕ) → (well_formed bs ≡ true) ↔ ((cs : List ℕ) × (every_scalar cs ≡ true) × (encodes cs ≡ bs))
+utf8_iff bs = (well_formed_encodes bs, λ x. rw x.2 at (encodes_well_formed x.0 x.1))

@@ -5,7 +5,7 @@ use Rattle.std.proofs.Common.{sym, ap₂, ⊎_elim, arith, eqb-true, leb-true, l
 use Rattle.std.proofs.lemmas.Bool.{false≢true}
 use Rattle.names.specs.Text.{within}
 use Rattle.names.specs.Utf8.{Range, to, tail, table, has, opens, others, begins, behind}
-use Rattle.names.specs.Tests.{both, either, everyBelow, below_each}
+use Rattle.names.specs.Tests.{both, either, every_below, below_each}
 
 -- how many bytes stand behind it; 0 too where no character begins with it
 abbrev pub tails : ℕ → ℕ
@@ -29,68 +29,68 @@ ranges (suc n) r = r ∷ replicate n tail
 
 -- ---- it is what the table has, for every byte
 
-sameRanges : List Range → List Range → Bool
-sameRanges [] [] = true
-sameRanges [] (s ∷ ss) = false
-sameRanges (r ∷ rs) [] = false
-sameRanges (r ∷ rs) (s ∷ ss) = eqb r.low s.low && (eqb r.high s.high && sameRanges rs ss)
+same_ranges : List Range → List Range → Bool
+same_ranges [] [] = true
+same_ranges [] (s ∷ ss) = false
+same_ranges (r ∷ rs) [] = false
+same_ranges (r ∷ rs) (s ∷ ss) = eqb r.low s.low && (eqb r.high s.high && same_ranges rs ss)
 
-same-ranges : (rs ss : List Range) → sameRanges rs ss ≡ true → rs ≡ ss
-unfolding sameRanges to
-same-ranges [] [] h = refl
-same-ranges [] (s ∷ ss) h = absurd (false≢true h)
-same-ranges (r ∷ rs) [] h = absurd (false≢true h)
-same-ranges (r ∷ rs) (s ∷ ss) h =
-    let l = both (eqb r.low s.low) (eqb r.high s.high && sameRanges rs ss) h in
-    let m = both (eqb r.high s.high) (sameRanges rs ss) l.1 in
-    ap₂ (λ x xs. x ∷ xs) (ap₂ to (eqb-true r.low s.low l.0) (eqb-true r.high s.high m.0)) (same-ranges rs ss m.1)
+same_ranges_lem : (rs ss : List Range) → same_ranges rs ss ≡ true → rs ≡ ss
+unfolding same_ranges to
+same_ranges_lem [] [] h = refl
+same_ranges_lem [] (s ∷ ss) h = absurd (false≢true h)
+same_ranges_lem (r ∷ rs) [] h = absurd (false≢true h)
+same_ranges_lem (r ∷ rs) (s ∷ ss) h =
+    let l = both (eqb r.low s.low) (eqb r.high s.high && same_ranges rs ss) h in
+    let m = both (eqb r.high s.high) (same_ranges rs ss) l.1 in
+    ap₂ (λ x xs. x ∷ xs) (ap₂ to (eqb-true r.low s.low l.0) (eqb-true r.high s.high m.0)) (same_ranges_lem rs ss m.1)
 
-behindRight : ℕ → Bool
-behindRight b = sameRanges (behind table b) (ranges (tails b) (to (lowest b) (highest b)))
+behind_right : ℕ → Bool
+behind_right b = same_ranges (behind table b) (ranges (tails b) (to (lowest b) (highest b)))
 
-all-behind : everyBelow behindRight 256 ≡ true
-unfolding everyBelow behindRight sameRanges behind table to tail opens others has within
-all-behind = refl
+all_behind : every_below behind_right 256 ≡ true
+unfolding every_below behind_right same_ranges behind table to tail opens others has within
+all_behind = refl
 
-pub lead-behind : (b : ℕ) → b < 256 → behind table b ≡ ranges (tails b) (to (lowest b) (highest b))
-unfolding behindRight
-lead-behind b h = same-ranges (behind table b) _ (below_each behindRight 256 all-behind b h)
+pub lead_behind : (b : ℕ) → b < 256 → behind table b ≡ ranges (tails b) (to (lowest b) (highest b))
+unfolding behind_right
+lead_behind b h = same_ranges_lem (behind table b) _ (below_each behind_right 256 all_behind b h)
 
 -- a character begins with each byte below 128, and with those that have others behind them
 abbrev pub leads : ℕ → Bool
 leads b = ltb b 0x80 || ltb 0 (tails b)
 
-beginsRight : ℕ → Bool
-beginsRight b = cond (begins table b) (leads b) (not (leads b))
+begins_right : ℕ → Bool
+begins_right b = cond (begins table b) (leads b) (not (leads b))
 
-all-begins : everyBelow beginsRight 256 ≡ true
-unfolding everyBelow beginsRight begins table to tail opens has within
-all-begins = refl
+all_begins : every_below begins_right 256 ≡ true
+unfolding every_below begins_right begins table to tail opens has within
+all_begins = refl
 
 alike : (s t : Bool) → cond s t (not t) ≡ true → s ≡ t
 alike true t h = sym h
 alike false true h = h
 alike false false h = refl
 
-pub lead-begins : (b : ℕ) → b < 256 → begins table b ≡ leads b
-unfolding beginsRight
-lead-begins b h = alike (begins table b) (leads b) (below_each beginsRight 256 all-begins b h)
+pub lead_begins : (b : ℕ) → b < 256 → begins table b ≡ leads b
+unfolding begins_right
+lead_begins b h = alike (begins table b) (leads b) (below_each begins_right 256 all_begins b h)
 
 -- what begins a character is a byte
-firstsFit : List (List Range) → Bool
-firstsFit [] = true
-firstsFit ([] ∷ ws) = firstsFit ws
-firstsFit ((r ∷ rs) ∷ ws) = ltb r.high 256 && firstsFit ws
+firsts_fit : List (List Range) → Bool
+firsts_fit [] = true
+firsts_fit ([] ∷ ws) = firsts_fit ws
+firsts_fit ((r ∷ rs) ∷ ws) = ltb r.high 256 && firsts_fit ws
 
-firsts-fit : (ws : List (List Range)) (b : ℕ) → firstsFit ws ≡ true → begins ws b ≡ true → b < 256
-unfolding begins opens has within firstsFit
-firsts-fit [] b f h = absurd (false≢true h)
-firsts-fit ([] ∷ ws) b f h = firsts-fit ws b f h
-firsts-fit ((r ∷ rs) ∷ ws) b f h =
-    let g = both (ltb r.high 256) (firstsFit ws) f in
-    ⊎_elim (λ k. omega (arith, leb-true b r.high (both (leb r.low b) (leb b r.high) k).1, ltb-true r.high 256 g.0)) (λ k. firsts-fit ws b g.1 k)
+firsts_fit_lem : (ws : List (List Range)) (b : ℕ) → firsts_fit ws ≡ true → begins ws b ≡ true → b < 256
+unfolding begins opens has within firsts_fit
+firsts_fit_lem [] b f h = absurd (false≢true h)
+firsts_fit_lem ([] ∷ ws) b f h = firsts_fit_lem ws b f h
+firsts_fit_lem ((r ∷ rs) ∷ ws) b f h =
+    let g = both (ltb r.high 256) (firsts_fit ws) f in
+    ⊎_elim (λ k. omega (arith, leb-true b r.high (both (leb r.low b) (leb b r.high) k).1, ltb-true r.high 256 g.0)) (λ k. firsts_fit_lem ws b g.1 k)
     (either (has r b) (begins ws b) h)
 
-pub lead-octet : (b : ℕ) → begins table b ≡ true → b < 256
-unfolding firstsFit table to tail
-lead-octet b h = firsts-fit table b refl h
+pub lead_octet : (b : ℕ) → begins table b ≡ true → b < 256
+unfolding firsts_fit table to tail
+lead_octet b h = firsts_fit_lem table b refl h

@@ -4,24 +4,24 @@
 use Rattle.std.specs.Prelude.{ℕ, zero, suc, ◌+◌, Bool, true, false, ◌&&◌, ◌||◌, not, List, [], ◌∷◌, ◌++◌, length, get_or, drop, eqb, ltb}
 use Rattle.std.proofs.Math.Option.{Option, none, some}
 use Rattle.names.specs.Text.{within}
-use Rattle.names.specs.Utf8.{wellFormed, openUtf8}
+use Rattle.names.specs.Utf8.{well_formed, open_utf8}
 
 -- a byte that is a character of a name by itself
 unfoldable pub plain_byte : ℕ → Bool
 plain_byte b = within 32 126 b
 
 -- a byte that may stand in a name: "without control characters 0 to 31 and 127"
-unfoldable pub nameByte : ℕ → Bool
-nameByte b = plain_byte b || within 128 255 b
+unfoldable pub name_byte : ℕ → Bool
+name_byte b = plain_byte b || within 128 255 b
 
 -- the byte that ends a name
-unfoldable pub isEnd : ℕ → Bool
-isEnd b = eqb b 10
+unfoldable pub is_end : ℕ → Bool
+is_end b = eqb b 10
 
 -- every byte may stand in a name
-unfoldable pub everyByte : List ℕ → Bool
-everyByte [] = true
-everyByte (b ∷ bs) = nameByte b && everyByte bs
+unfoldable pub every_byte : List ℕ → Bool
+every_byte [] = true
+every_byte (b ∷ bs) = name_byte b && every_byte bs
 
 -- "1 or more"
 unfoldable pub filled : List ℕ → Bool
@@ -30,16 +30,16 @@ filled (b ∷ bs) = true
 
 -- "well-formed UTF-8 [..] without control characters"
 unfoldable pub spelled : List ℕ → Bool
-spelled n = everyByte n && wellFormed n
+spelled n = every_byte n && well_formed n
 
 -- a name by these rules
 unfoldable pub allowed : List ℕ → Bool
 allowed n = filled n && spelled n
 
 -- every name is allowed
-unfoldable pub everyName : List (List ℕ) → Bool
-everyName [] = true
-everyName (n ∷ ns) = allowed n && everyName ns
+unfoldable pub every_name : List (List ℕ) → Bool
+every_name [] = true
+every_name (n ∷ ns) = allowed n && every_name ns
 
 -- `before m n`: m comes strictly before n bytewise; a text comes before every longer one that it begins
 unfoldable pub before : List ℕ → List ℕ → Bool
@@ -48,14 +48,14 @@ before [] (y ∷ ys) = true
 before (x ∷ xs) (y ∷ ys) = ltb x y || (eqb x y && before xs ys)
 
 -- the names ascend strictly, the first of them after `last`
-unfoldable pub ascendingFrom : List ℕ → List (List ℕ) → Bool
-ascendingFrom last [] = true
-ascendingFrom last (n ∷ ns) = before last n && ascendingFrom n ns
+unfoldable pub ascending_from : List ℕ → List (List ℕ) → Bool
+ascending_from last [] = true
+ascending_from last (n ∷ ns) = before last n && ascending_from n ns
 
 -- "strictly ascending bytewise"
 unfoldable pub ascending : List (List ℕ) → Bool
 ascending [] = true
-ascending (n ∷ ns) = ascendingFrom n ns
+ascending (n ∷ ns) = ascending_from n ns
 
 -- a byte in front of lines: the end of an empty one, or the first byte of the first one
 unfoldable pub cut : Bool → ℕ → List (List ℕ) → List (List ℕ)
@@ -66,7 +66,7 @@ cut false b (n ∷ ns) = (b ∷ n) ∷ ns
 -- the bytes cut at each byte 10; bytes after the last 10 are one more line
 unfoldable pub lines : List ℕ → List (List ℕ)
 lines [] = []
-lines (b ∷ bs) = cut (isEnd b) b (lines bs)
+lines (b ∷ bs) = cut (is_end b) b (lines bs)
 
 -- the last byte, or d where there is none
 unfoldable pub last_or : ℕ → List ℕ → ℕ
@@ -79,7 +79,7 @@ ended bs = eqb (last_or 10 bs) 10
 
 -- the bytes follow every rule of the sentence
 unfoldable pub sound : List ℕ → Bool
-sound bs = ended bs && (everyName (lines bs) && ascending (lines bs))
+sound bs = ended bs && (every_name (lines bs) && ascending (lines bs))
 
 -- the list where the test passes
 unfoldable pub keep : Bool → List (List ℕ) → Option (List (List ℕ))
@@ -126,7 +126,7 @@ until stops (b ∷ bs) = up_to (stops b) b (until stops bs)
 
 -- the bytes in front of the first 10
 unfoldable pub line : List ℕ → List ℕ
-line bs = until isEnd bs
+line bs = until is_end bs
 
 -- a byte that is no character of a name by itself
 unfoldable pub special : ℕ → Bool
@@ -137,10 +137,10 @@ unfoldable pub front : List ℕ → List ℕ
 front bs = until special bs
 
 -- the bytes from the place `at` up to the next 10 or the end
-unfoldable pub nameFrom : List ℕ → ℕ → List ℕ
-nameFrom bs at = line (drop at bs)
+unfoldable pub name_from : List ℕ → ℕ → List ℕ
+name_from bs at = line (drop at bs)
 
 -- opens every definition of this file, for an example that computes
-unfoldable pub openName : Unit {0}
-unfolding openUtf8 plain_byte nameByte isEnd everyByte filled spelled allowed everyName before ascendingFrom ascending cut lines last_or ended sound keep names_of counts accepted join name_at start_of up_to until line special front nameFrom
-openName = tt
+unfoldable pub open_name : Unit {0}
+unfolding open_utf8 plain_byte name_byte is_end every_byte filled spelled allowed every_name before ascending_from ascending cut lines last_or ended sound keep names_of counts accepted join name_at start_of up_to until line special front name_from
+open_name = tt

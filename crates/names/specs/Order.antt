@@ -3,7 +3,7 @@ use Rattle.std.specs.Prelude.{ℕ, zero, suc, ◌<◌, ◌≤◌, ◌≡◌, ref
 use Rattle.std.proofs.Common.{sym, ◌∙◌, inl, inr, ⊎_elim, true≢false, arith, eq-or-lt_of_le, ltb-true, ltb-false, lt-ltb, le-ltb, eqb-true, eq-eqb}
 use Rattle.std.proofs.lemmas.Bool.{false≢true}
 use Rattle.names.specs.Text.{starts}
-use Rattle.names.specs.Name.{before, ascendingFrom, ascending, name_at}
+use Rattle.names.specs.Name.{before, ascending_from, ascending, name_at}
 use Rattle.names.specs.Tests.{both, either, or_right, is_false, decide}
 
 pub irreflexive : (s : List ℕ) → before s s ≡ false
@@ -21,14 +21,14 @@ reason x y xs ys h =
     ⊎_elim (λ l. inl (ltb-true x y l)) (λ e. let e' = both (eqb x y) (before xs ys) e in inr (eqb-true x y e'.0, e'.1))
     (either (ltb x y) (eqb x y && before xs ys) h)
 
-by-reason : (x y : ℕ) (xs ys : List ℕ) → Reason x y xs ys → before (x ∷ xs) (y ∷ ys) ≡ true
+by_reason : (x y : ℕ) (xs ys : List ℕ) → Reason x y xs ys → before (x ∷ xs) (y ∷ ys) ≡ true
 unfolding before
-by-reason x y xs ys =
+by_reason x y xs ys =
     ⊎_elim (λ l. rw (lt-ltb x y l)) (λ e. or_right (ltb x y) _ (rw (eq-eqb x y e.0) e.1))
 
-reason-trans : (x y z : ℕ) (xs ys zs : List ℕ) → (before xs ys ≡ true → before ys zs ≡ true → before xs zs ≡ true)
+reason_trans : (x y z : ℕ) (xs ys zs : List ℕ) → (before xs ys ≡ true → before ys zs ≡ true → before xs zs ≡ true)
     → Reason x y xs ys → Reason y z ys zs → Reason x z xs zs
-reason-trans x y z xs ys zs ih =
+reason_trans x y z xs ys zs ih =
     ⊎_elim
     (λ l. ⊎_elim (λ m. inl (omega arith)) (λ e. let q = e.0 in inl (omega arith)))
     (λ d. let p = d.0 in ⊎_elim (λ m. inl (omega arith)) (λ e. inr (p ∙ e.0, ih d.1 e.1)))
@@ -39,7 +39,7 @@ transitive a b [] h k = absurd (false≢true k)
 transitive a [] (z ∷ zs) h k = absurd (false≢true h)
 transitive [] (y ∷ ys) (z ∷ zs) h k = refl
 transitive (x ∷ xs) (y ∷ ys) (z ∷ zs) h k =
-    by-reason x z xs zs (reason-trans x y z xs ys zs (transitive xs ys zs) (reason x y xs ys h) (reason y z ys zs k))
+    by_reason x z xs zs (reason_trans x y z xs ys zs (transitive xs ys zs) (reason x y xs ys h) (reason y z ys zs k))
 
 -- a strict order between numbers, one way or the other, or none
 pub compared : (i j : ℕ) → (i < j) ⊎ ((i ≡ j) ⊎ (j < i))
@@ -56,7 +56,7 @@ total (x ∷ xs) [] h k = absurd (true≢false k)
 total (x ∷ xs) (y ∷ ys) h k = by_first (total xs ys) (compared x y)
   where
     not_so : (u v : ℕ) (us vs : List ℕ) → before (u ∷ us) (v ∷ vs) ≡ false → Reason u v us vs → ⊥
-    not_so u v us vs e r = true≢false (sym (by-reason u v us vs r) ∙ e)
+    not_so u v us vs e r = true≢false (sym (by_reason u v us vs r) ∙ e)
 
     by_first : (before xs ys ≡ false → before ys xs ≡ false → xs ≡ ys) → (x < y) ⊎ ((x ≡ y) ⊎ (y < x)) → x ∷ xs ≡ y ∷ ys
     by_first ih =
@@ -66,15 +66,15 @@ total (x ∷ xs) (y ∷ ys) h k = by_first (total xs ys) (compared x y)
         (λ l. absurd (not_so y x ys xs k (inl l))))
 
 -- behind k bytes that are the same the rest decides
-pub before-behind : (k : ℕ) (a b : List ℕ) → k ≤ length a → k ≤ length b → take k a ≡ take k b → before a b ≡ before (drop k a) (drop k b)
+pub before_behind : (k : ℕ) (a b : List ℕ) → k ≤ length a → k ≤ length b → take k a ≡ take k b → before a b ≡ before (drop k a) (drop k b)
 unfolding before
-before-behind zero a b la lb e = refl
-before-behind (suc k) [] b la lb e = absurd (omega arith)
-before-behind (suc k) (x ∷ xs) [] la lb e = absurd (omega arith)
-before-behind (suc k) (x ∷ xs) (y ∷ ys) la lb e =
+before_behind zero a b la lb e = refl
+before_behind (suc k) [] b la lb e = absurd (omega arith)
+before_behind (suc k) (x ∷ xs) [] la lb e = absurd (omega arith)
+before_behind (suc k) (x ∷ xs) (y ∷ ys) la lb e =
     let f : x ≡ y = cc in
     let t : take k xs ≡ take k ys = cc in
-    rw (f, le-ltb y y (omega arith), eq-eqb y y refl) (before-behind k xs ys (omega arith) (omega arith) t)
+    rw (f, le-ltb y y (omega arith), eq-eqb y y refl) (before_behind k xs ys (omega arith) (omega arith) t)
 
 -- a text between two that start with p starts with p
 pub between : (p a b c : List ℕ) → starts p a ≡ true → starts p c ≡ true → before a b ≡ true → before b c ≡ true → starts p b ≡ true
@@ -88,28 +88,28 @@ between (w ∷ p) (x ∷ xs) (y ∷ ys) (z ∷ zs) s t h k =
     let t' = both (eqb w z) (starts p zs) t in
     let wx = eqb-true w x s'.0 in
     let wz = eqb-true w z t'.0 in
-    same-front (between p xs ys zs s'.1 t'.1) wx wz (reason x y xs ys h) (reason y z ys zs k)
+    same_front (between p xs ys zs s'.1 t'.1) wx wz (reason x y xs ys h) (reason y z ys zs k)
   where
-    same-front : (before xs ys ≡ true → before ys zs ≡ true → starts p ys ≡ true) → w ≡ x → w ≡ z
+    same_front : (before xs ys ≡ true → before ys zs ≡ true → starts p ys ≡ true) → w ≡ x → w ≡ z
         → Reason x y xs ys → Reason y z ys zs → (eqb w y && starts p ys) ≡ true
-    same-front ih wx wz =
+    same_front ih wx wz =
         ⊎_elim
         (λ l. ⊎_elim (λ m. absurd (omega arith)) (λ e. let q = e.0 in absurd (omega arith)))
         (λ d. let q = d.0 in ⊎_elim (λ m. absurd (omega arith)) (λ e. rw (eq-eqb w y (wx ∙ q)) (ih d.1 e.1)))
 
 -- each name of an ascending list comes after what they ascend from
-after_last : (last : List ℕ) (ns : List (List ℕ)) → ascendingFrom last ns ≡ true → (i : ℕ) → i < length ns → before last (name_at ns i) ≡ true
-unfolding ascendingFrom name_at
+after_last : (last : List ℕ) (ns : List (List ℕ)) → ascending_from last ns ≡ true → (i : ℕ) → i < length ns → before last (name_at ns i) ≡ true
+unfolding ascending_from name_at
 after_last last [] h i l = absurd (omega arith)
-after_last last (n ∷ ns) h zero l = (both (before last n) (ascendingFrom n ns) h).0
+after_last last (n ∷ ns) h zero l = (both (before last n) (ascending_from n ns) h).0
 after_last last (n ∷ ns) h (suc i) l =
-    let h' = both (before last n) (ascendingFrom n ns) h in
+    let h' = both (before last n) (ascending_from n ns) h in
     transitive last n (name_at ns i) h'.0 (after_last n ns h'.1 i (omega arith))
 
-pub ascending-rest : (n : List ℕ) (ns : List (List ℕ)) → ascending (n ∷ ns) ≡ true → ascending ns ≡ true
-unfolding ascending ascendingFrom
-ascending-rest n [] h = refl
-ascending-rest n (m ∷ ns) h = (both (before n m) (ascendingFrom m ns) h).1
+pub ascending_rest : (n : List ℕ) (ns : List (List ℕ)) → ascending (n ∷ ns) ≡ true → ascending ns ≡ true
+unfolding ascending ascending_from
+ascending_rest n [] h = refl
+ascending_rest n (m ∷ ns) h = (both (before n m) (ascending_from m ns) h).1
 
 -- a smaller number is an earlier name
 pub earlier : (ns : List (List ℕ)) → ascending ns ≡ true → (i j : ℕ) → i < j → j < length ns → before (name_at ns i) (name_at ns j) ≡ true
@@ -117,7 +117,7 @@ unfolding ascending name_at
 earlier [] h i j l k = absurd (omega arith)
 earlier (n ∷ ns) h i zero l k = absurd (omega arith)
 earlier (n ∷ ns) h zero (suc j) l k = after_last n ns h j (omega arith)
-earlier (n ∷ ns) h (suc i) (suc j) l k = earlier ns (ascending-rest n ns h) i j (omega arith) (omega arith)
+earlier (n ∷ ns) h (suc i) (suc j) l k = earlier ns (ascending_rest n ns h) i j (omega arith) (omega arith)
 
 -- names are distinct
 pub distinct : (ns : List (List ℕ)) → ascending ns ≡ true → (i j : ℕ) → i < length ns → j < length ns → name_at ns i ≡ name_at ns j → i ≡ j

@@ -11,84 +11,84 @@ use native.Mathlib.Omega.{arith}
 use Rattle.std.proofs.Math.ListN.{length}
 use Rattle.names.specs.Text.{starts}
 use Rattle.names.specs.Name.{ascending, lines, names_of, name_at}
-use Rattle.names.specs.Prefix.{firstWith, runWith, pastWith, PrefixRange}
+use Rattle.names.specs.Prefix.{first_with, run_with, past_with, PrefixRange}
 use Rattle.names.specs.Tests.{both, agree}
-use Rattle.names.specs.Order.{ascending-rest, together}
-use Rattle.names.specs.Lines.{names-lines, names-iff}
+use Rattle.names.specs.Order.{ascending_rest, together}
+use Rattle.names.specs.Lines.{names_lines, names_iff}
 
 module _ (p : List ℕ) where
   -- behind a name that starts with p, those of the run do, and no others
-  run-range : (n : List ℕ) (ns : List (List ℕ)) → starts p n ≡ true → ascending (n ∷ ns) ≡ true → (i : ℕ) → i < length ns
-      → (starts p (name_at ns i) ≡ true) ↔ (i < runWith p ns)
-  unfolding runWith name_at
-  run-range n [] s h i l = absurd (omega arith)
-  run-range n (m ∷ ns) s h zero l = first (starts p m)
+  run_range : (n : List ℕ) (ns : List (List ℕ)) → starts p n ≡ true → ascending (n ∷ ns) ≡ true → (i : ℕ) → i < length ns
+      → (starts p (name_at ns i) ≡ true) ↔ (i < run_with p ns)
+  unfolding run_with name_at
+  run_range n [] s h i l = absurd (omega arith)
+  run_range n (m ∷ ns) s h zero l = first (starts p m)
     where
-      first : (t : Bool) → (t ≡ true) ↔ (0 < cond t (suc (runWith p ns)) 0)
+      first : (t : Bool) → (t ≡ true) ↔ (0 < cond t (suc (run_with p ns)) 0)
       first true = (λ e. omega arith, λ b. refl)
       first false = (λ e. absurd (false≢true e), λ b. absurd (omega arith))
-  run-range n (m ∷ ns) s h (suc i) l =
-      later (starts p m) refl (λ e. run-range m ns e (ascending-rest n (m ∷ ns) h) i (omega arith))
+  run_range n (m ∷ ns) s h (suc i) l =
+      later (starts p m) refl (λ e. run_range m ns e (ascending_rest n (m ∷ ns) h) i (omega arith))
     where
-      later : (t : Bool) → starts p m ≡ t → (t ≡ true → (starts p (name_at ns i) ≡ true) ↔ (i < runWith p ns))
-          → (starts p (name_at ns i) ≡ true) ↔ (suc i < cond t (suc (runWith p ns)) 0)
+      later : (t : Bool) → starts p m ≡ t → (t ≡ true → (starts p (name_at ns i) ≡ true) ↔ (i < run_with p ns))
+          → (starts p (name_at ns i) ≡ true) ↔ (suc i < cond t (suc (run_with p ns)) 0)
       later true e ih = (λ b. let b' = (ih refl).0 b in omega arith, λ b. (ih refl).1 (omega arith))
       later false e ih = (
         λ b. absurd (false≢true (sym e ∙ together p (n ∷ m ∷ ns) h 0 1 (suc (suc i)) (omega arith) (omega arith) (omega arith) s b)),
         λ b. absurd (omega arith),
       )
 
-  pub in-range : (ns : List (List ℕ)) → ascending ns ≡ true → (i : ℕ) → i < length ns
-      → (starts p (name_at ns i) ≡ true) ↔ ((firstWith p ns ≤ i) × (i < pastWith p ns))
-  unfolding firstWith pastWith name_at
-  in-range [] h i l = absurd (omega arith)
-  in-range (n ∷ ns) h zero l = first (starts p n)
+  pub in_range_lem : (ns : List (List ℕ)) → ascending ns ≡ true → (i : ℕ) → i < length ns
+      → (starts p (name_at ns i) ≡ true) ↔ ((first_with p ns ≤ i) × (i < past_with p ns))
+  unfolding first_with past_with name_at
+  in_range_lem [] h i l = absurd (omega arith)
+  in_range_lem (n ∷ ns) h zero l = first (starts p n)
     where
-      first : (t : Bool) → (t ≡ true) ↔ ((cond t 0 (suc (firstWith p ns)) ≤ 0) × (0 < suc (cond t (runWith p ns) (pastWith p ns))))
+      first : (t : Bool) → (t ≡ true) ↔ ((cond t 0 (suc (first_with p ns)) ≤ 0) × (0 < suc (cond t (run_with p ns) (past_with p ns))))
       first true = (λ e. (omega arith, omega arith), λ b. refl)
       first false = (λ e. absurd (false≢true e), λ b. absurd (let b' = b.0 in omega arith))
-  in-range (n ∷ ns) h (suc i) l = later (starts p n) refl (in-range ns (ascending-rest n ns h) i (omega arith))
+  in_range_lem (n ∷ ns) h (suc i) l = later (starts p n) refl (in_range_lem ns (ascending_rest n ns h) i (omega arith))
     where
       later : (t : Bool) → starts p n ≡ t
-          → (starts p (name_at ns i) ≡ true) ↔ ((firstWith p ns ≤ i) × (i < pastWith p ns))
-          → (starts p (name_at ns i) ≡ true) ↔ ((cond t 0 (suc (firstWith p ns)) ≤ suc i) × (suc i < suc (cond t (runWith p ns) (pastWith p ns))))
+          → (starts p (name_at ns i) ≡ true) ↔ ((first_with p ns ≤ i) × (i < past_with p ns))
+          → (starts p (name_at ns i) ≡ true) ↔ ((cond t 0 (suc (first_with p ns)) ≤ suc i) × (suc i < suc (cond t (run_with p ns) (past_with p ns))))
       later true e ih =
-          let r = run-range n ns e h i (omega arith) in
+          let r = run_range n ns e h i (omega arith) in
           (λ b. let b' = r.0 b in (omega arith, omega arith), λ b. r.1 (let b' = b.1 in omega arith))
       later false e ih =
           (λ b. let b' = ih.0 b in (omega arith, omega arith), λ b. ih.1 (omega arith, omega arith))
 
-  run_length : (ns : List (List ℕ)) → runWith p ns ≤ length ns
-  unfolding runWith
+  run_length : (ns : List (List ℕ)) → run_with p ns ≤ length ns
+  unfolding run_with
   run_length [] = omega arith
   run_length (n ∷ ns) = step (starts p n) (run_length ns)
     where
-      step : (t : Bool) → runWith p ns ≤ length ns → cond t (suc (runWith p ns)) 0 ≤ suc (length ns)
+      step : (t : Bool) → run_with p ns ≤ length ns → cond t (suc (run_with p ns)) 0 ≤ suc (length ns)
       step true ih = omega arith
       step false ih = omega arith
 
   -- the range lies within the names
-  pub range-order : (ns : List (List ℕ)) → (firstWith p ns ≤ pastWith p ns) × (pastWith p ns ≤ length ns)
-  unfolding firstWith pastWith
-  range-order [] = (omega arith, omega arith)
-  range-order (n ∷ ns) = step (starts p n) (range-order ns)
+  pub range_order : (ns : List (List ℕ)) → (first_with p ns ≤ past_with p ns) × (past_with p ns ≤ length ns)
+  unfolding first_with past_with
+  range_order [] = (omega arith, omega arith)
+  range_order (n ∷ ns) = step (starts p n) (range_order ns)
     where
-      step : (t : Bool) → (firstWith p ns ≤ pastWith p ns) × (pastWith p ns ≤ length ns)
-          → (cond t 0 (suc (firstWith p ns)) ≤ suc (cond t (runWith p ns) (pastWith p ns))) × (suc (cond t (runWith p ns) (pastWith p ns)) ≤ suc (length ns))
+      step : (t : Bool) → (first_with p ns ≤ past_with p ns) × (past_with p ns ≤ length ns)
+          → (cond t 0 (suc (first_with p ns)) ≤ suc (cond t (run_with p ns) (past_with p ns))) × (suc (cond t (run_with p ns) (past_with p ns)) ≤ suc (length ns))
       step true ih = (omega arith, omega (arith, run_length ns))
       step false ih = (omega arith, omega arith)
 
   -- the same for a range that was found over the bytes of names
-  pub found-range : (bs : List ℕ) (ns : List (List ℕ)) (from to : ℕ) → names_of bs ≡ some ns → PrefixRange p (lines bs) from to
+  pub found_range : (bs : List ℕ) (ns : List (List ℕ)) (from to : ℕ) → names_of bs ≡ some ns → PrefixRange p (lines bs) from to
       → (i : ℕ) → i < length ns → (starts p (name_at ns i) ≡ true) ↔ ((from ≤ i) × (i < to))
-  found-range bs ns from to e r i l =
-      rw (r.first, r.past, names-lines bs ns e) (in-range ns ((names-iff bs ns).0 e).ascend i l)
+  found_range bs ns from to e r i l =
+      rw (r.first, r.past, names_lines bs ns e) (in_range_lem ns ((names_iff bs ns).0 e).ascend i l)
 
   -- the same as a test
-  pub range-test : (bs : List ℕ) (ns : List (List ℕ)) (from to : ℕ) → names_of bs ≡ some ns → PrefixRange p (lines bs) from to
+  pub range_test : (bs : List ℕ) (ns : List (List ℕ)) (from to : ℕ) → names_of bs ≡ some ns → PrefixRange p (lines bs) from to
       → (i : ℕ) → i < length ns → (leb from i && ltb i to) ≡ starts p (name_at ns i)
-  range-test bs ns from to e r i l =
-      let w = found-range bs ns from to e r i l in
+  range_test bs ns from to e r i l =
+      let w = found_range bs ns from to e r i l in
       agree (leb from i && ltb i to) (starts p (name_at ns i))
       (λ h. let h' = both (leb from i) (ltb i to) h in w.1 (leb-true from i h'.0, ltb-true i to h'.1))
       (λ h. let h' = w.0 h in rw (le-leb from i h'.0, lt-ltb i to h'.1))

@@ -30,13 +30,13 @@ agree false true f g = g refl
 agree false false f g = refl
 
 -- every number below n passes
-unfoldable pub everyBelow : (ℕ → Bool) → ℕ → Bool
-everyBelow p zero = true
-everyBelow p (suc n) = p n && everyBelow p n
+unfoldable pub every_below : (ℕ → Bool) → ℕ → Bool
+every_below p zero = true
+every_below p (suc n) = p n && every_below p n
 
-pub below_each : (p : ℕ → Bool) (n : ℕ) → everyBelow p n ≡ true → (i : ℕ) → i < n → p i ≡ true
-unfolding everyBelow
+pub below_each : (p : ℕ → Bool) (n : ℕ) → every_below p n ≡ true → (i : ℕ) → i < n → p i ≡ true
+unfolding every_below
 below_each p zero e i l = absurd (omega arith)
 below_each p (suc n) e i l =
-    let h = both (p n) (everyBelow p n) e in
+    let h = both (p n) (every_below p n) e in
     ⊎_elim (λ (d : i ≡ n). rw d h.0) (λ m. below_each p n h.1 i m) (eq-or-lt_of_le {n = i} {m = n} (omega arith))

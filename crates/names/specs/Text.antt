@@ -31,6 +31,6 @@ contains p [] = starts p []
 contains p (y ∷ ys) = starts p (y ∷ ys) || contains p ys
 
 -- opens every definition of this file, for an example that computes
-unfoldable pub openText : Unit {0}
+unfoldable pub open_text : Unit {0}
 unfolding bytes within same starts contains
-openText = tt
+open_text = tt

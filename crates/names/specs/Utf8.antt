@@ -63,12 +63,12 @@ follow [] (b ∷ bs) = begins table b && follow (behind table b) bs
 follow (r ∷ rs) (b ∷ bs) = has r b && follow rs bs
 
 -- the bytes are UTF-8
-unfoldable pub wellFormed : List ℕ → Bool
-wellFormed bs = follow [] bs
+unfoldable pub well_formed : List ℕ → Bool
+well_formed bs = follow [] bs
 
 -- a byte of a character behind its first one
-unfoldable pub isTail : ℕ → Bool
-isTail b = has tail b
+unfoldable pub is_tail : ℕ → Bool
+is_tail b = has tail b
 
 -- the bytes begin with as many as there are ranges, one of each
 unfoldable pub fills : List Range → List ℕ → Bool
@@ -77,9 +77,9 @@ fills (r ∷ rs) [] = false
 fills (r ∷ rs) (b ∷ bs) = has r b && fills rs bs
 
 -- how many bytes the character has that the bytes begin with; 0 where they begin with none
-unfoldable pub charLength : List ℕ → ℕ
-charLength [] = 0
-charLength (b ∷ bs) = cond (begins table b && fills (behind table b) bs) (suc (length (behind table b))) 0
+unfoldable pub char_length : List ℕ → ℕ
+char_length [] = 0
+char_length (b ∷ bs) = cond (begins table b && fills (behind table b) bs) (suc (length (behind table b))) 0
 
 -- ---- section 3
 
@@ -99,15 +99,15 @@ encode c =
     (cond (leb c 0xFFFF) ((0xE0 + c / 0x1000) ∷ six (c / 0x40) ∷ six c ∷ [])
     ((0xF0 + c / 0x40000) ∷ six (c / 0x1000) ∷ six (c / 0x40) ∷ six c ∷ [])))
 
-unfoldable pub everyScalar : List ℕ → Bool
-everyScalar [] = true
-everyScalar (c ∷ cs) = scalar c && everyScalar cs
+unfoldable pub every_scalar : List ℕ → Bool
+every_scalar [] = true
+every_scalar (c ∷ cs) = scalar c && every_scalar cs
 
 unfoldable pub encodes : List ℕ → List ℕ
 encodes [] = []
 encodes (c ∷ cs) = encode c ++ encodes cs
 
 -- opens every definition of this file, for an example that computes
-unfoldable pub openUtf8 : Unit {0}
-unfolding to tail table has opens others begins behind follow wellFormed isTail fills charLength scalar six encode everyScalar encodes
-openUtf8 = tt
+unfoldable pub open_utf8 : Unit {0}
+unfolding to tail table has opens others begins behind follow well_formed is_tail fills char_length scalar six encode every_scalar encodes
+open_utf8 = tt

@@ -2,10 +2,10 @@
 use Rattle.std.specs.Prelude.{ℕ, ◌≡◌, refl, true, false, List, [], ◌∷◌, ◌++◌, map, drop, replicate}
 use Rattle.std.proofs.Math.Option.{none, some}
 use Rattle.names.specs.Text.{bytes}
-use Rattle.names.specs.Utf8.{wellFormed, encode, encodes}
+use Rattle.names.specs.Utf8.{well_formed, encode, encodes}
 use Rattle.names.specs.Name.{names_of, accepted, join}
 use Rattle.names.specs.Spelling.{sanitize}
-use Rattle.names.specs.Cases.{texts, given, openCases}
+use Rattle.names.specs.Cases.{texts, given, open_cases}
 
 -- the first and the last character of every line of RFC 3629's table, and their numbers
 unfoldable corners : List (List ℕ)
@@ -21,24 +21,24 @@ corners =
     ∷ (0xF4 ∷ 0x80 ∷ 0x80 ∷ 0x80 ∷ []) ∷ (0xF4 ∷ 0x8F ∷ 0xBF ∷ 0xBF ∷ [])
     ∷ []
 
-unfoldable cornerNumbers : List ℕ
-cornerNumbers =
+unfoldable corner_numbers : List ℕ
+corner_numbers =
     0x0 ∷ 0x7F ∷ 0x80 ∷ 0x7FF ∷ 0x800 ∷ 0xFFF
     ∷ 0x1000 ∷ 0xCFFF ∷ 0xD000 ∷ 0xD7FF ∷ 0xE000 ∷ 0xFFFF
     ∷ 0x10000 ∷ 0x3FFFF ∷ 0x40000 ∷ 0xFFFFF ∷ 0x100000 ∷ 0x10FFFF ∷ []
 
-corners-taken : map wellFormed corners ≡ replicate 18 true
-unfolding openCases corners
-corners-taken = refl
+corners_taken : map well_formed corners ≡ replicate 18 true
+unfolding open_cases corners
+corners_taken = refl
 
-corners-encoded : map encode cornerNumbers ≡ corners
-unfolding openCases corners cornerNumbers
-corners-encoded = refl
+corners_encoded : map encode corner_numbers ≡ corners
+unfolding open_cases corners corner_numbers
+corners_encoded = refl
 
 -- all but U+0000 and U+007F are names, and ascend
-corners-named : names_of (join (drop 2 corners)) ≡ some (drop 2 corners)
-unfolding openCases corners
-corners-named = refl
+corners_named : names_of (join (drop 2 corners)) ≡ some (drop 2 corners)
+unfolding open_cases corners
+corners_named = refl
 
 -- no UTF-8: a character longer than need be; the number of none; a tail behind no first byte; a character cut off
 unfoldable broken : List (List ℕ)
@@ -49,29 +49,29 @@ broken =
     ∷ (0xC4 ∷ []) ∷ (0xE2 ∷ 0x82 ∷ []) ∷ (0xF0 ∷ 0x9F ∷ 0x8E ∷ []) ∷ (0xC4 ∷ 0x41 ∷ []) ∷ (0xE2 ∷ 0x82 ∷ 0x41 ∷ [])
     ∷ []
 
-broken-refused : map wellFormed broken ≡ replicate 19 false
-unfolding openCases broken
-broken-refused = refl
+broken_refused : map well_formed broken ≡ replicate 19 false
+unfolding open_cases broken
+broken_refused = refl
 
 -- nor is any of them a name
-broken-unnamed : map (λ n. names_of (join (n ∷ []))) broken ≡ replicate 19 none
-unfolding openCases broken
-broken-unnamed = refl
+broken_unnamed : map (λ n. names_of (join (n ∷ []))) broken ≡ replicate 19 none
+unfolding open_cases broken
+broken_unnamed = refl
 
 -- the slice ends within a character
-cut-slice : names_of (given ("a" ∷ []) ++ (0xC4 ∷ [])) ≡ none
-unfolding openCases
-cut-slice = refl
+cut_slice : names_of (given ("a" ∷ []) ++ (0xC4 ∷ [])) ≡ none
+unfolding open_cases
+cut_slice = refl
 
 -- a name ends within a character, and the next one has the rest
-cut-name : names_of (0xC4 ∷ 10 ∷ 0x8D ∷ 10 ∷ []) ≡ none
-unfolding openCases
-cut-name = refl
+cut_name : names_of (0xC4 ∷ 10 ∷ 0x8D ∷ 10 ∷ []) ≡ none
+unfolding open_cases
+cut_name = refl
 
 -- U+0085 is none of "control characters 0 to 31 and 127"
-next-line : names_of (0xC2 ∷ 0x85 ∷ 10 ∷ []) ≡ some ((0xC2 ∷ 0x85 ∷ []) ∷ [])
-unfolding openCases
-next-line = refl
+next_line : names_of (0xC2 ∷ 0x85 ∷ 10 ∷ []) ≡ some ((0xC2 ∷ 0x85 ∷ []) ∷ [])
+unfolding open_cases
+next_line = refl
 
 -- RFC 3629, section 7
 unfoldable examples : List (List ℕ)
@@ -82,40 +82,40 @@ examples =
     ∷ (0xEF ∷ 0xBB ∷ 0xBF ∷ 0xF0 ∷ 0xA3 ∷ 0x8E ∷ 0xB4 ∷ [])
     ∷ []
 
-unfoldable exampleNumbers : List (List ℕ)
-exampleNumbers = (0x41 ∷ 0x2262 ∷ 0x391 ∷ 0x2E ∷ []) ∷ (0xD55C ∷ 0xAD6D ∷ 0xC5B4 ∷ []) ∷ (0x65E5 ∷ 0x672C ∷ 0x8A9E ∷ []) ∷ (0xFEFF ∷ 0x233B4 ∷ []) ∷ []
+unfoldable example_numbers : List (List ℕ)
+example_numbers = (0x41 ∷ 0x2262 ∷ 0x391 ∷ 0x2E ∷ []) ∷ (0xD55C ∷ 0xAD6D ∷ 0xC5B4 ∷ []) ∷ (0x65E5 ∷ 0x672C ∷ 0x8A9E ∷ []) ∷ (0xFEFF ∷ 0x233B4 ∷ []) ∷ []
 
-examples-encoded : map encodes exampleNumbers ≡ examples
-unfolding openCases examples exampleNumbers
-examples-encoded = refl
+examples_encoded : map encodes example_numbers ≡ examples
+unfolding open_cases examples example_numbers
+examples_encoded = refl
 
 -- names with letters of Hungarian and Czech, of three bytes and of four
 unfoldable foreign : List (List ℕ)
 foreign = (bytes "f" ++ (197 ∷ 177 ∷ [])) ∷ (bytes "ko" ++ (196 ∷ 141 ∷ bytes "ka")) ∷ (226 ∷ 130 ∷ 172 ∷ []) ∷ (240 ∷ 159 ∷ 142 ∷ 173 ∷ []) ∷ []
 
 -- quoted, a text is the numbers of its characters
-foreign-encoded : map encodes (texts ("fű" ∷ "kočka" ∷ "€" ∷ "🎭" ∷ [])) ≡ foreign
-unfolding openCases foreign
-foreign-encoded = refl
+foreign_encoded : map encodes (texts ("fű" ∷ "kočka" ∷ "€" ∷ "🎭" ∷ [])) ≡ foreign
+unfolding open_cases foreign
+foreign_encoded = refl
 
-foreign-named : names_of (join foreign) ≡ some foreign
-unfolding openCases foreign
-foreign-named = refl
+foreign_named : names_of (join foreign) ≡ some foreign
+unfolding open_cases foreign
+foreign_named = refl
 
-foreign-counted : accepted (join foreign) 4 ≡ true
-unfolding openCases foreign
-foreign-counted = refl
+foreign_counted : accepted (join foreign) 4 ≡ true
+unfolding open_cases foreign
+foreign_counted = refl
 
-foreign-miscounted : accepted (join foreign) 5 ≡ false
-unfolding openCases foreign
-foreign-miscounted = refl
+foreign_miscounted : accepted (join foreign) 5 ≡ false
+unfolding open_cases foreign
+foreign_miscounted = refl
 
 -- one `_` for each character, not for each byte
-foreign-labels : map sanitize foreign ≡ texts ("f_" ∷ "ko_ka" ∷ "_" ∷ "_" ∷ [])
-unfolding openCases foreign
-foreign-labels = refl
+foreign_labels : map sanitize foreign ≡ texts ("f_" ∷ "ko_ka" ∷ "_" ∷ "_" ∷ [])
+unfolding open_cases foreign
+foreign_labels = refl
 
 -- every letter of ASCII comes before
-foreign-descending : names_of (join ((196 ∷ 141 ∷ []) ∷ bytes "z" ∷ [])) ≡ none
-unfolding openCases
-foreign-descending = refl
+foreign_descending : names_of (join ((196 ∷ 141 ∷ []) ∷ bytes "z" ∷ [])) ≡ none
+unfolding open_cases
+foreign_descending = refl

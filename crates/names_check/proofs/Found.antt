@@ -8,25 +8,25 @@ use native.Mathlib.Omega.{arith}
 use lib.Dec.{ltb}
 use lib.ListN.{length, get_or, take, drop, length-drop}
 use lib.Seq.{take-append-le, take-take, take-suc, length-take-le, get_or-drop}
-use Rattle.names.specs.Name.{everyByte, before}
-use Rattle.names_words.specs.Word.{word, key_of, Octets, word-take, key-order}
+use Rattle.names.specs.Name.{every_byte, before}
+use Rattle.names_words.specs.Word.{word, key_of, Octets, word_take, key_order}
 use Rattle.names_check.specs.Found.{part, Through, Spelled, Kept, Found}
-use Rattle.names_check.proofs.Through.{through-none}
-use Rattle.names_check.proofs.Words.{WordRead, room, word-through, word-whole}
+use Rattle.names_check.proofs.Through.{through_none}
+use Rattle.names_check.proofs.Words.{WordRead, room, word_through, word_whole}
 
 -- no name was met: the empty one comes before all others
-pub kept-none : (names : List ℕ) → Kept names 0 0 (10 * 2 ^ 56) 0
-unfolding everyByte key_of word
-kept-none names = record { starts = omega arith; ends = omega arith; bytes = refl; keyed = λ _. refl }
+pub kept_none : (names : List ℕ) → Kept names 0 0 (10 * 2 ^ 56) 0
+unfolding every_byte key_of word
+kept_none names = record { starts = omega arith; ends = omega arith; bytes = refl; keyed = λ _. refl }
 
 -- the key of a name of n bytes that ends among eight, and of one that does not
 key_ended : (n : ℕ) (bs : List ℕ) → n < length bs → get_or bs n 0 ≡ 10 → word 8 (take (n + 1) bs) ≡ key_of (take n bs)
 unfolding key_of
 key_ended n bs l e = ap (word 8) (rw (add-one, take-suc bs n 0 l, e))
 
-key-over : (n : ℕ) (bs : List ℕ) → 8 ≤ n → n ≤ length bs → word 8 bs ≡ key_of (take n bs)
+key_over : (n : ℕ) (bs : List ℕ) → 8 ≤ n → n ≤ length bs → word 8 bs ≡ key_of (take n bs)
 unfolding key_of
-key-over n bs l m = sym (word-take 8 bs) ∙ ap (word 8) same ∙ word-take 8 (take n bs ++ (10 ∷ []))
+key_over n bs l m = sym (word_take 8 bs) ∙ ap (word 8) same ∙ word_take 8 (take n bs ++ (10 ∷ []))
   where
     same : take 8 bs ≡ take 8 (take n bs ++ (10 ∷ []))
     same = rw (take-append-le 8 (take n bs) (10 ∷ []) (omega (arith, length-take-le n bs m))) (sym (take-take 8 n bs l))
@@ -49,21 +49,21 @@ pub record Passing (names : List ℕ) (at from w : ℕ) : Type 0 where
   pub octets : Octets (drop at names)
   pub same : at + 8 ≤ length names → w ≡ word 8 (drop at names)
 
-pub passing-none : (names : List ℕ) (at w : ℕ) → Octets names → at < length names → length names - at < 8 → Passing names at at w
-passing-none names at w o l m = record { through = through-none names at (omega arith); octets = λ i. rw get_or-drop (o (at + i)); same = λ h. absurd (omega arith) }
+pub passing_none : (names : List ℕ) (at w : ℕ) → Octets names → at < length names → length names - at < 8 → Passing names at at w
+passing_none names at w o l m = record { through = through_none names at (omega arith); octets = λ i. rw get_or-drop (o (at + i)); same = λ h. absurd (omega arith) }
 
 module _ {names : List ℕ} {at w n : ℕ} (d : WordRead names at w n) where
-  pub passing-word : Passing names at (at + n) w
-  passing-word = record { through = word-through d; octets = d.octets; same = λ h. d.same }
+  pub passing_word : Passing names at (at + n) w
+  passing_word = record { through = word_through d; octets = d.octets; same = λ h. d.same }
 
-  pub passing-whole : 8 ≤ n → Passing names at (at + 8) w
-  passing-whole l = record { through = word-whole d l; octets = d.octets; same = λ h. d.same }
+  pub passing_whole : 8 ≤ n → Passing names at (at + 8) w
+  passing_whole l = record { through = word_whole d l; octets = d.octets; same = λ h. d.same }
 
   -- an ASCII name that ends among the word's bytes is ordered by the keys
-  pub found-short : {last past key : ℕ} → Kept names last past key at → (key' : ℕ) → n < 8 → get_or names (at + n) 0 ≡ 10
+  pub found_short : {last past key : ℕ} → Kept names last past key at → (key' : ℕ) → n < 8 → get_or names (at + n) 0 ≡ 10
       → ((bs : List ℕ) → Octets bs → w ≡ word 8 bs → key' ≡ word 8 (take (n + 1) bs)) → Found names last past at (at + n) key' (ltb key key')
-  found-short {last} {past} {key} k key' l e f =
-      found record { through = word-through d; stuck = λ m z. absurd (z e) } last past (ltb key key') key' (λ m _. ordered) (λ m _. keyed)
+  found_short {last} {past} {key} k key' l e f =
+      found record { through = word_through d; stuck = λ m z. absurd (z e) } last past (ltb key key') key' (λ m _. ordered) (λ m _. keyed)
     where
       drawn : at + n - at ≡ n
       drawn = omega arith
@@ -74,17 +74,17 @@ module _ {names : List ℕ} {at w n : ℕ} (d : WordRead names at w n) where
       ordered : ltb key key' ≡ before (part names last past) (part names at (at + n))
       ordered =
           rw (k.keyed (room d), keyed)
-          (sym (key-order (part names last past) (part names at (at + n)) k.bytes (word-through d).bytes (λ _. rw drawn (omega (arith, length-take-le n (drop at names) (omega (arith, d.long)))))))
+          (sym (key_order (part names last past) (part names at (at + n)) k.bytes (word_through d).bytes (λ _. rw drawn (omega (arith, length-take-le n (drop at names) (omega (arith, d.long)))))))
 
 -- one that was compared with the name before it
 module _ {names : List ℕ} {at from w : ℕ} (p : Passing names at from w) (end : ℕ) (s : Spelled names at end) (last past : ℕ) (after : Bool)
     (o : after ≡ before (part names last past) (part names at end)) where
-  pub found-long : 8 ≤ end - at → Found names last past at end w after
-  found-long l =
-      found s last past after w (λ m _. o) (λ m _. p.same (omega (arith, s.through.starts)) ∙ key-over (end - at) (drop at names) l (omega (arith, s.through.ends, length-drop at names)))
+  pub found_long : 8 ≤ end - at → Found names last past at end w after
+  found_long l =
+      found s last past after w (λ m _. o) (λ m _. p.same (omega (arith, s.through.starts)) ∙ key_over (end - at) (drop at names) l (omega (arith, s.through.ends, length-drop at names)))
 
-  pub found-wide : (key : ℕ) → ((bs : List ℕ) → Octets bs → w ≡ word 8 bs → key ≡ word 8 (take (end - at + 1) bs)) → Found names last past at end key after
-  found-wide key f =
+  pub found_wide : (key : ℕ) → ((bs : List ℕ) → Octets bs → w ≡ word 8 bs → key ≡ word 8 (take (end - at + 1) bs)) → Found names last past at end key after
+  found_wide key f =
       found s last past after key (λ m _. o) λ m e.
       f (drop at names) p.octets (p.same (omega (arith, s.through.starts)))
       ∙ key_ended (end - at) (drop at names) (omega (arith, s.through.starts, length-drop at names)) (rw (get_or-drop, there) e)

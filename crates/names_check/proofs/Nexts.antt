@@ -11,20 +11,20 @@ use lib.Dec.{eqb, ltb}
 use lib.ListN.{length, get_or, drop, set, length-set, length-drop}
 use lib.Seq.{drop-drop, get_or-drop, get_or-set_same, get_or-set_other, set_out}
 use Rattle.names.specs.Name.{lines, name_at, start_of}
-use Rattle.names.specs.Places.{start-next}
-use Rattle.names_check.specs.Nexts.{Noted, placeBehind}
+use Rattle.names.specs.Places.{start_next}
+use Rattle.names_check.specs.Nexts.{Noted, place_behind}
 
 module _ (step first : ℕ) where
-  noted-none : (bs nexts : List ℕ) → Noted step first bs 0 nexts nexts
-  noted-none bs nexts = record { words = λ x l. absurd (omega arith); same = λ i n. refl; long = refl }
+  noted_none : (bs nexts : List ℕ) → Noted step first bs 0 nexts nexts
+  noted_none bs nexts = record { words = λ x l. absurd (omega arith); same = λ i n. refl; long = refl }
 
   -- no word is that of two names
   apart : 0 < step → (x y : ℕ) → (x ≡ y → ⊥) → step * x + first ≡ step * y + first → ⊥
   apart some x y n e = n (eq_of_mul-eq-mul_left step some x y (omega (arith, e)))
 
-  noted-next : 0 < step → (bs : List ℕ) (m start : ℕ) (nexts₀ nexts : List ℕ) → start ≡ start_of (lines bs) (m + 1) → Noted step first bs m nexts₀ nexts
+  noted_next : 0 < step → (bs : List ℕ) (m start : ℕ) (nexts₀ nexts : List ℕ) → start ≡ start_of (lines bs) (m + 1) → Noted step first bs m nexts₀ nexts
       → Noted step first bs (m + 1) nexts₀ (set nexts (step * m + first) start)
-  noted-next some bs m start nexts₀ nexts e k =
+  noted_next some bs m start nexts₀ nexts e k =
       record {
         words = λ x l r. word x l r (eqb x m) refl;
         same = λ i n. get_or-set_other nexts (step * m + first) i start 0 (n m (omega arith)) ∙ k.same i (λ x l. n x (omega arith));
@@ -47,11 +47,11 @@ module _ (step first : ℕ) where
     pub inside : place < size → place ≡ step * seen + first
     pub behind : size ≤ place → size ≤ step * seen + first
 
-  placed-start : (size : ℕ) → Placed size 0 first
-  placed-start size = let z : step * 0 + first ≡ first = rw (mul-zero, zero-add) in record { inside = λ _. sym z; behind = λ l. omega (arith, z) }
+  placed_start : (size : ℕ) → Placed size 0 first
+  placed_start size = let z : step * 0 + first ≡ first = rw (mul-zero, zero-add) in record { inside = λ _. sym z; behind = λ l. omega (arith, z) }
 
-  placed-next : {size seen place : ℕ} → Placed size seen place → Placed size (seen + 1) (placeBehind size step place)
-  placed-next {size} {seen} {place} p = go (ltb place size) refl
+  placed_next : {size seen place : ℕ} → Placed size seen place → Placed size (seen + 1) (place_behind size step place)
+  placed_next {size} {seen} {place} p = go (ltb place size) refl
     where
       on : step * (seen + 1) ≡ step * seen + step
       on = ap (λ (i : ℕ). step * i) (add-one seen) ∙ mul-suc step seen
@@ -61,8 +61,8 @@ module _ (step first : ℕ) where
       go false e = let q = ltb-false place size e in record { inside = λ l. absurd (omega arith); behind = λ l. omega (arith, p.behind q, on) }
 
   -- what is stored there is stored for that name
-  placed-set : (nexts : List ℕ) {seen place : ℕ} → Placed (length nexts) seen place → (v : ℕ) → set nexts place v ≡ set nexts (step * seen + first) v
-  placed-set nexts {seen} {place} p v = go (ltb place (length nexts)) refl
+  placed_set : (nexts : List ℕ) {seen place : ℕ} → Placed (length nexts) seen place → (v : ℕ) → set nexts place v ≡ set nexts (step * seen + first) v
+  placed_set nexts {seen} {place} p v = go (ltb place (length nexts)) refl
     where
       go : (b : Bool) → ltb place (length nexts) ≡ b → set nexts place v ≡ set nexts (step * seen + first) v
       go true e = ap (λ (i : ℕ). set nexts i v) (p.inside (ltb-true place (length nexts) e))
@@ -75,9 +75,9 @@ module _ (step first : ℕ) where
     pub placed : Placed (length nexts₀) seen place
     pub noted : Noted step first bs seen nexts₀ nexts
 
-  pub noting-start : (bs nexts : List ℕ) → Noting bs nexts nexts 0 0 first
+  pub noting_start : (bs nexts : List ℕ) → Noting bs nexts nexts 0 0 first
   unfolding start_of
-  noting-start bs nexts = record { rest = refl; start = refl; placed = placed-start (length nexts); noted = noted-none bs nexts }
+  noting_start bs nexts = record { rest = refl; start = refl; placed = placed_start (length nexts); noted = noted_none bs nexts }
 
   module _ (some : 0 < step) {bs nexts₀ nexts : List ℕ} {seen at place : ℕ} (k : Noting bs nexts₀ nexts seen at place) {n : List ℕ} {end : ℕ}
       (here : lines (drop at bs) ≡ n ∷ lines (drop (end + 1) bs)) (e : end ≡ at + length n) where
@@ -88,15 +88,15 @@ module _ (step first : ℕ) where
     unfolding name_at
     named = ap (λ (i : ℕ). get_or (lines bs) i []) (sym (add-zero seen)) ∙ sym (get_or-drop seen (lines bs) 0 []) ∙ ap (λ (ns : List (List ℕ)). get_or ns 0 []) (k.rest ∙ here)
 
-    next-is : start_of (lines bs) (seen + 1) ≡ end + 1
-    next-is = ap (start_of (lines bs)) (add-one seen) ∙ start-next (lines bs) seen there ∙ omega (arith, k.start, ap length named)
+    next_is : start_of (lines bs) (seen + 1) ≡ end + 1
+    next_is = ap (start_of (lines bs)) (add-one seen) ∙ start_next (lines bs) seen there ∙ omega (arith, k.start, ap length named)
 
-    pub noting-next : Noting bs nexts₀ (set nexts place (end + 1)) (seen + 1) (end + 1) (placeBehind (length nexts) step place)
-    noting-next =
+    pub noting_next : Noting bs nexts₀ (set nexts place (end + 1)) (seen + 1) (end + 1) (place_behind (length nexts) step place)
+    noting_next =
         let p : Placed (length nexts) seen place = rw k.noted.long k.placed in
         record {
           rest = sym (drop-drop 1 seen (lines bs)) ∙ ap (drop 1) (k.rest ∙ here);
-          start = next-is;
-          placed = rw k.noted.long (placed-next k.placed);
-          noted = rw (placed-set nexts p (end + 1)) (noted-next some bs seen (end + 1) nexts₀ nexts (sym next-is) k.noted);
+          start = next_is;
+          placed = rw k.noted.long (placed_next k.placed);
+          noted = rw (placed_set nexts p (end + 1)) (noted_next some bs seen (end + 1) nexts₀ nexts (sym next_is) k.noted);
         }

@@ -7,65 +7,65 @@ use native.Mathlib.Nat.{add-zero}
 use native.Mathlib.Omega.{arith}
 use lib.ListN.{length, get_or, take, drop, length-drop, take-append-drop}
 use lib.Seq.{take-add, drop-drop, get_or-drop}
-use Rattle.names.specs.Name.{plain_byte, nameByte, isEnd, everyByte, spelled, special, up_to, until, line, front, nameFrom}
-use Rattle.names.specs.Utf8.{wellFormed, charLength}
+use Rattle.names.specs.Name.{plain_byte, name_byte, is_end, every_byte, spelled, special, up_to, until, line, front, name_from}
+use Rattle.names.specs.Utf8.{well_formed, char_length}
 use Rattle.names.specs.Tests.{both}
 use Rattle.names.specs.Texts.{in_within}
 use Rattle.names.specs.Lines.{no_end}
-use Rattle.names.specs.Characters.{is_char, char-first, char-ascii, char-bytes, char-taken, char-missing}
-use Rattle.names_spelling.proofs.Scan.{until-part, from_place}
-use Rattle.names_spelling.proofs.Spell.{name-more}
+use Rattle.names.specs.Characters.{is_char, char_first, char_ascii, char_bytes, char_taken, char_missing}
+use Rattle.names_spelling.proofs.Scan.{until_part, from_place}
+use Rattle.names_spelling.proofs.Spell.{name_more}
 use Rattle.names_check.specs.Found.{part, Through}
 
 -- ---- bytes in front of others
 
-bytes-over : (c x : List ℕ) → everyByte c ≡ true → everyByte (c ++ x) ≡ everyByte x
-unfolding everyByte
-bytes-over [] x h = refl
-bytes-over (b ∷ c) x h = let k = both (nameByte b) (everyByte c) h in rw k.0 (bytes-over c x k.1)
+bytes_over : (c x : List ℕ) → every_byte c ≡ true → every_byte (c ++ x) ≡ every_byte x
+unfolding every_byte
+bytes_over [] x h = refl
+bytes_over (b ∷ c) x h = let k = both (name_byte b) (every_byte c) h in rw k.0 (bytes_over c x k.1)
 
-line-over : (c r : List ℕ) → everyByte c ≡ true → line (c ++ r) ≡ c ++ line r
-unfolding everyByte line until up_to
-line-over [] r h = refl
-line-over (b ∷ c) r h = let k = both (nameByte b) (everyByte c) h in rw (no_end b k.0) (ap (λ t. b ∷ t) (line-over c r k.1))
+line_over : (c r : List ℕ) → every_byte c ≡ true → line (c ++ r) ≡ c ++ line r
+unfolding every_byte line until up_to
+line_over [] r h = refl
+line_over (b ∷ c) r h = let k = both (name_byte b) (every_byte c) h in rw (no_end b k.0) (ap (λ t. b ∷ t) (line_over c r k.1))
 
 -- bytes of names behind which the others decide
 record Passes (c : List ℕ) : Type 0 where
-  pub bytes : everyByte c ≡ true
-  pub formed : (x : List ℕ) → wellFormed (c ++ x) ≡ wellFormed x
+  pub bytes : every_byte c ≡ true
+  pub formed : (x : List ℕ) → well_formed (c ++ x) ≡ well_formed x
 
-spelled-over : (c r : List ℕ) → Passes c → spelled (line (c ++ r)) ≡ spelled (line r)
+spelled_over : (c r : List ℕ) → Passes c → spelled (line (c ++ r)) ≡ spelled (line r)
 unfolding spelled
-spelled-over c r p = rw (line-over c r p.bytes) (ap₂ (λ s t. s && t) (bytes-over c (line r) p.bytes) (p.formed (line r)))
+spelled_over c r p = rw (line_over c r p.bytes) (ap₂ (λ s t. s && t) (bytes_over c (line r) p.bytes) (p.formed (line r)))
 
 -- ---- from place to place
 
 through_passes : (names : List ℕ) (at n : ℕ) → at + n ≤ length names → Passes (take n (drop at names)) → Through names at (at + n)
-unfolding nameFrom
+unfolding name_from
 through_passes names at n l p =
     record {
       starts = omega arith;
       ends = l;
       bytes = rw drawn p.bytes;
-      rest = ap (λ t. spelled (line t)) (sym (take-append-drop n (drop at names))) ∙ spelled-over _ _ p ∙ ap (λ t. spelled (line t)) (drop-drop n at names);
+      rest = ap (λ t. spelled (line t)) (sym (take-append-drop n (drop at names))) ∙ spelled_over _ _ p ∙ ap (λ t. spelled (line t)) (drop-drop n at names);
     }
   where
     drawn : at + n - at ≡ n
     drawn = omega arith
 
-pub through-none : (names : List ℕ) (at : ℕ) → at ≤ length names → Through names at at
-unfolding everyByte
-through-none names at l = record { starts = omega arith; ends = l; bytes = rw drawn refl; rest = refl }
+pub through_none : (names : List ℕ) (at : ℕ) → at ≤ length names → Through names at at
+unfolding every_byte
+through_none names at l = record { starts = omega arith; ends = l; bytes = rw drawn refl; rest = refl }
   where
     drawn : at - at ≡ 0
     drawn = omega arith
 
-pub through-then : {names : List ℕ} {at i end : ℕ} → Through names at i → Through names i end → Through names at end
-through-then {names} {at} {i} {end} p q =
+pub through_then : {names : List ℕ} {at i end : ℕ} → Through names at i → Through names i end → Through names at end
+through_then {names} {at} {i} {end} p q =
     record {
       starts = omega (arith, p.starts, q.starts);
       ends = q.ends;
-      bytes = ap everyByte joined ∙ bytes-over (part names at i) (part names i end) p.bytes ∙ q.bytes;
+      bytes = ap every_byte joined ∙ bytes_over (part names at i) (part names i end) p.bytes ∙ q.bytes;
       rest = p.rest ∙ q.rest;
     }
   where
@@ -81,16 +81,16 @@ through-then {names} {at} {i} {end} p q =
 -- ---- ASCII characters
 
 -- such a byte may stand in a name, and is a character
-plain-name : (b : ℕ) → plain_byte b ≡ true → nameByte b ≡ true
-unfolding nameByte
-plain-name b h = rw h
+plain_name : (b : ℕ) → plain_byte b ≡ true → name_byte b ≡ true
+unfolding name_byte
+plain_name b h = rw h
 
-plain-char : (b : ℕ) → plain_byte b ≡ true → is_char (b ∷ []) ≡ true
+plain_char : (b : ℕ) → plain_byte b ≡ true → is_char (b ∷ []) ≡ true
 unfolding plain_byte
-plain-char b h = char-ascii b (omega (arith, (in_within 32 126 b h).1))
+plain_char b h = char_ascii b (omega (arith, (in_within 32 126 b h).1))
 
 plain_passes : (n : ℕ) (bs : List ℕ) → n ≤ length (front bs) → Passes (take n bs) × (n ≤ length bs)
-unfolding front until up_to special everyByte
+unfolding front until up_to special every_byte
 plain_passes zero bs l = (record { bytes = refl; formed = λ x. refl }, omega arith)
 plain_passes (suc n) [] l = absurd (omega arith)
 plain_passes (suc n) (b ∷ bs) l = step (plain_byte b) refl (plain_passes n bs) l
@@ -100,42 +100,42 @@ plain_passes (suc n) (b ∷ bs) l = step (plain_byte b) refl (plain_passes n bs)
     step true e ih m =
         let p = ih (omega arith) in (
           record {
-            bytes = rw (plain-name b e) p.0.bytes;
-            formed = λ x. char-first (b ∷ []) (take n bs ++ x) (plain-char b e) ∙ p.0.formed x;
+            bytes = rw (plain_name b e) p.0.bytes;
+            formed = λ x. char_first (b ∷ []) (take n bs ++ x) (plain_char b e) ∙ p.0.formed x;
           },
           omega (arith, p.1),
         )
     step false e ih m = absurd (omega arith)
 
-pub through-front : (names : List ℕ) (at n : ℕ) → at ≤ length names → n ≤ length (front (drop at names)) → Through names at (at + n)
-through-front names at n l m =
+pub through_front : (names : List ℕ) (at n : ℕ) → at ≤ length names → n ≤ length (front (drop at names)) → Through names at (at + n)
+through_front names at n l m =
     let p = plain_passes n (drop at names) m in
     through_passes names at n (omega (arith, p.1, length-drop at names)) p.0
 
 -- ---- any character
 
-first-bytes : (n : ℕ) (bs : List ℕ) → 0 < n → 0 < length bs → is_char (take n bs) ≡ true → nameByte (get_or bs 0 0) ≡ true → everyByte (take n bs) ≡ true
-first-bytes zero bs p q h e = absurd (omega arith)
-first-bytes (suc n) [] p q h e = absurd (omega arith)
-first-bytes (suc n) (b ∷ bs) p q h e = char-bytes b (take n bs) h e
+first_bytes : (n : ℕ) (bs : List ℕ) → 0 < n → 0 < length bs → is_char (take n bs) ≡ true → name_byte (get_or bs 0 0) ≡ true → every_byte (take n bs) ≡ true
+first_bytes zero bs p q h e = absurd (omega arith)
+first_bytes (suc n) [] p q h e = absurd (omega arith)
+first_bytes (suc n) (b ∷ bs) p q h e = char_bytes b (take n bs) h e
 
 module _ (names : List ℕ) (at : ℕ) (l : at < length names) where
-  pub through-char : (n : ℕ) → n ≡ charLength (drop at names) → (n ≡ 0 → ⊥) → nameByte (get_or names at 0) ≡ true → Through names at (at + n)
-  through-char n e z h =
-      let p = char-taken (drop at names) (omega (arith, e)) in
+  pub through_char : (n : ℕ) → n ≡ char_length (drop at names) → (n ≡ 0 → ⊥) → name_byte (get_or names at 0) ≡ true → Through names at (at + n)
+  through_char n e z h =
+      let p = char_taken (drop at names) (omega (arith, e)) in
       let c = rw (← e) at p.0 in
       through_passes names at n (omega (arith, p.1, e, length-drop at names))
-      record { bytes = first-bytes n (drop at names) (omega arith) (omega (arith, length-drop at names)) c (rw (get_or-drop, add-zero) h); formed = λ x. char-first _ x c }
+      record { bytes = first_bytes n (drop at names) (omega arith) (omega (arith, length-drop at names)) c (rw (get_or-drop, add-zero) h); formed = λ x. char_first _ x c }
 
-  pub stuck-byte : nameByte (get_or names at 0) ≡ false → (get_or names at 0 ≡ 10 → ⊥) → spelled (nameFrom names at) ≡ false
-  unfolding spelled everyByte
-  stuck-byte h d = rw (name-more names at l d, h)
+  pub stuck_byte : name_byte (get_or names at 0) ≡ false → (get_or names at 0 ≡ 10 → ⊥) → spelled (name_from names at) ≡ false
+  unfolding spelled every_byte
+  stuck_byte h d = rw (name_more names at l d, h)
 
-  pub stuck-char : charLength (drop at names) ≡ 0 → (get_or names at 0 ≡ 10 → ⊥) → spelled (nameFrom names at) ≡ false
-  unfolding spelled nameFrom line
-  stuck-char z d =
+  pub stuck_char : char_length (drop at names) ≡ 0 → (get_or names at 0 ≡ 10 → ⊥) → spelled (name_from names at) ≡ false
+  unfolding spelled name_from line
+  stuck_char z d =
       let r = drop (at + 1) names in
-      let e : r ≡ nameFrom names (at + 1) ++ drop (length (line r)) r = sym (take-append-drop (length (line r)) r) ∙ ap (λ t. t ++ drop (length (line r)) r) (until-part isEnd r) in
+      let e : r ≡ name_from names (at + 1) ++ drop (length (line r)) r = sym (take-append-drop (length (line r)) r) ∙ ap (λ t. t ++ drop (length (line r)) r) (until_part is_end r) in
       let z' = rw (from_place names at l) at z in
-      let y : wellFormed (get_or names at 0 ∷ nameFrom names (at + 1)) ≡ false = char-missing (get_or names at 0) _ (drop (length (line r)) r) (ap (λ t. charLength (get_or names at 0 ∷ t)) (sym e) ∙ z') in
-      ap spelled (name-more names at l d) ∙ ap (λ t. everyByte (get_or names at 0 ∷ nameFrom names (at + 1)) && t) y ∙ and-false (everyByte (get_or names at 0 ∷ nameFrom names (at + 1)))
+      let y : well_formed (get_or names at 0 ∷ name_from names (at + 1)) ≡ false = char_missing (get_or names at 0) _ (drop (length (line r)) r) (ap (λ t. char_length (get_or names at 0 ∷ t)) (sym e) ∙ z') in
+      ap spelled (name_more names at l d) ∙ ap (λ t. every_byte (get_or names at 0 ∷ name_from names (at + 1)) && t) y ∙ and-false (every_byte (get_or names at 0 ∷ name_from names (at + 1)))

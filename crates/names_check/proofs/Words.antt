@@ -8,11 +8,11 @@ use borrow.Author.Tests.{lt-leb, not-true}
 use lib.ListN.{length, get_or, drop, length-drop}
 use lib.Seq.{get_or-drop}
 use Rattle.names.specs.Text.{within}
-use Rattle.names.specs.Name.{plain_byte, nameByte, special, until, front}
-use Rattle.names_spelling.proofs.Scan.{until-next}
+use Rattle.names.specs.Name.{plain_byte, name_byte, special, until, front}
+use Rattle.names_spelling.proofs.Scan.{until_next}
 use Rattle.names_words.specs.Word.{word, Octets}
 use Rattle.names_check.specs.Found.{Through, Spelled}
-use Rattle.names_check.proofs.Through.{through-front, stuck-byte}
+use Rattle.names_check.proofs.Through.{through_front, stuck_byte}
 
 -- the word at `at`, with the number of its bytes up to the first that is no ASCII character of a name
 pub record WordRead (names : List ℕ) (at w n : ℕ) : Type 0 where
@@ -28,32 +28,32 @@ word_read names at w n o l e f =
     let l' : 8 ≤ length (drop at names) = rw length-drop (omega arith) in
     record { octets = o'; long = l'; same = e; counted = f (drop at names) o' l' e }
 
-low-name : (b : ℕ) → b < 128 → plain_byte b ≡ false → nameByte b ≡ false
-unfolding nameByte within
-low-name b h e = rw (e, lt-leb 128 b h)
+low_name : (b : ℕ) → b < 128 → plain_byte b ≡ false → name_byte b ≡ false
+unfolding name_byte within
+low_name b h e = rw (e, lt-leb 128 b h)
 
 module _ {names : List ℕ} {at w n : ℕ} (d : WordRead names at w n) where
   pub room : at + 8 ≤ length names
   room = omega (arith, d.long, length-drop at names)
 
   -- the word's bytes up to the first that is no ASCII character are passed
-  pub word-through : Through names at (at + n)
-  word-through = through-front names at n (omega (arith, room)) (omega (arith, d.counted))
+  pub word_through : Through names at (at + n)
+  word_through = through_front names at n (omega (arith, room)) (omega (arith, d.counted))
 
   -- a byte below 128 behind them is no character of a name
-  pub word-stuck : n < 8 → get_or names (at + n) 0 < 128 → Spelled names at (at + n)
+  pub word_stuck : n < 8 → get_or names (at + n) 0 < 128 → Spelled names at (at + n)
   unfolding front special
-  word-stuck l h = record { through = word-through; stuck = λ m d. stuck-byte names (at + n) m (low-name (get_or names (at + n) 0) h no_plain) d }
+  word_stuck l h = record { through = word_through; stuck = λ m d. stuck_byte names (at + n) m (low_name (get_or names (at + n) 0) h no_plain) d }
     where
       short : length (until special (drop at names)) ≡ n
       short = omega (arith, d.counted)
 
       no_plain : plain_byte (get_or names (at + n) 0) ≡ false
-      no_plain = not-true _ (rw (short, get_or-drop) at (until-next special (drop at names) (omega (arith, short, d.long))))
+      no_plain = not-true _ (rw (short, get_or-drop) at (until_next special (drop at names) (omega (arith, short, d.long))))
 
   -- all of them
-  pub word-whole : 8 ≤ n → Through names at (at + 8)
-  word-whole l = rw whole at word-through
+  pub word_whole : 8 ≤ n → Through names at (at + 8)
+  word_whole l = rw whole at word_through
     where
       whole : n ≡ 8
       whole = omega (arith, d.counted)

@@ -19,10 +19,10 @@ pub record NextsAlone (step first : ℕ) (bs : List ℕ) (m : ℕ) (work : List 
   pub nexts : (x : ℕ) → x < m → step * x + first < length work → get_or work (step * x + first) 0 ≡ start_of (lines bs) (x + 1)
   pub blank : (i : ℕ) → ((x : ℕ) → x < m → i ≡ step * x + first → ⊥) → get_or work i 0 ≡ 0
 
-pub nexts-alone : {step first : ℕ} {bs : List ℕ} {m : ℕ} {nexts nexts' : List ℕ} → Noted step first bs m nexts nexts' → ((i : ℕ) → get_or nexts i 0 ≡ 0)
+pub nexts_alone : {step first : ℕ} {bs : List ℕ} {m : ℕ} {nexts nexts' : List ℕ} → Noted step first bs m nexts nexts' → ((i : ℕ) → get_or nexts i 0 ≡ 0)
     → NextsAlone step first bs m nexts'
-nexts-alone n z = record { nexts = λ x l r. n.words x l (omega (arith, n.long)); blank = λ i o. n.same i o ∙ z i }
+nexts_alone n z = record { nexts = λ x l r. n.words x l (omega (arith, n.long)); blank = λ i o. n.same i o ∙ z i }
 
 -- the place of the next word among so many: a place behind them stays
-abbrev pub placeBehind : (size step place : ℕ) → ℕ
-placeBehind size step place = cond (ltb place size) (place + step) place
+abbrev pub place_behind : (size step place : ℕ) → ℕ
+place_behind size step place = cond (ltb place size) (place + step) place

@@ -1,10 +1,10 @@
 // The names that come with a book: whether they are a list of names as documents 01 and 02 (card 6) want them, which of them start
 // with a prefix, and where the one behind each of them starts.
 ghost use Rattle.std.specs.Prelude.{◌≡◌, true, ◌+◌, ◌<◌, ◌≤◌, length, set};
-ghost use Rattle.names.specs.Name.{nameByte, before, accepted, lines};
-ghost use Rattle.names.specs.Prefix.{firstWith, pastWith};
-ghost use Rattle.names_check.specs.Read.{namesRead};
-ghost use Rattle.names_check.specs.Nexts.{NotedWhere, placeBehind};
+ghost use Rattle.names.specs.Name.{name_byte, before, accepted, lines};
+ghost use Rattle.names.specs.Prefix.{first_with, past_with};
+ghost use Rattle.names_check.specs.Read.{names_read};
+ghost use Rattle.names_check.specs.Nexts.{NotedWhere, place_behind};
 ghost use Rattle.names_check.specs.Found.{Spelled, Kept, Found};
 
 use names_compare::{Ordering, compare};
@@ -14,7 +14,7 @@ use names_words::{word_at, word_front, word_key};
 
 // Whether a byte may stand in a name: it is no control character.
 fn name_byte(b: u8) -> bool
-    ensures { result ≡ nameByte b }
+    ensures { result ≡ name_byte b }
 {
     ((32 <= b) & (b <= 126)) | (128 <= b)
 }
@@ -85,7 +85,7 @@ pub enum Names {
 fn note_start(nexts: &mut [u64], place: usize, step: usize, start: usize) -> usize
     requires { step ≤ 8 }
     ensures nexts_after { nexts.new ≡ set nexts.old place start }
-    ensures value { result ≡ placeBehind (length nexts.old) step place }
+    ensures value { result ≡ place_behind (length nexts.old) step place }
 {
     if place < nexts.len() {
         nexts[place] = start as u64;
@@ -159,7 +159,7 @@ pub fn read_names(
 ) -> Names
     requires step_nonzero { 0 < step }
     requires step_bound { step ≤ 8 }
-    ensures value { result ≡ namesRead (accepted names.now count) (firstWith prefix.now (lines names.now)) (pastWith prefix.now (lines names.now)) }
+    ensures value { result ≡ names_read (accepted names.now count) (first_with prefix.now (lines names.now)) (past_with prefix.now (lines names.now)) }
     ensures noted_where { NotedWhere (accepted names.now count ≡ true) step first names.now count nexts.old nexts.new }
 {
     let mut seen: u64 = 0;

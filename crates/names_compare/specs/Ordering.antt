@@ -12,17 +12,17 @@ ordering Order.equal = Equal
 ordering Order.greater = Greater
 
 -- whether the first stands before the second
-abbrev pub isLess : Ordering → Bool
-isLess Less = true
-isLess Equal = false
-isLess Greater = false
+abbrev pub is_less : Ordering → Bool
+is_less Less = true
+is_less Equal = false
+is_less Greater = false
 
-by_less : (p q : Bool) → isLess (ordering (order_by p q)) ≡ p
+by_less : (p q : Bool) → is_less (ordering (order_by p q)) ≡ p
 unfolding order_by
 by_less true q = refl
 by_less false true = refl
 by_less false false = refl
 
-pub less-before : (a b : List ℕ) (r : Ordering) → r ≡ ordering (order a b) → isLess r ≡ before a b
+pub less_before : (a b : List ℕ) (r : Ordering) → r ≡ ordering (order a b) → is_less r ≡ before a b
 unfolding order
-less-before a b r e = ap isLess e ∙ by_less (before a b) (before b a)
+less_before a b r e = ap is_less e ∙ by_less (before a b) (before b a)

@@ -1,6 +1,6 @@
 // Two names compared: by words while eight bytes of both remain, then byte by byte.
 ghost use Rattle.std.specs.Prelude.{◌≡◌, ◌+◌, ◌≤◌, min, ltb, length, drop};
-ghost use Rattle.names.specs.Compare.{order_by, order, byteSteps, steps};
+ghost use Rattle.names.specs.Compare.{order_by, order, byte_steps, steps};
 ghost use Rattle.names_compare.specs.Ordering.{ordering};
 
 use names_words::word_at;
@@ -49,7 +49,7 @@ fn compare_bytes(a: &[u8], b: &[u8], at: usize, words: u64) -> Compared
     requires at_in_bounds_2 { at ≤ length b.now }
     requires words_le_at { words ≤ at }
     ensures order_value { result.order ≡ ordering (order (drop at a.now) (drop at b.now)) }
-    ensures steps_value { result.steps ≡ words + byteSteps (drop at a.now) (drop at b.now) }
+    ensures steps_value { result.steps ≡ words + byte_steps (drop at a.now) (drop at b.now) }
 {
     let n = shorter(a.len(), b.len());
     let mut i = at;

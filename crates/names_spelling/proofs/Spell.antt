@@ -6,28 +6,28 @@ use mathlib.Core.List.{List, [], ◌∷◌}
 use borrow.Author.Tests.{eq-eqb, ne_eqb}
 use lib.ListN.{length, get_or, drop, drop_of_length-le}
 use Rattle.names.specs.Text.{starts}
-use Rattle.names.specs.Name.{isEnd, line, nameFrom}
-use Rattle.names_spelling.proofs.Scan.{from_place, until-past, until_stop, until-pass}
+use Rattle.names.specs.Name.{is_end, line, name_from}
+use Rattle.names_spelling.proofs.Scan.{from_place, until_past, until_stop, until_pass}
 
 -- the name from the place j on
 module _ (names : List ℕ) (j : ℕ) where
-  pub name-past : length names ≤ j → nameFrom names j ≡ []
-  unfolding nameFrom line
-  name-past = until-past isEnd names j
+  pub name_past : length names ≤ j → name_from names j ≡ []
+  unfolding name_from line
+  name_past = until_past is_end names j
 
-  pub name-ended : j < length names → get_or names j 0 ≡ 10 → nameFrom names j ≡ []
-  unfolding nameFrom line isEnd
-  name-ended l e = until_stop isEnd names j l (eq-eqb _ 10 e)
+  pub name_ended : j < length names → get_or names j 0 ≡ 10 → name_from names j ≡ []
+  unfolding name_from line is_end
+  name_ended l e = until_stop is_end names j l (eq-eqb _ 10 e)
 
-  pub name-more : j < length names → (get_or names j 0 ≡ 10 → ⊥) → nameFrom names j ≡ get_or names j 0 ∷ nameFrom names (j + 1)
-  unfolding nameFrom line isEnd
-  name-more l d = until-pass isEnd names j l (ne_eqb _ 10 d)
+  pub name_more : j < length names → (get_or names j 0 ≡ 10 → ⊥) → name_from names j ≡ get_or names j 0 ∷ name_from names (j + 1)
+  unfolding name_from line is_end
+  name_more l d = until_pass is_end names j l (ne_eqb _ 10 d)
 
 -- whether a text starts with what is left of another from the place i on
 module _ (text : List ℕ) (i : ℕ) where
-  pub starts-over : (s : List ℕ) → length text ≤ i → starts (drop i text) s ≡ true
+  pub starts_over : (s : List ℕ) → length text ≤ i → starts (drop i text) s ≡ true
   unfolding starts
-  starts-over s h = rw (drop_of_length-le text h)
+  starts_over s h = rw (drop_of_length-le text h)
 
   module _ (l : i < length text) where
     pub starts_none : (s : List ℕ) → s ≡ [] → starts (drop i text) s ≡ false
@@ -38,6 +38,6 @@ module _ (text : List ℕ) (i : ℕ) where
     unfolding starts
     starts_more s r b e q = rw (from_place text i l, e, q, eq-eqb (get_or text i 0) (get_or text i 0) refl)
 
-    pub starts-differ : (s r : List ℕ) (b : ℕ) → s ≡ b ∷ r → (b ≡ get_or text i 0 → ⊥) → starts (drop i text) s ≡ false
+    pub starts_differ : (s r : List ℕ) (b : ℕ) → s ≡ b ∷ r → (b ≡ get_or text i 0 → ⊥) → starts (drop i text) s ≡ false
     unfolding starts
-    starts-differ s r b e d = rw (from_place text i l, e, ne_eqb (get_or text i 0) b (λ q. d (sym q)))
+    starts_differ s r b e d = rw (from_place text i l, e, ne_eqb (get_or text i 0) b (λ q. d (sym q)))

@@ -3,9 +3,9 @@ pub mod utf8;
 
 ghost use Rattle.std.specs.Prelude.{◌≡◌, ◌+◌, length};
 ghost use Rattle.names.specs.Text.{within as textWithin, starts};
-ghost use Rattle.names.specs.Name.{nameFrom};
-ghost use Rattle.names.specs.Utf8.{isTail};
-ghost use Rattle.names.specs.Spelling.{wordByte, cleanByte, sanitize};
+ghost use Rattle.names.specs.Name.{name_from};
+ghost use Rattle.names.specs.Utf8.{is_tail};
+ghost use Rattle.names.specs.Spelling.{word_byte, clean_byte, sanitize};
 
 // The byte that ends a name.
 pub const END: u8 = 10;
@@ -19,7 +19,7 @@ fn within(low: u8, high: u8, b: u8) -> bool
 
 // The index of the byte that ends the name at `at`, or the number of bytes where none does. From behind the bytes it is `at`.
 pub fn name_end(names: &[u8], at: usize) -> usize
-    ensures { result ≡ at + length (nameFrom names.now at) }
+    ensures { result ≡ at + length (name_from names.now at) }
 {
     let mut i = at;
     while i < names.len() {
@@ -33,7 +33,7 @@ pub fn name_end(names: &[u8], at: usize) -> usize
 
 // Whether the name at `at` starts with the text.
 pub fn name_starts(names: &[u8], at: usize, text: &[u8]) -> bool
-    ensures { result ≡ starts text.now (nameFrom names.now at) }
+    ensures { result ≡ starts text.now (name_from names.now at) }
 {
     let mut i: usize = 0;
     let mut j = at;
@@ -56,21 +56,21 @@ pub fn name_starts(names: &[u8], at: usize, text: &[u8]) -> bool
 
 // Whether a byte is a digit, an ASCII letter or `_`.
 fn word_byte(b: u8) -> bool
-    ensures { result ≡ wordByte b }
+    ensures { result ≡ word_byte b }
 {
     within(b'0', b'9', b) | within(b'A', b'Z', b) | within(b'a', b'z', b) | (b == b'_')
 }
 
 // A byte of a name as it stands in a label: each that is no letter, digit or `_` becomes `_`.
 pub fn clean_byte(b: u8) -> u8
-    ensures { result ≡ cleanByte b }
+    ensures { result ≡ clean_byte b }
 {
     if word_byte(b) { b } else { b'_' }
 }
 
 // Whether a byte is one of a character's behind its first.
 pub fn is_tail(b: u8) -> bool
-    ensures { result ≡ isTail b }
+    ensures { result ≡ is_tail b }
 {
     within(0x80, 0xbf, b)
 }

@@ -1,6 +1,6 @@
 // Characters of UTF-8, as RFC 3629 has them: how many bytes one takes.
 ghost use Rattle.std.specs.Prelude.{◌≡◌, drop};
-ghost use Rattle.names.specs.Utf8.{charLength};
+ghost use Rattle.names.specs.Utf8.{char_length};
 ghost use Rattle.names.specs.Lead.{tails as tailsBehind, bound as boundOf, lowest as lowestSecond, highest as highestSecond};
 
 use crate::{is_tail, within};
@@ -47,7 +47,7 @@ fn highest(first: u8) -> u8
 
 // How many bytes the character has that stands at `at`; 0 where none does.
 pub fn char_len(text: &[u8], at: usize) -> usize
-    ensures { result ≡ charLength (drop at text.now) }
+    ensures { result ≡ char_length (drop at text.now) }
 {
     if text.len() <= at {
         return 0;

@@ -51,13 +51,13 @@ word_cut (suc m) (suc j) k (b ∷ bs) e o =
     shifted = ap (λ (x : ℕ). x + word m bs) split ∙ add_comm (q * p) (word m bs)
 
 -- a part of bytes has bytes alone
-pub octets-take : (j : ℕ) (bs : List ℕ) → Octets bs → Octets (take j bs)
-octets-take zero bs o i = omega arith
-octets-take (suc j) [] o i = omega arith
-octets-take (suc j) (b ∷ bs) o zero = o 0
-octets-take (suc j) (b ∷ bs) o (suc i) = octets-take j bs (λ x. o (suc x)) i
+pub octets_take : (j : ℕ) (bs : List ℕ) → Octets bs → Octets (take j bs)
+octets_take zero bs o i = omega arith
+octets_take (suc j) [] o i = omega arith
+octets_take (suc j) (b ∷ bs) o zero = o 0
+octets_take (suc j) (b ∷ bs) o (suc i) = octets_take j bs (λ x. o (suc x)) i
 
 -- the key that the code makes of the first n bytes and the one behind them
-pub key-cut : (n w : ℕ) (bs : List ℕ) → n < 8 → Octets bs → w ≡ word 8 bs → w / 2 ^ (8 * (7 - n)) * 2 ^ (8 * (7 - n)) % 2 ^ 64 ≡ word 8 (take (n + 1) bs)
-key-cut n w bs l o e =
-    rw (e, word_cut 8 (n + 1) (7 - n) bs (omega arith) o) (mod-eq_of_lt (word_lt 8 (take (n + 1) bs) (octets-take (n + 1) bs o)))
+pub key_cut : (n w : ℕ) (bs : List ℕ) → n < 8 → Octets bs → w ≡ word 8 bs → w / 2 ^ (8 * (7 - n)) * 2 ^ (8 * (7 - n)) % 2 ^ 64 ≡ word 8 (take (n + 1) bs)
+key_cut n w bs l o e =
+    rw (e, word_cut 8 (n + 1) (7 - n) bs (omega arith) o) (mod-eq_of_lt (word_lt 8 (take (n + 1) bs) (octets_take (n + 1) bs o)))

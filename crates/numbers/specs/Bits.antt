@@ -9,34 +9,34 @@ use Rattle.std.proofs.Math.Pow.{pow-lt, high_ones}
 use Rattle.std.proofs.lemmas.Nat.{shl-shr, or_shr, or_mod, or_lt}
 use Rattle.std.specs.Int.Bits.{or_add_and, or_zero_r}
 use Rattle.std.proofs.lemmas.Nat.Bits.{and_high}
-use Rattle.numbers.specs.Tests.{lt-or-le, eq-or-ne}
+use Rattle.numbers.specs.Tests.{lt_or_le, eq_or_ne}
 
 -- the digit of n at the place k, 0 or 1
-unfoldable pub digitAt : ℕ → ℕ → ℕ
-digitAt n k = n / 2 ^ k % 2
+unfoldable pub digit_at : ℕ → ℕ → ℕ
+digit_at n k = n / 2 ^ k % 2
 
 -- n with the digit at the place k set
-unfoldable pub withDigit : ℕ → ℕ → ℕ
-withDigit n k = n + (1 - digitAt n k) * 2 ^ k
+unfoldable pub with_digit : ℕ → ℕ → ℕ
+with_digit n k = n + (1 - digit_at n k) * 2 ^ k
 
 -- whether the bit i of a map is set
 unfoldable pub bit_at : List ℕ → ℕ → Bool
-bit_at m i = digitAt (slice_index m (i / 64)) (i % 64) == 1
+bit_at m i = digit_at (slice_index m (i / 64)) (i % 64) == 1
 
 -- the map with the bit i set
-unfoldable pub setBitAt : List ℕ → ℕ → List ℕ
-setBitAt m i = slice_set m (i / 64) (withDigit (slice_index m (i / 64)) (i % 64))
+unfoldable pub set_bit_at : List ℕ → ℕ → List ℕ
+set_bit_at m i = slice_set m (i / 64) (with_digit (slice_index m (i / 64)) (i % 64))
 
 -- ---- a digit of a number
 
-digit_lt : (n k : ℕ) → digitAt n k < 2
-unfolding digitAt
+digit_lt : (n k : ℕ) → digit_at n k < 2
+unfolding digit_at
 digit_lt n k = omega arith
 
 -- to set a digit is a bitwise or with a power of two
-pub with-or : (n k : ℕ) → bit_or n (2 ^ k) ≡ withDigit n k
-unfolding withDigit digitAt
-with-or n k =
+pub with_or : (n k : ℕ) → bit_or n (2 ^ k) ≡ with_digit n k
+unfolding with_digit digit_at
+with_or n k =
     let one : 2 ^ (1 + k) - 2 ^ k ≡ 2 ^ k = high_ones 1 k ∙ one-mul (2 ^ k) in
     let both : bit_and n (2 ^ k) ≡ n / 2 ^ k % 2 * 2 ^ k = rw one at (and_high n 1 k) in
     go (n / 2 ^ k % 2) (omega arith) (or_add_and n (2 ^ k)) both
@@ -47,87 +47,87 @@ with-or n k =
     go (suc (suc d)) h s e = absurd (omega arith)
 
 -- a power of two has its digit alone
-power-low : (j d : ℕ) → digitAt (2 ^ (suc d + j)) j ≡ 0
-unfolding digitAt
-power-low j d = rw (pow-add 2 (suc d) j, shl-shr (2 ^ suc d) j, pow-suc 2 d) (mul-mod_left (2 ^ d) 2)
+power_low : (j d : ℕ) → digit_at (2 ^ (suc d + j)) j ≡ 0
+unfolding digit_at
+power_low j d = rw (pow-add 2 (suc d) j, shl-shr (2 ^ suc d) j, pow-suc 2 d) (mul-mod_left (2 ^ d) 2)
 
-power-high : (j k : ℕ) → k < j → digitAt (2 ^ k) j ≡ 0
-unfolding digitAt
-power-high j k h = rw (div-eq_of_lt (pow-lt h))
+power_high : (j k : ℕ) → k < j → digit_at (2 ^ k) j ≡ 0
+unfolding digit_at
+power_high j k h = rw (div-eq_of_lt (pow-lt h))
 
-power-digit : (j k : ℕ) → j ≢ k → digitAt (2 ^ k) j ≡ 0
-power-digit j k ne =
-    ⊎_elim (λ h. let e : k ≡ suc (k - suc j) + j = omega arith in rw e (power-low j (k - suc j)))
-    (λ h. power-high j k (omega arith))
-    (lt-or-le j k)
+power_digit : (j k : ℕ) → j ≢ k → digit_at (2 ^ k) j ≡ 0
+power_digit j k ne =
+    ⊎_elim (λ h. let e : k ≡ suc (k - suc j) + j = omega arith in rw e (power_low j (k - suc j)))
+    (λ h. power_high j k (omega arith))
+    (lt_or_le j k)
 
-digit_or : (a b j : ℕ) → digitAt (bit_or a b) j ≡ bit_or (digitAt a j) (digitAt b j)
-unfolding digitAt
+digit_or : (a b j : ℕ) → digit_at (bit_or a b) j ≡ bit_or (digit_at a j) (digit_at b j)
+unfolding digit_at
 digit_or a b j = ap (λ (x : ℕ). x % 2) (or_shr a b j) ∙ or_mod (a / 2 ^ j) (b / 2 ^ j) 1
 
-or-one : (d : ℕ) → d < 2 → bit_or d 1 ≡ 1
-or-one zero h = refl
-or-one (suc zero) h = refl
-or-one (suc (suc d)) h = absurd (omega arith)
+or_one : (d : ℕ) → d < 2 → bit_or d 1 ≡ 1
+or_one zero h = refl
+or_one (suc zero) h = refl
+or_one (suc (suc d)) h = absurd (omega arith)
 
-pub with-same : (n k : ℕ) → digitAt (withDigit n k) k ≡ 1
-unfolding digitAt
-with-same n k = rw (← with-or n k) (digit_or n (2 ^ k) k ∙ rw (div_self (pow_pos k)) (or-one (digitAt n k) (digit_lt n k)))
+pub with_same : (n k : ℕ) → digit_at (with_digit n k) k ≡ 1
+unfolding digit_at
+with_same n k = rw (← with_or n k) (digit_or n (2 ^ k) k ∙ rw (div_self (pow_pos k)) (or_one (digit_at n k) (digit_lt n k)))
 
-pub with-other : (n j k : ℕ) → j ≢ k → digitAt (withDigit n k) j ≡ digitAt n j
-with-other n j k ne = rw (← with-or n k) (digit_or n (2 ^ k) j ∙ rw (power-digit j k ne) (or_zero_r (digitAt n j)))
+pub with_other : (n j k : ℕ) → j ≢ k → digit_at (with_digit n k) j ≡ digit_at n j
+with_other n j k ne = rw (← with_or n k) (digit_or n (2 ^ k) j ∙ rw (power_digit j k ne) (or_zero_r (digit_at n j)))
 
-pub with-lt : (w n k : ℕ) → n < 2 ^ w → k < w → withDigit n k < 2 ^ w
-with-lt w n k f h = rw (← with-or n k) (or_lt w n (2 ^ k) f (pow-lt h))
+pub with_lt : (w n k : ℕ) → n < 2 ^ w → k < w → with_digit n k < 2 ^ w
+with_lt w n k f h = rw (← with_or n k) (or_lt w n (2 ^ k) f (pow-lt h))
 
 -- ---- a bit of a map
 
 -- what holds of the value stored and of the old one holds after the store
-set-either : (P : ℕ → Type 0) (l : List ℕ) (i k a : ℕ) → (k ≡ i → P a) → P (slice_index l k) → P (slice_index (slice_set l i a) k)
-set-either P l i k a new old =
-    ⊎_elim (λ (e : k ≡ i). ⊎_elim (λ h. rw (e, get_or-set_same l i a 0 h) (new e)) (λ h. rw (set_out l i a h) old) (lt-or-le i (length l)))
+set_either : (P : ℕ → Type 0) (l : List ℕ) (i k a : ℕ) → (k ≡ i → P a) → P (slice_index l k) → P (slice_index (slice_set l i a) k)
+set_either P l i k a new old =
+    ⊎_elim (λ (e : k ≡ i). ⊎_elim (λ h. rw (e, get_or-set_same l i a 0 h) (new e)) (λ h. rw (set_out l i a h) old) (lt_or_le i (length l)))
     (λ (ne : k ≢ i). rw (get_or-set_other l i k a 0 ne) old)
-    (eq-or-ne k i)
+    (eq_or_ne k i)
 
-pub length-set-bit : (m : List ℕ) (i : ℕ) → length (setBitAt m i) ≡ length m
-unfolding setBitAt
-length-set-bit m i = length-set m (i / 64) (withDigit (slice_index m (i / 64)) (i % 64))
+pub length_set_bit : (m : List ℕ) (i : ℕ) → length (set_bit_at m i) ≡ length m
+unfolding set_bit_at
+length_set_bit m i = length-set m (i / 64) (with_digit (slice_index m (i / 64)) (i % 64))
 
-pub bit-set-same : (m : List ℕ) (i : ℕ) → i / 64 < length m → bit_at (setBitAt m i) i ≡ true
-unfolding bit_at setBitAt
-bit-set-same m i h = rw (get_or-set_same m (i / 64) (withDigit (slice_index m (i / 64)) (i % 64)) 0 h, with-same (slice_index m (i / 64)) (i % 64))
+pub bit_set_same : (m : List ℕ) (i : ℕ) → i / 64 < length m → bit_at (set_bit_at m i) i ≡ true
+unfolding bit_at set_bit_at
+bit_set_same m i h = rw (get_or-set_same m (i / 64) (with_digit (slice_index m (i / 64)) (i % 64)) 0 h, with_same (slice_index m (i / 64)) (i % 64))
 
-pub bit-set-other : (m : List ℕ) (i j : ℕ) → j ≢ i → bit_at (setBitAt m i) j ≡ bit_at m j
-unfolding bit_at setBitAt
-bit-set-other m i j ne =
+pub bit_set_other : (m : List ℕ) (i j : ℕ) → j ≢ i → bit_at (set_bit_at m i) j ≡ bit_at m j
+unfolding bit_at set_bit_at
+bit_set_other m i j ne =
     let n = slice_index_or m (i / 64) 0 in
-    set-either (λ x. (digitAt x (j % 64) == 1) ≡ (digitAt (slice_index m (j / 64)) (j % 64) == 1)) m (i / 64) (j / 64) (withDigit n (i % 64))
-    (λ e. rw (with-other n (j % 64) (i % 64) (λ d. ne (omega arith)), e)) refl
+    set_either (λ x. (digit_at x (j % 64) == 1) ≡ (digit_at (slice_index m (j / 64)) (j % 64) == 1)) m (i / 64) (j / 64) (with_digit n (i % 64))
+    (λ e. rw (with_other n (j % 64) (i % 64) (λ d. ne (omega arith)), e)) refl
 
 -- the bits that are set afterwards are those that were, and i
-pub bit-set-found : (m : List ℕ) (i j : ℕ) → bit_at (setBitAt m i) j ≡ true → (j ≡ i) ⊎ (bit_at m j ≡ true)
-bit-set-found m i j e = ⊎_elim inl (λ ne. inr (sym (bit-set-other m i j ne) ∙ e)) (eq-or-ne j i)
+pub bit_set_found : (m : List ℕ) (i j : ℕ) → bit_at (set_bit_at m i) j ≡ true → (j ≡ i) ⊎ (bit_at m j ≡ true)
+bit_set_found m i j e = ⊎_elim inl (λ ne. inr (sym (bit_set_other m i j ne) ∙ e)) (eq_or_ne j i)
 
-pub bit-set-keeps : (m : List ℕ) (i j : ℕ) → i / 64 < length m → bit_at m j ≡ true → bit_at (setBitAt m i) j ≡ true
-bit-set-keeps m i j h e = ⊎_elim (λ (s : j ≡ i). rw s (bit-set-same m i h)) (λ ne. bit-set-other m i j ne ∙ e) (eq-or-ne j i)
+pub bit_set_keeps : (m : List ℕ) (i j : ℕ) → i / 64 < length m → bit_at m j ≡ true → bit_at (set_bit_at m i) j ≡ true
+bit_set_keeps m i j h e = ⊎_elim (λ (s : j ≡ i). rw s (bit_set_same m i h)) (λ ne. bit_set_other m i j ne ∙ e) (eq_or_ne j i)
 
 -- the words of the map stay words
-pub set-bit-words : (m : List ℕ) (i : ℕ) → ((k : ℕ) → slice_index m k < 2 ^ 64) → (k : ℕ) → slice_index (setBitAt m i) k < 2 ^ 64
-unfolding setBitAt
-set-bit-words m i f k =
+pub set_bit_words : (m : List ℕ) (i : ℕ) → ((k : ℕ) → slice_index m k < 2 ^ 64) → (k : ℕ) → slice_index (set_bit_at m i) k < 2 ^ 64
+unfolding set_bit_at
+set_bit_words m i f k =
     let n = slice_index_or m (i / 64) 0 in
-    set-either (λ x. x < 2 ^ 64) m (i / 64) k (withDigit n (i % 64)) (λ e. with-lt 64 n (i % 64) (f (i / 64)) (omega arith)) (f k)
+    set_either (λ x. x < 2 ^ 64) m (i / 64) k (with_digit n (i % 64)) (λ e. with_lt 64 n (i % 64) (f (i / 64)) (omega arith)) (f k)
 
 zeros : (n k : ℕ) → slice_index_or {A = ℕ} (replicate n 0) k 0 ≡ 0
 zeros n k =
-    ⊎_elim (λ h. get_or-replicate n k 0 0 h) (λ h. get_or-eq_default (replicate n 0) 0 (rw (length-replicate {A = ℕ} n 0) h)) (lt-or-le k n)
+    ⊎_elim (λ h. get_or-replicate n k 0 0 h) (λ h. get_or-eq_default (replicate n 0) 0 (rw (length-replicate {A = ℕ} n 0) h)) (lt_or_le k n)
 
 -- a map of zeros has no bit set
-pub bit-none : (n i : ℕ) → bit_at (replicate n 0) i ≡ false
-unfolding bit_at digitAt
-bit-none n i = rw (zeros n (i / 64), zero-div (2 ^ (i % 64)))
+pub bit_none : (n i : ℕ) → bit_at (replicate n 0) i ≡ false
+unfolding bit_at digit_at
+bit_none n i = rw (zeros n (i / 64), zero-div (2 ^ (i % 64)))
 
 -- and past its end no map has
 pub bit_past : (m : List ℕ) (i : ℕ) → length m ≤ i / 64 → bit_at m i ≡ false
-unfolding bit_at digitAt
+unfolding bit_at digit_at
 bit_past m i h = rw (get_or-eq_default m 0 h, zero-div (2 ^ (i % 64)))

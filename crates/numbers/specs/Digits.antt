@@ -4,7 +4,7 @@ use Rattle.std.proofs.Common.{ap, sym, ◌∙◌, ⊎_elim, lt_of_lt_of_le, arit
 use Rattle.std.proofs.Math.ListN.{get_or-append}
 use Rattle.std.proofs.lemmas.List.Edits.{sets}
 use Rattle.std.proofs.Math.Seq.{get_or-append_seam}
-use Rattle.numbers.specs.Tests.{lt-or-le}
+use Rattle.numbers.specs.Tests.{lt_or_le}
 
 -- the byte of a digit
 abbrev pub digit : ℕ → List ℕ
@@ -15,75 +15,75 @@ abbrev pub IsDigit : ℕ → Type 0
 IsDigit b = (48 ≤ b) × (b ≤ 57)
 
 -- the last f decimal digits of n, with no zero in front
-unfoldable pub lastDigits : ℕ → ℕ → List ℕ
-lastDigits zero n = []
-lastDigits (suc f) n = let more = lastDigits f (n / 10) ++ digit (n % 10) in cond (nat_lt n 10) (digit n) more
+unfoldable pub last_digits : ℕ → ℕ → List ℕ
+last_digits zero n = []
+last_digits (suc f) n = let more = last_digits f (n / 10) ++ digit (n % 10) in cond (nat_lt n 10) (digit n) more
 
 -- all of them: n has no more than n + 1
 unfoldable pub decimal : ℕ → List ℕ
-decimal n = lastDigits (suc n) n
+decimal n = last_digits (suc n) n
 
 -- the number that digits stand for, after those that stand for a
-unfoldable pub valueFrom : ℕ → List ℕ → ℕ
-valueFrom a [] = a
-valueFrom a (b ∷ bs) = valueFrom (a * 10 + (b - 48)) bs
+unfoldable pub value_from : ℕ → List ℕ → ℕ
+value_from a [] = a
+value_from a (b ∷ bs) = value_from (a * 10 + (b - 48)) bs
 
 -- ---- the two rules
 
-enough : (f g n : ℕ) → n < f → n < g → lastDigits f n ≡ lastDigits g n
-unfolding lastDigits
+enough : (f g n : ℕ) → n < f → n < g → last_digits f n ≡ last_digits g n
+unfolding last_digits
 enough zero g n h k = absurd (omega arith)
 enough (suc f) zero n h k = absurd (omega arith)
 enough (suc f) (suc g) n h k =
-    ⊎_elim (λ d. rw (lt-ltb n 10 d)) (λ d. rw (enough f g (n / 10) (omega arith) (omega arith))) (lt-or-le n 10)
+    ⊎_elim (λ d. rw (lt-ltb n 10 d)) (λ d. rw (enough f g (n / 10) (omega arith) (omega arith))) (lt_or_le n 10)
 
 -- a number below ten is its digit
-pub decimal-small : (n : ℕ) → n < 10 → decimal n ≡ digit n
-unfolding decimal lastDigits
-decimal-small n h = rw (lt-ltb n 10 h)
+pub decimal_small : (n : ℕ) → n < 10 → decimal n ≡ digit n
+unfolding decimal last_digits
+decimal_small n h = rw (lt-ltb n 10 h)
 
 -- any other is that of its tenth, and its last digit
-pub decimal-more : (n : ℕ) → 10 ≤ n → decimal n ≡ decimal (n / 10) ++ digit (n % 10)
-unfolding decimal lastDigits
-decimal-more n h = rw (le-ltb n 10 h) (ap (λ (l : List ℕ). l ++ digit (n % 10)) (enough n (suc (n / 10)) (n / 10) (omega arith) (omega arith)))
+pub decimal_more : (n : ℕ) → 10 ≤ n → decimal n ≡ decimal (n / 10) ++ digit (n % 10)
+unfolding decimal last_digits
+decimal_more n h = rw (le-ltb n 10 h) (ap (λ (l : List ℕ). l ++ digit (n % 10)) (enough n (suc (n / 10)) (n / 10) (omega arith) (omega arith)))
 
 -- so what holds by these two rules holds of every number
-pub decimal-ind : (P : ℕ → Type 0) → ((n : ℕ) → n < 10 → P n) → ((n : ℕ) → 10 ≤ n → P (n / 10) → P n) → (n : ℕ) → P n
-decimal-ind P small more n = go (suc n) n (omega arith)
+pub decimal_ind : (P : ℕ → Type 0) → ((n : ℕ) → n < 10 → P n) → ((n : ℕ) → 10 ≤ n → P (n / 10) → P n) → (n : ℕ) → P n
+decimal_ind P small more n = go (suc n) n (omega arith)
   where
     go : (f n : ℕ) → n < f → P n
     go zero n h = absurd (omega arith)
-    go (suc f) n h = ⊎_elim (small n) (λ d. more n d (go f (n / 10) (omega arith))) (lt-or-le n 10)
+    go (suc f) n h = ⊎_elim (small n) (λ d. more n d (go f (n / 10) (omega arith))) (lt_or_le n 10)
 
 -- ---- how many
 
-pub length-small : (n : ℕ) → n < 10 → length (decimal n) ≡ 1
-length-small n h = rw (decimal-small n h)
+pub length_small : (n : ℕ) → n < 10 → length (decimal n) ≡ 1
+length_small n h = rw (decimal_small n h)
 
 pub length_more : (n : ℕ) → 10 ≤ n → length (decimal n) ≡ length (decimal (n / 10)) + 1
-length_more n h = rw (decimal-more n h) (length-append (decimal (n / 10)) (digit (n % 10)))
+length_more n h = rw (decimal_more n h) (length-append (decimal (n / 10)) (digit (n % 10)))
 
-pub length-pos : (n : ℕ) → 1 ≤ length (decimal n)
-length-pos n = ⊎_elim (λ h. omega (arith, length-small n h)) (λ h. omega (arith, length_more n h)) (lt-or-le n 10)
+pub length_pos : (n : ℕ) → 1 ≤ length (decimal n)
+length_pos n = ⊎_elim (λ h. omega (arith, length_small n h)) (λ h. omega (arith, length_more n h)) (lt_or_le n 10)
 
-pub length-le : (k n : ℕ) → n < 10 ^ suc k → length (decimal n) ≤ suc k
-length-le zero n h = omega (arith, length-small n h)
-length-le (suc k) n h =
-    ⊎_elim (λ d. omega (arith, length-small n d)) (λ d. omega (arith, length_more n d, length-le k (n / 10) (omega arith))) (lt-or-le n 10)
+pub length_le : (k n : ℕ) → n < 10 ^ suc k → length (decimal n) ≤ suc k
+length_le zero n h = omega (arith, length_small n h)
+length_le (suc k) n h =
+    ⊎_elim (λ d. omega (arith, length_small n d)) (λ d. omega (arith, length_more n d, length_le k (n / 10) (omega arith))) (lt_or_le n 10)
 
 -- of two, three and four digits
 pub length_two : (n : ℕ) → 10 ≤ n → n < 100 → length (decimal n) ≡ 2
-length_two n h k = omega (arith, length_more n h, length-small (n / 10) (omega arith))
+length_two n h k = omega (arith, length_more n h, length_small (n / 10) (omega arith))
 
 pub length_three : (n : ℕ) → 100 ≤ n → n < 1000 → length (decimal n) ≡ 3
 length_three n h k = omega (arith, length_more n (omega arith), length_two (n / 10) (omega arith) (omega arith))
 
-pub length-four : (n : ℕ) → 1000 ≤ n → n < 10000 → length (decimal n) ≡ 4
-length-four n h k = omega (arith, length_more n (omega arith), length_three (n / 10) (omega arith) (omega arith))
+pub length_four : (n : ℕ) → 1000 ≤ n → n < 10000 → length (decimal n) ≡ 4
+length_four n h k = omega (arith, length_more n (omega arith), length_three (n / 10) (omega arith) (omega arith))
 
 -- and four at once
-pub length-more-four : (n : ℕ) → 10000 ≤ n → length (decimal n) ≡ length (decimal (n / 10000)) + 4
-length-more-four n h =
+pub length_more_four : (n : ℕ) → 10000 ≤ n → length (decimal n) ≡ length (decimal (n / 10000)) + 4
+length_more_four n h =
     let a = length_more n (omega arith) in
     let b = length_more (n / 10) (omega arith) in
     let c = length_more (n / 10 / 10) (omega arith) in
@@ -92,25 +92,25 @@ length-more-four n h =
     rw (← e) (omega (arith, a, b, c, d))
 
 -- a number of two digits
-pub decimal-two : (n : ℕ) → 10 ≤ n → n < 100 → decimal n ≡ (48 + n / 10) ∷ (48 + n % 10) ∷ []
-decimal-two n h k = rw (decimal-more n h, decimal-small (n / 10) (omega arith))
+pub decimal_two : (n : ℕ) → 10 ≤ n → n < 100 → decimal n ≡ (48 + n / 10) ∷ (48 + n % 10) ∷ []
+decimal_two n h k = rw (decimal_more n h, decimal_small (n / 10) (omega arith))
 
 -- a number below 100: two digits are stored, the last one at a place of its own or over the first
 module _ (n at k : ℕ) (t : List ℕ) where
-  pub short-one : n < 10 → k ≡ 0 → (at + k + 1 ≡ at + length (decimal n)) × (slice_set (slice_set t at (48 + n / 10)) (at + k) (48 + n % 10) ≡ sets t at (decimal n))
-  short-one h e =
+  pub short_one : n < 10 → k ≡ 0 → (at + k + 1 ≡ at + length (decimal n)) × (slice_set (slice_set t at (48 + n / 10)) (at + k) (48 + n % 10) ≡ sets t at (decimal n))
+  short_one h e =
       let here : at + k ≡ at = omega arith in
       let same : 48 + n % 10 ≡ 48 + n = omega arith in
-      (omega (arith, length-small n h), rw (here, set-set t at (48 + n / 10) (48 + n % 10), same, decimal-small n h))
+      (omega (arith, length_small n h), rw (here, set-set t at (48 + n / 10) (48 + n % 10), same, decimal_small n h))
 
-  pub short-two : 10 ≤ n → n < 100 → k ≡ 1 → (at + k + 1 ≡ at + length (decimal n)) × (slice_set (slice_set t at (48 + n / 10)) (at + k) (48 + n % 10) ≡ sets t at (decimal n))
-  short-two h g e =
+  pub short_two : 10 ≤ n → n < 100 → k ≡ 1 → (at + k + 1 ≡ at + length (decimal n)) × (slice_set (slice_set t at (48 + n / 10)) (at + k) (48 + n % 10) ≡ sets t at (decimal n))
+  short_two h g e =
       let next : at + k ≡ suc at = omega arith in
-      (omega (arith, length_two n h g), rw (next, decimal-two n h g))
+      (omega (arith, length_two n h g), rw (next, decimal_two n h g))
 
 -- a word has no more than 20 digits
-pub length-word : (n : ℕ) → n < 2 ^ 64 → length (decimal n) ≤ 20
-length-word n h = length-le 19 n (lt_of_lt_of_le h (lit≤ tt))
+pub length_word : (n : ℕ) → n < 2 ^ 64 → length (decimal n) ≤ 20
+length_word n h = length_le 19 n (lt_of_lt_of_le h (lit≤ tt))
 
 -- ---- which
 
@@ -119,34 +119,34 @@ last_byte : (P : ℕ → Type 0) (l : List ℕ) (d i : ℕ) → (i < length l �
 last_byte P l d i front own h =
     ⊎_elim (λ g. rw (get_or-append l (digit d) 0 i g) (front g))
     (λ g. let e : i ≡ length l = omega (arith, length-append l (digit d)) in rw (e, get_or-append_seam l (48 + d) [] 0) own)
-    (lt-or-le i (length l))
+    (lt_or_le i (length l))
 
-pub decimal-bytes : (n i : ℕ) → i < length (decimal n) → IsDigit (slice_index (decimal n) i)
-decimal-bytes =
-    decimal-ind (λ n. (i : ℕ) → i < length (decimal n) → IsDigit (slice_index (decimal n) i))
-    (λ n h. rw (decimal-small n h) (λ i. last_byte IsDigit [] n i (λ g. absurd (omega arith)) (omega arith)))
-    (λ n h ih. rw (decimal-more n h) (λ i. last_byte IsDigit (decimal (n / 10)) (n % 10) i (ih i) (omega arith)))
+pub decimal_bytes : (n i : ℕ) → i < length (decimal n) → IsDigit (slice_index (decimal n) i)
+decimal_bytes =
+    decimal_ind (λ n. (i : ℕ) → i < length (decimal n) → IsDigit (slice_index (decimal n) i))
+    (λ n h. rw (decimal_small n h) (λ i. last_byte IsDigit [] n i (λ g. absurd (omega arith)) (omega arith)))
+    (λ n h ih. rw (decimal_more n h) (λ i. last_byte IsDigit (decimal (n / 10)) (n % 10) i (ih i) (omega arith)))
 
 -- the first digit is no zero, but of 0 itself
-pub decimal-first : (n : ℕ) → 1 ≤ n → 49 ≤ slice_index (decimal n) 0
-decimal-first =
-    decimal-ind (λ n. 1 ≤ n → 49 ≤ slice_index (decimal n) 0)
-    (λ n h p. rw (decimal-small n h) (omega arith))
-    (λ n h ih p. rw (decimal-more n h, get_or-append (decimal (n / 10)) (digit (n % 10)) 0 0 (length-pos (n / 10))) (ih (omega arith)))
+pub decimal_first : (n : ℕ) → 1 ≤ n → 49 ≤ slice_index (decimal n) 0
+decimal_first =
+    decimal_ind (λ n. 1 ≤ n → 49 ≤ slice_index (decimal n) 0)
+    (λ n h p. rw (decimal_small n h) (omega arith))
+    (λ n h ih p. rw (decimal_more n h, get_or-append (decimal (n / 10)) (digit (n % 10)) 0 0 (length_pos (n / 10))) (ih (omega arith)))
 
-value-last : (l : List ℕ) (a b : ℕ) → valueFrom a (l ++ b ∷ []) ≡ valueFrom a l * 10 + (b - 48)
-unfolding valueFrom
-value-last [] a b = refl
-value-last (x ∷ l) a b = value-last l (a * 10 + (x - 48)) b
+value_last : (l : List ℕ) (a b : ℕ) → value_from a (l ++ b ∷ []) ≡ value_from a l * 10 + (b - 48)
+unfolding value_from
+value_last [] a b = refl
+value_last (x ∷ l) a b = value_last l (a * 10 + (x - 48)) b
 
 -- the digits stand for the number
-pub decimal-value : (n : ℕ) → valueFrom 0 (decimal n) ≡ n
-unfolding valueFrom
-decimal-value =
-    decimal-ind (λ n. valueFrom 0 (decimal n) ≡ n)
-    (λ n h. rw (decimal-small n h) (omega arith))
-    (λ n h ih. rw (decimal-more n h) (value-last (decimal (n / 10)) 0 (48 + n % 10) ∙ rw ih (omega arith)))
+pub decimal_value : (n : ℕ) → value_from 0 (decimal n) ≡ n
+unfolding value_from
+decimal_value =
+    decimal_ind (λ n. value_from 0 (decimal n) ≡ n)
+    (λ n h. rw (decimal_small n h) (omega arith))
+    (λ n h ih. rw (decimal_more n h) (value_last (decimal (n / 10)) 0 (48 + n % 10) ∙ rw ih (omega arith)))
 
 -- and no two numbers have the same
-pub decimal-same : (a b : ℕ) → decimal a ≡ decimal b → a ≡ b
-decimal-same a b e = sym (decimal-value a) ∙ ap (valueFrom 0) e ∙ decimal-value b
+pub decimal_same : (a b : ℕ) → decimal a ≡ decimal b → a ≡ b
+decimal_same a b e = sym (decimal_value a) ∙ ap (value_from 0) e ∙ decimal_value b

@@ -9,10 +9,10 @@ or_cases true b e = inl refl
 or_cases false b e = inr e
 
 -- two tests that hold at once are the same
-pub same_test : (a b : Bool) → (a ≡ true → b ≡ true) → (b ≡ true → a ≡ true) → a ≡ b
-same_test true b f g = sym (f refl)
-same_test false true f g = g refl
-same_test false false f g = refl
+pub same_test_lem : (a b : Bool) → (a ≡ true → b ≡ true) → (b ≡ true → a ≡ true) → a ≡ b
+same_test_lem true b f g = sym (f refl)
+same_test_lem false true f g = g refl
+same_test_lem false false f g = refl
 
 -- a test that cannot hold fails
 pub fails : (t : Bool) → (t ≢ true) → false ≡ t
@@ -20,16 +20,16 @@ fails true f = absurd (f refl)
 fails false f = refl
 
 -- of two numbers the first is less, or it is not
-pub lt-or-le : (a b : ℕ) → (a < b) ⊎ (b ≤ a)
-lt-or-le a b = go (nat_lt a b) refl
+pub lt_or_le : (a b : ℕ) → (a < b) ⊎ (b ≤ a)
+lt_or_le a b = go (nat_lt a b) refl
   where
     go : (t : Bool) → nat_lt a b ≡ t → (a < b) ⊎ (b ≤ a)
     go true e = inl (ltb-true a b e)
     go false e = inr (ltb-false a b e)
 
 -- and they are the same, or they are not
-pub eq-or-ne : (a b : ℕ) → (a ≡ b) ⊎ (a ≢ b)
-eq-or-ne a b = go (a == b) refl
+pub eq_or_ne : (a b : ℕ) → (a ≡ b) ⊎ (a ≢ b)
+eq_or_ne a b = go (a == b) refl
   where
     go : (t : Bool) → (a == b) ≡ t → (a ≡ b) ⊎ (a ≢ b)
     go true e = inl (eqb-true a b e)

@@ -1,10 +1,10 @@
 // Alignments: powers of two, found by counting ones, with the exponent from the trailing zeros.
 ghost use Rattle.std.specs.Prelude.{◌≡◌, ◌+◌, ◌^◌, ◌≤◌};
-ghost use Rattle.numbers.specs.Align.{align_up, isAlign, exponentOf};
+ghost use Rattle.numbers.specs.Align.{align_up, is_align, exponent_of};
 
 // Whether a stated align is one that a book may have: a power of two up to 4,096.
 pub fn is_align(a: u64) -> bool
-    ensures { result ≡ isAlign a }
+    ensures { result ≡ is_align a }
 {
     if a <= 4096 {
         return u64::count_ones(a) == 1;
@@ -14,7 +14,7 @@ pub fn is_align(a: u64) -> bool
 
 // The exponent of a power of two; of any other number but 0, that of the largest power that divides it.
 pub fn exponent(a: u64) -> u32
-    ensures { result ≡ exponentOf a }
+    ensures { result ≡ exponent_of a }
 {
     u64::trailing_zeros(a)
 }

@@ -1,10 +1,10 @@
 // Integers of a width in bits, as an instruction has them, kept in a u64.
 ghost use Rattle.std.specs.Prelude.{◌≡◌};
-ghost use Rattle.numbers.specs.Width.{maskToWidth, signExtend, widthOk};
+ghost use Rattle.numbers.specs.Width.{mask_to_width, sign_extend, width_ok};
 
 // The low bits of v, as many as the width says: all of them from 64 on, and none at 0.
 pub fn mask_to_width(v: u64, width: u32) -> u64
-    ensures { result ≡ maskToWidth v width }
+    ensures { result ≡ mask_to_width v width }
 {
     if 64 <= width {
         v
@@ -15,7 +15,7 @@ pub fn mask_to_width(v: u64, width: u32) -> u64
 
 // The low bits of v read as two's complement, as a word of 64 bits: the top one is repeated above.
 pub fn sign_extend(v: u64, width: u32) -> u64
-    ensures { result ≡ signExtend v width }
+    ensures { result ≡ sign_extend v width }
 {
     if width == 0 {
         return 0;
@@ -33,7 +33,7 @@ pub fn sign_extend(v: u64, width: u32) -> u64
 
 // Whether a book may have integers of the width.
 pub fn width_ok(w: u64) -> bool
-    ensures { result ≡ widthOk w }
+    ensures { result ≡ width_ok w }
 {
     match w {
         1 | 8 | 16 | 32 | 64 => true,

@@ -14,17 +14,17 @@ use Rattle.names.specs.Tests.{both}
 use Rattle.book.specs.Ast.{Book}
 use Rattle.book.specs.Entry.{entries}
 use Rattle.book.specs.Rule.{pick}
-use Rattle.book.specs.Input.{counted, bookIn}
+use Rattle.book.specs.Input.{counted, book_in}
 use Rattle.book.specs.Decode.{decode}
 use Rattle.assembly.specs.Printer.{Printing, needed, print}
 use Rattle.print_forms.specs.Allowed.{is_some}
-use Rattle.print.specs.Heads.{Decoded, bookAt, book-is}
+use Rattle.print.specs.Heads.{Decoded, book_at, book_is}
 use Rattle.print.specs.Reply.{Prints}
-use Rattle.print.specs.Passes.{withNames}
+use Rattle.print.specs.Passes.{with_names}
 use Rattle.print.specs.declared.passes.Printed.{Printed}
 
 pub record Booked (book : List ℕ) : Type 0 where
-  pub some : is_some (bookIn book) ≡ true
+  pub some : is_some (book_in book) ≡ true
 
 -- what the slice of a sound book says
 pub record Slices (book : List ℕ) (b : Book) : Type 0 where
@@ -33,15 +33,15 @@ pub record Slices (book : List ℕ) (b : Book) : Type 0 where
   pub short : get_or book 0 0 ≤ 1048576
   pub size : length book ≡ 2 * get_or book 0 0 + 2
   pub read : decode (get_or book 1 0) (entries (take (get_or book 0 0) (drop 2 book)) (drop (get_or book 0 0 + 2) book)) ≡ some b
-  pub is : bookIn book ≡ some (record { count = get_or book 1 0; book = b })
+  pub is : book_in book ≡ some (record { count = get_or book 1 0; book = b })
 
 module _ (book : List ℕ) (d : Booked book) where
   slices : (b : Book) × Slices book b
-  unfolding bookIn counted
+  unfolding book_in counted
   slices = go book d.some
     where
       split : (n m : ℕ) (es : List ℕ) (t : Bool) → (leb n 1048576 && (leb m 131072 && eqb (length es) (2 * n))) ≡ t → (o : Option Book) → decode m (entries (take n es) (drop n es)) ≡ o
-          → is_some (pick t (counted m o) none) ≡ true → bookIn (n ∷ m ∷ es) ≡ pick t (counted m o) none → (b : Book) × Slices (n ∷ m ∷ es) b
+          → is_some (pick t (counted m o) none) ≡ true → book_in (n ∷ m ∷ es) ≡ pick t (counted m o) none → (b : Book) × Slices (n ∷ m ∷ es) b
       split n m es false f o e h i = absurd (false≢true h)
       split n m es true f none e h i = absurd (false≢true h)
       split n m es true f (some b) e h i =
@@ -59,52 +59,52 @@ module _ (book : List ℕ) (d : Booked book) where
             },
           )
 
-      go : (l : List ℕ) → is_some (bookIn l) ≡ true → (b : Book) × Slices l b
+      go : (l : List ℕ) → is_some (book_in l) ≡ true → (b : Book) × Slices l b
       go [] h = absurd (false≢true h)
       go (n ∷ []) h = absurd (false≢true h)
       go (n ∷ m ∷ es) h = split n m es _ refl _ refl h refl
 
-  abbrev theBook : Book
-  theBook = slices.0
+  abbrev the_book : Book
+  the_book = slices.0
 
-  s : Slices book theBook
+  s : Slices book the_book
   s = slices.1
 
-  pub book-long : 2 ≤ length book
-  book-long = s.long
+  pub book_long : 2 ≤ length book
+  book_long = s.long
 
-  pub middle-inside : get_or book 0 0 + 2 ≤ length book
-  middle-inside = omega (arith, s.size)
+  pub middle_inside : get_or book 0 0 + 2 ≤ length book
+  middle_inside = omega (arith, s.size)
 
-  abbrev pub kindsPart : List ℕ
-  kindsPart = take (get_or book 0 0 + 2 - 2) (drop 2 book)
+  abbrev pub kinds_part : List ℕ
+  kinds_part = take (get_or book 0 0 + 2 - 2) (drop 2 book)
 
-  abbrev pub wordsPart : List ℕ
-  wordsPart = take (length book - (get_or book 0 0 + 2)) (drop (get_or book 0 0 + 2) book)
+  abbrev pub words_part : List ℕ
+  words_part = take (length book - (get_or book 0 0 + 2)) (drop (get_or book 0 0 + 2) book)
 
-  words-is : wordsPart ≡ drop (get_or book 0 0 + 2) book
-  words-is = take_all _ (drop (get_or book 0 0 + 2) book) (le_of_eq (length-drop (get_or book 0 0 + 2) book))
+  words_is : words_part ≡ drop (get_or book 0 0 + 2) book
+  words_is = take_all _ (drop (get_or book 0 0 + 2) book) (le_of_eq (length-drop (get_or book 0 0 + 2) book))
 
-  kinds-is : kindsPart ≡ take (get_or book 0 0) (drop 2 book)
-  kinds-is = let e : get_or book 0 0 + 2 - 2 ≡ get_or book 0 0 = omega arith in rw e
+  kinds_is : kinds_part ≡ take (get_or book 0 0) (drop 2 book)
+  kinds_is = let e : get_or book 0 0 + 2 - 2 ≡ get_or book 0 0 = omega arith in rw e
 
-  decoded-is : decode (get_or book 1 0) (entries kindsPart wordsPart) ≡ some theBook
-  decoded-is = rw (kinds-is, words-is) s.read
+  decoded_is : decode (get_or book 1 0) (entries kinds_part words_part) ≡ some the_book
+  decoded_is = rw (kinds_is, words_is) s.read
 
-  pub book-decoded : Decoded (get_or book 1 0) kindsPart wordsPart
-  book-decoded = record {
-    some = ap is_some decoded-is;
-    even = rw (kinds-is, words-is) (omega (arith, length-take (get_or book 0 0) (drop 2 book), length-drop 2 book, length-drop (get_or book 0 0 + 2) book, s.size));
+  pub book_decoded : Decoded (get_or book 1 0) kinds_part words_part
+  book_decoded = record {
+    some = ap is_some decoded_is;
+    even = rw (kinds_is, words_is) (omega (arith, length-take (get_or book 0 0) (drop 2 book), length-drop 2 book, length-drop (get_or book 0 0 + 2) book, s.size));
   }
 
-  pub book-few : get_or book 1 0 ≤ 131072
-  book-few = s.few
+  pub book_few : get_or book 1 0 ≤ 131072
+  book_few = s.few
 
-  pub book-short : length kindsPart ≤ 1048576
-  book-short = rw kinds-is (omega (arith, length-take (get_or book 0 0) (drop 2 book), s.short))
+  pub book_short : length kinds_part ≤ 1048576
+  book_short = rw kinds_is (omega (arith, length-take (get_or book 0 0) (drop 2 book), s.short))
 
-  pub booked-printed : (bs kinds operands text : List ℕ) {r : Printed} {y : List ℕ} → Prints (withNames (get_or book 1 0) bs (bookAt (get_or book 1 0) kindsPart wordsPart) kinds operands text) r y
+  pub booked_printed : (bs kinds operands text : List ℕ) {r : Printed} {y : List ℕ} → Prints (with_names (get_or book 1 0) bs (book_at (get_or book 1 0) kinds_part words_part) kinds operands text) r y
       → Prints (print book bs kinds operands text) r y
-  unfolding print withNames needed
-  booked-printed bs kinds operands text {r} {y} p =
-      subst (λ (g : Printing). Prints g r y) (rw (book-is (get_or book 1 0) kindsPart wordsPart theBook decoded-is, s.is)) p
+  unfolding print with_names needed
+  booked_printed bs kinds operands text {r} {y} p =
+      subst (λ (g : Printing). Prints g r y) (rw (book_is (get_or book 1 0) kinds_part words_part the_book decoded_is, s.is)) p

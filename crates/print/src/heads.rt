@@ -1,6 +1,6 @@
 // Where the functions of a book stand: each begins with the only entry of kind 5 that it has.
 ghost use Rattle.std.specs.Prelude.{◌≡◌, ◌&&◌, List, ℕ, ◌+◌, ◌-◌, ◌*◌, ◌<◌, ◌≤◌, eqb, length};
-ghost use Rattle.print.specs.Heads.{firstFive, head_of, Zeroed, Noted, Here, Indexed, Sought};
+ghost use Rattle.print.specs.Heads.{first_five, head_of, Zeroed, Noted, Here, Indexed, Sought};
 
 use crate::params::function_params;
 
@@ -13,7 +13,7 @@ pub enum Head {
 
 // The index of the first entry of kind 5, that of the first function; the number of entries where there is none.
 pub fn function_place(kinds: &[u64]) -> usize
-    ensures { result ≡ firstFive kinds.now }
+    ensures { result ≡ first_five kinds.now }
 {
     let mut i: usize = 0;
     while i < kinds.len() {

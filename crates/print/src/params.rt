@@ -4,7 +4,7 @@ ghost use Rattle.book.specs.Entry.{entries};
 ghost use Rattle.book.specs.Read.{many};
 ghost use Rattle.book.specs.Fields.{Item as BookItem};
 ghost use Rattle.book.specs.Decode.{item, function as functionReader};
-ghost use Rattle.print.specs.Function.{sixes, There, FunctionThere, readCount, paramsRead};
+ghost use Rattle.print.specs.Function.{sixes, There, FunctionThere, read_count, params_read};
 
 use book_types::types::type_len;
 use book_types::{Found, Length, shorter};
@@ -28,7 +28,7 @@ fn count_params(kinds: &[u64]) -> u64
 // How many parameters the list at the front has: each begins with the only entry of kind 6 that it has.
 fn list_params(kinds: &[u64], words: &[u64], names: u64) -> u64
     requires { There (many (item names BookItem.param) (entries kinds.now words.now)) }
-    ensures { result ≡ readCount (many (item names BookItem.param) (entries kinds.now words.now)) }
+    ensures { result ≡ read_count (many (item names BookItem.param) (entries kinds.now words.now)) }
 {
     let Found::Entries(n, _) = list_len(kinds, words, names, Item::Param, shorter(kinds, words))
     else {
@@ -40,7 +40,7 @@ fn list_params(kinds: &[u64], words: &[u64], names: u64) -> u64
 // How many parameters the function at the front has.
 pub fn function_params(kinds: &[u64], words: &[u64], names: u64) -> u64
     requires { FunctionThere names kinds.now words.now }
-    ensures { result ≡ paramsRead (functionReader names (entries kinds.now words.now)) }
+    ensures { result ≡ params_read (functionReader names (entries kinds.now words.now)) }
 {
     let Length::Entries(n) = type_len(&kinds[1..], &words[1..], names, 64) else {
         return 0;

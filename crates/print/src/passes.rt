@@ -1,10 +1,10 @@
 // The two passes over the lines: one tests them and counts the bytes, the other stores them if they fit.
 ghost use Rattle.std.specs.Prelude.{◌≡◌, ◌&&◌, min, length};
 ghost use Rattle.names.specs.Name.{lines};
-ghost use Rattle.assembly.specs.Printer.{printLines};
+ghost use Rattle.assembly.specs.Printer.{print_lines};
 ghost use Rattle.print_types.specs.Starts.{Starts};
-ghost use Rattle.print.specs.Heads.{bookAt, isFn, first_of, Indexed};
-ghost use Rattle.print.specs.Segments.{headedKinds, standFrom, printedFrom};
+ghost use Rattle.print.specs.Heads.{book_at, is_fn, first_of, Indexed};
+ghost use Rattle.print.specs.Segments.{headed_kinds, stand_from, printed_from};
 ghost use Rattle.print.specs.Reply.{Prints};
 ghost use Rattle.print.specs.Passes.{passed, Named, one_of};
 
@@ -39,8 +39,8 @@ fn put_twice(
     requires named { Named names.now count from to }
     requires indexed { Indexed count kinds.now words.now index.now }
     requires line_kinds_len { length line_kinds.now ≡ length operands.now }
-    ensures { Prints (passed (headedKinds line_kinds.now && standFrom (isFn count kinds.now words.now) count from to first line_kinds.now operands.now)
-        (printedFrom (one_of names.now count kinds.now words.now) first line_kinds.now operands.now) text.old) result text.new }
+    ensures { Prints (passed (headed_kinds line_kinds.now && stand_from (is_fn count kinds.now words.now) count from to first line_kinds.now operands.now)
+        (printed_from (one_of names.now count kinds.now words.now) first line_kinds.now operands.now) text.old) result text.new }
 {
     if !headed(line_kinds) {
         return Printed::Refused(21);
@@ -94,7 +94,7 @@ pub fn print_known(
     requires named { Named names.now count from to }
     requires indexed { Indexed count kinds.now words.now index.now }
     requires first_value { first ≡ first_of count kinds.now words.now }
-    ensures { Prints (printLines (lines names.now) (bookAt count kinds.now words.now) line_kinds.now operands.now text.old) result text.new }
+    ensures { Prints (print_lines (lines names.now) (book_at count kinds.now words.now) line_kinds.now operands.now text.old) result text.new }
 {
     let n = line_count(line_kinds, operands);
     put_twice(

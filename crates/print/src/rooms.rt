@@ -1,11 +1,11 @@
 // Prints the lines of a sound book with room for what is noted of it: the starts of its names, and the windows of its functions.
 ghost use Rattle.std.specs.Prelude.{◌≡◌, ◌<◌, ◌≤◌, length};
 ghost use Rattle.names.specs.Name.{lines};
-ghost use Rattle.assembly.specs.Printer.{printLines};
+ghost use Rattle.assembly.specs.Printer.{print_lines};
 ghost use Rattle.print_types.specs.Starts.{Starts};
-ghost use Rattle.print.specs.Heads.{bookAt, Decoded, Zeroed};
+ghost use Rattle.print.specs.Heads.{book_at, Decoded, Zeroed};
 ghost use Rattle.print.specs.Reply.{Prints};
-ghost use Rattle.print.specs.Passes.{Named, withNames};
+ghost use Rattle.print.specs.Passes.{Named, with_names};
 
 use crate::heads::{function_place, note_functions};
 use crate::passes::{Printed, print_known};
@@ -33,7 +33,7 @@ fn print_noted(
     requires starts { Starts every names.now starts.now }
     requires zeroed { Zeroed index.old }
     requires count_in_bounds { count ≤ length index.old }
-    ensures { Prints (printLines (lines names.now) (bookAt count kinds.now words.now) line_kinds.now operands.now text.old) result text.new }
+    ensures { Prints (print_lines (lines names.now) (book_at count kinds.now words.now) line_kinds.now operands.now text.old) result text.new }
 {
     note_functions(kinds, words, index);
     let at = function_place(kinds);
@@ -63,7 +63,7 @@ fn print_every(
     requires count_in_bounds { count < length starts.old }
     requires zeroed { Zeroed index.old }
     requires count_in_bounds_2 { count ≤ length index.old }
-    ensures { Prints (withNames count names.now (bookAt count kinds.now words.now) line_kinds.now operands.now text.old) result text.new }
+    ensures { Prints (with_names count names.now (book_at count kinds.now words.now) line_kinds.now operands.now text.old) result text.new }
 {
     starts[0] = 0;
     let Names::Sorted(from, to) = names_check::read_names(names, count, b"__uvm_", starts, 1, 1)
@@ -88,7 +88,7 @@ fn few_print(
     requires decoded { Decoded count kinds.now words.now }
     requires kinds_len_bound { length kinds.now ≤ 1048576 }
     requires count_bound { count < 256 }
-    ensures { Prints (withNames count names.now (bookAt count kinds.now words.now) line_kinds.now operands.now text.old) result text.new }
+    ensures { Prints (with_names count names.now (book_at count kinds.now words.now) line_kinds.now operands.now text.old) result text.new }
 {
     let mut starts = [0u64; 256];
     let mut index = [0u16; 256];
@@ -118,7 +118,7 @@ fn some_print(
     requires decoded { Decoded count kinds.now words.now }
     requires kinds_len_bound { length kinds.now ≤ 1048576 }
     requires count_bound { count < 2048 }
-    ensures { Prints (withNames count names.now (bookAt count kinds.now words.now) line_kinds.now operands.now text.old) result text.new }
+    ensures { Prints (with_names count names.now (book_at count kinds.now words.now) line_kinds.now operands.now text.old) result text.new }
 {
     let mut starts = [0u64; 2048];
     let mut index = [0u16; 2048];
@@ -148,7 +148,7 @@ fn many_print(
     requires decoded { Decoded count kinds.now words.now }
     requires kinds_len_bound { length kinds.now ≤ 1048576 }
     requires count_bound { count ≤ 131072 }
-    ensures { Prints (withNames count names.now (bookAt count kinds.now words.now) line_kinds.now operands.now text.old) result text.new }
+    ensures { Prints (with_names count names.now (book_at count kinds.now words.now) line_kinds.now operands.now text.old) result text.new }
 {
     let mut none = [0u64; 0];
     let Names::Sorted(from, to) = names_check::read_names(names, count, b"__uvm_", &mut none, 1, 1)
@@ -181,7 +181,7 @@ pub fn print_sound(
     requires kinds_len_bound { length kinds.now ≤ 1048576 }
     requires count_bound { count ≤ 131072 }
     requires room_nonzero { 0 < room }
-    ensures { Prints (withNames count names.now (bookAt count kinds.now words.now) line_kinds.now operands.now text.old) result text.new }
+    ensures { Prints (with_names count names.now (book_at count kinds.now words.now) line_kinds.now operands.now text.old) result text.new }
 {
     if 2048 < room {
         return many_print(kinds, words, count, names, line_kinds, operands, text);

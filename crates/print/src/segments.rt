@@ -2,13 +2,13 @@
 // first one names. The entries are those of a book of `count` names; the names from `from` up to `to` start with `__uvm_`.
 ghost use Rattle.std.specs.Prelude.{◌≡◌, true, ◌&&◌, ◌++◌, ◌+◌, ◌≤◌, length, drop};
 ghost use Rattle.print_pen.specs.Write.{Wrote};
-ghost use Rattle.print_words.specs.Words.{Tables, wordPlaces};
+ghost use Rattle.print_words.specs.Words.{Tables, word_places};
 ghost use Rattle.print_types.specs.Starts.{Starts};
-ghost use Rattle.print_forms.specs.All.{allowedAll};
-ghost use Rattle.print_lines.specs.All.{printedAll};
+ghost use Rattle.print_forms.specs.All.{allowed_all};
+ghost use Rattle.print_lines.specs.All.{printed_all};
 ghost use Rattle.print_lines.specs.Weigh.{Weighed};
-ghost use Rattle.print.specs.Heads.{isFn, Indexed};
-ghost use Rattle.print.specs.Segments.{stays, run, headedKinds, standFrom, printedFrom};
+ghost use Rattle.print.specs.Heads.{is_fn, Indexed};
+ghost use Rattle.print.specs.Segments.{stays, run, headed_kinds, stand_from, printed_from};
 ghost use Rattle.print.specs.Passes.{Named, one_of};
 
 use crate::heads::{Head, find_head};
@@ -19,7 +19,7 @@ use print_types::starts::name_of;
 
 // Whether no block label and no jump to one stands before the first comment line.
 pub fn headed(line_kinds: &[u16]) -> bool
-    ensures { result ≡ headedKinds line_kinds.now }
+    ensures { result ≡ headed_kinds line_kinds.now }
 {
     let mut i: usize = 0;
     while i < line_kinds.len() {
@@ -78,13 +78,13 @@ fn weigh_under(
     line_kinds: &[u16],
     operands: &[u64],
 ) -> Weight
-    requires places_value { places.now ≡ wordPlaces }
+    requires places_value { places.now ≡ word_places }
     requires starts { Starts every names.now starts.now }
     requires named { Named names.now count from to }
     requires indexed { Indexed count kinds.now words.now index.now }
     requires before_in_bounds { before ≤ length text.old }
-    ensures { Weighed (isFn count kinds.now words.now own && allowedAll count own from to line_kinds.now operands.now)
-        (before + length (printedAll (one_of names.now count kinds.now words.now own) line_kinds.now operands.now)) text.old text.new result }
+    ensures { Weighed (is_fn count kinds.now words.now own && allowed_all count own from to line_kinds.now operands.now)
+        (before + length (printed_all (one_of names.now count kinds.now words.now own) line_kinds.now operands.now)) text.old text.new result }
 {
     let Head::At(at, params) = find_head(kinds, words, count, index, own) else {
         return Weight::Barred;
@@ -128,13 +128,13 @@ pub fn weigh_segments(
     line_kinds: &[u16],
     operands: &[u64],
 ) -> Weight
-    requires places_value { places.now ≡ wordPlaces }
+    requires places_value { places.now ≡ word_places }
     requires starts { Starts every names.now starts.now }
     requires named { Named names.now count from to }
     requires indexed { Indexed count kinds.now words.now index.now }
     requires line_kinds_len { length line_kinds.now ≡ length operands.now }
-    ensures { Weighed (standFrom (isFn count kinds.now words.now) count from to first line_kinds.now operands.now)
-        (length (printedFrom (one_of names.now count kinds.now words.now) first line_kinds.now operands.now)) text.old text.new result }
+    ensures { Weighed (stand_from (is_fn count kinds.now words.now) count from to first line_kinds.now operands.now)
+        (length (printed_from (one_of names.now count kinds.now words.now) first line_kinds.now operands.now)) text.old text.new result }
 {
     let mut own = first;
     let mut short = false;
@@ -201,11 +201,11 @@ fn write_under(
     requires starts { Starts every names.now starts.now }
     requires named { Named names.now count from to }
     requires indexed { Indexed count kinds.now words.now index.now }
-    requires own_value { isFn count kinds.now words.now own ≡ true }
-    requires operands_value { allowedAll count own from to line_kinds.now operands.now ≡ true }
-    requires operands_bound { start + length (printedAll (one_of names.now count kinds.now words.now own) line_kinds.now operands.now) ≤ end }
+    requires own_value { is_fn count kinds.now words.now own ≡ true }
+    requires operands_value { allowed_all count own from to line_kinds.now operands.now ≡ true }
+    requires operands_bound { start + length (printed_all (one_of names.now count kinds.now words.now own) line_kinds.now operands.now) ≤ end }
     requires end_in_bounds { end ≤ length text.old }
-    ensures { Wrote (printedAll (one_of names.now count kinds.now words.now own) line_kinds.now operands.now) start end text.old text.new result }
+    ensures { Wrote (printed_all (one_of names.now count kinds.now words.now own) line_kinds.now operands.now) start end text.old text.new result }
 {
     let Head::At(at, params) = find_head(kinds, words, count, index, own) else {
         return start;
@@ -253,10 +253,10 @@ pub fn write_segments(
     requires named { Named names.now count from to }
     requires indexed { Indexed count kinds.now words.now index.now }
     requires line_kinds_len { length line_kinds.now ≡ length operands.now }
-    requires operands_value { standFrom (isFn count kinds.now words.now) count from to first line_kinds.now operands.now ≡ true }
-    requires end_value { end ≡ length (printedFrom (one_of names.now count kinds.now words.now) first line_kinds.now operands.now) }
+    requires operands_value { stand_from (is_fn count kinds.now words.now) count from to first line_kinds.now operands.now ≡ true }
+    requires end_value { end ≡ length (printed_from (one_of names.now count kinds.now words.now) first line_kinds.now operands.now) }
     requires end_in_bounds { end ≤ length text.old }
-    ensures { text.new ≡ printedFrom (one_of names.now count kinds.now words.now) first line_kinds.now operands.now ++ drop end text.old }
+    ensures { text.new ≡ printed_from (one_of names.now count kinds.now words.now) first line_kinds.now operands.now ++ drop end text.old }
 {
     let mut own = first;
     let mut at: usize = 0;

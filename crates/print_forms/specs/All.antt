@@ -2,7 +2,7 @@
 use Rattle.std.specs.Prelude.{ℕ, ◌+◌, ◌/◌, ◌≤◌, ◌<◌, ◌≡◌, refl, Bool, true, false, ◌&&◌, List, [], ◌∷◌, length, get_or, drop}
 use Rattle.std.proofs.Common.{◌∙◌, add-one, arith, length-drop, drop-cons}
 use Rattle.names.specs.Name.{name_at}
-use Rattle.print_forms.specs.Forms.{form_of, allowedBy}
+use Rattle.print_forms.specs.Forms.{form_of, allowed_by}
 use Rattle.print_forms.specs.declared.Form.{Form}
 use Rattle.print_forms.specs.declared.Form.TheVariants as form
 
@@ -26,10 +26,10 @@ pub record Callable (ns : List (List ℕ)) (m from to : ℕ) : Type 0 where
   pub calls : (x : ℕ) → from ≤ x → x < to → (x < length ns) × (6 ≤ length (name_at ns x))
 
 -- every line may stand
-abbrev pub allowedAll : (names function from to : ℕ) → List ℕ → List ℕ → Bool
-allowedAll n f a b [] xs = true
-allowedAll n f a b (k ∷ ks) [] = true
-allowedAll n f a b (k ∷ ks) (x ∷ xs) = allowedBy (form_of k) x n f a b && allowedAll n f a b ks xs
+abbrev pub allowed_all : (names function from to : ℕ) → List ℕ → List ℕ → Bool
+allowed_all n f a b [] xs = true
+allowed_all n f a b (k ∷ ks) [] = true
+allowed_all n f a b (k ∷ ks) (x ∷ xs) = allowed_by (form_of k) x n f a b && allowed_all n f a b ks xs
 
 -- the names of every line are there, and its kind is known
 pub record AllReady (ns : List (List ℕ)) (ks xs : List ℕ) : Type 0 where
@@ -38,29 +38,29 @@ pub record AllReady (ns : List (List ℕ)) (ks xs : List ℕ) : Type 0 where
 
 -- ---- the check
 module _ (n f a b : ℕ) where
-  pub checked-kinds : (ks xs : List ℕ) (i : ℕ) → length ks ≤ i → allowedAll n f a b (drop i ks) (drop i xs) ≡ true
-  checked-kinds ks xs i h = go (drop i ks) (omega (arith, length-drop i ks))
+  pub checked_kinds : (ks xs : List ℕ) (i : ℕ) → length ks ≤ i → allowed_all n f a b (drop i ks) (drop i xs) ≡ true
+  checked_kinds ks xs i h = go (drop i ks) (omega (arith, length-drop i ks))
     where
-      go : (l : List ℕ) → length l ≡ 0 → allowedAll n f a b l (drop i xs) ≡ true
+      go : (l : List ℕ) → length l ≡ 0 → allowed_all n f a b l (drop i xs) ≡ true
       go [] e = refl
       go (k ∷ l) e = absurd (omega arith)
 
-  pub checked-operands : (ks xs : List ℕ) (i : ℕ) → length xs ≤ i → allowedAll n f a b (drop i ks) (drop i xs) ≡ true
-  checked-operands ks xs i h = go (drop i ks) (drop i xs) (omega (arith, length-drop i xs))
+  pub checked_operands : (ks xs : List ℕ) (i : ℕ) → length xs ≤ i → allowed_all n f a b (drop i ks) (drop i xs) ≡ true
+  checked_operands ks xs i h = go (drop i ks) (drop i xs) (omega (arith, length-drop i xs))
     where
-      go : (l m : List ℕ) → length m ≡ 0 → allowedAll n f a b l m ≡ true
+      go : (l m : List ℕ) → length m ≡ 0 → allowed_all n f a b l m ≡ true
       go [] m e = refl
       go (k ∷ l) [] e = refl
       go (k ∷ l) (x ∷ m) e = absurd (omega arith)
 
-  check-step : (ks xs : List ℕ) (i : ℕ) → i < length ks → i < length xs
-      → allowedAll n f a b (drop i ks) (drop i xs) ≡ (allowedBy (form_of (get_or ks i 0)) (get_or xs i 0) n f a b && allowedAll n f a b (drop (i + 1) ks) (drop (i + 1) xs))
-  check-step ks xs i h g = rw (drop-cons ks i 0 h, drop-cons xs i 0 g, add-one i)
+  check_step : (ks xs : List ℕ) (i : ℕ) → i < length ks → i < length xs
+      → allowed_all n f a b (drop i ks) (drop i xs) ≡ (allowed_by (form_of (get_or ks i 0)) (get_or xs i 0) n f a b && allowed_all n f a b (drop (i + 1) ks) (drop (i + 1) xs))
+  check_step ks xs i h g = rw (drop-cons ks i 0 h, drop-cons xs i 0 g, add-one i)
 
-  pub checked-false : (ks xs : List ℕ) (i : ℕ) → i < length ks → i < length xs → allowedBy (form_of (get_or ks i 0)) (get_or xs i 0) n f a b ≡ false
-      → allowedAll n f a b (drop i ks) (drop i xs) ≡ false
-  checked-false ks xs i h g e = check-step ks xs i h g ∙ rw e
+  pub checked_false : (ks xs : List ℕ) (i : ℕ) → i < length ks → i < length xs → allowed_by (form_of (get_or ks i 0)) (get_or xs i 0) n f a b ≡ false
+      → allowed_all n f a b (drop i ks) (drop i xs) ≡ false
+  checked_false ks xs i h g e = check_step ks xs i h g ∙ rw e
 
-  pub checked-true : (ks xs : List ℕ) (i : ℕ) → i < length ks → i < length xs → allowedBy (form_of (get_or ks i 0)) (get_or xs i 0) n f a b ≡ true
-      → allowedAll n f a b (drop i ks) (drop i xs) ≡ allowedAll n f a b (drop (i + 1) ks) (drop (i + 1) xs)
-  checked-true ks xs i h g e = check-step ks xs i h g ∙ rw e
+  pub checked_true : (ks xs : List ℕ) (i : ℕ) → i < length ks → i < length xs → allowed_by (form_of (get_or ks i 0)) (get_or xs i 0) n f a b ≡ true
+      → allowed_all n f a b (drop i ks) (drop i xs) ≡ allowed_all n f a b (drop (i + 1) ks) (drop (i + 1) xs)
+  checked_true ks xs i h g e = check_step ks xs i h g ∙ rw e

@@ -3,42 +3,42 @@ use Rattle.std.specs.Prelude.{ℕ, ◌/◌, Bool, true, false, cond, ◌&&◌, �
 use Rattle.print_forms.specs.declared.Form.{Form}
 use Rattle.print_forms.specs.declared.Form.TheVariants as form
 
-abbrev pub pickForm : Bool → Form → Form → Form
-pickForm true a b = a
-pickForm false a b = b
+abbrev pub pick_form : Bool → Form → Form → Form
+pick_form true a b = a
+pick_form false a b = b
 
 -- kinds 7 to 12
-unfoldable pub numberForm : ℕ → Form
-numberForm k = pickForm (eqb k 7) form.Count (pickForm (ltb k 10) form.Any (pickForm (ltb k 12) form.Slot form.Args))
+unfoldable pub number_form : ℕ → Form
+number_form k = pick_form (eqb k 7) form.Count (pick_form (ltb k 10) form.Any (pick_form (ltb k 12) form.Slot form.Args))
 
 -- kinds 0 to 6
-unfoldable pub nameForm : ℕ → Form
-nameForm k =
-    pickForm (eqb k 0) form.Comment
-    (pickForm (eqb k 5) form.Call
-    (pickForm (eqb k 6) form.Syscall
-    (pickForm (eqb k 1) form.Name
-    (pickForm (eqb k 4) form.Name form.Block))))
+unfoldable pub name_form : ℕ → Form
+name_form k =
+    pick_form (eqb k 0) form.Comment
+    (pick_form (eqb k 5) form.Call
+    (pick_form (eqb k 6) form.Syscall
+    (pick_form (eqb k 1) form.Name
+    (pick_form (eqb k 4) form.Name form.Block))))
 
 unfoldable pub form_of : ℕ → Form
 form_of k =
-    pickForm (leb 21 k) (pickForm (ltb k 94) form.Bare form.Unknown)
-    (pickForm (leb 13 k) form.Any
-    (pickForm (leb 7 k) (numberForm k) (nameForm k)))
+    pick_form (leb 21 k) (pick_form (ltb k 94) form.Bare form.Unknown)
+    (pick_form (leb 13 k) form.Any
+    (pick_form (leb 7 k) (number_form k) (name_form k)))
 
 -- the operands that a form allows
-abbrev pub allowedBy : Form → (x names function from to : ℕ) → Bool
-allowedBy form.Comment x names function from to = eqb x function
-allowedBy form.Name x names function from to = ltb x names
-allowedBy form.Block x names function from to = ltb x names
-allowedBy form.Call x names function from to = ltb (x / 256) names
-allowedBy form.Syscall x names function from to = leb from x && ltb x to
-allowedBy form.Count x names function from to = leb 1 x && leb x 65535
-allowedBy form.Any x names function from to = true
-allowedBy form.Slot x names function from to = leb x 65535
-allowedBy form.Args x names function from to = leb x 255
-allowedBy form.Bare x names function from to = eqb x 0
-allowedBy form.Unknown x names function from to = false
+abbrev pub allowed_by : Form → (x names function from to : ℕ) → Bool
+allowed_by form.Comment x names function from to = eqb x function
+allowed_by form.Name x names function from to = ltb x names
+allowed_by form.Block x names function from to = ltb x names
+allowed_by form.Call x names function from to = ltb (x / 256) names
+allowed_by form.Syscall x names function from to = leb from x && ltb x to
+allowed_by form.Count x names function from to = leb 1 x && leb x 65535
+allowed_by form.Any x names function from to = true
+allowed_by form.Slot x names function from to = leb x 65535
+allowed_by form.Args x names function from to = leb x 255
+allowed_by form.Bare x names function from to = eqb x 0
+allowed_by form.Unknown x names function from to = false
 
 -- the largest operand of a line of kind 7 or more, whose operand is a number or none
 unfoldable pub most_of : ℕ → ℕ

@@ -1,7 +1,7 @@
 // Which form a line's kind has: what its operand may be, and what is put for it.
 ghost use Rattle.std.specs.Prelude.{◌≡◌, cond, ℕ, ◌<◌, ◌≤◌};
-ghost use Rattle.print_forms.specs.Forms.{form_of, numberForm, nameForm, allowedBy, most_of};
-ghost use Rattle.print_forms.specs.All.{allowedAll};
+ghost use Rattle.print_forms.specs.Forms.{form_of, number_form, name_form, allowed_by, most_of};
+ghost use Rattle.print_forms.specs.All.{allowed_all};
 
 use assembly::line;
 
@@ -39,7 +39,7 @@ pub fn form_of(kind: u16) -> Form
 
 // Kinds 7 to 12.
 fn number_form(kind: u16) -> Form
-    ensures { result ≡ numberForm kind }
+    ensures { result ≡ number_form kind }
 {
     if kind == line::PUSH_0N {
         return Form::Count;
@@ -56,7 +56,7 @@ fn number_form(kind: u16) -> Form
 
 // Kinds 0 to 6.
 fn name_form(kind: u16) -> Form
-    ensures { result ≡ nameForm kind }
+    ensures { result ≡ name_form kind }
 {
     if kind == line::COMMENT {
         return Form::Comment;
@@ -80,7 +80,7 @@ fn name_form(kind: u16) -> Form
 // Whether a line may stand: its kind is known and its operand allowed. `names` is the number of names, `function` the function's
 // name; the names from `from` up to `to` start with `__uvm_`.
 pub fn allowed(form: Form, x: u64, names: u64, function: u64, from: u64, to: u64) -> bool
-    ensures { result ≡ allowedBy form x names function from to }
+    ensures { result ≡ allowed_by form x names function from to }
 {
     match form {
         Form::Comment => x == function,
@@ -124,7 +124,7 @@ fn most(kind: u16) -> u64
 pub fn name_allowed(kind: u16, x: u64, names: u64, from: u64, to: u64) -> bool
     requires le_kind { 1 ≤ kind }
     requires kind_bound { kind < 7 }
-    ensures { (function : ℕ) → result ≡ allowedBy (form_of kind) x names function from to }
+    ensures { (function : ℕ) → result ≡ allowed_by (form_of kind) x names function from to }
 {
     let name = pick(kind == line::CALL, x / 256, x);
     (pick(kind == line::SYSCALL, from, 0) <= name) & (name < pick(kind == line::SYSCALL, to, names))
@@ -134,7 +134,7 @@ pub fn name_allowed(kind: u16, x: u64, names: u64, from: u64, to: u64) -> bool
 // one comes next is hard to foresee.
 pub fn number_allowed(kind: u16, x: u64) -> bool
     requires { 7 ≤ kind }
-    ensures { (names function from to : ℕ) → result ≡ allowedBy (form_of kind) x names function from to }
+    ensures { (names function from to : ℕ) → result ≡ allowed_by (form_of kind) x names function from to }
 {
     (kind < 94) & ((line::PUSH <= kind) | (1 <= x)) & (x <= most(kind))
 }
@@ -149,7 +149,7 @@ pub fn check_lines(
     from: u64,
     to: u64,
 ) -> bool
-    ensures { result ≡ allowedAll names function from to line_kinds.now operands.now }
+    ensures { result ≡ allowed_all names function from to line_kinds.now operands.now }
 {
     let mut i: usize = 0;
     while i < line_kinds.len() {

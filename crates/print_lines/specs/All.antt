@@ -2,57 +2,57 @@
 use Rattle.std.specs.Prelude.{ℕ, ◌+◌, ◌≤◌, ◌<◌, ◌≡◌, refl, List, [], ◌∷◌, ◌++◌, length, get_or, take, drop}
 use Rattle.std.proofs.Common.{sym, ap, ◌∙◌, append_assoc, append-nil, add-one, arith, length-drop, length-append, drop-cons}
 use Rattle.print_pen.specs.Pen.{Put}
-use Rattle.print_pen.specs.Write.{Wrote, pen-wrote, never-writes}
+use Rattle.print_pen.specs.Write.{Wrote, pen_wrote, never_writes}
 use Rattle.print_pen.specs.declared.Pen.{Pen}
 use Rattle.print_pen.specs.declared.Pen.TheVariants.{Counting, Writing, Full}
 
 -- the bytes of all lines
-abbrev pub printedAll : (ℕ → ℕ → List ℕ) → List ℕ → List ℕ → List ℕ
-printedAll one [] xs = []
-printedAll one (k ∷ ks) [] = []
-printedAll one (k ∷ ks) (x ∷ xs) = one k x ++ printedAll one ks xs
+abbrev pub printed_all : (ℕ → ℕ → List ℕ) → List ℕ → List ℕ → List ℕ
+printed_all one [] xs = []
+printed_all one (k ∷ ks) [] = []
+printed_all one (k ∷ ks) (x ∷ xs) = one k x ++ printed_all one ks xs
 
 -- ---- over lists
 module _ (one : ℕ → ℕ → List ℕ) where
-  pub no_kind : (ks xs : List ℕ) → length ks ≡ 0 → printedAll one ks xs ≡ []
+  pub no_kind : (ks xs : List ℕ) → length ks ≡ 0 → printed_all one ks xs ≡ []
   no_kind [] xs h = refl
   no_kind (k ∷ ks) xs h = absurd (omega arith)
 
-  pub no_operand : (ks xs : List ℕ) → length xs ≡ 0 → printedAll one ks xs ≡ []
+  pub no_operand : (ks xs : List ℕ) → length xs ≡ 0 → printed_all one ks xs ≡ []
   no_operand [] xs h = refl
   no_operand (k ∷ ks) [] h = refl
   no_operand (k ∷ ks) (x ∷ xs) h = absurd (omega arith)
 
-  pub all-step : (ks xs : List ℕ) (i : ℕ) → i < length ks → i < length xs
-      → printedAll one (drop i ks) (drop i xs) ≡ one (get_or ks i 0) (get_or xs i 0) ++ printedAll one (drop (i + 1) ks) (drop (i + 1) xs)
-  all-step ks xs i h g = rw (drop-cons ks i 0 h, drop-cons xs i 0 g, add-one i)
+  pub all_step : (ks xs : List ℕ) (i : ℕ) → i < length ks → i < length xs
+      → printed_all one (drop i ks) (drop i xs) ≡ one (get_or ks i 0) (get_or xs i 0) ++ printed_all one (drop (i + 1) ks) (drop (i + 1) xs)
+  all_step ks xs i h g = rw (drop-cons ks i 0 h, drop-cons xs i 0 g, add-one i)
 
 -- i lines were written from the place s on, and the others fit
 pub record Written (one : ℕ → ℕ → List ℕ) (ks xs x : List ℕ) (s end i : ℕ) (y : List ℕ) (at : ℕ) : Type 0 where
-  pub room : s + length (printedAll one ks xs) ≤ end
+  pub room : s + length (printed_all one ks xs) ≤ end
   pub long : length y ≡ length x
-  pub rest : at + length (printedAll one (drop i ks) (drop i xs)) ≡ s + length (printedAll one ks xs)
-  pub front : take at y ++ printedAll one (drop i ks) (drop i xs) ≡ take s x ++ printedAll one ks xs
+  pub rest : at + length (printed_all one (drop i ks) (drop i xs)) ≡ s + length (printed_all one ks xs)
+  pub front : take at y ++ printed_all one (drop i ks) (drop i xs) ≡ take s x ++ printed_all one ks xs
   pub back : drop end y ≡ drop end x
 
-pub written_start : (one : ℕ → ℕ → List ℕ) (ks xs x : List ℕ) (s end : ℕ) → s + length (printedAll one ks xs) ≤ end → Written one ks xs x s end 0 x s
+pub written_start : (one : ℕ → ℕ → List ℕ) (ks xs x : List ℕ) (s end : ℕ) → s + length (printed_all one ks xs) ≤ end → Written one ks xs x s end 0 x s
 written_start one ks xs x s end e = record { room = e; long = refl; rest = refl; front = refl; back = refl }
 
 module _ {one : ℕ → ℕ → List ℕ} {ks xs x : List ℕ} {start end i : ℕ} {y : List ℕ} {at : ℕ} (s : Written one ks xs x start end i y at) where
-  pub written-room : i < length ks → i < length xs → at + length (one (get_or ks i 0) (get_or xs i 0)) ≤ end
-  written-room h g =
+  pub written_room : i < length ks → i < length xs → at + length (one (get_or ks i 0) (get_or xs i 0)) ≤ end
+  written_room h g =
       omega (
         arith,
         s.room,
         s.rest,
-        ap length (all-step one ks xs i h g),
-        length-append (one (get_or ks i 0) (get_or xs i 0)) (printedAll one (drop (i + 1) ks) (drop (i + 1) xs)),
+        ap length (all_step one ks xs i h g),
+        length-append (one (get_or ks i 0) (get_or xs i 0)) (printed_all one (drop (i + 1) ks) (drop (i + 1) xs)),
       )
 
   pub written_next : (z : List ℕ) (r : ℕ) → i < length ks → i < length xs → Wrote (one (get_or ks i 0) (get_or xs i 0)) at end y z r → Written one ks xs x start end (i + 1) z r
   written_next z r h g t =
-      let step = all-step one ks xs i h g in
-      let rest = printedAll one (drop (i + 1) ks) (drop (i + 1) xs) in
+      let step = all_step one ks xs i h g in
+      let rest = printed_all one (drop (i + 1) ks) (drop (i + 1) xs) in
       record {
         room = s.room;
         long = t.long ∙ s.long;
@@ -61,33 +61,33 @@ module _ {one : ℕ → ℕ → List ℕ} {ks xs x : List ℕ} {start end i : �
         back = t.back ∙ s.back;
       }
 
-  written-end : printedAll one (drop i ks) (drop i xs) ≡ [] → Wrote (printedAll one ks xs) start end x y at
-  written-end e = record {
+  written_end : printed_all one (drop i ks) (drop i xs) ≡ [] → Wrote (printed_all one ks xs) start end x y at
+  written_end e = record {
     place = omega (arith, s.rest, ap length e);
     long = s.long;
     front = sym (append-nil (take at y)) ∙ ap (λ (l : List ℕ). take at y ++ l) (sym e) ∙ s.front;
     back = s.back;
   }
 
-  pub written-kinds : length ks ≤ i → Wrote (printedAll one ks xs) start end x y at
-  written-kinds h = written-end (no_kind one (drop i ks) (drop i xs) (omega (arith, length-drop i ks)))
+  pub written_kinds : length ks ≤ i → Wrote (printed_all one ks xs) start end x y at
+  written_kinds h = written_end (no_kind one (drop i ks) (drop i xs) (omega (arith, length-drop i ks)))
 
-  pub written-operands : length xs ≤ i → Wrote (printedAll one ks xs) start end x y at
-  written-operands h = written-end (no_operand one (drop i ks) (drop i xs) (omega (arith, length-drop i xs)))
+  pub written_operands : length xs ≤ i → Wrote (printed_all one ks xs) start end x y at
+  written_operands h = written_end (no_operand one (drop i ks) (drop i xs) (omega (arith, length-drop i xs)))
 
 -- ---- a line put with a writing pen, where it fits
 module _ {bs x y : List ℕ} {q : Pen} {at : ℕ} (end r : ℕ) (h : Put bs (Writing at) x y q) (f : at + length bs ≤ end) (g : end ≤ length x) where
-  pub pen-placed : q ≡ Writing r → Wrote bs at end x y r
-  pen-placed e =
-      let w = pen-wrote end h f g in
+  pub pen_placed : q ≡ Writing r → Wrote bs at end x y r
+  pen_placed e =
+      let w = pen_wrote end h f g in
       let i : r ≡ at + length bs = cc (w.0, e) in
       rw i w.1
 
-  pub pen-counted : q ≡ Counting r → Wrote bs at end x y at
-  pen-counted e = let w = (pen-wrote end h f g).0 in absurd (let z : ◌≡◌ {A = ℕ} 0 1 = cc (w, e) in omega arith)
+  pub pen_counted : q ≡ Counting r → Wrote bs at end x y at
+  pen_counted e = let w = (pen_wrote end h f g).0 in absurd (let z : ◌≡◌ {A = ℕ} 0 1 = cc (w, e) in omega arith)
 
-  pub pen-full : q ≡ Full → Wrote bs at end x y at
-  pen-full e = let w = (pen-wrote end h f g).0 in absurd (let z : ◌≡◌ {A = ℕ} 0 1 = cc (w, e) in omega arith)
+  pub pen_full : q ≡ Full → Wrote bs at end x y at
+  pen_full e = let w = (pen_wrote end h f g).0 in absurd (let z : ◌≡◌ {A = ℕ} 0 1 = cc (w, e) in omega arith)
 
-pub put-never : {bs x y : List ℕ} {q : Pen} {a : ℕ} (b : ℕ) → Put bs (Counting a) x y q → q ≡ Writing b → ⊥
-put-never {bs} {x} {y} {q} {a} b h e = never-writes q (length x) (length bs) a b h.says e
+pub put_never : {bs x y : List ℕ} {q : Pen} {a : ℕ} (b : ℕ) → Put bs (Counting a) x y q → q ≡ Writing b → ⊥
+put_never {bs} {x} {y} {q} {a} b h e = never_writes q (length x) (length bs) a b h.says e

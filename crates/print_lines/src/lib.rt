@@ -4,7 +4,7 @@ pub mod weigh;
 ghost use Rattle.std.specs.Prelude.{◌+◌, ◌<◌, ◌≤◌, length};
 ghost use Rattle.names.specs.Name.{lines};
 ghost use Rattle.book.specs.Entry.{entries};
-ghost use Rattle.book.specs.Decode.{typeTo};
+ghost use Rattle.book.specs.Decode.{type_to};
 ghost use Rattle.print_pen.specs.Pen.{Put};
 ghost use Rattle.print_pen.specs.Write.{Wrote};
 ghost use Rattle.print_words.specs.Words.{Tables};
@@ -12,8 +12,8 @@ ghost use Rattle.print_types.specs.Starts.{Starts};
 ghost use Rattle.print_types.specs.Types.{type_bytes, Typed};
 ghost use Rattle.print_forms.specs.Forms.{form_of};
 ghost use Rattle.print_forms.specs.All.{Ready, AllReady};
-ghost use Rattle.print_lines.specs.Lines.{operandText, partsText, comment, printed};
-ghost use Rattle.print_lines.specs.All.{printedAll};
+ghost use Rattle.print_lines.specs.Lines.{operand_text, parts_text, comment, printed};
+ghost use Rattle.print_lines.specs.All.{printed_all};
 
 use assembly::line;
 use print_forms::{Form, form_of};
@@ -36,7 +36,7 @@ fn put_operand(
 ) -> Pen
     requires starts { Starts every names.now starts.now }
     requires ready { Ready form (lines names.now) x }
-    ensures { Put (operandText (lines names.now) function.now form x) pen text.old text.new result }
+    ensures { Put (operand_text (lines names.now) function.now form x) pen text.old text.new result }
 {
     match form {
         Form::Name => put_clean(text, pen, name_of(names, starts, every, x)),
@@ -70,7 +70,7 @@ fn put_parts(
     requires starts { Starts every names.now starts.now }
     requires ready { Ready (form_of kind) (lines names.now) x }
     requires kind_bound { kind < 94 }
-    ensures { Put (partsText (lines names.now) function.now kind x) pen text.old text.new result }
+    ensures { Put (parts_text (lines names.now) function.now kind x) pen text.old text.new result }
 {
     let word = put_word(text, pen, letters, places, kind);
     let operand = put_operand(text, word, names, starts, every, function, form_of(kind), x);
@@ -91,7 +91,7 @@ fn put_comment(
 ) -> Pen
     requires starts { Starts every names.now starts.now }
     requires typed { Typed (length (lines names.now)) 64 kinds.now words.now }
-    ensures { Put (comment function.now (type_bytes (lines names.now) (typeTo (length (lines names.now)) 64 (entries kinds.now words.now))) params) pen text.old text.new result }
+    ensures { Put (comment function.now (type_bytes (lines names.now) (type_to (length (lines names.now)) 64 (entries kinds.now words.now))) params) pen text.old text.new result }
 {
     let sign = put_bytes(text, pen, b"# ");
     let ty = put_type(text, sign, names, starts, every, kinds, words, 64);
@@ -121,7 +121,7 @@ fn put_line(
     requires typed { Typed (length (lines names.now)) 64 kinds.now words.now }
     requires ready { Ready (form_of kind) (lines names.now) x }
     requires kind_bound { kind < 7 }
-    ensures { Put (printed (lines names.now) function.now (type_bytes (lines names.now) (typeTo (length (lines names.now)) 64 (entries kinds.now words.now))) params kind x) pen text.old text.new result }
+    ensures { Put (printed (lines names.now) function.now (type_bytes (lines names.now) (type_to (length (lines names.now)) 64 (entries kinds.now words.now))) params kind x) pen text.old text.new result }
 {
     if kind == line::COMMENT {
         return put_comment(
@@ -155,9 +155,9 @@ fn write_line(
     requires typed { Typed (length (lines names.now)) 64 kinds.now words.now }
     requires ready { Ready (form_of kind) (lines names.now) x }
     requires kind_bound { kind < 94 }
-    requires x_bound { at + length (printed (lines names.now) function.now (type_bytes (lines names.now) (typeTo (length (lines names.now)) 64 (entries kinds.now words.now))) params kind x) ≤ end }
+    requires x_bound { at + length (printed (lines names.now) function.now (type_bytes (lines names.now) (type_to (length (lines names.now)) 64 (entries kinds.now words.now))) params kind x) ≤ end }
     requires end_in_bounds { end ≤ length text.old }
-    ensures { Wrote (printed (lines names.now) function.now (type_bytes (lines names.now) (typeTo (length (lines names.now)) 64 (entries kinds.now words.now))) params kind x) at end text.old text.new result }
+    ensures { Wrote (printed (lines names.now) function.now (type_bytes (lines names.now) (type_to (length (lines names.now)) 64 (entries kinds.now words.now))) params kind x) at end text.old text.new result }
 {
     if line::PUSH_0N <= kind {
         return write_plain(text, at, end, letters, places, kind, x);
@@ -204,9 +204,9 @@ pub fn write_lines(
     requires starts { Starts every names.now starts.now }
     requires typed { Typed (length (lines names.now)) 64 kinds.now words.now }
     requires all_ready { AllReady (lines names.now) line_kinds.now operands.now }
-    requires operands_bound { start + length (printedAll (printed (lines names.now) function.now (type_bytes (lines names.now) (typeTo (length (lines names.now)) 64 (entries kinds.now words.now))) params) line_kinds.now operands.now) ≤ end }
+    requires operands_bound { start + length (printed_all (printed (lines names.now) function.now (type_bytes (lines names.now) (type_to (length (lines names.now)) 64 (entries kinds.now words.now))) params) line_kinds.now operands.now) ≤ end }
     requires end_in_bounds { end ≤ length text.old }
-    ensures { Wrote (printedAll (printed (lines names.now) function.now (type_bytes (lines names.now) (typeTo (length (lines names.now)) 64 (entries kinds.now words.now))) params) line_kinds.now operands.now) start end text.old text.new result }
+    ensures { Wrote (printed_all (printed (lines names.now) function.now (type_bytes (lines names.now) (type_to (length (lines names.now)) 64 (entries kinds.now words.now))) params) line_kinds.now operands.now) start end text.old text.new result }
 {
     let mut at = start;
     let mut i: usize = 0;

@@ -3,15 +3,15 @@ ghost use Rattle.std.specs.Prelude.{◌≡◌, cond, List, ℕ, ◌+◌, ◌<◌
 ghost use Rattle.names.specs.Name.{lines};
 ghost use Rattle.names.specs.Spelling.{sanitize};
 ghost use Rattle.book.specs.Entry.{entries};
-ghost use Rattle.book.specs.Decode.{typeTo};
-ghost use Rattle.print_words.specs.Words.{wordPlaces};
-ghost use Rattle.print_words.specs.Plain.{plainText};
+ghost use Rattle.book.specs.Decode.{type_to};
+ghost use Rattle.print_words.specs.Words.{word_places};
+ghost use Rattle.print_words.specs.Plain.{plain_text};
 ghost use Rattle.print_types.specs.Starts.{Starts};
 ghost use Rattle.print_types.specs.Types.{type_bytes, Typed};
-ghost use Rattle.print_forms.specs.Forms.{form_of, allowedBy};
-ghost use Rattle.print_forms.specs.All.{Callable, allowedAll};
-ghost use Rattle.print_lines.specs.Lines.{partsText, printed};
-ghost use Rattle.print_lines.specs.All.{printedAll};
+ghost use Rattle.print_forms.specs.Forms.{form_of, allowed_by};
+ghost use Rattle.print_forms.specs.All.{Callable, allowed_all};
+ghost use Rattle.print_lines.specs.Lines.{parts_text, printed};
+ghost use Rattle.print_lines.specs.All.{printed_all};
 ghost use Rattle.print_lines.specs.Named.{spelled, around};
 ghost use Rattle.print_lines.specs.Weigh.{weight, Weighed};
 
@@ -34,10 +34,10 @@ pub enum Weight {
 
 // Weighs a line of kind 7 or more behind n bytes.
 fn weigh_number(places: &[u16], n: usize, room: usize, kind: u16, x: u64) -> Weight
-    requires places_value { places.now ≡ wordPlaces }
+    requires places_value { places.now ≡ word_places }
     requires n_le_room { n ≤ room }
     requires le_kind { 7 ≤ kind }
-    ensures { (names function from to : ℕ) → result ≡ weight (allowedBy (form_of kind) x names function from to) (n + length (plainText kind x)) room }
+    ensures { (names function from to : ℕ) → result ≡ weight (allowed_by (form_of kind) x names function from to) (n + length (plain_text kind x)) room }
 {
     if !number_allowed(kind, x) {
         return Weight::Barred;
@@ -70,7 +70,7 @@ fn spelled_len(name: &[u8], kind: u16) -> usize
 // How many bytes a line of kind 1 to 6 has beside the name that it names: its word, the function's label and `__` before a block's, the
 // number of arguments behind a call's, and its end.
 fn around_len(places: &[u16], label: usize, kind: u16, x: u64) -> usize
-    requires places_value { places.now ≡ wordPlaces }
+    requires places_value { places.now ≡ word_places }
     requires label_bound { label < 9223372036854775808 }
     requires kind_bound { kind < 94 }
     ensures { result ≡ around label kind x }
@@ -101,14 +101,14 @@ fn weigh_named(
     from: u64,
     to: u64,
 ) -> Weight
-    requires places_value { places.now ≡ wordPlaces }
+    requires places_value { places.now ≡ word_places }
     requires starts { Starts every names.now starts.now }
     requires callable { Callable (lines names.now) count from to }
     requires label_bound { label < 9223372036854775808 }
     requires n_le_room { n ≤ room }
     requires le_kind { 1 ≤ kind }
     requires kind_bound { kind < 7 }
-    ensures { (own : ℕ) (fname : List ℕ) → label ≡ length (sanitize fname) → result ≡ weight (allowedBy (form_of kind) x count own from to) (n + length (partsText (lines names.now) fname kind x)) room }
+    ensures { (own : ℕ) (fname : List ℕ) → label ≡ length (sanitize fname) → result ≡ weight (allowed_by (form_of kind) x count own from to) (n + length (parts_text (lines names.now) fname kind x)) room }
 {
     if !name_allowed(kind, x, count, from, to) {
         return Weight::Barred;
@@ -147,13 +147,13 @@ fn weigh_line(
     from: u64,
     to: u64,
 ) -> Weight
-    requires places_value { places.now ≡ wordPlaces }
+    requires places_value { places.now ≡ word_places }
     requires starts { Starts every names.now starts.now }
     requires typed { Typed (length (lines names.now)) 64 kinds.now words.now }
     requires callable { Callable (lines names.now) count from to }
     requires n_in_bounds { n ≤ length text.old }
     requires label_value { label ≡ length (sanitize function.now) }
-    ensures { Weighed (allowedBy (form_of kind) x count own from to) (n + length (printed (lines names.now) function.now (type_bytes (lines names.now) (typeTo (length (lines names.now)) 64 (entries kinds.now words.now))) params kind x)) text.old text.new result }
+    ensures { Weighed (allowed_by (form_of kind) x count own from to) (n + length (printed (lines names.now) function.now (type_bytes (lines names.now) (type_to (length (lines names.now)) 64 (entries kinds.now words.now))) params kind x)) text.old text.new result }
 {
     if line::PUSH_0N <= kind {
         return weigh_number(places, n, text.len(), kind, x);
@@ -207,7 +207,7 @@ fn weigh_rest(
 ) -> Weight
     requires i_in_bounds { i ≤ length line_kinds.now }
     requires i_in_bounds_2 { i ≤ length operands.now }
-    ensures { result ≡ cond (allowedAll count own from to (drop i line_kinds.now) (drop i operands.now)) Weight.Short Weight.Barred }
+    ensures { result ≡ cond (allowed_all count own from to (drop i line_kinds.now) (drop i operands.now)) Weight.Short Weight.Barred }
 {
     if check_lines(&line_kinds[i..], &operands[i..], count, own, from, to) {
         Weight::Short
@@ -235,13 +235,13 @@ pub fn weigh_lines(
     from: u64,
     to: u64,
 ) -> Weight
-    requires places_value { places.now ≡ wordPlaces }
+    requires places_value { places.now ≡ word_places }
     requires starts { Starts every names.now starts.now }
     requires typed { Typed (length (lines names.now)) 64 kinds.now words.now }
     requires callable { Callable (lines names.now) count from to }
     requires before_in_bounds { before ≤ length text.old }
-    ensures { Weighed (allowedAll count own from to line_kinds.now operands.now)
-        (before + length (printedAll (printed (lines names.now) function.now (type_bytes (lines names.now) (typeTo (length (lines names.now)) 64 (entries kinds.now words.now))) params) line_kinds.now operands.now))
+    ensures { Weighed (allowed_all count own from to line_kinds.now operands.now)
+        (before + length (printed_all (printed (lines names.now) function.now (type_bytes (lines names.now) (type_to (length (lines names.now)) 64 (entries kinds.now words.now))) params) line_kinds.now operands.now))
         text.old text.new result }
 {
     let label = clean_len(function);

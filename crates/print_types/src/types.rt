@@ -4,10 +4,10 @@ ghost use Rattle.names.specs.Text.{bytes};
 ghost use Rattle.names.specs.Name.{lines};
 ghost use Rattle.numbers.specs.Digits.{decimal};
 ghost use Rattle.book.specs.Entry.{entries};
-ghost use Rattle.book.specs.Decode.{typeTo};
+ghost use Rattle.book.specs.Decode.{type_to};
 ghost use Rattle.print_pen.specs.Pen.{Put};
 ghost use Rattle.print_types.specs.Starts.{Starts};
-ghost use Rattle.print_types.specs.Types.{opened, closed, arrayHead, sizelessText, type_bytes, Typed};
+ghost use Rattle.print_types.specs.Types.{opened, closed, array_head, sizeless_text, type_bytes, Typed};
 
 use crate::starts::name_of;
 use book_types::types::{TypeGroup, type_group};
@@ -35,7 +35,7 @@ fn put_close(text: &mut [u8], pen: Pen, packed: bool) -> Pen
 
 // Puts what stands before an array's element.
 fn put_array_head(text: &mut [u8], pen: Pen, packed: bool, len: u64) -> Pen
-    ensures { Put (arrayHead packed len) pen text.old text.new result }
+    ensures { Put (array_head packed len) pen text.old text.new result }
 {
     let open = put_open(text, pen, packed);
     let number = put_number(text, open, len);
@@ -60,7 +60,7 @@ fn put_named(text: &mut [u8], pen: Pen, name: &[u8]) -> Pen
 
 // Puts a type that has no size.
 fn put_sizeless(text: &mut [u8], pen: Pen, kind: u64) -> Pen
-    ensures { Put (sizelessText kind) pen text.old text.new result }
+    ensures { Put (sizeless_text kind) pen text.old text.new result }
 {
     if kind == book::entry::FUNC {
         return put_bytes(text, pen, b"fn");
@@ -84,7 +84,7 @@ pub fn put_type(
 ) -> Pen
     requires starts { Starts every names.now starts.now }
     requires typed { Typed (length (lines names.now)) level kinds.now words.now }
-    ensures { Put (type_bytes (lines names.now) (typeTo (length (lines names.now)) level (entries kinds.now words.now))) pen text.old text.new result }
+    ensures { Put (type_bytes (lines names.now) (type_to (length (lines names.now)) level (entries kinds.now words.now))) pen text.old text.new result }
 {
     let kind = kinds[0];
     let word = words[0];

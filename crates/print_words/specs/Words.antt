@@ -4,9 +4,9 @@ use Prim.Native.String.{String}
 use Rattle.std.proofs.Common.{sym, ap, ◌∙◌, arith, leb-true, length-drop, length-take-le, take-take}
 use Rattle.std.proofs.lemmas.List.Edits.{sets}
 use Rattle.names.specs.Text.{bytes, same}
-use Rattle.names.specs.Texts.{same-iff}
+use Rattle.names.specs.Texts.{same_iff}
 use Rattle.names.specs.Tests.{both}
-use Rattle.print_pen.specs.Write.{Wrote, wrote-over}
+use Rattle.print_pen.specs.Write.{Wrote, wrote_over}
 use Rattle.print_words.specs.Table.{every, holds}
 
 -- with byte 10 behind it
@@ -14,8 +14,8 @@ unfoldable pub ended : String → List ℕ
 ended s = bytes s ++ (10 ∷ [])
 
 -- kinds 0 to 20: what stands before the operand; from 21 on the whole line
-unfoldable pub wordTable : List (List ℕ)
-wordTable =
+unfoldable pub word_table : List (List ℕ)
+word_table =
     bytes "# " ∷ bytes "" ∷ bytes "" ∷ bytes "jmp " ∷ bytes "push " ∷ bytes "call " ∷ bytes "syscall " ∷ bytes "push_0n " ∷ bytes "push "
     ∷ bytes "get_arg " ∷ bytes "get_local " ∷ bytes "set_local " ∷ bytes "call_fp " ∷ bytes "__sel_false_" ∷ bytes "__sel_done_"
     ∷ bytes "__br_false_" ∷ bytes "__sw_case_" ∷ bytes "jz __sel_false_" ∷ bytes "jmp __sel_done_" ∷ bytes "jz __br_false_"
@@ -33,11 +33,11 @@ wordTable =
     ∷ ended "thread_set 0;" ∷ ended "" ∷ []
 
 unfoldable pub word : ℕ → List ℕ
-word k = get_or wordTable k []
+word k = get_or word_table k []
 
 -- all words one after the other, with 24 letters behind them, and where each stands: the start times 32, and how many letters
-unfoldable pub wordLetters : List ℕ
-wordLetters =
+unfoldable pub word_letters : List ℕ
+word_letters =
     35 ∷ 32 ∷ 106 ∷ 109 ∷ 112 ∷ 32 ∷ 112 ∷ 117 ∷ 115 ∷ 104 ∷ 32 ∷ 99 ∷ 97 ∷ 108 ∷ 108 ∷ 32 ∷ 115 ∷ 121 ∷ 115 ∷ 99 ∷ 97 ∷ 108 ∷ 108 ∷ 32 ∷ 112
     ∷ 117 ∷ 115 ∷ 104 ∷ 95 ∷ 48 ∷ 110 ∷ 32 ∷ 112 ∷ 117 ∷ 115 ∷ 104 ∷ 32 ∷ 103 ∷ 101 ∷ 116 ∷ 95 ∷ 97 ∷ 114 ∷ 103 ∷ 32 ∷ 103 ∷ 101 ∷ 116 ∷ 95
     ∷ 108 ∷ 111 ∷ 99 ∷ 97 ∷ 108 ∷ 32 ∷ 115 ∷ 101 ∷ 116 ∷ 95 ∷ 108 ∷ 111 ∷ 99 ∷ 97 ∷ 108 ∷ 32 ∷ 99 ∷ 97 ∷ 108 ∷ 108 ∷ 95 ∷ 102 ∷ 112 ∷ 32 ∷ 95
@@ -75,8 +75,8 @@ wordLetters =
     ∷ 10 ∷ 116 ∷ 104 ∷ 114 ∷ 101 ∷ 97 ∷ 100 ∷ 95 ∷ 115 ∷ 101 ∷ 116 ∷ 32 ∷ 48 ∷ 59 ∷ 10 ∷ 10
     ∷ 45 ∷ 45 ∷ 45 ∷ 45 ∷ 45 ∷ 45 ∷ 45 ∷ 45 ∷ 45 ∷ 45 ∷ 45 ∷ 45 ∷ 45 ∷ 45 ∷ 45 ∷ 45 ∷ 45 ∷ 45 ∷ 45 ∷ 45 ∷ 45 ∷ 45 ∷ 45 ∷ 45 ∷ []
 
-unfoldable pub wordPlaces : List ℕ
-wordPlaces =
+unfoldable pub word_places : List ℕ
+word_places =
     2 ∷ 64 ∷ 64 ∷ 68 ∷ 197 ∷ 357 ∷ 520 ∷ 776 ∷ 1029 ∷ 1192 ∷ 1450 ∷ 1770 ∷ 2088 ∷ 2348 ∷ 2731 ∷ 3083 ∷ 3434 ∷ 3759 ∷ 4239 ∷ 4718 ∷ 5166 ∷ 5609 ∷ 5897
     ∷ 6185 ∷ 6473 ∷ 6761 ∷ 7049 ∷ 7337 ∷ 7625 ∷ 7912 ∷ 8169 ∷ 8460 ∷ 8844 ∷ 9228 ∷ 9608 ∷ 9864 ∷ 10120 ∷ 10376 ∷ 10632 ∷ 10888 ∷ 11144 ∷ 11400 ∷ 11656
     ∷ 11912 ∷ 12169 ∷ 12457 ∷ 12745 ∷ 13033 ∷ 13321 ∷ 13609 ∷ 13897 ∷ 14185 ∷ 14472 ∷ 14729 ∷ 15020 ∷ 15404 ∷ 15788 ∷ 16168 ∷ 16424 ∷ 16680 ∷ 16936
@@ -84,39 +84,39 @@ wordPlaces =
     ∷ 22858 ∷ 23179 ∷ 23531 ∷ 23883 ∷ 24241 ∷ 24786 ∷ 25360 ∷ 25872 ∷ 26373 ∷ 26533 ∷ 26693 ∷ 26855 ∷ 27086 ∷ 27534 ∷ 27969 ∷ []
 
 -- the word of kind k, from its place p
-unfoldable fitsAt : ℕ → ℕ → Bool
-fitsAt k p = leb (p / 32 + 24) 899 && (leb (p % 32) 24 && same (take (p % 32) (drop (p / 32) wordLetters)) (word k))
+unfoldable fits_at : ℕ → ℕ → Bool
+fits_at k p = leb (p / 32 + 24) 899 && (leb (p % 32) 24 && same (take (p % 32) (drop (p / 32) word_letters)) (word k))
 
 pub record WordAt (k p : ℕ) : Type 0 where
   pub room : p / 32 + 24 ≤ 899
   pub short : p % 32 ≤ 24
-  pub is : take (p % 32) (drop (p / 32) wordLetters) ≡ word k
+  pub is : take (p % 32) (drop (p / 32) word_letters) ≡ word k
 
-all_fit : every fitsAt 0 wordPlaces ≡ true
-unfolding fitsAt wordPlaces wordLetters wordTable word ended bytes same
+all_fit : every fits_at 0 word_places ≡ true
+unfolding fits_at word_places word_letters word_table word ended bytes same
 all_fit = refl
 
-pub letters-long : length wordLetters ≡ 899
-unfolding wordLetters
-letters-long = refl
+pub letters_long : length word_letters ≡ 899
+unfolding word_letters
+letters_long = refl
 
-pub places-long : length wordPlaces ≡ 94
-unfolding wordPlaces
-places-long = refl
+pub places_long : length word_places ≡ 94
+unfolding word_places
+places_long = refl
 
 -- the table's rule
-word-at : (k : ℕ) → k < 94 → WordAt k (get_or wordPlaces k 0)
-unfolding fitsAt
-word-at k h =
-    let t = holds fitsAt wordPlaces all_fit k (omega (arith, places-long)) in
+word_at_lem : (k : ℕ) → k < 94 → WordAt k (get_or word_places k 0)
+unfolding fits_at
+word_at_lem k h =
+    let t = holds fits_at word_places all_fit k (omega (arith, places_long)) in
     let p = both _ _ t in
     let q = both _ _ p.1 in
-    record { room = leb-true _ _ p.0; short = leb-true _ _ q.0; is = (same-iff _ _).0 q.1 }
+    record { room = leb-true _ _ p.0; short = leb-true _ _ q.0; is = (same_iff _ _).0 q.1 }
 
 -- the tables that the code makes
 pub record Tables (letters places : List ℕ) : Type 0 where
-  pub letters-are : letters ≡ wordLetters
-  pub places-are : places ≡ wordPlaces
+  pub letters_are : letters ≡ word_letters
+  pub places_are : places ≡ word_places
 
 -- the word of a kind by the tables
 pub record Word (letters : List ℕ) (k p : ℕ) : Type 0 where
@@ -125,32 +125,32 @@ pub record Word (letters : List ℕ) (k p : ℕ) : Type 0 where
   pub is : take (p % 32) (drop (p / 32) letters) ≡ word k
 
 module _ {letters places : List ℕ} (t : Tables letters places) where
-  pub kinds-known : length places ≡ 94
-  kinds-known = ap length t.places-are ∙ places-long
+  pub kinds_known : length places ≡ 94
+  kinds_known = ap length t.places_are ∙ places_long
 
-  pub word-by : (k p : ℕ) → k < 94 → p ≡ get_or places k 0 → Word letters k p
-  word-by k p h e =
-      let w = rw (← t.places-are, ← e) at (word-at k h) in
-      record { room = omega (arith, w.room, ap length t.letters-are, letters-long); short = w.short; is = rw t.letters-are w.is }
+  pub word_by : (k p : ℕ) → k < 94 → p ≡ get_or places k 0 → Word letters k p
+  word_by k p h e =
+      let w = rw (← t.places_are, ← e) at (word_at_lem k h) in
+      record { room = omega (arith, w.room, ap length t.letters_are, letters_long); short = w.short; is = rw t.letters_are w.is }
 
 -- how many letters the word has
-pub word_size : (places : List ℕ) (k p : ℕ) → places ≡ wordPlaces → k < 94 → p ≡ get_or places k 0 → length (word k) ≡ p % 32
+pub word_size : (places : List ℕ) (k p : ℕ) → places ≡ word_places → k < 94 → p ≡ get_or places k 0 → length (word k) ≡ p % 32
 word_size places k p t h e =
-    let w = rw (← t, ← e) at (word-at k h) in
-    ap length (sym w.is) ∙ length-take-le (p % 32) (drop (p / 32) wordLetters) (simp length-drop (omega (arith, w.room, w.short, letters-long)))
+    let w = rw (← t, ← e) at (word_at_lem k h) in
+    ap length (sym w.is) ∙ length-take-le (p % 32) (drop (p / 32) word_letters) (simp length-drop (omega (arith, w.room, w.short, letters_long)))
 
-pub word-short : (k : ℕ) → k < 94 → length (word k) ≤ 24
-word-short k h = omega (arith, (word-at k h).short, word_size wordPlaces k (get_or wordPlaces k 0) refl h refl)
+pub word_short : (k : ℕ) → k < 94 → length (word k) ≤ 24
+word_short k h = omega (arith, (word_at_lem k h).short, word_size word_places k (get_or word_places k 0) refl h refl)
 
 module _ {letters : List ℕ} {k p : ℕ} (w : Word letters k p) where
-  pub word-long : length (word k) ≡ p % 32
-  word-long = ap length (sym w.is) ∙ length-take-le (p % 32) (drop (p / 32) letters) (simp length-drop (omega (arith, w.room, w.short)))
+  pub word_long : length (word k) ≡ p % 32
+  word_long = ap length (sym w.is) ∙ length-take-le (p % 32) (drop (p / 32) letters) (simp length-drop (omega (arith, w.room, w.short)))
 
   -- m letters from the word's start on are stored, as many as the word has or more
-  pub word-wrote : (x y : List ℕ) (at end m : ℕ) → y ≡ sets x at (take m (drop (p / 32) letters)) → p % 32 ≤ m → m ≤ 24 → at + m ≤ end → end ≤ length x
+  pub word_wrote : (x y : List ℕ) (at end m : ℕ) → y ≡ sets x at (take m (drop (p / 32) letters)) → p % 32 ≤ m → m ≤ 24 → at + m ≤ end → end ≤ length x
       → Wrote (word k) at end x y (at + p % 32)
-  word-wrote x y at end m e h g f i =
+  word_wrote x y at end m e h g f i =
       let size : length (take m (drop (p / 32) letters)) ≡ m = length-take-le m (drop (p / 32) letters) (simp length-drop (omega (arith, w.room))) in
-      let same : take (length (word k)) (take m (drop (p / 32) letters)) ≡ word k = rw (word-long, take-take (p % 32) m (drop (p / 32) letters) h) w.is in
-      rw (e, ← word-long)
-      (wrote-over (word k) (take m (drop (p / 32) letters)) x at end (omega (arith, size, word-long)) same (omega (arith, size)) i)
+      let same : take (length (word k)) (take m (drop (p / 32) letters)) ≡ word k = rw (word_long, take-take (p % 32) m (drop (p / 32) letters) h) w.is in
+      rw (e, ← word_long)
+      (wrote_over (word k) (take m (drop (p / 32) letters)) x at end (omega (arith, size, word_long)) same (omega (arith, size)) i)

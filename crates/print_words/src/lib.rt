@@ -6,8 +6,8 @@ ghost use Rattle.numbers.specs.Digits.{decimal};
 ghost use Rattle.names.specs.Text.{bytes};
 ghost use Rattle.names.specs.Spelling.{sanitize};
 ghost use Rattle.print_pen.specs.Pen.{Put};
-ghost use Rattle.print_words.specs.Words.{word, wordLetters, wordPlaces, Tables};
-ghost use Rattle.print_words.specs.Ends.{isLabel, ending, paramsText};
+ghost use Rattle.print_words.specs.Words.{word, word_letters, word_places, Tables};
+ghost use Rattle.print_words.specs.Ends.{is_label, ending, params_text};
 
 use assembly::line;
 use print_pen::{Pen, put_bytes, put_clean, put_number, put_part};
@@ -25,14 +25,14 @@ const PLACES: [u16; 94] = [
 
 // The letters of all words, and 24 more, so that 24 stand from every word's start on.
 pub fn word_letters() -> [u8; 899]
-    ensures { result ≡ wordLetters }
+    ensures { result ≡ word_letters }
 {
     *b"# jmp push call syscall push_0n push get_arg get_local set_local call_fp __sel_false___sel_done___br_false___sw_case_jz __sel_false_jmp __sel_done_jz __br_false_jnz __sw_case_add_u32;\nsub_u32;\nmul_u32;\ndiv_u32;\ndiv_i32;\nmod_u32;\nmod_i32;\nand_u32;\nor_u32;\nxor_u32;\nlshift_u32;\nrshift_u32;\nrshift_i32;\neq_u32;\nne_u32;\ngt_u32;\nge_u32;\nlt_u32;\nle_u32;\ngt_i32;\nge_i32;\nlt_i32;\nle_i32;\nadd_u64;\nsub_u64;\nmul_u64;\ndiv_u64;\ndiv_i64;\nmod_u64;\nmod_i64;\nand_u64;\nor_u64;\nxor_u64;\nlshift_u64;\nrshift_u64;\nrshift_i64;\neq_u64;\nne_u64;\ngt_u64;\nge_u64;\nlt_u64;\nle_u64;\ngt_i64;\nge_i64;\nlt_i64;\nle_i64;\ntrunc_u8;\ntrunc_u16;\ntrunc_u32;\nsx_i8_i32;\nsx_i16_i32;\nsx_i8_i64;\nsx_i16_i64;\nsx_i32_i64;\nload_u8;\nload_u16;\nload_u32;\nload_u64;\nstore_u8;\nstore_u16;\nstore_u32;\nstore_u64;\natomic_load_u64;\natomic_store_u64;\natomic_cas_u64;\nsyscall memcmp;\ndup;\npop;\nret;\npanic;\nthread_get 0;\nthread_set 0;\n\n------------------------"
 }
 
 // Where each word stands among the letters. Both tables are made once in a call: the machine makes them anew where they are named.
 pub fn word_places() -> [u16; 94]
-    ensures { result ≡ wordPlaces }
+    ensures { result ≡ word_places }
 {
     PLACES
 }
@@ -59,7 +59,7 @@ pub fn put_word(text: &mut [u8], pen: Pen, letters: &[u8], places: &[u16], kind:
 
 // Whether the line is a label.
 fn is_label(kind: u16) -> bool
-    ensures { result ≡ isLabel kind }
+    ensures { result ≡ is_label kind }
 {
     ((line::FN_LABEL <= kind) & (kind <= line::BLOCK_LABEL))
         | ((line::SEL_FALSE <= kind) & (kind <= line::SW_CASE))
@@ -103,7 +103,7 @@ pub fn put_syscall(text: &mut [u8], pen: Pen, name: &[u8]) -> Pen
 
 // Puts how many parameters there are, and the end of the comment.
 pub fn put_params(text: &mut [u8], pen: Pen, params: u64) -> Pen
-    ensures { Put (paramsText params) pen text.old text.new result }
+    ensures { Put (params_text params) pen text.old text.new result }
 {
     let open = put_bytes(text, pen, b"(");
     let number = put_number(text, open, params);

@@ -2,9 +2,9 @@
 ghost use Rattle.std.specs.Prelude.{◌≡◌, ◌+◌, ◌<◌, ◌≤◌, length};
 ghost use Rattle.std.proofs.lemmas.List.Edits.{sets};
 ghost use Rattle.print_pen.specs.Write.{Wrote};
-ghost use Rattle.print_words.specs.Words.{word, wordPlaces, Tables};
+ghost use Rattle.print_words.specs.Words.{word, word_places, Tables};
 ghost use Rattle.print_words.specs.Ends.{ending};
-ghost use Rattle.print_words.specs.Plain.{plainText};
+ghost use Rattle.print_words.specs.Plain.{plain_text};
 
 use crate::{is_label, place};
 use assembly::line;
@@ -13,7 +13,7 @@ use print_pen::copy;
 
 // How many bytes the word of a line's kind has.
 pub fn word_len(places: &[u16], kind: u16) -> usize
-    requires places_value { places.now ≡ wordPlaces }
+    requires places_value { places.now ≡ word_places }
     requires kind_bound { kind < 94 }
     ensures { result ≡ length (word kind) }
 {
@@ -23,9 +23,9 @@ pub fn word_len(places: &[u16], kind: u16) -> usize
 
 // How many bytes the line has.
 pub fn plain_len(places: &[u16], kind: u16, x: u64) -> usize
-    requires places_value { places.now ≡ wordPlaces }
+    requires places_value { places.now ≡ word_places }
     requires kind_bound { kind < 94 }
-    ensures { result ≡ length (plainText kind x) }
+    ensures { result ≡ length (plain_text kind x) }
 {
     let letters = word_len(places, kind);
     let number = decimal_len(x) + 2;
@@ -88,9 +88,9 @@ pub fn write_plain(
 ) -> usize
     requires tables { Tables letters.now places.now }
     requires kind_bound { kind < 94 }
-    requires x_bound { at + length (plainText kind x) ≤ end }
+    requires x_bound { at + length (plain_text kind x) ≤ end }
     requires end_in_bounds { end ≤ length text.old }
-    ensures { Wrote (plainText kind x) at end text.old text.new result }
+    ensures { Wrote (plain_text kind x) at end text.old text.new result }
 {
     let next = write_word(text, at, end, letters, places, kind);
     if (x < 100) & (32 <= end - at) {

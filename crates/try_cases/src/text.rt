@@ -1,6 +1,6 @@
 // Reading the input: how far a byte is, a number, a token.
 ghost use Rattle.std.specs.Prelude.{◌≡◌, length};
-ghost use Rattle.try_cases.specs.Text.{up_to, isDigit, withDigit, number_in, tokenIn};
+ghost use Rattle.try_cases.specs.Text.{up_to, is_digit, with_digit, number_in, token_in};
 
 // How many bytes stand before the first that is `wanted`; all of them where none is.
 pub fn before(text: &[u8], wanted: u8) -> usize
@@ -17,14 +17,14 @@ pub fn before(text: &[u8], wanted: u8) -> usize
 }
 
 fn is_digit(b: u8) -> bool
-    ensures { result ≡ isDigit b }
+    ensures { result ≡ is_digit b }
 {
     (b'0' <= b) & (b <= b'9')
 }
 
 // A number with one digit more, modulo 2^64; a digit's value is the low half of its byte.
 fn with_digit(value: u64, b: u8) -> u64
-    ensures { result ≡ withDigit value b }
+    ensures { result ≡ with_digit value b }
 {
     std::num::wrapping_add_u64(numbers::wrap::wrapping_mul(value, 10), (b % 16) as u64)
 }
@@ -67,7 +67,7 @@ pub struct Token {
 }
 
 pub fn read_token(word: &[u8]) -> Token
-    ensures { result ≡ tokenIn word.now }
+    ensures { result ≡ token_in word.now }
 {
     let first = read_number(word);
     let n = first.digits;

@@ -5,13 +5,13 @@ use Rattle.numbers.specs.Bits.{bit_at}
 use Rattle.book.specs.Entry.{entries}
 use Rattle.book.specs.Read.{word, many, both}
 use Rattle.book.specs.Fields.{Item}
-use Rattle.book.specs.Decode.{name, type, item, basicBlock, function}
-use Rattle.book.specs.Forbidden.{any, otherItem, forbiddenBlock, forbiddenFunction}
-use Rattle.book.specs.AgreeInst.{agrees-name}
-use Rattle.book.specs.AgreeBook.{agrees-signature-and-blocks}
-use Rattle.book_types.specs.Laws.{lentFrom}
-use Rattle.book_types.specs.Found.{pairTest, never}
-use Rattle.book_values.specs.Items.{wordFront}
+use Rattle.book.specs.Decode.{name, type, item, basic_block, function}
+use Rattle.book.specs.Forbidden.{any, other_item, forbidden_block, forbidden_function}
+use Rattle.book.specs.AgreeInst.{agrees_name}
+use Rattle.book.specs.AgreeBook.{agrees_signature_and_blocks}
+use Rattle.book_types.specs.Laws.{lent_from}
+use Rattle.book_types.specs.Found.{pair_test, never}
+use Rattle.book_values.specs.Items.{word_front}
 use Rattle.book_values.specs.ItemLaws as items
 use Rattle.book_types.specs.Passes as passes
 use Rattle.book_blocks.specs.Calls as calls
@@ -46,19 +46,19 @@ returns c =
     let after-first-entry = after-word-len.before in
     let entry = after-first-entry.before.before.before.before in
     let a = entry.args in
-    passes.both-bad (word 5 (name a.names)) (both (type a.names) (both (many (item a.names Item.param)) (many (basicBlock a.names))))
-    never (pairTest never (pairTest (any (otherItem Item.param)) (any (forbiddenBlock (bit_at a.barred.now))))) a.kinds.now a.words.now
+    passes.both_bad (word 5 (name a.names)) (both (type a.names) (both (many (item a.names Item.param)) (many (basic_block a.names))))
+    never (pair_test never (pair_test (any (other_item Item.param)) (any (forbidden_block (bit_at a.barred.now))))) a.kinds.now a.words.now
     _
-    (passes.plain-is (word 5 (name a.names) (entries a.kinds.now a.words.now)) _ _
-    (after-word-len.word_len.ensures ∙ ap (wordFront _ _) after-first-entry.first_entry.ensures ∙ sym (items.word-front 5 _ _))
-    c.before.before.plain.ensures) c.enum_told.given.1 ∙ passes.found-ext
-    (pairTest never (pairTest never (pairTest (any (otherItem Item.param)) (any (forbiddenBlock (bit_at a.barred.now))))))
-    (λ p. any (forbiddenBlock (bit_at a.barred.now)) p.1.1.1) (calls.no-param (bit_at a.barred.now))
-    ((both (word 5 (name a.names)) (both (type a.names) (both (many (item a.names Item.param)) (many (basicBlock a.names)))))
+    (passes.plain_is (word 5 (name a.names) (entries a.kinds.now a.words.now)) _ _
+    (after-word-len.word_len.ensures ∙ ap (word_front _ _) after-first-entry.first_entry.ensures ∙ sym (items.word_front_lem 5 _ _))
+    c.before.before.plain.ensures) c.enum_told.given.1 ∙ passes.found_ext
+    (pair_test never (pair_test never (pair_test (any (other_item Item.param)) (any (forbidden_block (bit_at a.barred.now))))))
+    (λ p. any (forbidden_block (bit_at a.barred.now)) p.1.1.1) (calls.no_param (bit_at a.barred.now))
+    ((both (word 5 (name a.names)) (both (type a.names) (both (many (item a.names Item.param)) (many (basic_block a.names)))))
     (entries a.kinds.now a.words.now)) ∙ sym
-    (passes.mapped-found (forbiddenFunction (bit_at a.barred.now))
-    (λ p. record { name = p.0; retTy = p.1.0; params = p.1.1.0; blocks = p.1.1.1 })
-    (both (word 5 (name a.names)) (both (type a.names) (both (many (item a.names Item.param)) (many (basicBlock a.names)))))
+    (passes.mapped_found (forbidden_function (bit_at a.barred.now))
+    (λ p. record { name = p.0; ret_ty = p.1.0; params = p.1.1.0; blocks = p.1.1.1 })
+    (both (word 5 (name a.names)) (both (type a.names) (both (many (item a.names Item.param)) (many (basic_block a.names)))))
     (entries a.kinds.now a.words.now))
 
 mul-signature-and-blocks-len : tie.Need-overflow-mul-signature-and-blocks-len
@@ -70,15 +70,15 @@ mul-signature-and-blocks-len c =
     let a = entry.args in
     omega (
       arith,
-      passes.both-kinds (word 5 (name a.names))
-          (both (type a.names) (both (many (item a.names Item.param)) (many (basicBlock a.names)))) never
-          (pairTest never (pairTest (any (otherItem Item.param)) (any (forbiddenBlock (bit_at a.barred.now))))) a.kinds.now a.words.now _
-          (passes.plain-is (word 5 (name a.names) (entries a.kinds.now a.words.now)) _ _
-          (after-word-len.word_len.ensures ∙ ap (wordFront _ _) after-first-entry.first_entry.ensures ∙ sym (items.word-front 5 _ _))
+      passes.both_kinds (word 5 (name a.names))
+          (both (type a.names) (both (many (item a.names Item.param)) (many (basic_block a.names)))) never
+          (pair_test never (pair_test (any (other_item Item.param)) (any (forbidden_block (bit_at a.barred.now))))) a.kinds.now a.words.now _
+          (passes.plain_is (word 5 (name a.names) (entries a.kinds.now a.words.now)) _ _
+          (after-word-len.word_len.ensures ∙ ap (word_front _ _) after-first-entry.first_entry.ensures ∙ sym (items.word_front_lem 5 _ _))
           after-plain.plain.ensures) _ _ c.before.n.given.1
-          (passes.within never (agrees-name _ 5) (entries a.kinds.now a.words.now) _
-          (passes.plain-is (word 5 (name a.names) (entries a.kinds.now a.words.now)) _ _
-          (after-word-len.word_len.ensures ∙ ap (wordFront _ _) after-first-entry.first_entry.ensures ∙ sym (items.word-front 5 _ _))
+          (passes.within never (agrees_name _ 5) (entries a.kinds.now a.words.now) _
+          (passes.plain_is (word 5 (name a.names) (entries a.kinds.now a.words.now)) _ _
+          (after-word-len.word_len.ensures ∙ ap (word_front _ _) after-first-entry.first_entry.ensures ∙ sym (items.word_front_lem 5 _ _))
           after-plain.plain.ensures)),
       entry.well-formed,
     )
@@ -90,15 +90,15 @@ sub-signature-and-blocks-len c =
     let after-first-entry = after-word-len.before in
     let entry = after-first-entry.before.before.before.before in
     let a = entry.args in
-    passes.both-kinds (word 5 (name a.names)) (both (type a.names) (both (many (item a.names Item.param)) (many (basicBlock a.names))))
-    never (pairTest never (pairTest (any (otherItem Item.param)) (any (forbiddenBlock (bit_at a.barred.now))))) a.kinds.now a.words.now
+    passes.both_kinds (word 5 (name a.names)) (both (type a.names) (both (many (item a.names Item.param)) (many (basic_block a.names))))
+    never (pair_test never (pair_test (any (other_item Item.param)) (any (forbidden_block (bit_at a.barred.now))))) a.kinds.now a.words.now
     _
-    (passes.plain-is (word 5 (name a.names) (entries a.kinds.now a.words.now)) _ _
-    (after-word-len.word_len.ensures ∙ ap (wordFront _ _) after-first-entry.first_entry.ensures ∙ sym (items.word-front 5 _ _))
+    (passes.plain_is (word 5 (name a.names) (entries a.kinds.now a.words.now)) _ _
+    (after-word-len.word_len.ensures ∙ ap (word_front _ _) after-first-entry.first_entry.ensures ∙ sym (items.word_front_lem 5 _ _))
     after-plain.plain.ensures) _ _ c.before.n.given.1
-    (passes.within never (agrees-name _ 5) (entries a.kinds.now a.words.now) _
-    (passes.plain-is (word 5 (name a.names) (entries a.kinds.now a.words.now)) _ _
-    (after-word-len.word_len.ensures ∙ ap (wordFront _ _) after-first-entry.first_entry.ensures ∙ sym (items.word-front 5 _ _))
+    (passes.within never (agrees_name _ 5) (entries a.kinds.now a.words.now) _
+    (passes.plain_is (word 5 (name a.names) (entries a.kinds.now a.words.now)) _ _
+    (after-word-len.word_len.ensures ∙ ap (word_front _ _) after-first-entry.first_entry.ensures ∙ sym (items.word_front_lem 5 _ _))
     after-plain.plain.ensures))
 
 part-signature-and-blocks-len-start : tie.Need-slice-bounds-signature-and-blocks-len-start
@@ -108,15 +108,15 @@ part-signature-and-blocks-len-start c =
     let after-first-entry = after-word-len.before in
     let entry = after-first-entry.before.before.before.before in
     let a = entry.args in
-    passes.both-kinds (word 5 (name a.names)) (both (type a.names) (both (many (item a.names Item.param)) (many (basicBlock a.names))))
-    never (pairTest never (pairTest (any (otherItem Item.param)) (any (forbiddenBlock (bit_at a.barred.now))))) a.kinds.now a.words.now
+    passes.both_kinds (word 5 (name a.names)) (both (type a.names) (both (many (item a.names Item.param)) (many (basic_block a.names))))
+    never (pair_test never (pair_test (any (other_item Item.param)) (any (forbidden_block (bit_at a.barred.now))))) a.kinds.now a.words.now
     _
-    (passes.plain-is (word 5 (name a.names) (entries a.kinds.now a.words.now)) _ _
-    (after-word-len.word_len.ensures ∙ ap (wordFront _ _) after-first-entry.first_entry.ensures ∙ sym (items.word-front 5 _ _))
+    (passes.plain_is (word 5 (name a.names) (entries a.kinds.now a.words.now)) _ _
+    (after-word-len.word_len.ensures ∙ ap (word_front _ _) after-first-entry.first_entry.ensures ∙ sym (items.word_front_lem 5 _ _))
     after-plain.plain.ensures) _ _ c.before.n.given.1
-    (passes.within never (agrees-name _ 5) (entries a.kinds.now a.words.now) _
-    (passes.plain-is (word 5 (name a.names) (entries a.kinds.now a.words.now)) _ _
-    (after-word-len.word_len.ensures ∙ ap (wordFront _ _) after-first-entry.first_entry.ensures ∙ sym (items.word-front 5 _ _))
+    (passes.within never (agrees_name _ 5) (entries a.kinds.now a.words.now) _
+    (passes.plain_is (word 5 (name a.names) (entries a.kinds.now a.words.now)) _ _
+    (after-word-len.word_len.ensures ∙ ap (word_front _ _) after-first-entry.first_entry.ensures ∙ sym (items.word_front_lem 5 _ _))
     after-plain.plain.ensures))
 
 part-signature-and-blocks-len-end : tie.Need-slice-bounds-signature-and-blocks-len-end
@@ -132,14 +132,14 @@ mul-signature-and-blocks-len-2 c =
     omega (
       arith,
       passes.both_words (word 5 (name a.names))
-          (both (type a.names) (both (many (item a.names Item.param)) (many (basicBlock a.names)))) never
-          (pairTest never (pairTest (any (otherItem Item.param)) (any (forbiddenBlock (bit_at a.barred.now))))) a.kinds.now a.words.now _
-          (passes.plain-is (word 5 (name a.names) (entries a.kinds.now a.words.now)) _ _
-          (after-word-len.word_len.ensures ∙ ap (wordFront _ _) after-first-entry.first_entry.ensures ∙ sym (items.word-front 5 _ _))
+          (both (type a.names) (both (many (item a.names Item.param)) (many (basic_block a.names)))) never
+          (pair_test never (pair_test (any (other_item Item.param)) (any (forbidden_block (bit_at a.barred.now))))) a.kinds.now a.words.now _
+          (passes.plain_is (word 5 (name a.names) (entries a.kinds.now a.words.now)) _ _
+          (after-word-len.word_len.ensures ∙ ap (word_front _ _) after-first-entry.first_entry.ensures ∙ sym (items.word_front_lem 5 _ _))
           after-plain.plain.ensures) _ _ c.before.before.n.given.1
-          (passes.within never (agrees-name _ 5) (entries a.kinds.now a.words.now) _
-          (passes.plain-is (word 5 (name a.names) (entries a.kinds.now a.words.now)) _ _
-          (after-word-len.word_len.ensures ∙ ap (wordFront _ _) after-first-entry.first_entry.ensures ∙ sym (items.word-front 5 _ _))
+          (passes.within never (agrees_name _ 5) (entries a.kinds.now a.words.now) _
+          (passes.plain_is (word 5 (name a.names) (entries a.kinds.now a.words.now)) _ _
+          (after-word-len.word_len.ensures ∙ ap (word_front _ _) after-first-entry.first_entry.ensures ∙ sym (items.word_front_lem 5 _ _))
           after-plain.plain.ensures)),
       entry.well-formed,
     )
@@ -151,15 +151,15 @@ sub-signature-and-blocks-len-2 c =
     let after-first-entry = after-word-len.before in
     let entry = after-first-entry.before.before.before.before in
     let a = entry.args in
-    passes.both_words (word 5 (name a.names)) (both (type a.names) (both (many (item a.names Item.param)) (many (basicBlock a.names))))
-    never (pairTest never (pairTest (any (otherItem Item.param)) (any (forbiddenBlock (bit_at a.barred.now))))) a.kinds.now a.words.now
+    passes.both_words (word 5 (name a.names)) (both (type a.names) (both (many (item a.names Item.param)) (many (basic_block a.names))))
+    never (pair_test never (pair_test (any (other_item Item.param)) (any (forbidden_block (bit_at a.barred.now))))) a.kinds.now a.words.now
     _
-    (passes.plain-is (word 5 (name a.names) (entries a.kinds.now a.words.now)) _ _
-    (after-word-len.word_len.ensures ∙ ap (wordFront _ _) after-first-entry.first_entry.ensures ∙ sym (items.word-front 5 _ _))
+    (passes.plain_is (word 5 (name a.names) (entries a.kinds.now a.words.now)) _ _
+    (after-word-len.word_len.ensures ∙ ap (word_front _ _) after-first-entry.first_entry.ensures ∙ sym (items.word_front_lem 5 _ _))
     after-plain.plain.ensures) _ _ c.before.before.n.given.1
-    (passes.within never (agrees-name _ 5) (entries a.kinds.now a.words.now) _
-    (passes.plain-is (word 5 (name a.names) (entries a.kinds.now a.words.now)) _ _
-    (after-word-len.word_len.ensures ∙ ap (wordFront _ _) after-first-entry.first_entry.ensures ∙ sym (items.word-front 5 _ _))
+    (passes.within never (agrees_name _ 5) (entries a.kinds.now a.words.now) _
+    (passes.plain_is (word 5 (name a.names) (entries a.kinds.now a.words.now)) _ _
+    (after-word-len.word_len.ensures ∙ ap (word_front _ _) after-first-entry.first_entry.ensures ∙ sym (items.word_front_lem 5 _ _))
     after-plain.plain.ensures))
 
 part-signature-and-blocks-len-start-2 : tie.Need-slice-bounds-signature-and-blocks-len-start-2
@@ -169,15 +169,15 @@ part-signature-and-blocks-len-start-2 c =
     let after-first-entry = after-word-len.before in
     let entry = after-first-entry.before.before.before.before in
     let a = entry.args in
-    passes.both_words (word 5 (name a.names)) (both (type a.names) (both (many (item a.names Item.param)) (many (basicBlock a.names))))
-    never (pairTest never (pairTest (any (otherItem Item.param)) (any (forbiddenBlock (bit_at a.barred.now))))) a.kinds.now a.words.now
+    passes.both_words (word 5 (name a.names)) (both (type a.names) (both (many (item a.names Item.param)) (many (basic_block a.names))))
+    never (pair_test never (pair_test (any (other_item Item.param)) (any (forbidden_block (bit_at a.barred.now))))) a.kinds.now a.words.now
     _
-    (passes.plain-is (word 5 (name a.names) (entries a.kinds.now a.words.now)) _ _
-    (after-word-len.word_len.ensures ∙ ap (wordFront _ _) after-first-entry.first_entry.ensures ∙ sym (items.word-front 5 _ _))
+    (passes.plain_is (word 5 (name a.names) (entries a.kinds.now a.words.now)) _ _
+    (after-word-len.word_len.ensures ∙ ap (word_front _ _) after-first-entry.first_entry.ensures ∙ sym (items.word_front_lem 5 _ _))
     after-plain.plain.ensures) _ _ c.before.before.n.given.1
-    (passes.within never (agrees-name _ 5) (entries a.kinds.now a.words.now) _
-    (passes.plain-is (word 5 (name a.names) (entries a.kinds.now a.words.now)) _ _
-    (after-word-len.word_len.ensures ∙ ap (wordFront _ _) after-first-entry.first_entry.ensures ∙ sym (items.word-front 5 _ _))
+    (passes.within never (agrees_name _ 5) (entries a.kinds.now a.words.now) _
+    (passes.plain_is (word 5 (name a.names) (entries a.kinds.now a.words.now)) _ _
+    (after-word-len.word_len.ensures ∙ ap (word_front _ _) after-first-entry.first_entry.ensures ∙ sym (items.word_front_lem 5 _ _))
     after-plain.plain.ensures))
 
 part-signature-and-blocks-len-end-2 : tie.Need-slice-bounds-signature-and-blocks-len-end-2
@@ -194,18 +194,18 @@ join-found-requires c κs =
     let after-first-entry = after-word-len.before in
     let entry = after-first-entry.before.before.before.before in
     let a = entry.args in
-    passes.both-room (word 5 (name a.names)) (both (type a.names) (both (many (item a.names Item.param)) (many (basicBlock a.names))))
-    never (pairTest never (pairTest (any (otherItem Item.param)) (any (forbiddenBlock (bit_at a.barred.now))))) a.kinds.now a.words.now
+    passes.both_room (word 5 (name a.names)) (both (type a.names) (both (many (item a.names Item.param)) (many (basic_block a.names))))
+    never (pair_test never (pair_test (any (other_item Item.param)) (any (forbidden_block (bit_at a.barred.now))))) a.kinds.now a.words.now
     _
-    (passes.plain-is (word 5 (name a.names) (entries a.kinds.now a.words.now)) _ _
-    (after-word-len.word_len.ensures ∙ ap (wordFront _ _) after-first-entry.first_entry.ensures ∙ sym (items.word-front 5 _ _))
+    (passes.plain_is (word 5 (name a.names) (entries a.kinds.now a.words.now)) _ _
+    (after-word-len.word_len.ensures ∙ ap (word_front _ _) after-first-entry.first_entry.ensures ∙ sym (items.word_front_lem 5 _ _))
     after-plain.plain.ensures) _ _ after-n.n.given.1
-    (passes.within never (agrees-name _ 5) (entries a.kinds.now a.words.now) _
-    (passes.plain-is (word 5 (name a.names) (entries a.kinds.now a.words.now)) _ _
-    (after-word-len.word_len.ensures ∙ ap (wordFront _ _) after-first-entry.first_entry.ensures ∙ sym (items.word-front 5 _ _))
+    (passes.within never (agrees_name _ 5) (entries a.kinds.now a.words.now) _
+    (passes.plain_is (word 5 (name a.names) (entries a.kinds.now a.words.now)) _ _
+    (after-word-len.word_len.ensures ∙ ap (word_front _ _) after-first-entry.first_entry.ensures ∙ sym (items.word_front_lem 5 _ _))
     after-plain.plain.ensures)) (omega arith) _
-    (passes.within (pairTest never (pairTest (any (otherItem Item.param)) (any (forbiddenBlock (bit_at a.barred.now)))))
-    (agrees-signature-and-blocks _) (lentFrom a.kinds.now a.words.now after-n.n.given.0.0) _
+    (passes.within (pair_test never (pair_test (any (other_item Item.param)) (any (forbidden_block (bit_at a.barred.now)))))
+    (agrees_signature_and_blocks _) (lent_from a.kinds.now a.words.now after-n.n.given.0.0) _
     c.signature-and-blocks-len.ensures)
 
 returns-2 : tie.Need-returns-2
@@ -217,19 +217,19 @@ returns-2 c =
     let after-first-entry = after-word-len.before in
     let entry = after-first-entry.before.before.before.before in
     let a = entry.args in
-    passes.both-arm (word 5 (name a.names)) (both (type a.names) (both (many (item a.names Item.param)) (many (basicBlock a.names))))
-    never (pairTest never (pairTest (any (otherItem Item.param)) (any (forbiddenBlock (bit_at a.barred.now))))) a.kinds.now a.words.now
+    passes.both_arm (word 5 (name a.names)) (both (type a.names) (both (many (item a.names Item.param)) (many (basic_block a.names))))
+    never (pair_test never (pair_test (any (other_item Item.param)) (any (forbidden_block (bit_at a.barred.now))))) a.kinds.now a.words.now
     _
-    (passes.plain-is (word 5 (name a.names) (entries a.kinds.now a.words.now)) _ _
-    (after-word-len.word_len.ensures ∙ ap (wordFront _ _) after-first-entry.first_entry.ensures ∙ sym (items.word-front 5 _ _))
+    (passes.plain_is (word 5 (name a.names) (entries a.kinds.now a.words.now)) _ _
+    (after-word-len.word_len.ensures ∙ ap (word_front _ _) after-first-entry.first_entry.ensures ∙ sym (items.word_front_lem 5 _ _))
     after-plain.plain.ensures) _ _ after-n.n.given.1 _ _ c.before.signature-and-blocks-len.ensures c.join-found.ensures ∙
-    passes.found-ext (pairTest never (pairTest never (pairTest (any (otherItem Item.param)) (any (forbiddenBlock (bit_at a.barred.now))))))
-    (λ p. any (forbiddenBlock (bit_at a.barred.now)) p.1.1.1) (calls.no-param (bit_at a.barred.now))
-    ((both (word 5 (name a.names)) (both (type a.names) (both (many (item a.names Item.param)) (many (basicBlock a.names)))))
+    passes.found_ext (pair_test never (pair_test never (pair_test (any (other_item Item.param)) (any (forbidden_block (bit_at a.barred.now))))))
+    (λ p. any (forbidden_block (bit_at a.barred.now)) p.1.1.1) (calls.no_param (bit_at a.barred.now))
+    ((both (word 5 (name a.names)) (both (type a.names) (both (many (item a.names Item.param)) (many (basic_block a.names)))))
     (entries a.kinds.now a.words.now)) ∙ sym
-    (passes.mapped-found (forbiddenFunction (bit_at a.barred.now))
-    (λ p. record { name = p.0; retTy = p.1.0; params = p.1.1.0; blocks = p.1.1.1 })
-    (both (word 5 (name a.names)) (both (type a.names) (both (many (item a.names Item.param)) (many (basicBlock a.names)))))
+    (passes.mapped_found (forbidden_function (bit_at a.barred.now))
+    (λ p. record { name = p.0; ret_ty = p.1.0; params = p.1.1.0; blocks = p.1.1.1 })
+    (both (word 5 (name a.names)) (both (type a.names) (both (many (item a.names Item.param)) (many (basic_block a.names)))))
     (entries a.kinds.now a.words.now))
 
 pub function-len-spec : {M : Type 1} → statement M

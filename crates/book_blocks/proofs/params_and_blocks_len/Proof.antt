@@ -4,11 +4,11 @@ use Rattle.numbers.specs.Bits.{bit_at}
 use Rattle.book.specs.Entry.{entries}
 use Rattle.book.specs.Read.{many}
 use Rattle.book.specs.Fields.{Item}
-use Rattle.book.specs.Decode.{item, basicBlock}
-use Rattle.book.specs.Forbidden.{any, otherItem, forbiddenBlock}
-use Rattle.book.specs.AgreeInst.{agrees-items}
-use Rattle.book.specs.AgreeBook.{agrees-blocks}
-use Rattle.book_types.specs.Laws.{lentFrom}
+use Rattle.book.specs.Decode.{item, basic_block}
+use Rattle.book.specs.Forbidden.{any, other_item, forbidden_block}
+use Rattle.book.specs.AgreeInst.{agrees_items}
+use Rattle.book.specs.AgreeBook.{agrees_blocks}
+use Rattle.book_types.specs.Laws.{lent_from}
 use Rattle.book_types.specs.Passes as passes
 use borrow.Author.Rules.{rules}
 use Rattle.book_blocks.proofs.params_and_blocks_len.Statement.{statement}
@@ -35,9 +35,9 @@ returns c =
     let after-shorter = c.before.before.before in
     let entry = after-shorter.before.before.before.before in
     let a = entry.args in
-    passes.both-bad (many (item a.names Item.param)) (many (basicBlock a.names)) (any (otherItem Item.param))
-    (any (forbiddenBlock (bit_at a.barred.now))) a.kinds.now a.words.now _
-    (passes.listed (otherItem Item.param) (item a.names Item.param) (entries a.kinds.now a.words.now) _ _
+    passes.both_bad (many (item a.names Item.param)) (many (basic_block a.names)) (any (other_item Item.param))
+    (any (forbidden_block (bit_at a.barred.now))) a.kinds.now a.words.now _
+    (passes.listed (other_item Item.param) (item a.names Item.param) (entries a.kinds.now a.words.now) _ _
     c.before.before.list-len.ensures after-shorter.shorter.ensures) c.enum_told.given.1
 
 mul-blocks-len : tie.Need-overflow-mul-blocks-len
@@ -48,12 +48,12 @@ mul-blocks-len c =
     let a = entry.args in
     omega (
       arith,
-      passes.both-kinds (many (item a.names Item.param)) (many (basicBlock a.names)) (any (otherItem Item.param))
-          (any (forbiddenBlock (bit_at a.barred.now))) a.kinds.now a.words.now _
-          (passes.listed (otherItem Item.param) (item a.names Item.param) (entries a.kinds.now a.words.now) _ _
+      passes.both_kinds (many (item a.names Item.param)) (many (basic_block a.names)) (any (other_item Item.param))
+          (any (forbidden_block (bit_at a.barred.now))) a.kinds.now a.words.now _
+          (passes.listed (other_item Item.param) (item a.names Item.param) (entries a.kinds.now a.words.now) _ _
           after-list-len.list-len.ensures after-shorter.shorter.ensures) _ _ c.before.n.given.1
-          (passes.within (any (otherItem Item.param)) (agrees-items _ Item.param) (entries a.kinds.now a.words.now) _
-          (passes.listed (otherItem Item.param) (item a.names Item.param) (entries a.kinds.now a.words.now) _ _
+          (passes.within (any (other_item Item.param)) (agrees_items _ Item.param) (entries a.kinds.now a.words.now) _
+          (passes.listed (other_item Item.param) (item a.names Item.param) (entries a.kinds.now a.words.now) _ _
           after-list-len.list-len.ensures after-shorter.shorter.ensures)),
       entry.well-formed,
     )
@@ -64,12 +64,12 @@ sub-blocks-len c =
     let after-shorter = after-list-len.before in
     let entry = after-shorter.before.before.before.before in
     let a = entry.args in
-    passes.both-kinds (many (item a.names Item.param)) (many (basicBlock a.names)) (any (otherItem Item.param))
-    (any (forbiddenBlock (bit_at a.barred.now))) a.kinds.now a.words.now _
-    (passes.listed (otherItem Item.param) (item a.names Item.param) (entries a.kinds.now a.words.now) _ _
+    passes.both_kinds (many (item a.names Item.param)) (many (basic_block a.names)) (any (other_item Item.param))
+    (any (forbidden_block (bit_at a.barred.now))) a.kinds.now a.words.now _
+    (passes.listed (other_item Item.param) (item a.names Item.param) (entries a.kinds.now a.words.now) _ _
     after-list-len.list-len.ensures after-shorter.shorter.ensures) _ _ c.before.n.given.1
-    (passes.within (any (otherItem Item.param)) (agrees-items _ Item.param) (entries a.kinds.now a.words.now) _
-    (passes.listed (otherItem Item.param) (item a.names Item.param) (entries a.kinds.now a.words.now) _ _
+    (passes.within (any (other_item Item.param)) (agrees_items _ Item.param) (entries a.kinds.now a.words.now) _
+    (passes.listed (other_item Item.param) (item a.names Item.param) (entries a.kinds.now a.words.now) _ _
     after-list-len.list-len.ensures after-shorter.shorter.ensures))
 
 part-blocks-len-start : tie.Need-slice-bounds-blocks-len-start
@@ -78,12 +78,12 @@ part-blocks-len-start c =
     let after-shorter = after-list-len.before in
     let entry = after-shorter.before.before.before.before in
     let a = entry.args in
-    passes.both-kinds (many (item a.names Item.param)) (many (basicBlock a.names)) (any (otherItem Item.param))
-    (any (forbiddenBlock (bit_at a.barred.now))) a.kinds.now a.words.now _
-    (passes.listed (otherItem Item.param) (item a.names Item.param) (entries a.kinds.now a.words.now) _ _
+    passes.both_kinds (many (item a.names Item.param)) (many (basic_block a.names)) (any (other_item Item.param))
+    (any (forbidden_block (bit_at a.barred.now))) a.kinds.now a.words.now _
+    (passes.listed (other_item Item.param) (item a.names Item.param) (entries a.kinds.now a.words.now) _ _
     after-list-len.list-len.ensures after-shorter.shorter.ensures) _ _ c.before.n.given.1
-    (passes.within (any (otherItem Item.param)) (agrees-items _ Item.param) (entries a.kinds.now a.words.now) _
-    (passes.listed (otherItem Item.param) (item a.names Item.param) (entries a.kinds.now a.words.now) _ _
+    (passes.within (any (other_item Item.param)) (agrees_items _ Item.param) (entries a.kinds.now a.words.now) _
+    (passes.listed (other_item Item.param) (item a.names Item.param) (entries a.kinds.now a.words.now) _ _
     after-list-len.list-len.ensures after-shorter.shorter.ensures))
 
 part-blocks-len-end : tie.Need-slice-bounds-blocks-len-end
@@ -97,12 +97,12 @@ mul-blocks-len-2 c =
     let a = entry.args in
     omega (
       arith,
-      passes.both_words (many (item a.names Item.param)) (many (basicBlock a.names)) (any (otherItem Item.param))
-          (any (forbiddenBlock (bit_at a.barred.now))) a.kinds.now a.words.now _
-          (passes.listed (otherItem Item.param) (item a.names Item.param) (entries a.kinds.now a.words.now) _ _
+      passes.both_words (many (item a.names Item.param)) (many (basic_block a.names)) (any (other_item Item.param))
+          (any (forbidden_block (bit_at a.barred.now))) a.kinds.now a.words.now _
+          (passes.listed (other_item Item.param) (item a.names Item.param) (entries a.kinds.now a.words.now) _ _
           after-list-len.list-len.ensures after-shorter.shorter.ensures) _ _ c.before.before.n.given.1
-          (passes.within (any (otherItem Item.param)) (agrees-items _ Item.param) (entries a.kinds.now a.words.now) _
-          (passes.listed (otherItem Item.param) (item a.names Item.param) (entries a.kinds.now a.words.now) _ _
+          (passes.within (any (other_item Item.param)) (agrees_items _ Item.param) (entries a.kinds.now a.words.now) _
+          (passes.listed (other_item Item.param) (item a.names Item.param) (entries a.kinds.now a.words.now) _ _
           after-list-len.list-len.ensures after-shorter.shorter.ensures)),
       entry.well-formed,
     )
@@ -113,12 +113,12 @@ sub-blocks-len-2 c =
     let after-shorter = after-list-len.before in
     let entry = after-shorter.before.before.before.before in
     let a = entry.args in
-    passes.both_words (many (item a.names Item.param)) (many (basicBlock a.names)) (any (otherItem Item.param))
-    (any (forbiddenBlock (bit_at a.barred.now))) a.kinds.now a.words.now _
-    (passes.listed (otherItem Item.param) (item a.names Item.param) (entries a.kinds.now a.words.now) _ _
+    passes.both_words (many (item a.names Item.param)) (many (basic_block a.names)) (any (other_item Item.param))
+    (any (forbidden_block (bit_at a.barred.now))) a.kinds.now a.words.now _
+    (passes.listed (other_item Item.param) (item a.names Item.param) (entries a.kinds.now a.words.now) _ _
     after-list-len.list-len.ensures after-shorter.shorter.ensures) _ _ c.before.before.n.given.1
-    (passes.within (any (otherItem Item.param)) (agrees-items _ Item.param) (entries a.kinds.now a.words.now) _
-    (passes.listed (otherItem Item.param) (item a.names Item.param) (entries a.kinds.now a.words.now) _ _
+    (passes.within (any (other_item Item.param)) (agrees_items _ Item.param) (entries a.kinds.now a.words.now) _
+    (passes.listed (other_item Item.param) (item a.names Item.param) (entries a.kinds.now a.words.now) _ _
     after-list-len.list-len.ensures after-shorter.shorter.ensures))
 
 part-blocks-len-start-2 : tie.Need-slice-bounds-blocks-len-start-2
@@ -127,12 +127,12 @@ part-blocks-len-start-2 c =
     let after-shorter = after-list-len.before in
     let entry = after-shorter.before.before.before.before in
     let a = entry.args in
-    passes.both_words (many (item a.names Item.param)) (many (basicBlock a.names)) (any (otherItem Item.param))
-    (any (forbiddenBlock (bit_at a.barred.now))) a.kinds.now a.words.now _
-    (passes.listed (otherItem Item.param) (item a.names Item.param) (entries a.kinds.now a.words.now) _ _
+    passes.both_words (many (item a.names Item.param)) (many (basic_block a.names)) (any (other_item Item.param))
+    (any (forbidden_block (bit_at a.barred.now))) a.kinds.now a.words.now _
+    (passes.listed (other_item Item.param) (item a.names Item.param) (entries a.kinds.now a.words.now) _ _
     after-list-len.list-len.ensures after-shorter.shorter.ensures) _ _ c.before.before.n.given.1
-    (passes.within (any (otherItem Item.param)) (agrees-items _ Item.param) (entries a.kinds.now a.words.now) _
-    (passes.listed (otherItem Item.param) (item a.names Item.param) (entries a.kinds.now a.words.now) _ _
+    (passes.within (any (other_item Item.param)) (agrees_items _ Item.param) (entries a.kinds.now a.words.now) _
+    (passes.listed (other_item Item.param) (item a.names Item.param) (entries a.kinds.now a.words.now) _ _
     after-list-len.list-len.ensures after-shorter.shorter.ensures))
 
 part-blocks-len-end-2 : tie.Need-slice-bounds-blocks-len-end-2
@@ -148,15 +148,15 @@ join-found-requires c κs =
     let after-shorter = after-list-len.before in
     let entry = after-shorter.before.before.before.before in
     let a = entry.args in
-    passes.both-room (many (item a.names Item.param)) (many (basicBlock a.names)) (any (otherItem Item.param))
-    (any (forbiddenBlock (bit_at a.barred.now))) a.kinds.now a.words.now _
-    (passes.listed (otherItem Item.param) (item a.names Item.param) (entries a.kinds.now a.words.now) _ _
+    passes.both_room (many (item a.names Item.param)) (many (basic_block a.names)) (any (other_item Item.param))
+    (any (forbidden_block (bit_at a.barred.now))) a.kinds.now a.words.now _
+    (passes.listed (other_item Item.param) (item a.names Item.param) (entries a.kinds.now a.words.now) _ _
     after-list-len.list-len.ensures after-shorter.shorter.ensures) _ _ after-n.n.given.1
-    (passes.within (any (otherItem Item.param)) (agrees-items _ Item.param) (entries a.kinds.now a.words.now) _
-    (passes.listed (otherItem Item.param) (item a.names Item.param) (entries a.kinds.now a.words.now) _ _
+    (passes.within (any (other_item Item.param)) (agrees_items _ Item.param) (entries a.kinds.now a.words.now) _
+    (passes.listed (other_item Item.param) (item a.names Item.param) (entries a.kinds.now a.words.now) _ _
     after-list-len.list-len.ensures after-shorter.shorter.ensures)) (omega arith) _
-    (passes.within (any (forbiddenBlock (bit_at a.barred.now))) (agrees-blocks _)
-    (lentFrom a.kinds.now a.words.now after-n.n.given.0.0) _ c.blocks-len.ensures)
+    (passes.within (any (forbidden_block (bit_at a.barred.now))) (agrees_blocks _)
+    (lent_from a.kinds.now a.words.now after-n.n.given.0.0) _ c.blocks-len.ensures)
 
 returns-2 : tie.Need-returns-2
 returns-2 c =
@@ -165,9 +165,9 @@ returns-2 c =
     let after-shorter = after-list-len.before in
     let entry = after-shorter.before.before.before.before in
     let a = entry.args in
-    passes.both-arm (many (item a.names Item.param)) (many (basicBlock a.names)) (any (otherItem Item.param))
-    (any (forbiddenBlock (bit_at a.barred.now))) a.kinds.now a.words.now _
-    (passes.listed (otherItem Item.param) (item a.names Item.param) (entries a.kinds.now a.words.now) _ _
+    passes.both_arm (many (item a.names Item.param)) (many (basic_block a.names)) (any (other_item Item.param))
+    (any (forbidden_block (bit_at a.barred.now))) a.kinds.now a.words.now _
+    (passes.listed (other_item Item.param) (item a.names Item.param) (entries a.kinds.now a.words.now) _ _
     after-list-len.list-len.ensures after-shorter.shorter.ensures) _ _ after-n.n.given.1 _ _ c.before.blocks-len.ensures
     c.join-found.ensures
 

@@ -4,8 +4,8 @@ use mathlib.Core.Path.{◌∙◌, sym, ap}
 use native.Mathlib.Omega.{arith}
 use lib.ListN.{length}
 use Rattle.numbers.specs.Bits.{bit_at}
-use Rattle.book_insts.specs.Insts.{shapeFields}
-use Rattle.book_insts.specs.Rules.{rules-length, rules-tell}
+use Rattle.book_insts.specs.Insts.{shape_fields}
+use Rattle.book_insts.specs.Rules.{rules_length, rules_tell}
 use Rattle.book_blocks.specs.Scan.{Ends, Scan}
 use Rattle.book_blocks.specs.Scan as scan
 use borrow.Author.Rules.{rules}
@@ -30,7 +30,7 @@ shorter-requires c κs = search rules
 loop-holds : tie.Need-loop-init invariant-loop decreases-loop
 loop-holds c =
     let a = c.before.before.before.before.before.args in
-    (scan.ends_there a.kinds.now a.words.now _ c.shorter.ensures, scan.scan-start (bit_at a.barred.now) a.names a.kinds.now a.words.now)
+    (scan.ends_there a.kinds.now a.words.now _ c.shorter.ensures, scan.scan_start (bit_at a.barred.now) a.names a.kinds.now a.words.now)
 
 mul-kind : tie.Need-overflow-mul-kind invariant-loop decreases-loop
 mul-kind c = search rules
@@ -47,7 +47,7 @@ shared-slice-read-word c = search rules
 one-entry-requires : tie.Need-one-entry-requires invariant-loop decreases-loop
 one-entry-requires c κs =
     let entry = c.before.before.before.before.before.before.before.before.before.before in
-    (ap length entry.requires ∙ rules-length entry.args.names, omega arith)
+    (ap length entry.requires ∙ rules_length entry.args.names, omega arith)
 
 add_at : tie.Need-overflow-add-at invariant-loop decreases-loop
 add_at c = search rules
@@ -62,9 +62,9 @@ loop-again c =
     let l = in-loop.before.loop.invariant in
     let entry = in-loop.before.before.before.before.before.before.before in (
       l.0,
-      scan.scan-field l.1 then1.if1.true 1 _
-          (scan.scan-alone l.1 then1.if1.true (omega arith)
-          (rules-tell entry.args.names _ (scan.scan-named l.1 then1.if1.true) _ entry.requires _ _ (omega arith) (sym c.before.one_entry.ensures ∙ c.if2.true))),
+      scan.scan_field l.1 then1.if1.true 1 _
+          (scan.scan_alone l.1 then1.if1.true (omega arith)
+          (rules_tell entry.args.names _ (scan.scan_named l.1 then1.if1.true) _ entry.requires _ _ (omega arith) (sym c.before.one_entry.ensures ∙ c.if2.true))),
     )
 
 mul-field-len : tie.Need-overflow-mul-field-len invariant-loop decreases-loop
@@ -106,7 +106,7 @@ returns c =
     let then1 = after-field-len.before.before.before.before.before in
     let in-loop = then1.before.before.before in
     let l = in-loop.before.loop.invariant in
-    scan.scan-no-field l.1 then1.if1.true (scan.scan-lent l.1 then1.if1.true _ _ after-field-len.field-len.ensures c.enum_told.given.1)
+    scan.scan_no_field l.1 then1.if1.true (scan.scan_lent l.1 then1.if1.true _ _ after-field-len.field-len.ensures c.enum_told.given.1)
 
 add-at-2 : tie.Need-overflow-add-at-2 invariant-loop decreases-loop
 add-at-2 c =
@@ -114,7 +114,7 @@ add-at-2 c =
     let then1 = after-field-len.before.before.before.before.before in
     let in-loop = then1.before.before.before in
     let l = in-loop.before.loop.invariant in
-    omega (arith, scan.scan-there l.1 then1.if1.true _ _ (scan.scan-lent l.1 then1.if1.true _ _ after-field-len.field-len.ensures c.before.n.given.1))
+    omega (arith, scan.scan_there l.1 then1.if1.true _ _ (scan.scan_lent l.1 then1.if1.true _ _ after-field-len.field-len.ensures c.before.n.given.1))
 
 loop-less-2 : tie.Need-loop-smaller-2 invariant-loop decreases-loop
 loop-less-2 c =
@@ -122,7 +122,7 @@ loop-less-2 c =
     let then1 = after-field-len.before.before.before.before.before in
     let in-loop = then1.before.before.before in
     let l = in-loop.before.loop.invariant in
-    omega (arith, scan.scan-takes l.1 then1.if1.true _ _ (scan.scan-lent l.1 then1.if1.true _ _ after-field-len.field-len.ensures c.before.n.given.1))
+    omega (arith, scan.scan_takes l.1 then1.if1.true _ _ (scan.scan_lent l.1 then1.if1.true _ _ after-field-len.field-len.ensures c.before.n.given.1))
 
 loop-again-2 : tie.Need-loop-preserved-2 invariant-loop decreases-loop
 loop-again-2 c =
@@ -130,7 +130,7 @@ loop-again-2 c =
     let then1 = after-field-len.before.before.before.before.before in
     let in-loop = then1.before.before.before in
     let l = in-loop.before.loop.invariant in
-    (l.0, scan.scan-field l.1 then1.if1.true _ _ (scan.scan-lent l.1 then1.if1.true _ _ after-field-len.field-len.ensures c.before.n.given.1))
+    (l.0, scan.scan_field l.1 then1.if1.true _ _ (scan.scan_lent l.1 then1.if1.true _ _ after-field-len.field-len.ensures c.before.n.given.1))
 
 fields-behind-requires : tie.Need-fields-behind-requires invariant-loop decreases-loop
 fields-behind-requires c κs = search rules
@@ -148,7 +148,7 @@ returns-2 c =
     let else1 = then3.before in
     let in-loop = else1.before.before.before in
     let l = in-loop.before.loop.invariant in
-    scan.scan-unknown l.1 else1.if1.false (omega arith) then3.if3.true (ap shapeFields (sym c.enum-told2.given.1) ∙ after-fields-behind.fields-behind.ensures)
+    scan.scan_unknown l.1 else1.if1.false (omega arith) then3.if3.true (ap shape_fields (sym c.enum-told2.given.1) ∙ after-fields-behind.fields_behind_lem.ensures)
 
 add-at-3 : tie.Need-overflow-add-at-3 invariant-loop decreases-loop
 add-at-3 c = search rules
@@ -193,9 +193,9 @@ loop-again-3 c =
     let in-loop = else1.before.before.before in
     let l = in-loop.before.loop.invariant in (
       l.0,
-      scan.scan-known l.1 else1.if1.false (omega arith) then3.if3.true _ (omega arith)
-          (ap shapeFields (sym after-fields.fields.given.1) ∙ after-fields-behind.fields-behind.ensures) _
-          (scan.scan-call l.1 else1.if1.false (omega arith) then3.if3.true then4.if4.true _ c.call-barred.ensures),
+      scan.scan_known l.1 else1.if1.false (omega arith) then3.if3.true _ (omega arith)
+          (ap shape_fields (sym after-fields.fields.given.1) ∙ after-fields-behind.fields_behind_lem.ensures) _
+          (scan.scan_call l.1 else1.if1.false (omega arith) then3.if3.true then4.if4.true _ c.call-barred.ensures),
     )
 
 loop-less-4 : tie.Need-loop-smaller-4 invariant-loop decreases-loop
@@ -210,9 +210,9 @@ loop-again-4 c =
     let in-loop = else1.before.before.before in
     let l = in-loop.before.loop.invariant in (
       l.0,
-      scan.scan-known l.1 else1.if1.false (omega arith) then3.if3.true _ (omega arith)
-          (ap shapeFields (sym after-fields.fields.given.1) ∙ after-fields-behind.fields-behind.ensures) _
-          (scan.scan-no-call l.1 else1.if1.false (omega arith) then3.if3.true c.if4.false),
+      scan.scan_known l.1 else1.if1.false (omega arith) then3.if3.true _ (omega arith)
+          (ap shape_fields (sym after-fields.fields.given.1) ∙ after-fields-behind.fields_behind_lem.ensures) _
+          (scan.scan_no_call l.1 else1.if1.false (omega arith) then3.if3.true c.if4.false),
     )
 
 add-t50 : tie.Need-overflow-add-t50 invariant-loop decreases-loop
@@ -224,7 +224,7 @@ returns-3 c =
     let else1 = else3.before in
     let in-loop = else1.before.before.before in
     let l = in-loop.before.loop.invariant in
-    scan.scan-closed l.1 else1.if1.false (omega arith) else3.if3.false c.if5.true
+    scan.scan_closed l.1 else1.if1.false (omega arith) else3.if3.false c.if5.true
 
 returns-4 : tie.Need-returns-4 invariant-loop decreases-loop
 returns-4 c =
@@ -233,7 +233,7 @@ returns-4 c =
     let else1 = else3.before in
     let in-loop = else1.before.before.before in
     let l = in-loop.before.loop.invariant in
-    scan.scan-bad l.1 else1.if1.false (omega arith) else3.if3.false else5.if5.false c.if6.true
+    scan.scan_bad l.1 else1.if1.false (omega arith) else3.if3.false else5.if5.false c.if6.true
 
 add-at-4 : tie.Need-overflow-add-at-4 invariant-loop decreases-loop
 add-at-4 c = search rules
@@ -248,12 +248,12 @@ loop-again-5 c =
     let else1 = else3.before in
     let in-loop = else1.before.before.before in
     let l = in-loop.before.loop.invariant in
-    (l.0, scan.scan-head l.1 else1.if1.false (omega arith) else3.if3.false c.if6.false)
+    (l.0, scan.scan_head l.1 else1.if1.false (omega arith) else3.if3.false c.if6.false)
 
 returns-5 : tie.Need-returns-5 invariant-loop decreases-loop
 returns-5 c =
     let l = c.before.loop.invariant in
-    scan.scan-over l.1 (omega arith)
+    scan.scan_over l.1 (omega arith)
 
 pub scan-blocks-spec : {M : Type 1} → statement M
 scan-blocks-spec =

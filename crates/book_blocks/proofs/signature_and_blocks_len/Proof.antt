@@ -4,12 +4,12 @@ use Rattle.numbers.specs.Bits.{bit_at}
 use Rattle.book.specs.Entry.{entries}
 use Rattle.book.specs.Read.{many, both}
 use Rattle.book.specs.Fields.{Item}
-use Rattle.book.specs.Decode.{type, item, basicBlock}
-use Rattle.book.specs.Forbidden.{any, otherItem, forbiddenBlock}
-use Rattle.book.specs.AgreeTy.{agrees-type}
-use Rattle.book.specs.AgreeBook.{agrees-params-and-blocks}
-use Rattle.book_types.specs.Laws.{lentFrom}
-use Rattle.book_types.specs.Found.{pairTest, never}
+use Rattle.book.specs.Decode.{type, item, basic_block}
+use Rattle.book.specs.Forbidden.{any, other_item, forbidden_block}
+use Rattle.book.specs.AgreeTy.{agrees_type}
+use Rattle.book.specs.AgreeBook.{agrees_params_and_blocks}
+use Rattle.book_types.specs.Laws.{lent_from}
+use Rattle.book_types.specs.Found.{pair_test, never}
 use Rattle.book_types.specs.Passes as passes
 use borrow.Author.Rules.{rules}
 use Rattle.book_blocks.proofs.signature_and_blocks_len.Statement.{statement}
@@ -36,9 +36,9 @@ returns c =
     let after-type-len = c.before.before.before in
     let entry = after-type-len.before.before.before.before in
     let a = entry.args in
-    passes.both-bad (type a.names) (both (many (item a.names Item.param)) (many (basicBlock a.names))) never
-    (pairTest (any (otherItem Item.param)) (any (forbiddenBlock (bit_at a.barred.now)))) a.kinds.now a.words.now _
-    (passes.plain-is (type a.names (entries a.kinds.now a.words.now)) _ _ after-type-len.type-len.ensures
+    passes.both_bad (type a.names) (both (many (item a.names Item.param)) (many (basic_block a.names))) never
+    (pair_test (any (other_item Item.param)) (any (forbidden_block (bit_at a.barred.now)))) a.kinds.now a.words.now _
+    (passes.plain_is (type a.names (entries a.kinds.now a.words.now)) _ _ after-type-len.type_len_lem.ensures
     c.before.before.plain.ensures) c.enum_told.given.1
 
 mul-params-and-blocks-len : tie.Need-overflow-mul-params-and-blocks-len
@@ -49,12 +49,12 @@ mul-params-and-blocks-len c =
     let a = entry.args in
     omega (
       arith,
-      passes.both-kinds (type a.names) (both (many (item a.names Item.param)) (many (basicBlock a.names))) never
-          (pairTest (any (otherItem Item.param)) (any (forbiddenBlock (bit_at a.barred.now)))) a.kinds.now a.words.now _
-          (passes.plain-is (type a.names (entries a.kinds.now a.words.now)) _ _ after-type-len.type-len.ensures
+      passes.both_kinds (type a.names) (both (many (item a.names Item.param)) (many (basic_block a.names))) never
+          (pair_test (any (other_item Item.param)) (any (forbidden_block (bit_at a.barred.now)))) a.kinds.now a.words.now _
+          (passes.plain_is (type a.names (entries a.kinds.now a.words.now)) _ _ after-type-len.type_len_lem.ensures
           after-plain.plain.ensures) _ _ c.before.n.given.1
-          (passes.within never (agrees-type _) (entries a.kinds.now a.words.now) _
-          (passes.plain-is (type a.names (entries a.kinds.now a.words.now)) _ _ after-type-len.type-len.ensures
+          (passes.within never (agrees_type _) (entries a.kinds.now a.words.now) _
+          (passes.plain_is (type a.names (entries a.kinds.now a.words.now)) _ _ after-type-len.type_len_lem.ensures
           after-plain.plain.ensures)),
       entry.well-formed,
     )
@@ -65,12 +65,12 @@ sub-params-and-blocks-len c =
     let after-type-len = after-plain.before in
     let entry = after-type-len.before.before.before.before in
     let a = entry.args in
-    passes.both-kinds (type a.names) (both (many (item a.names Item.param)) (many (basicBlock a.names))) never
-    (pairTest (any (otherItem Item.param)) (any (forbiddenBlock (bit_at a.barred.now)))) a.kinds.now a.words.now _
-    (passes.plain-is (type a.names (entries a.kinds.now a.words.now)) _ _ after-type-len.type-len.ensures
+    passes.both_kinds (type a.names) (both (many (item a.names Item.param)) (many (basic_block a.names))) never
+    (pair_test (any (other_item Item.param)) (any (forbidden_block (bit_at a.barred.now)))) a.kinds.now a.words.now _
+    (passes.plain_is (type a.names (entries a.kinds.now a.words.now)) _ _ after-type-len.type_len_lem.ensures
     after-plain.plain.ensures) _ _ c.before.n.given.1
-    (passes.within never (agrees-type _) (entries a.kinds.now a.words.now) _
-    (passes.plain-is (type a.names (entries a.kinds.now a.words.now)) _ _ after-type-len.type-len.ensures
+    (passes.within never (agrees_type _) (entries a.kinds.now a.words.now) _
+    (passes.plain_is (type a.names (entries a.kinds.now a.words.now)) _ _ after-type-len.type_len_lem.ensures
     after-plain.plain.ensures))
 
 part-params-and-blocks-len-start : tie.Need-slice-bounds-params-and-blocks-len-start
@@ -79,12 +79,12 @@ part-params-and-blocks-len-start c =
     let after-type-len = after-plain.before in
     let entry = after-type-len.before.before.before.before in
     let a = entry.args in
-    passes.both-kinds (type a.names) (both (many (item a.names Item.param)) (many (basicBlock a.names))) never
-    (pairTest (any (otherItem Item.param)) (any (forbiddenBlock (bit_at a.barred.now)))) a.kinds.now a.words.now _
-    (passes.plain-is (type a.names (entries a.kinds.now a.words.now)) _ _ after-type-len.type-len.ensures
+    passes.both_kinds (type a.names) (both (many (item a.names Item.param)) (many (basic_block a.names))) never
+    (pair_test (any (other_item Item.param)) (any (forbidden_block (bit_at a.barred.now)))) a.kinds.now a.words.now _
+    (passes.plain_is (type a.names (entries a.kinds.now a.words.now)) _ _ after-type-len.type_len_lem.ensures
     after-plain.plain.ensures) _ _ c.before.n.given.1
-    (passes.within never (agrees-type _) (entries a.kinds.now a.words.now) _
-    (passes.plain-is (type a.names (entries a.kinds.now a.words.now)) _ _ after-type-len.type-len.ensures
+    (passes.within never (agrees_type _) (entries a.kinds.now a.words.now) _
+    (passes.plain_is (type a.names (entries a.kinds.now a.words.now)) _ _ after-type-len.type_len_lem.ensures
     after-plain.plain.ensures))
 
 part-params-and-blocks-len-end : tie.Need-slice-bounds-params-and-blocks-len-end
@@ -98,12 +98,12 @@ mul-params-and-blocks-len-2 c =
     let a = entry.args in
     omega (
       arith,
-      passes.both_words (type a.names) (both (many (item a.names Item.param)) (many (basicBlock a.names))) never
-          (pairTest (any (otherItem Item.param)) (any (forbiddenBlock (bit_at a.barred.now)))) a.kinds.now a.words.now _
-          (passes.plain-is (type a.names (entries a.kinds.now a.words.now)) _ _ after-type-len.type-len.ensures
+      passes.both_words (type a.names) (both (many (item a.names Item.param)) (many (basic_block a.names))) never
+          (pair_test (any (other_item Item.param)) (any (forbidden_block (bit_at a.barred.now)))) a.kinds.now a.words.now _
+          (passes.plain_is (type a.names (entries a.kinds.now a.words.now)) _ _ after-type-len.type_len_lem.ensures
           after-plain.plain.ensures) _ _ c.before.before.n.given.1
-          (passes.within never (agrees-type _) (entries a.kinds.now a.words.now) _
-          (passes.plain-is (type a.names (entries a.kinds.now a.words.now)) _ _ after-type-len.type-len.ensures
+          (passes.within never (agrees_type _) (entries a.kinds.now a.words.now) _
+          (passes.plain_is (type a.names (entries a.kinds.now a.words.now)) _ _ after-type-len.type_len_lem.ensures
           after-plain.plain.ensures)),
       entry.well-formed,
     )
@@ -114,12 +114,12 @@ sub-params-and-blocks-len-2 c =
     let after-type-len = after-plain.before in
     let entry = after-type-len.before.before.before.before in
     let a = entry.args in
-    passes.both_words (type a.names) (both (many (item a.names Item.param)) (many (basicBlock a.names))) never
-    (pairTest (any (otherItem Item.param)) (any (forbiddenBlock (bit_at a.barred.now)))) a.kinds.now a.words.now _
-    (passes.plain-is (type a.names (entries a.kinds.now a.words.now)) _ _ after-type-len.type-len.ensures
+    passes.both_words (type a.names) (both (many (item a.names Item.param)) (many (basic_block a.names))) never
+    (pair_test (any (other_item Item.param)) (any (forbidden_block (bit_at a.barred.now)))) a.kinds.now a.words.now _
+    (passes.plain_is (type a.names (entries a.kinds.now a.words.now)) _ _ after-type-len.type_len_lem.ensures
     after-plain.plain.ensures) _ _ c.before.before.n.given.1
-    (passes.within never (agrees-type _) (entries a.kinds.now a.words.now) _
-    (passes.plain-is (type a.names (entries a.kinds.now a.words.now)) _ _ after-type-len.type-len.ensures
+    (passes.within never (agrees_type _) (entries a.kinds.now a.words.now) _
+    (passes.plain_is (type a.names (entries a.kinds.now a.words.now)) _ _ after-type-len.type_len_lem.ensures
     after-plain.plain.ensures))
 
 part-params-and-blocks-len-start-2 : tie.Need-slice-bounds-params-and-blocks-len-start-2
@@ -128,12 +128,12 @@ part-params-and-blocks-len-start-2 c =
     let after-type-len = after-plain.before in
     let entry = after-type-len.before.before.before.before in
     let a = entry.args in
-    passes.both_words (type a.names) (both (many (item a.names Item.param)) (many (basicBlock a.names))) never
-    (pairTest (any (otherItem Item.param)) (any (forbiddenBlock (bit_at a.barred.now)))) a.kinds.now a.words.now _
-    (passes.plain-is (type a.names (entries a.kinds.now a.words.now)) _ _ after-type-len.type-len.ensures
+    passes.both_words (type a.names) (both (many (item a.names Item.param)) (many (basic_block a.names))) never
+    (pair_test (any (other_item Item.param)) (any (forbidden_block (bit_at a.barred.now)))) a.kinds.now a.words.now _
+    (passes.plain_is (type a.names (entries a.kinds.now a.words.now)) _ _ after-type-len.type_len_lem.ensures
     after-plain.plain.ensures) _ _ c.before.before.n.given.1
-    (passes.within never (agrees-type _) (entries a.kinds.now a.words.now) _
-    (passes.plain-is (type a.names (entries a.kinds.now a.words.now)) _ _ after-type-len.type-len.ensures
+    (passes.within never (agrees_type _) (entries a.kinds.now a.words.now) _
+    (passes.plain_is (type a.names (entries a.kinds.now a.words.now)) _ _ after-type-len.type_len_lem.ensures
     after-plain.plain.ensures))
 
 part-params-and-blocks-len-end-2 : tie.Need-slice-bounds-params-and-blocks-len-end-2
@@ -149,15 +149,15 @@ join-found-requires c κs =
     let after-type-len = after-plain.before in
     let entry = after-type-len.before.before.before.before in
     let a = entry.args in
-    passes.both-room (type a.names) (both (many (item a.names Item.param)) (many (basicBlock a.names))) never
-    (pairTest (any (otherItem Item.param)) (any (forbiddenBlock (bit_at a.barred.now)))) a.kinds.now a.words.now _
-    (passes.plain-is (type a.names (entries a.kinds.now a.words.now)) _ _ after-type-len.type-len.ensures
+    passes.both_room (type a.names) (both (many (item a.names Item.param)) (many (basic_block a.names))) never
+    (pair_test (any (other_item Item.param)) (any (forbidden_block (bit_at a.barred.now)))) a.kinds.now a.words.now _
+    (passes.plain_is (type a.names (entries a.kinds.now a.words.now)) _ _ after-type-len.type_len_lem.ensures
     after-plain.plain.ensures) _ _ after-n.n.given.1
-    (passes.within never (agrees-type _) (entries a.kinds.now a.words.now) _
-    (passes.plain-is (type a.names (entries a.kinds.now a.words.now)) _ _ after-type-len.type-len.ensures
+    (passes.within never (agrees_type _) (entries a.kinds.now a.words.now) _
+    (passes.plain_is (type a.names (entries a.kinds.now a.words.now)) _ _ after-type-len.type_len_lem.ensures
     after-plain.plain.ensures)) (omega arith) _
-    (passes.within (pairTest (any (otherItem Item.param)) (any (forbiddenBlock (bit_at a.barred.now)))) (agrees-params-and-blocks _)
-    (lentFrom a.kinds.now a.words.now after-n.n.given.0.0) _ c.params-and-blocks-len.ensures)
+    (passes.within (pair_test (any (other_item Item.param)) (any (forbidden_block (bit_at a.barred.now)))) (agrees_params_and_blocks _)
+    (lent_from a.kinds.now a.words.now after-n.n.given.0.0) _ c.params-and-blocks-len.ensures)
 
 returns-2 : tie.Need-returns-2
 returns-2 c =
@@ -166,9 +166,9 @@ returns-2 c =
     let after-type-len = after-plain.before in
     let entry = after-type-len.before.before.before.before in
     let a = entry.args in
-    passes.both-arm (type a.names) (both (many (item a.names Item.param)) (many (basicBlock a.names))) never
-    (pairTest (any (otherItem Item.param)) (any (forbiddenBlock (bit_at a.barred.now)))) a.kinds.now a.words.now _
-    (passes.plain-is (type a.names (entries a.kinds.now a.words.now)) _ _ after-type-len.type-len.ensures
+    passes.both_arm (type a.names) (both (many (item a.names Item.param)) (many (basic_block a.names))) never
+    (pair_test (any (other_item Item.param)) (any (forbidden_block (bit_at a.barred.now)))) a.kinds.now a.words.now _
+    (passes.plain_is (type a.names (entries a.kinds.now a.words.now)) _ _ after-type-len.type_len_lem.ensures
     after-plain.plain.ensures) _ _ after-n.n.given.1 _ _ c.before.params-and-blocks-len.ensures c.join-found.ensures
 
 pub signature-and-blocks-len-spec : {M : Type 1} → statement M

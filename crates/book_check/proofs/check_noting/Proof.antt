@@ -46,9 +46,9 @@ returns c =
     let entry = after-name-count.before.before.before.before in
     let a = entry.args in
     let named = after-read-names.read_names.ensures in (
-      verdict.check-sorted a.book.now a.names.now a.counter a.work _ after-name-count.name-count.ensures _
+      verdict.check_sorted a.book.now a.names.now a.counter a.work _ after-name-count.name-count.ensures _
           named.0 _ _ after-from.from.given.1 _ c.before.read-book.ensures _ c.judged.ensures,
-      λ _. verdict.noted-sorted a.book.now a.names.now a.counter a.work _ after-name-count.name-count.ensures _
+      λ _. verdict.noted_sorted a.book.now a.names.now a.counter a.work _ after-name-count.name-count.ensures _
           named.0 _ _ after-from.from.given.1 named.1,
     )
 
@@ -62,7 +62,7 @@ returns-2 c =
     let entry = after-name-count.before.before.before.before in
     let a = entry.args in
     let named = after-read-names.read_names.ensures in (
-      verdict.check-bad a.book.now a.names.now a.counter a.work _ after-name-count.name-count.ensures _
+      verdict.check_bad a.book.now a.names.now a.counter a.work _ after-name-count.name-count.ensures _
           named.0 c.before.before.enum_told.given.1 _ c.before.read-book2.ensures _ c.judged2.ensures,
       λ sound. absurd (verdict.unnamed a.book.now a.names.now a.counter a.work _ after-name-count.name-count.ensures _
           named.0 _ c.before.read-book2.ensures _ c.judged2.ensures sound),

@@ -8,7 +8,7 @@ shared-slice-read-result : tie.Need-shared-slice-read-result
 shared-slice-read-result c = search rules
 
 returns : tie.Need-returns
-returns c = verdict.no-count c.before.args.book.now c.if1.true
+returns c = verdict.no_count c.before.args.book.now c.if1.true
 
 returns-2 : tie.Need-returns-2
 returns-2 c = search rules

@@ -3,7 +3,7 @@ use mathlib.Core.Path.{◌∙◌, ap}
 use native.Mathlib.Omega.{arith}
 use lib.ListN.{get_or}
 use Rattle.book.specs.Decode.{decode}
-use Rattle.book_check.specs.Whole.{reading_of, barredRange}
+use Rattle.book_check.specs.Whole.{reading_of, barred_range}
 use Rattle.book_check.specs.Whole as whole
 use borrow.Author.Rules.{rules}
 use Rattle.book_check.proofs.read_book.Statement.{statement}
@@ -13,7 +13,7 @@ use Rattle.book_check.proofs.read_entries.Reads as read-entries-reads
 returns : tie.Need-returns
 returns c =
     let a = c.before.before.args in
-    whole.slice-short (barredRange a.from a.to) a.book.now c.if1.true
+    whole.slice_short (barred_range a.from a.to) a.book.now c.if1.true
 
 shared-slice-read-n : tie.Need-shared-slice-read-n
 shared-slice-read-n c = search rules
@@ -24,12 +24,12 @@ shared-slice-read-names c = search rules
 returns-2 : tie.Need-returns-2
 returns-2 c =
     let a = c.before.before.before.before.before.args in
-    whole.slice-entries (barredRange a.from a.to) a.book.now c.before.before.before.if1.false c.if2.true
+    whole.slice_entries (barred_range a.from a.to) a.book.now c.before.before.before.if1.false c.if2.true
 
 returns-3 : tie.Need-returns-3
 returns-3 c =
     let a = c.before.before.before.before.before.before.args in
-    whole.slice-names (barredRange a.from a.to) a.book.now c.before.before.before.before.if1.false c.before.if2.false c.if3.true
+    whole.slice_names (barred_range a.from a.to) a.book.now c.before.before.before.before.if1.false c.before.if2.false c.if3.true
 
 add_words : tie.Need-overflow-add-words
 add_words c = search rules
@@ -42,7 +42,7 @@ returns-4 c =
     let else1 = c.before.before.before.before.before in
     let entry = else1.before.before in
     let a = entry.args in
-    whole.slice-long (barredRange a.from a.to) a.book.now else1.if1.false c.before.before.if2.false c.before.if3.false
+    whole.slice_long (barred_range a.from a.to) a.book.now else1.if1.false c.before.before.if2.false c.before.if3.false
     (λ e. c.if4.true (omega arith))
 
 sub-read-entries : tie.Need-overflow-sub-read-entries
@@ -77,10 +77,10 @@ returns-5 c =
     let else1 = else2.before.before.before in
     let entry = else1.before.before in
     let a = entry.args in
-    whole.slice-ok (barredRange a.from a.to) a.book.now else1.if1.false else2.if2.false else3.if3.false
+    whole.slice_ok (barred_range a.from a.to) a.book.now else1.if1.false else2.if2.false else3.if3.false
     (omega (arith, else4.if4.false)) _
-    (c.read-entries.ensures ∙ ap (λ es. reading_of (barredRange a.from a.to) (decode (get_or a.book.now 1 0) es))
-    (whole.slice-parts (barredRange a.from a.to) a.book.now else1.if1.false else2.if2.false else3.if3.false
+    (c.read-entries.ensures ∙ ap (λ es. reading_of (barred_range a.from a.to) (decode (get_or a.book.now 1 0) es))
+    (whole.slice_parts (barred_range a.from a.to) a.book.now else1.if1.false else2.if2.false else3.if3.false
     (omega (arith, else4.if4.false))))
 
 pub read-book-spec : {M : Type 1} → statement M

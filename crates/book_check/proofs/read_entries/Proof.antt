@@ -1,7 +1,7 @@
 -- `book_check::read_entries` meets its contract: the parts take all entries.
 use mathlib.Core.Path.{◌∙◌, sym}
 use Rattle.book.specs.Entry.{entries}
-use Rattle.book_check.specs.Whole.{barredRange}
+use Rattle.book_check.specs.Whole.{barred_range}
 use Rattle.book_check.specs.Whole as whole
 use borrow.Author.Rules.{rules}
 use Rattle.book_check.proofs.read_entries.Statement.{statement}
@@ -22,7 +22,7 @@ returns : tie.Need-returns
 returns c =
     let entry = c.before.before.before.before.before in
     let a = entry.args in
-    whole.reading-bad a.names entry.requires (barredRange a.from a.to) (whole.range_size a.from a.to)
+    whole.reading_bad a.names entry.requires (barred_range a.from a.to) (whole.range_size a.from a.to)
     (entries a.kinds.now a.words.now) _ c.before.before.parts-len.ensures c.enum_told.given.1
 
 shorter-requires : tie.Need-shorter-requires
@@ -34,7 +34,7 @@ returns-2 c =
     let after-parts-len = after-n.before.before in
     let entry = after-parts-len.before.before.before in
     let a = entry.args in
-    whole.reading-book a.names entry.requires (barredRange a.from a.to) (whole.range_size a.from a.to)
+    whole.reading_book a.names entry.requires (barred_range a.from a.to) (whole.range_size a.from a.to)
     (entries a.kinds.now a.words.now) _ after-parts-len.parts-len.ensures _ _ after-n.n.given.1
     (c.if1.true ∙ c.before.shorter.ensures)
 
@@ -44,7 +44,7 @@ returns-3 c =
     let after-parts-len = after-n.before.before in
     let entry = after-parts-len.before.before.before in
     let a = entry.args in
-    whole.reading-short a.names entry.requires (barredRange a.from a.to) (whole.range_size a.from a.to)
+    whole.reading_short a.names entry.requires (barred_range a.from a.to) (whole.range_size a.from a.to)
     (entries a.kinds.now a.words.now) _ after-parts-len.parts-len.ensures _ _ after-n.n.given.1
     (λ e. c.if1.false (e ∙ sym c.before.shorter.ensures))
 

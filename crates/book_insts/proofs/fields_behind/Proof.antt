@@ -2,8 +2,8 @@
 use mathlib.Core.Path.{◌∙◌, ap}
 use borrow.Author.Rules.{rules}
 use borrow.Author.Tests.{le-leb, lt-leb, eq-eqb, ne_eqb}
-use Rattle.book.specs.Kinds.{instTag, termTag}
-use Rattle.book_insts.specs.Insts.{instShape, termShape}
+use Rattle.book.specs.Kinds.{inst_tag, term_tag}
+use Rattle.book_insts.specs.Insts.{inst_shape, term_shape}
 use Rattle.book_insts.specs.InstLaws as laws
 use Rattle.book_insts.proofs.fields_behind.Statement.{statement}
 use Rattle.book_insts.proofs.fields_behind.Tie as tie
@@ -28,7 +28,7 @@ returns-2 c =
     let else2 = c.before.before in
     let a = else2.before.before.args in
     rw (le-leb 90 a.kind else2.before.if1.true, eq-eqb a.word 0 else2.if2.false)
-    (c.term-fields.ensures ∙ ap termShape c.before.term-group.ensures ∙ laws.term-shape (termTag a.kind))
+    (c.term_fields_lem.ensures ∙ ap term_shape c.before.term-group.ensures ∙ laws.term_shape_lem (term_tag a.kind))
 
 returns-3 : tie.Need-returns-3
 returns-3 c =
@@ -46,7 +46,7 @@ returns-4 c =
     let else3 = c.before.before in
     let a = else3.before.before.args in
     rw (lt-leb 90 a.kind else3.before.if1.false, le-leb a.word a.names else3.if3.false)
-    (c.inst-fields.ensures ∙ ap instShape c.before.inst-group.ensures ∙ laws.inst-shape (instTag a.kind))
+    (c.inst_fields_lem.ensures ∙ ap inst_shape c.before.inst-group.ensures ∙ laws.inst_shape_lem (inst_tag a.kind))
 
 pub fields-behind-spec : {M : Type 1} → statement M
 fields-behind-spec =

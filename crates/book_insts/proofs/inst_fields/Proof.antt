@@ -1,6 +1,6 @@
 -- `book_insts::inst_fields` meets its contract: each number's digits are the fields of its group.
 use mathlib.Core.Path.{sym, ap}
-use Rattle.book_insts.specs.Insts.{digitFields, fieldsTo, instShape}
+use Rattle.book_insts.specs.Insts.{digit_fields, fields_to, inst_shape}
 use borrow.Author.Rules.{rules}
 use Rattle.book_insts.proofs.inst_fields.Statement.{statement}
 use Rattle.book_insts.proofs.inst_fields.Tie as tie
@@ -57,72 +57,72 @@ enum-told-17 : tie.Need-enum-told-17
 enum-told-17 c = search rules
 
 returns : tie.Need-returns
-unfolding digitFields fieldsTo
-returns c = ap instShape (sym c.enum_told.given.1)
+unfolding digit_fields fields_to
+returns c = ap inst_shape (sym c.enum_told.given.1)
 
 returns-2 : tie.Need-returns-2
-unfolding digitFields fieldsTo
-returns-2 c = ap instShape (sym c.enum-told2.given.1)
+unfolding digit_fields fields_to
+returns-2 c = ap inst_shape (sym c.enum-told2.given.1)
 
 returns-3 : tie.Need-returns-3
-unfolding digitFields fieldsTo
-returns-3 c = ap instShape (sym c.enum-told3.given.1)
+unfolding digit_fields fields_to
+returns-3 c = ap inst_shape (sym c.enum-told3.given.1)
 
 returns-4 : tie.Need-returns-4
-unfolding digitFields fieldsTo
-returns-4 c = ap instShape (sym c.enum-told4.given.1)
+unfolding digit_fields fields_to
+returns-4 c = ap inst_shape (sym c.enum-told4.given.1)
 
 returns-5 : tie.Need-returns-5
-unfolding digitFields fieldsTo
-returns-5 c = ap instShape (sym c.enum-told5.given.1)
+unfolding digit_fields fields_to
+returns-5 c = ap inst_shape (sym c.enum-told5.given.1)
 
 returns-6 : tie.Need-returns-6
-unfolding digitFields fieldsTo
-returns-6 c = ap instShape (sym c.enum-told6.given.1)
+unfolding digit_fields fields_to
+returns-6 c = ap inst_shape (sym c.enum-told6.given.1)
 
 returns-7 : tie.Need-returns-7
-unfolding digitFields fieldsTo
-returns-7 c = ap instShape (sym c.enum-told7.given.1)
+unfolding digit_fields fields_to
+returns-7 c = ap inst_shape (sym c.enum-told7.given.1)
 
 returns-8 : tie.Need-returns-8
-unfolding digitFields fieldsTo
-returns-8 c = ap instShape (sym c.enum-told8.given.1)
+unfolding digit_fields fields_to
+returns-8 c = ap inst_shape (sym c.enum-told8.given.1)
 
 returns-9 : tie.Need-returns-9
-unfolding digitFields fieldsTo
-returns-9 c = ap instShape (sym c.enum-told9.given.1)
+unfolding digit_fields fields_to
+returns-9 c = ap inst_shape (sym c.enum-told9.given.1)
 
 returns-10 : tie.Need-returns-10
-unfolding digitFields fieldsTo
-returns-10 c = ap instShape (sym c.enum-told10.given.1)
+unfolding digit_fields fields_to
+returns-10 c = ap inst_shape (sym c.enum-told10.given.1)
 
 returns-11 : tie.Need-returns-11
-unfolding digitFields fieldsTo
-returns-11 c = ap instShape (sym c.enum-told11.given.1)
+unfolding digit_fields fields_to
+returns-11 c = ap inst_shape (sym c.enum-told11.given.1)
 
 returns-12 : tie.Need-returns-12
-unfolding digitFields fieldsTo
-returns-12 c = ap instShape (sym c.enum-told12.given.1)
+unfolding digit_fields fields_to
+returns-12 c = ap inst_shape (sym c.enum-told12.given.1)
 
 returns-13 : tie.Need-returns-13
-unfolding digitFields fieldsTo
-returns-13 c = ap instShape (sym c.enum-told13.given.1)
+unfolding digit_fields fields_to
+returns-13 c = ap inst_shape (sym c.enum-told13.given.1)
 
 returns-14 : tie.Need-returns-14
-unfolding digitFields fieldsTo
-returns-14 c = ap instShape (sym c.enum-told14.given.1)
+unfolding digit_fields fields_to
+returns-14 c = ap inst_shape (sym c.enum-told14.given.1)
 
 returns-15 : tie.Need-returns-15
-unfolding digitFields fieldsTo
-returns-15 c = ap instShape (sym c.enum-told15.given.1)
+unfolding digit_fields fields_to
+returns-15 c = ap inst_shape (sym c.enum-told15.given.1)
 
 returns-16 : tie.Need-returns-16
-unfolding digitFields fieldsTo
-returns-16 c = ap instShape (sym c.enum-told16.given.1)
+unfolding digit_fields fields_to
+returns-16 c = ap inst_shape (sym c.enum-told16.given.1)
 
 returns-17 : tie.Need-returns-17
-unfolding digitFields fieldsTo
-returns-17 c = ap instShape (sym c.enum-told17.given.1)
+unfolding digit_fields fields_to
+returns-17 c = ap inst_shape (sym c.enum-told17.given.1)
 
 pub inst-fields-spec : {M : Type 1} → statement M
 inst-fields-spec =

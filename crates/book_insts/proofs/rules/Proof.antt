@@ -1,5 +1,5 @@
 -- `book_insts::rules` meets its contract: the table's rows, as they are stored one by one.
-use Rattle.book_insts.specs.Rules.{rulesOf}
+use Rattle.book_insts.specs.Rules.{rules_of}
 use borrow.Author.Rules.{rules}
 use Rattle.book_insts.proofs.rules.Statement.{statement}
 use Rattle.book_insts.proofs.rules.Tie as tie
@@ -84,7 +84,7 @@ array-write-rule-25 : tie.Need-array-write-rule-25
 array-write-rule-25 c = search rules
 
 returns : tie.Need-returns
-unfolding rulesOf
+unfolding rules_of
 returns c = rw c.last_name.ensures
 
 pub rules-spec : {M : Type 1} → statement M

@@ -3,13 +3,13 @@ use Prim.Native.Nat.{◌-◌}
 use mathlib.Core.Path.{◌≡◌, refl, sym, ◌∙◌}
 use lib.ListN.{length}
 use borrow.Author.Rules.{rules}
-use Rattle.numbers.specs.Bits.{length-set-bit}
-use Rattle.book_marks.specs.Range.{markedRange, range_none, range-past, range-next}
+use Rattle.numbers.specs.Bits.{length_set_bit}
+use Rattle.book_marks.specs.Range.{marked_range, range_none, range_past, range_next}
 use Rattle.book_marks.proofs.mark_range.Statement.{statement}
 use Rattle.book_marks.proofs.mark_range.Tie as tie
 
 abbrev invariant-loop : tie.invariant-loop
-invariant-loop map₀ from to end x₀ map x = (length map ≡ length map₀) × (markedRange map₀ from to ≡ markedRange map x to)
+invariant-loop map₀ from to end x₀ map x = (length map ≡ length map₀) × (marked_range map₀ from to ≡ marked_range map x to)
 
 abbrev decreases-loop : tie.decreases-loop
 decreases-loop map₀ from to end x₀ map x = end - x
@@ -21,7 +21,7 @@ same_length : tie.Need-same-length invariant-loop decreases-loop
 same_length c = c.before.before.loop.invariant.0
 
 returns : tie.Need-returns invariant-loop decreases-loop
-returns c = sym (c.before.before.loop.invariant.1 ∙ range-past _ _ _ c.if1.true)
+returns c = sym (c.before.before.loop.invariant.1 ∙ range_past _ _ _ c.if1.true)
 
 set-bit-requires : tie.Need-set-bit-requires invariant-loop decreases-loop
 set-bit-requires c κs = search rules
@@ -37,7 +37,7 @@ loop-again c =
     let b = c.before.before in
     let t = b.before.before.before in
     let i = t.before.loop.invariant in
-    rw b.set-bit.ensures (length-set-bit _ _ ∙ i.0, i.1 ∙ range-next _ _ _ t.loop-test.true)
+    rw b.set-bit.ensures (length_set_bit _ _ ∙ i.0, i.1 ∙ range_next _ _ _ t.loop-test.true)
 
 same-length-2 : tie.Need-same-length-2 invariant-loop decreases-loop
 same-length-2 c = c.before.loop.invariant.0

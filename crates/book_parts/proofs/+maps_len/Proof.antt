@@ -15,23 +15,23 @@ use Rattle.book_parts.proofs.+maps_len.Tie.{close}
 abbrev μ-maps-len : Measures 2 maps-len-kinds.ps ℕ
 μ-maps-len κs a = 131072 - a.1.1.1.1.1.0
 
-abbrev maps-len-at : ℕ → In 2 maps-len-kinds.ps
-maps-len-at t = and 2 maps-len-kinds.ps (is 2 maps-len-kinds.ps μ-maps-len t) maps-len.Pre
+abbrev maps_len_at : ℕ → In 2 maps-len-kinds.ps
+maps_len_at t = and 2 maps-len-kinds.ps (is 2 maps-len-kinds.ps μ-maps-len t) maps-len.Pre
 
-abbrev maps-len-below : ℕ → In 2 maps-len-kinds.ps
-maps-len-below t =
+abbrev maps_len_below : ℕ → In 2 maps-len-kinds.ps
+maps_len_below t =
     and 2 maps-len-kinds.ps (falls 2 maps-len-kinds.ps ◌<◌ μ-maps-len t) maps-len.Pre
 
 pub +maps-len-spec : {M : Type 1} → statement M
 +maps-len-spec = close μ-maps-len λ t. maps-len-lts.spec (
   many-len-reads.Asked,
   many-len-reads.Learnt,
-  maps-len-below t,
+  maps_len_below t,
   maps-len.Post,
   few-len-reads.Asked,
   few-len-reads.Learnt,
 )
-    (maps-len-at t)
+    (maps_len_at t)
     maps-len.Post
     (λ c κs. search rules)
     (λ c. search rules)

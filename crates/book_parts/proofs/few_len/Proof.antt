@@ -1,7 +1,7 @@
 -- `book_parts::few_len` meets its contract: no name is marked at first, and short maps find the same of few names.
 use mathlib.Core.Path.{◌∙◌}
 use Rattle.book.specs.Entry.{entries}
-use Rattle.book_parts.specs.Maps.{parts-few}
+use Rattle.book_parts.specs.Maps.{parts_few}
 use borrow.Author.Rules.{rules}
 use Rattle.book_parts.proofs.few_len.Statement.{statement}
 use Rattle.book_parts.proofs.few_len.Tie as tie
@@ -28,7 +28,7 @@ returns c =
     let entry = after-ranged.before.before.before.before.before.before.before in
     let a = entry.args in
     after-ranged.ranged-len.ensures
-    ∙ parts-few a.names entry.requires.0 (entries a.kinds.now a.words.now) a.from a.to entry.requires.1
+    ∙ parts_few a.names entry.requires.0 (entries a.kinds.now a.words.now) a.from a.to entry.requires.1
 
 pub few-len-spec : {M : Type 1} → statement M
 few-len-spec =

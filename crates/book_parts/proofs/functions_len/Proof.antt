@@ -3,7 +3,7 @@ use mathlib.Core.Path.{◌≡◌, refl, ◌∙◌}
 use native.Mathlib.Omega.{arith}
 use borrow.Author.Tests.{not-true, not-false}
 use lib.ListN.{length}
-use Rattle.book_types.specs.Laws.{length-entries}
+use Rattle.book_types.specs.Laws.{length_entries}
 use Rattle.book_parts.specs.Parts as parts
 use borrow.Author.Rules.{rules}
 use Rattle.book_parts.proofs.functions_len.Statement.{statement}
@@ -25,7 +25,7 @@ shorter-requires c κs = search rules
 loop-holds : tie.Need-loop-init invariant-loop decreases-loop
 loop-holds c =
     let a = c.before.before.before.before.before.args in
-    (parts.functions-start a.barred.now a.defined.now a.names a.kinds.now a.words.now _ c.shorter.ensures, refl)
+    (parts.functions_start a.barred.now a.defined.now a.names a.kinds.now a.words.now _ c.shorter.ensures, refl)
 
 mul-if1 : tie.Need-overflow-mul-if1 invariant-loop decreases-loop
 mul-if1 c =
@@ -33,7 +33,7 @@ mul-if1 c =
     let after-shorter = in-loop.before.before in
     let entry = after-shorter.before.before.before.before.before in
     let a = entry.args in
-    omega (arith, in-loop.loop-test.true, after-shorter.shorter.ensures, length-entries a.kinds.now a.words.now, entry.well-formed)
+    omega (arith, in-loop.loop-test.true, after-shorter.shorter.ensures, length_entries a.kinds.now a.words.now, entry.well-formed)
 
 shared-slice-read-if1 : tie.Need-shared-slice-read-if1 invariant-loop decreases-loop
 shared-slice-read-if1 c =
@@ -41,7 +41,7 @@ shared-slice-read-if1 c =
     let after-shorter = in-loop.before.before in
     let entry = after-shorter.before.before.before.before.before in
     let a = entry.args in
-    omega (arith, in-loop.loop-test.true, after-shorter.shorter.ensures, length-entries a.kinds.now a.words.now)
+    omega (arith, in-loop.loop-test.true, after-shorter.shorter.ensures, length_entries a.kinds.now a.words.now)
 
 mul-if2 : tie.Need-overflow-mul-if2 invariant-loop decreases-loop
 mul-if2 c =
@@ -49,7 +49,7 @@ mul-if2 c =
     let after-shorter = in-loop.before.before in
     let entry = after-shorter.before.before.before.before.before in
     let a = entry.args in
-    omega (arith, in-loop.loop-test.true, after-shorter.shorter.ensures, length-entries a.kinds.now a.words.now, entry.well-formed)
+    omega (arith, in-loop.loop-test.true, after-shorter.shorter.ensures, length_entries a.kinds.now a.words.now, entry.well-formed)
 
 shared-slice-read-if2 : tie.Need-shared-slice-read-if2 invariant-loop decreases-loop
 shared-slice-read-if2 c =
@@ -57,7 +57,7 @@ shared-slice-read-if2 c =
     let after-shorter = in-loop.before.before in
     let entry = after-shorter.before.before.before.before.before in
     let a = entry.args in
-    omega (arith, in-loop.loop-test.true, after-shorter.shorter.ensures, length-entries a.kinds.now a.words.now)
+    omega (arith, in-loop.loop-test.true, after-shorter.shorter.ensures, length_entries a.kinds.now a.words.now)
 
 same_length : tie.Need-same-length invariant-loop decreases-loop
 same_length c = c.before.before.before.before.before.loop.invariant.1
@@ -68,7 +68,7 @@ returns c =
     let at-loop = in-loop.before in
     let after-shorter = at-loop.before in
     let a = after-shorter.before.before.before.before.before.args in
-    parts.functions-none a.barred.now a.defined.now a.names a.kinds.now a.words.now _ _ _ _ at-loop.loop.invariant.0
+    parts.functions_none a.barred.now a.defined.now a.names a.kinds.now a.words.now _ _ _ _ at-loop.loop.invariant.0
     (omega (arith, in-loop.loop-test.true, after-shorter.shorter.ensures)) c.before.before.if1.true c.if2.true
 
 add-t17 : tie.Need-overflow-add-t17 invariant-loop decreases-loop
@@ -77,7 +77,7 @@ add-t17 c =
     let after-shorter = in-loop.before.before in
     let entry = after-shorter.before.before.before.before.before in
     let a = entry.args in
-    omega (arith, in-loop.loop-test.true, after-shorter.shorter.ensures, length-entries a.kinds.now a.words.now, entry.well-formed)
+    omega (arith, in-loop.loop-test.true, after-shorter.shorter.ensures, length_entries a.kinds.now a.words.now, entry.well-formed)
 
 same-length-2 : tie.Need-same-length-2 invariant-loop decreases-loop
 same-length-2 c = c.before.before.before.before.before.loop.invariant.1
@@ -88,7 +88,7 @@ returns-2 c =
     let at-loop = in-loop.before in
     let after-shorter = at-loop.before in
     let a = after-shorter.before.before.before.before.before.args in
-    parts.functions-done a.barred.now a.defined.now a.names a.kinds.now a.words.now _ _ _ _ at-loop.loop.invariant.0
+    parts.functions_done a.barred.now a.defined.now a.names a.kinds.now a.words.now _ _ _ _ at-loop.loop.invariant.0
     (omega (arith, in-loop.loop-test.true, after-shorter.shorter.ensures)) c.before.before.if1.true c.if2.false
 
 mul-function-len : tie.Need-overflow-mul-function-len invariant-loop decreases-loop
@@ -136,7 +136,7 @@ returns-3 c =
     let after-shorter = at-loop.before in
     let entry = after-shorter.before.before.before.before.before in
     let a = entry.args in
-    parts.functions-bad a.barred.now a.defined.now a.names a.kinds.now a.words.now _ _ _ _ at-loop.loop.invariant.0
+    parts.functions_bad a.barred.now a.defined.now a.names a.kinds.now a.words.now _ _ _ _ at-loop.loop.invariant.0
     (omega (arith, in-loop.loop-test.true, after-shorter.shorter.ensures)) else1.if1.false _ after-function-len.function-len.ensures c.enum_told.given.1
 
 same-length-4 : tie.Need-same-length-4 invariant-loop decreases-loop
@@ -152,7 +152,7 @@ returns-4 c =
     let after-shorter = at-loop.before in
     let entry = after-shorter.before.before.before.before.before in
     let a = entry.args in
-    parts.functions-full a.barred.now a.defined.now a.names a.kinds.now a.words.now _ _ _ _ at-loop.loop.invariant.0
+    parts.functions_full a.barred.now a.defined.now a.names a.kinds.now a.words.now _ _ _ _ at-loop.loop.invariant.0
     (omega (arith, in-loop.loop-test.true, after-shorter.shorter.ensures)) else1.if1.false _ after-function-len.function-len.ensures c.if3.true
 
 mul-mark-new : tie.Need-overflow-mul-mark-new invariant-loop decreases-loop
@@ -161,7 +161,7 @@ mul-mark-new c =
     let after-shorter = in-loop.before.before in
     let entry = after-shorter.before.before.before.before.before in
     let a = entry.args in
-    omega (arith, in-loop.loop-test.true, after-shorter.shorter.ensures, length-entries a.kinds.now a.words.now, entry.well-formed)
+    omega (arith, in-loop.loop-test.true, after-shorter.shorter.ensures, length_entries a.kinds.now a.words.now, entry.well-formed)
 
 shared-slice-read-mark-new : tie.Need-shared-slice-read-mark-new invariant-loop decreases-loop
 shared-slice-read-mark-new c =
@@ -169,7 +169,7 @@ shared-slice-read-mark-new c =
     let after-shorter = in-loop.before.before in
     let entry = after-shorter.before.before.before.before.before in
     let a = entry.args in
-    omega (arith, in-loop.loop-test.true, after-shorter.shorter.ensures, length-entries a.kinds.now a.words.now)
+    omega (arith, in-loop.loop-test.true, after-shorter.shorter.ensures, length_entries a.kinds.now a.words.now)
 
 mark-new-requires : tie.Need-mark-new-requires invariant-loop decreases-loop
 mark-new-requires c κs = search rules
@@ -190,7 +190,7 @@ returns-5 c =
     let after-shorter = at-loop.before in
     let entry = after-shorter.before.before.before.before.before in
     let a = entry.args in
-    parts.functions-repeated a.barred.now a.defined.now a.names a.kinds.now a.words.now _ _ _ _ at-loop.loop.invariant.0
+    parts.functions_repeated a.barred.now a.defined.now a.names a.kinds.now a.words.now _ _ _ _ at-loop.loop.invariant.0
     (omega (arith, in-loop.loop-test.true, after-shorter.shorter.ensures)) else1.if1.false _ after-function-len.function-len.ensures _ _ after-n.n.given.1 _
     after-mark-new.mark-new.ensures.0 (not-true _ c.if4.true)
 
@@ -204,9 +204,9 @@ add_at c =
     let after-shorter = at-loop.before in
     let entry = after-shorter.before.before.before.before.before in
     let a = entry.args in
-    let f = parts.function-at a.barred.now a.defined.now a.names a.kinds.now a.words.now _ _ _ _ at-loop.loop.invariant.0
+    let f = parts.function_at a.barred.now a.defined.now a.names a.kinds.now a.words.now _ _ _ _ at-loop.loop.invariant.0
     (omega (arith, in-loop.loop-test.true, after-shorter.shorter.ensures)) else1.if1.false _ after-function-len.function-len.ensures _ _ after-n.n.given.1 in
-    omega (arith, f.there, length-entries a.kinds.now a.words.now, entry.well-formed)
+    omega (arith, f.there, length_entries a.kinds.now a.words.now, entry.well-formed)
 
 sub-left : tie.Need-overflow-sub-left invariant-loop decreases-loop
 sub-left c = search rules
@@ -226,7 +226,7 @@ loop-again c =
     let after-shorter = at-loop.before in
     let entry = after-shorter.before.before.before.before.before in
     let a = entry.args in (
-      parts.functions-next a.barred.now a.defined.now a.names a.kinds.now a.words.now _ _ _ _ at-loop.loop.invariant.0
+      parts.functions_next a.barred.now a.defined.now a.names a.kinds.now a.words.now _ _ _ _ at-loop.loop.invariant.0
           (omega (arith, in-loop.loop-test.true, after-shorter.shorter.ensures)) else1.if1.false _ after-function-len.function-len.ensures _ _ after-n.n.given.1 _
           after-mark-new.mark-new.ensures.0 (not-false _ c.if4.false) _ after-mark-new.mark-new.ensures.1 else3.if3.false,
       after-mark-new.mark-new.auto.0 ∙ at-loop.loop.invariant.1,
@@ -240,7 +240,7 @@ returns-6 c =
     let at-loop = c.before in
     let after-shorter = at-loop.before in
     let a = after-shorter.before.before.before.before.before.args in
-    parts.functions-over a.barred.now a.defined.now a.names a.kinds.now a.words.now _ _ _ _ at-loop.loop.invariant.0
+    parts.functions_over a.barred.now a.defined.now a.names a.kinds.now a.words.now _ _ _ _ at-loop.loop.invariant.0
     (omega (arith, c.loop-test.false, after-shorter.shorter.ensures))
 
 pub functions-len-spec : {M : Type 1} → statement M

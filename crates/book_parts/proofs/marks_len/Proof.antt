@@ -6,9 +6,9 @@ use borrow.Author.Tests.{not-true, not-false}
 use lib.ListN.{length}
 use lib.Dec.{leb}
 use Rattle.book.specs.Entry.{entries}
-use Rattle.book.specs.Decode.{mark, structsAndFunctions}
-use Rattle.book_types.specs.Laws.{length-entries, lentFrom}
-use Rattle.book_parts.specs.Reading.{namedFound, markedBy, structsEnded}
+use Rattle.book.specs.Decode.{mark, structs_and_functions}
+use Rattle.book_types.specs.Laws.{length_entries, lent_from}
+use Rattle.book_parts.specs.Reading.{named_found, marked_by, structs_ended}
 use Rattle.book_parts.specs.Folds.{Fold, fold_start}
 use Rattle.book_parts.specs.Parts as parts
 use borrow.Author.Rules.{rules}
@@ -21,7 +21,7 @@ use Rattle.book_parts.proofs.named_len.Reads as named-len-reads
 
 abbrev invariant-loop : tie.invariant-loop
 invariant-loop kinds words names marked₀ barred₀ named₀ defined₀ n at₀ marked barred named defined at =
-    Fold markedBy (structsEnded named₀ defined₀) (leb 3) (mark names) (structsAndFunctions names) (marked₀, barred₀) (length (entries kinds words)) kinds words at
+    Fold marked_by (structs_ended named₀ defined₀) (leb 3) (mark names) (structs_and_functions names) (marked₀, barred₀) (length (entries kinds words)) kinds words at
     (length (entries kinds words) - at) (marked, barred) × (length marked ≡ length marked₀) × (length barred ≡ length barred₀) × (named ≡ named₀) × (defined ≡ defined₀)
 
 abbrev decreases-loop : tie.decreases-loop
@@ -34,7 +34,7 @@ loop-holds : tie.Need-loop-init invariant-loop decreases-loop
 loop-holds c =
     let entry = c.before.before.before.before.before.before.before in
     let a = entry.args in (
-      fold_start markedBy (structsEnded a.named.now a.defined.now) (leb 3) (mark a.names) (structsAndFunctions a.names) (a.marked.now, a.barred.now)
+      fold_start marked_by (structs_ended a.named.now a.defined.now) (leb 3) (mark a.names) (structs_and_functions a.names) (a.marked.now, a.barred.now)
           (length (entries a.kinds.now a.words.now)) a.kinds.now a.words.now (length (entries a.kinds.now a.words.now) - 0)
           (omega arith),
       refl,
@@ -48,13 +48,13 @@ mul-if1 c =
     let after-shorter = c.before.before in
     let entry = after-shorter.before.before.before.before.before.before.before in
     let a = entry.args in
-    omega (arith, c.loop-test.true, after-shorter.shorter.ensures, length-entries a.kinds.now a.words.now, entry.well-formed)
+    omega (arith, c.loop-test.true, after-shorter.shorter.ensures, length_entries a.kinds.now a.words.now, entry.well-formed)
 
 shared-slice-read-if1 : tie.Need-shared-slice-read-if1 invariant-loop decreases-loop
 shared-slice-read-if1 c =
     let after-shorter = c.before.before.before in
     let a = after-shorter.before.before.before.before.before.before.before.args in
-    omega (arith, c.before.loop-test.true, after-shorter.shorter.ensures, length-entries a.kinds.now a.words.now)
+    omega (arith, c.before.loop-test.true, after-shorter.shorter.ensures, length_entries a.kinds.now a.words.now)
 
 mul-named-len : tie.Need-overflow-mul-named-len invariant-loop decreases-loop
 mul-named-len c =
@@ -95,7 +95,7 @@ join-found-requires c κs =
     let at-loop = after-named-len.before.before.before.before.before.before.before.before.before in
     let entry = at-loop.before.before.before.before.before.before.before.before in
     let a = entry.args in
-    parts.structs-room at-loop.loop.named at-loop.loop.defined at-loop.loop.barred a.names a.kinds.now a.words.now _ _ after-named-len.named-len.ensures
+    parts.structs_room at-loop.loop.named at-loop.loop.defined at-loop.loop.barred a.names a.kinds.now a.words.now _ _ after-named-len.named-len.ensures
     at-loop.loop.invariant.0.kinds (omega (arith, entry.well-formed))
 
 same_length : tie.Need-same-length invariant-loop decreases-loop
@@ -131,12 +131,12 @@ returns c =
     let after-shorter = at-loop.before in
     let entry = after-shorter.before.before.before.before.before.before.before in
     let a = entry.args in
-    let rest = structsAndFunctions a.names (lentFrom a.kinds.now a.words.now at-loop.loop.at) in
-    parts.marks-end a.named.now a.defined.now a.marked.now a.barred.now a.names a.kinds.now a.words.now _ _ at-loop.loop.invariant.0
+    let rest = structs_and_functions a.names (lent_from a.kinds.now a.words.now at-loop.loop.at) in
+    parts.marks_end a.named.now a.defined.now a.marked.now a.barred.now a.names a.kinds.now a.words.now _ _ at-loop.loop.invariant.0
     (omega (arith, in-loop.loop-test.true, after-shorter.shorter.ensures)) then1.if1.true _ _
     (after-named-len.named-len.ensures
-    ∙ ap (λ x. namedFound at-loop.loop.barred at-loop.loop.defined x rest) at-loop.loop.invariant.3
-    ∙ ap (λ x. namedFound at-loop.loop.barred x a.named.now rest) at-loop.loop.invariant.4)
+    ∙ ap (λ x. named_found at-loop.loop.barred at-loop.loop.defined x rest) at-loop.loop.invariant.3
+    ∙ ap (λ x. named_found at-loop.loop.barred x a.named.now rest) at-loop.loop.invariant.4)
     c.join-found.ensures
 
 mul-mark : tie.Need-overflow-mul-mark invariant-loop decreases-loop
@@ -144,13 +144,13 @@ mul-mark c =
     let after-shorter = c.before.before.before.before in
     let entry = after-shorter.before.before.before.before.before.before.before in
     let a = entry.args in
-    omega (arith, c.before.before.loop-test.true, after-shorter.shorter.ensures, length-entries a.kinds.now a.words.now, entry.well-formed)
+    omega (arith, c.before.before.loop-test.true, after-shorter.shorter.ensures, length_entries a.kinds.now a.words.now, entry.well-formed)
 
 shared-slice-read-mark : tie.Need-shared-slice-read-mark invariant-loop decreases-loop
 shared-slice-read-mark c =
     let after-shorter = c.before.before.before.before.before in
     let a = after-shorter.before.before.before.before.before.before.before.args in
-    omega (arith, c.before.before.before.loop-test.true, after-shorter.shorter.ensures, length-entries a.kinds.now a.words.now)
+    omega (arith, c.before.before.before.loop-test.true, after-shorter.shorter.ensures, length_entries a.kinds.now a.words.now)
 
 mul-mark-2 : tie.Need-overflow-mul-mark-2 invariant-loop decreases-loop
 mul-mark-2 c =
@@ -158,14 +158,14 @@ mul-mark-2 c =
     let after-shorter = in-loop.before.before in
     let entry = after-shorter.before.before.before.before.before.before.before in
     let a = entry.args in
-    omega (arith, in-loop.loop-test.true, after-shorter.shorter.ensures, length-entries a.kinds.now a.words.now, entry.well-formed)
+    omega (arith, in-loop.loop-test.true, after-shorter.shorter.ensures, length_entries a.kinds.now a.words.now, entry.well-formed)
 
 shared-slice-read-mark-2 : tie.Need-shared-slice-read-mark-2 invariant-loop decreases-loop
 shared-slice-read-mark-2 c =
     let in-loop = c.before.before.before.before in
     let after-shorter = in-loop.before.before in
     let a = after-shorter.before.before.before.before.before.before.before.args in
-    omega (arith, in-loop.loop-test.true, after-shorter.shorter.ensures, length-entries a.kinds.now a.words.now)
+    omega (arith, in-loop.loop-test.true, after-shorter.shorter.ensures, length_entries a.kinds.now a.words.now)
 
 mark-requires : tie.Need-mark-requires invariant-loop decreases-loop
 mark-requires c κs = search rules
@@ -203,7 +203,7 @@ returns-2 c =
     let after-shorter = at-loop.before in
     let entry = after-shorter.before.before.before.before.before.before.before in
     let a = entry.args in
-    parts.marks-refused a.named.now a.defined.now a.marked.now a.barred.now a.names a.kinds.now a.words.now _ _ at-loop.loop.invariant.0
+    parts.marks_refused a.named.now a.defined.now a.marked.now a.barred.now a.names a.kinds.now a.words.now _ _ at-loop.loop.invariant.0
     (omega (arith, in-loop.loop-test.true, after-shorter.shorter.ensures)) else1.if1.false _ after-mark.mark.ensures.0
     (not-true _ c.if2.true)
 
@@ -213,7 +213,7 @@ add_at c =
     let after-shorter = in-loop.before.before in
     let entry = after-shorter.before.before.before.before.before.before.before in
     let a = entry.args in
-    omega (arith, in-loop.loop-test.true, after-shorter.shorter.ensures, length-entries a.kinds.now a.words.now, entry.well-formed)
+    omega (arith, in-loop.loop-test.true, after-shorter.shorter.ensures, length_entries a.kinds.now a.words.now, entry.well-formed)
 
 loop-less : tie.Need-loop-smaller invariant-loop decreases-loop
 loop-less c = omega (arith, c.before.before.before.before.before.before.before.before.before.before.before.before.loop-test.true)
@@ -227,7 +227,7 @@ loop-again c =
     let after-shorter = at-loop.before in
     let entry = after-shorter.before.before.before.before.before.before.before in
     let a = entry.args in (
-      parts.marks-next a.named.now a.defined.now a.marked.now a.barred.now a.names a.kinds.now a.words.now _ _ at-loop.loop.invariant.0
+      parts.marks_next a.named.now a.defined.now a.marked.now a.barred.now a.names a.kinds.now a.words.now _ _ at-loop.loop.invariant.0
           (omega (arith, in-loop.loop-test.true, after-shorter.shorter.ensures)) else1.if1.false _ after-mark.mark.ensures.0
           (not-false _ c.if2.false) _ _ after-mark.mark.ensures.1.0 after-mark.mark.ensures.1.1,
       after-mark.mark.auto.1.1.1.0 ∙ at-loop.loop.invariant.1,
@@ -252,7 +252,7 @@ returns-3 : tie.Need-returns-3 invariant-loop decreases-loop
 returns-3 c =
     let after-shorter = c.before.before in
     let a = after-shorter.before.before.before.before.before.before.before.args in
-    parts.marks-over a.named.now a.defined.now a.marked.now a.barred.now a.names a.kinds.now a.words.now _ _ c.before.loop.invariant.0
+    parts.marks_over a.named.now a.defined.now a.marked.now a.barred.now a.names a.kinds.now a.words.now _ _ c.before.loop.invariant.0
     (omega (arith, c.loop-test.false, after-shorter.shorter.ensures))
 
 pub marks-len-spec : {M : Type 1} → statement M

@@ -4,8 +4,8 @@ use native.Mathlib.Omega.{arith}
 use borrow.Author.Tests.{not-true, not-false}
 use lib.ListN.{length}
 use Rattle.book.specs.Decode.{functions}
-use Rattle.book_types.specs.Laws.{length-entries, lentFrom}
-use Rattle.book_parts.specs.Reading.{functionsFound}
+use Rattle.book_types.specs.Laws.{length_entries, lent_from}
+use Rattle.book_parts.specs.Reading.{functions_found}
 use Rattle.book_parts.specs.Parts as parts
 use borrow.Author.Rules.{rules}
 use Rattle.book_parts.proofs.named_len.Statement.{statement}
@@ -40,7 +40,7 @@ mul-if1 c =
     let after-shorter = in-loop.before.before in
     let entry = after-shorter.before.before.before.before.before.before in
     let a = entry.args in
-    omega (arith, in-loop.loop-test.true, after-shorter.shorter.ensures, length-entries a.kinds.now a.words.now, entry.well-formed)
+    omega (arith, in-loop.loop-test.true, after-shorter.shorter.ensures, length_entries a.kinds.now a.words.now, entry.well-formed)
 
 shared-slice-read-if1 : tie.Need-shared-slice-read-if1 invariant-loop decreases-loop
 shared-slice-read-if1 c =
@@ -48,7 +48,7 @@ shared-slice-read-if1 c =
     let after-shorter = in-loop.before.before in
     let entry = after-shorter.before.before.before.before.before.before in
     let a = entry.args in
-    omega (arith, in-loop.loop-test.true, after-shorter.shorter.ensures, length-entries a.kinds.now a.words.now)
+    omega (arith, in-loop.loop-test.true, after-shorter.shorter.ensures, length_entries a.kinds.now a.words.now)
 
 mul-functions-len : tie.Need-overflow-mul-functions-len invariant-loop decreases-loop
 mul-functions-len c = omega (arith, c.before.before.before.loop.invariant.0.kinds, c.before.before.before.before.before.before.before.before.before.before.well-formed)
@@ -83,7 +83,7 @@ join-found-requires c κs =
     let at-loop = after-functions-len.before.before.before.before.before.before.before in
     let entry = at-loop.before.before.before.before.before.before.before in
     let a = entry.args in
-    parts.functions-room a.barred.now _ a.names a.kinds.now a.words.now _ _ after-functions-len.functions-len.ensures
+    parts.functions_room a.barred.now _ a.names a.kinds.now a.words.now _ _ after-functions-len.functions-len.ensures
     at-loop.loop.invariant.0.kinds (omega (arith, entry.well-formed))
 
 same_length : tie.Need-same-length invariant-loop decreases-loop
@@ -107,7 +107,7 @@ returns c =
     parts.named_end a.barred.now a.defined.now a.named.now a.names a.kinds.now a.words.now _ _ _ at-loop.loop.invariant.0
     (omega (arith, in-loop.loop-test.true, after-shorter.shorter.ensures)) then1.if1.true _ _
     (after-functions-len.functions-len.ensures
-    ∙ ap (λ x. functionsFound a.barred.now x (functions a.names (lentFrom a.kinds.now a.words.now at-loop.loop.at))) at-loop.loop.invariant.2)
+    ∙ ap (λ x. functions_found a.barred.now x (functions a.names (lent_from a.kinds.now a.words.now at-loop.loop.at))) at-loop.loop.invariant.2)
     c.join-found.ensures
 
 mul-struct-len : tie.Need-overflow-mul-struct-len invariant-loop decreases-loop
@@ -158,7 +158,7 @@ returns-2 c =
     let after-shorter = at-loop.before in
     let entry = after-shorter.before.before.before.before.before.before in
     let a = entry.args in
-    parts.named-bad a.barred.now a.defined.now a.named.now a.names a.kinds.now a.words.now _ _ _ at-loop.loop.invariant.0
+    parts.named_bad a.barred.now a.defined.now a.named.now a.names a.kinds.now a.words.now _ _ _ at-loop.loop.invariant.0
     (omega (arith, in-loop.loop-test.true, after-shorter.shorter.ensures)) else1.if1.false _ after-struct-len.struct-len.ensures c.enum_told.given.1
 
 same-length-5 : tie.Need-same-length-5 invariant-loop decreases-loop
@@ -177,7 +177,7 @@ returns-3 c =
     let after-shorter = at-loop.before in
     let entry = after-shorter.before.before.before.before.before.before in
     let a = entry.args in
-    parts.named-full a.barred.now a.defined.now a.named.now a.names a.kinds.now a.words.now _ _ _ at-loop.loop.invariant.0
+    parts.named_full a.barred.now a.defined.now a.named.now a.names a.kinds.now a.words.now _ _ _ at-loop.loop.invariant.0
     (omega (arith, in-loop.loop-test.true, after-shorter.shorter.ensures)) else1.if1.false _ after-struct-len.struct-len.ensures c.if2.true
 
 mul-mark-new : tie.Need-overflow-mul-mark-new invariant-loop decreases-loop
@@ -186,7 +186,7 @@ mul-mark-new c =
     let after-shorter = in-loop.before.before in
     let entry = after-shorter.before.before.before.before.before.before in
     let a = entry.args in
-    omega (arith, in-loop.loop-test.true, after-shorter.shorter.ensures, length-entries a.kinds.now a.words.now, entry.well-formed)
+    omega (arith, in-loop.loop-test.true, after-shorter.shorter.ensures, length_entries a.kinds.now a.words.now, entry.well-formed)
 
 shared-slice-read-mark-new : tie.Need-shared-slice-read-mark-new invariant-loop decreases-loop
 shared-slice-read-mark-new c =
@@ -194,7 +194,7 @@ shared-slice-read-mark-new c =
     let after-shorter = in-loop.before.before in
     let entry = after-shorter.before.before.before.before.before.before in
     let a = entry.args in
-    omega (arith, in-loop.loop-test.true, after-shorter.shorter.ensures, length-entries a.kinds.now a.words.now)
+    omega (arith, in-loop.loop-test.true, after-shorter.shorter.ensures, length_entries a.kinds.now a.words.now)
 
 mark-new-requires : tie.Need-mark-new-requires invariant-loop decreases-loop
 mark-new-requires c κs = search rules
@@ -218,7 +218,7 @@ returns-4 c =
     let after-shorter = at-loop.before in
     let entry = after-shorter.before.before.before.before.before.before in
     let a = entry.args in
-    parts.named-repeated a.barred.now a.defined.now a.named.now a.names a.kinds.now a.words.now _ _ _ at-loop.loop.invariant.0
+    parts.named_repeated a.barred.now a.defined.now a.named.now a.names a.kinds.now a.words.now _ _ _ at-loop.loop.invariant.0
     (omega (arith, in-loop.loop-test.true, after-shorter.shorter.ensures)) else1.if1.false _ after-struct-len.struct-len.ensures _ _ after-n.n.given.1 _
     after-mark-new.mark-new.ensures.0 (not-true _ c.if3.true)
 
@@ -234,7 +234,7 @@ add_at c =
     let a = entry.args in
     let s = parts.struct_at a.barred.now a.defined.now a.named.now a.names a.kinds.now a.words.now _ _ _ at-loop.loop.invariant.0
     (omega (arith, in-loop.loop-test.true, after-shorter.shorter.ensures)) else1.if1.false _ after-struct-len.struct-len.ensures _ _ after-n.n.given.1 in
-    omega (arith, s.there, length-entries a.kinds.now a.words.now, entry.well-formed)
+    omega (arith, s.there, length_entries a.kinds.now a.words.now, entry.well-formed)
 
 sub-left : tie.Need-overflow-sub-left invariant-loop decreases-loop
 sub-left c = search rules
@@ -254,7 +254,7 @@ loop-again c =
     let after-shorter = at-loop.before in
     let entry = after-shorter.before.before.before.before.before.before in
     let a = entry.args in (
-      parts.named-next a.barred.now a.defined.now a.named.now a.names a.kinds.now a.words.now _ _ _ at-loop.loop.invariant.0
+      parts.named_next a.barred.now a.defined.now a.named.now a.names a.kinds.now a.words.now _ _ _ at-loop.loop.invariant.0
           (omega (arith, in-loop.loop-test.true, after-shorter.shorter.ensures)) else1.if1.false _ after-struct-len.struct-len.ensures _ _ after-n.n.given.1 _
           after-mark-new.mark-new.ensures.0 (not-false _ c.if3.false) _ after-mark-new.mark-new.ensures.1 else2.if2.false,
       after-mark-new.mark-new.auto.0 ∙ at-loop.loop.invariant.1,
@@ -272,7 +272,7 @@ returns-5 c =
     let at-loop = c.before in
     let after-shorter = at-loop.before in
     let a = after-shorter.before.before.before.before.before.before.args in
-    parts.named-over a.barred.now a.defined.now a.named.now a.names a.kinds.now a.words.now _ _ _ at-loop.loop.invariant.0
+    parts.named_over a.barred.now a.defined.now a.named.now a.names a.kinds.now a.words.now _ _ _ at-loop.loop.invariant.0
     (omega (arith, c.loop-test.false, after-shorter.shorter.ensures))
 
 pub named-len-spec : {M : Type 1} → statement M

@@ -2,7 +2,7 @@
 use mathlib.Core.Path.{◌∙◌, ap}
 use Rattle.book.specs.Entry.{entries}
 use Rattle.book.specs.Decode.{parts}
-use Rattle.book_parts.specs.Reading.{marksFound}
+use Rattle.book_parts.specs.Reading.{marks_found}
 use borrow.Author.Rules.{rules}
 use Rattle.book_parts.proofs.ranged_len.Statement.{statement}
 use Rattle.book_parts.proofs.ranged_len.Tie as tie
@@ -33,7 +33,7 @@ returns c =
     let after-range = after-marks.before.before.before.before.before.before.before in
     let a = after-range.before.before.before.before.before.before.before.before.args in
     after-marks.marks-len.ensures
-    ∙ ap (λ b. marksFound a.named.now a.defined.now a.marked.now b (parts a.names (entries a.kinds.now a.words.now))) after-range.mark-range.ensures
+    ∙ ap (λ b. marks_found a.named.now a.defined.now a.marked.now b (parts a.names (entries a.kinds.now a.words.now))) after-range.mark-range.ensures
 
 pub ranged-len-spec : {M : Type 1} → statement M
 ranged-len-spec =

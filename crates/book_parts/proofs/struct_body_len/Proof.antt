@@ -22,7 +22,7 @@ enum_told c = search rules
 returns : tie.Need-returns
 returns c =
     let a = c.before.before.before.before.before.args in
-    parts.body-none a.names (entries a.kinds.now a.words.now) _ c.before.before.first_entry.ensures c.enum_told.given.1
+    parts.body_none a.names (entries a.kinds.now a.words.now) _ c.before.before.first_entry.ensures c.enum_told.given.1
 
 entry-if-requires : tie.Need-entry-if-requires
 entry-if-requires c κs = search rules
@@ -33,7 +33,7 @@ returns-2 c =
     let after-first-entry = after-kind.before.before in
     let entry = after-first-entry.before.before.before in
     let a = entry.args in
-    parts.body-opaque a.names (entries a.kinds.now a.words.now) _ after-first-entry.first_entry.ensures _ _
+    parts.body_opaque a.names (entries a.kinds.now a.words.now) _ after-first-entry.first_entry.ensures _ _
     after-kind.kind.given.1 c.before.if1.true _ c.entry-if.ensures
 
 type-group-requires : tie.Need-type-group-requires
@@ -53,9 +53,9 @@ returns-3 c =
     let after-first-entry = after-kind.before.before in
     let entry = after-first-entry.before.before.before in
     let a = entry.args in
-    parts.body-struct a.names (entries a.kinds.now a.words.now) _ after-first-entry.first_entry.ensures _ _
+    parts.body_struct a.names (entries a.kinds.now a.words.now) _ after-first-entry.first_entry.ensures _ _
     after-kind.kind.given.1 else1.if1.false _ _ after-type-group.type-group.ensures c.before.before.is-struct.ensures
-    c.before.if2.true _ c.type-len.ensures
+    c.before.if2.true _ c.type_len_lem.ensures
 
 returns-4 : tie.Need-returns-4
 returns-4 c =
@@ -64,7 +64,7 @@ returns-4 c =
     let after-first-entry = after-kind.before.before in
     let entry = after-first-entry.before.before.before in
     let a = entry.args in
-    parts.body-other a.names (entries a.kinds.now a.words.now) _ after-first-entry.first_entry.ensures _ _ after-kind.kind.given.1
+    parts.body_other a.names (entries a.kinds.now a.words.now) _ after-first-entry.first_entry.ensures _ _ after-kind.kind.given.1
     else1.if1.false _ _ c.before.before.type-group.ensures c.before.is-struct.ensures c.if2.false
 
 pub struct-body-len-spec : {M : Type 1} → statement M

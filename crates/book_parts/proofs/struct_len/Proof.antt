@@ -3,12 +3,12 @@ use mathlib.Core.Path.{◌∙◌, sym, ap}
 use native.Mathlib.Omega.{arith}
 use Rattle.book.specs.Entry.{entries}
 use Rattle.book.specs.Read.{word, both}
-use Rattle.book.specs.Decode.{name, structBody, structType}
-use Rattle.book.specs.AgreeInst.{agrees-name}
-use Rattle.book.specs.AgreeBook.{agrees-structBody}
-use Rattle.book_types.specs.Laws.{lentFrom}
+use Rattle.book.specs.Decode.{name, struct_body, struct_type}
+use Rattle.book.specs.AgreeInst.{agrees_name}
+use Rattle.book.specs.AgreeBook.{agrees_struct_body}
+use Rattle.book_types.specs.Laws.{lent_from}
 use Rattle.book_types.specs.Found.{never}
-use Rattle.book_values.specs.Items.{wordFront}
+use Rattle.book_values.specs.Items.{word_front}
 use Rattle.book_values.specs.ItemLaws as items
 use Rattle.book_types.specs.Passes as passes
 use borrow.Author.Rules.{rules}
@@ -36,17 +36,17 @@ enum_told : tie.Need-enum-told
 enum_told c = search rules
 
 returns : tie.Need-returns
-unfolding structType
+unfolding struct_type
 returns c =
     let after-word-len = c.before.before.before in
     let after-first-entry = after-word-len.before in
     let entry = after-first-entry.before.before.before in
     let a = entry.args in
-    passes.both-bad (word 3 (name a.names)) (structBody a.names) never never a.kinds.now a.words.now _
-    (passes.plain-is (word 3 (name a.names) (entries a.kinds.now a.words.now)) _ _
-    (after-word-len.word_len.ensures ∙ ap (wordFront _ _) after-first-entry.first_entry.ensures ∙ sym (items.word-front 3 _ _))
+    passes.both_bad (word 3 (name a.names)) (struct_body a.names) never never a.kinds.now a.words.now _
+    (passes.plain_is (word 3 (name a.names) (entries a.kinds.now a.words.now)) _ _
+    (after-word-len.word_len.ensures ∙ ap (word_front _ _) after-first-entry.first_entry.ensures ∙ sym (items.word_front_lem 3 _ _))
     c.before.before.plain.ensures) c.enum_told.given.1 ∙ sym
-    (passes.mapped-found never (λ p. record { name = p.0; body = p.1 }) (both (word 3 (name a.names)) (structBody a.names))
+    (passes.mapped_found never (λ p. record { name = p.0; body = p.1 }) (both (word 3 (name a.names)) (struct_body a.names))
     (entries a.kinds.now a.words.now))
 
 mul-struct-body-len : tie.Need-overflow-mul-struct-body-len
@@ -58,13 +58,13 @@ mul-struct-body-len c =
     let a = entry.args in
     omega (
       arith,
-      passes.both-kinds (word 3 (name a.names)) (structBody a.names) never never a.kinds.now a.words.now _
-          (passes.plain-is (word 3 (name a.names) (entries a.kinds.now a.words.now)) _ _
-          (after-word-len.word_len.ensures ∙ ap (wordFront _ _) after-first-entry.first_entry.ensures ∙ sym (items.word-front 3 _ _))
+      passes.both_kinds (word 3 (name a.names)) (struct_body a.names) never never a.kinds.now a.words.now _
+          (passes.plain_is (word 3 (name a.names) (entries a.kinds.now a.words.now)) _ _
+          (after-word-len.word_len.ensures ∙ ap (word_front _ _) after-first-entry.first_entry.ensures ∙ sym (items.word_front_lem 3 _ _))
           after-plain.plain.ensures) _ _ c.before.n.given.1
-          (passes.within never (agrees-name _ 3) (entries a.kinds.now a.words.now) _
-          (passes.plain-is (word 3 (name a.names) (entries a.kinds.now a.words.now)) _ _
-          (after-word-len.word_len.ensures ∙ ap (wordFront _ _) after-first-entry.first_entry.ensures ∙ sym (items.word-front 3 _ _))
+          (passes.within never (agrees_name _ 3) (entries a.kinds.now a.words.now) _
+          (passes.plain_is (word 3 (name a.names) (entries a.kinds.now a.words.now)) _ _
+          (after-word-len.word_len.ensures ∙ ap (word_front _ _) after-first-entry.first_entry.ensures ∙ sym (items.word_front_lem 3 _ _))
           after-plain.plain.ensures)),
       entry.well-formed,
     )
@@ -76,13 +76,13 @@ sub-struct-body-len c =
     let after-first-entry = after-word-len.before in
     let entry = after-first-entry.before.before.before in
     let a = entry.args in
-    passes.both-kinds (word 3 (name a.names)) (structBody a.names) never never a.kinds.now a.words.now _
-    (passes.plain-is (word 3 (name a.names) (entries a.kinds.now a.words.now)) _ _
-    (after-word-len.word_len.ensures ∙ ap (wordFront _ _) after-first-entry.first_entry.ensures ∙ sym (items.word-front 3 _ _))
+    passes.both_kinds (word 3 (name a.names)) (struct_body a.names) never never a.kinds.now a.words.now _
+    (passes.plain_is (word 3 (name a.names) (entries a.kinds.now a.words.now)) _ _
+    (after-word-len.word_len.ensures ∙ ap (word_front _ _) after-first-entry.first_entry.ensures ∙ sym (items.word_front_lem 3 _ _))
     after-plain.plain.ensures) _ _ c.before.n.given.1
-    (passes.within never (agrees-name _ 3) (entries a.kinds.now a.words.now) _
-    (passes.plain-is (word 3 (name a.names) (entries a.kinds.now a.words.now)) _ _
-    (after-word-len.word_len.ensures ∙ ap (wordFront _ _) after-first-entry.first_entry.ensures ∙ sym (items.word-front 3 _ _))
+    (passes.within never (agrees_name _ 3) (entries a.kinds.now a.words.now) _
+    (passes.plain_is (word 3 (name a.names) (entries a.kinds.now a.words.now)) _ _
+    (after-word-len.word_len.ensures ∙ ap (word_front _ _) after-first-entry.first_entry.ensures ∙ sym (items.word_front_lem 3 _ _))
     after-plain.plain.ensures))
 
 part-struct-body-len-start : tie.Need-slice-bounds-struct-body-len-start
@@ -92,13 +92,13 @@ part-struct-body-len-start c =
     let after-first-entry = after-word-len.before in
     let entry = after-first-entry.before.before.before in
     let a = entry.args in
-    passes.both-kinds (word 3 (name a.names)) (structBody a.names) never never a.kinds.now a.words.now _
-    (passes.plain-is (word 3 (name a.names) (entries a.kinds.now a.words.now)) _ _
-    (after-word-len.word_len.ensures ∙ ap (wordFront _ _) after-first-entry.first_entry.ensures ∙ sym (items.word-front 3 _ _))
+    passes.both_kinds (word 3 (name a.names)) (struct_body a.names) never never a.kinds.now a.words.now _
+    (passes.plain_is (word 3 (name a.names) (entries a.kinds.now a.words.now)) _ _
+    (after-word-len.word_len.ensures ∙ ap (word_front _ _) after-first-entry.first_entry.ensures ∙ sym (items.word_front_lem 3 _ _))
     after-plain.plain.ensures) _ _ c.before.n.given.1
-    (passes.within never (agrees-name _ 3) (entries a.kinds.now a.words.now) _
-    (passes.plain-is (word 3 (name a.names) (entries a.kinds.now a.words.now)) _ _
-    (after-word-len.word_len.ensures ∙ ap (wordFront _ _) after-first-entry.first_entry.ensures ∙ sym (items.word-front 3 _ _))
+    (passes.within never (agrees_name _ 3) (entries a.kinds.now a.words.now) _
+    (passes.plain_is (word 3 (name a.names) (entries a.kinds.now a.words.now)) _ _
+    (after-word-len.word_len.ensures ∙ ap (word_front _ _) after-first-entry.first_entry.ensures ∙ sym (items.word_front_lem 3 _ _))
     after-plain.plain.ensures))
 
 part-struct-body-len-end : tie.Need-slice-bounds-struct-body-len-end
@@ -113,13 +113,13 @@ mul-struct-body-len-2 c =
     let a = entry.args in
     omega (
       arith,
-      passes.both_words (word 3 (name a.names)) (structBody a.names) never never a.kinds.now a.words.now _
-          (passes.plain-is (word 3 (name a.names) (entries a.kinds.now a.words.now)) _ _
-          (after-word-len.word_len.ensures ∙ ap (wordFront _ _) after-first-entry.first_entry.ensures ∙ sym (items.word-front 3 _ _))
+      passes.both_words (word 3 (name a.names)) (struct_body a.names) never never a.kinds.now a.words.now _
+          (passes.plain_is (word 3 (name a.names) (entries a.kinds.now a.words.now)) _ _
+          (after-word-len.word_len.ensures ∙ ap (word_front _ _) after-first-entry.first_entry.ensures ∙ sym (items.word_front_lem 3 _ _))
           after-plain.plain.ensures) _ _ c.before.before.n.given.1
-          (passes.within never (agrees-name _ 3) (entries a.kinds.now a.words.now) _
-          (passes.plain-is (word 3 (name a.names) (entries a.kinds.now a.words.now)) _ _
-          (after-word-len.word_len.ensures ∙ ap (wordFront _ _) after-first-entry.first_entry.ensures ∙ sym (items.word-front 3 _ _))
+          (passes.within never (agrees_name _ 3) (entries a.kinds.now a.words.now) _
+          (passes.plain_is (word 3 (name a.names) (entries a.kinds.now a.words.now)) _ _
+          (after-word-len.word_len.ensures ∙ ap (word_front _ _) after-first-entry.first_entry.ensures ∙ sym (items.word_front_lem 3 _ _))
           after-plain.plain.ensures)),
       entry.well-formed,
     )
@@ -131,13 +131,13 @@ sub-struct-body-len-2 c =
     let after-first-entry = after-word-len.before in
     let entry = after-first-entry.before.before.before in
     let a = entry.args in
-    passes.both_words (word 3 (name a.names)) (structBody a.names) never never a.kinds.now a.words.now _
-    (passes.plain-is (word 3 (name a.names) (entries a.kinds.now a.words.now)) _ _
-    (after-word-len.word_len.ensures ∙ ap (wordFront _ _) after-first-entry.first_entry.ensures ∙ sym (items.word-front 3 _ _))
+    passes.both_words (word 3 (name a.names)) (struct_body a.names) never never a.kinds.now a.words.now _
+    (passes.plain_is (word 3 (name a.names) (entries a.kinds.now a.words.now)) _ _
+    (after-word-len.word_len.ensures ∙ ap (word_front _ _) after-first-entry.first_entry.ensures ∙ sym (items.word_front_lem 3 _ _))
     after-plain.plain.ensures) _ _ c.before.before.n.given.1
-    (passes.within never (agrees-name _ 3) (entries a.kinds.now a.words.now) _
-    (passes.plain-is (word 3 (name a.names) (entries a.kinds.now a.words.now)) _ _
-    (after-word-len.word_len.ensures ∙ ap (wordFront _ _) after-first-entry.first_entry.ensures ∙ sym (items.word-front 3 _ _))
+    (passes.within never (agrees_name _ 3) (entries a.kinds.now a.words.now) _
+    (passes.plain_is (word 3 (name a.names) (entries a.kinds.now a.words.now)) _ _
+    (after-word-len.word_len.ensures ∙ ap (word_front _ _) after-first-entry.first_entry.ensures ∙ sym (items.word_front_lem 3 _ _))
     after-plain.plain.ensures))
 
 part-struct-body-len-start-2 : tie.Need-slice-bounds-struct-body-len-start-2
@@ -147,13 +147,13 @@ part-struct-body-len-start-2 c =
     let after-first-entry = after-word-len.before in
     let entry = after-first-entry.before.before.before in
     let a = entry.args in
-    passes.both_words (word 3 (name a.names)) (structBody a.names) never never a.kinds.now a.words.now _
-    (passes.plain-is (word 3 (name a.names) (entries a.kinds.now a.words.now)) _ _
-    (after-word-len.word_len.ensures ∙ ap (wordFront _ _) after-first-entry.first_entry.ensures ∙ sym (items.word-front 3 _ _))
+    passes.both_words (word 3 (name a.names)) (struct_body a.names) never never a.kinds.now a.words.now _
+    (passes.plain_is (word 3 (name a.names) (entries a.kinds.now a.words.now)) _ _
+    (after-word-len.word_len.ensures ∙ ap (word_front _ _) after-first-entry.first_entry.ensures ∙ sym (items.word_front_lem 3 _ _))
     after-plain.plain.ensures) _ _ c.before.before.n.given.1
-    (passes.within never (agrees-name _ 3) (entries a.kinds.now a.words.now) _
-    (passes.plain-is (word 3 (name a.names) (entries a.kinds.now a.words.now)) _ _
-    (after-word-len.word_len.ensures ∙ ap (wordFront _ _) after-first-entry.first_entry.ensures ∙ sym (items.word-front 3 _ _))
+    (passes.within never (agrees_name _ 3) (entries a.kinds.now a.words.now) _
+    (passes.plain_is (word 3 (name a.names) (entries a.kinds.now a.words.now)) _ _
+    (after-word-len.word_len.ensures ∙ ap (word_front _ _) after-first-entry.first_entry.ensures ∙ sym (items.word_front_lem 3 _ _))
     after-plain.plain.ensures))
 
 part-struct-body-len-end-2 : tie.Need-slice-bounds-struct-body-len-end-2
@@ -173,20 +173,20 @@ join-found-requires c κs =
     let after-first-entry = after-word-len.before in
     let entry = after-first-entry.before.before.before in
     let a = entry.args in
-    passes.both-room (word 3 (name a.names)) (structBody a.names) never never a.kinds.now a.words.now _
-    (passes.plain-is (word 3 (name a.names) (entries a.kinds.now a.words.now)) _ _
-    (after-word-len.word_len.ensures ∙ ap (wordFront _ _) after-first-entry.first_entry.ensures ∙ sym (items.word-front 3 _ _))
+    passes.both_room (word 3 (name a.names)) (struct_body a.names) never never a.kinds.now a.words.now _
+    (passes.plain_is (word 3 (name a.names) (entries a.kinds.now a.words.now)) _ _
+    (after-word-len.word_len.ensures ∙ ap (word_front _ _) after-first-entry.first_entry.ensures ∙ sym (items.word_front_lem 3 _ _))
     after-plain.plain.ensures) _ _ after-n.n.given.1
-    (passes.within never (agrees-name _ 3) (entries a.kinds.now a.words.now) _
-    (passes.plain-is (word 3 (name a.names) (entries a.kinds.now a.words.now)) _ _
-    (after-word-len.word_len.ensures ∙ ap (wordFront _ _) after-first-entry.first_entry.ensures ∙ sym (items.word-front 3 _ _))
+    (passes.within never (agrees_name _ 3) (entries a.kinds.now a.words.now) _
+    (passes.plain_is (word 3 (name a.names) (entries a.kinds.now a.words.now)) _ _
+    (after-word-len.word_len.ensures ∙ ap (word_front _ _) after-first-entry.first_entry.ensures ∙ sym (items.word_front_lem 3 _ _))
     after-plain.plain.ensures)) (omega arith) _
-    (passes.within never (agrees-structBody _) (lentFrom a.kinds.now a.words.now after-n.n.given.0.0) _
-    (passes.plain-is (structBody a.names (lentFrom a.kinds.now a.words.now after-n.n.given.0.0)) _ _
+    (passes.within never (agrees_struct_body _) (lent_from a.kinds.now a.words.now after-n.n.given.0.0) _
+    (passes.plain_is (struct_body a.names (lent_from a.kinds.now a.words.now after-n.n.given.0.0)) _ _
     c.before.struct-body-len.ensures c.plain2.ensures))
 
 returns-2 : tie.Need-returns-2
-unfolding structType
+unfolding struct_type
 returns-2 c =
     let after-n = c.before.before.before.before.before.before in
     let after-plain = after-n.before.before in
@@ -194,13 +194,13 @@ returns-2 c =
     let after-first-entry = after-word-len.before in
     let entry = after-first-entry.before.before.before in
     let a = entry.args in
-    passes.both-arm (word 3 (name a.names)) (structBody a.names) never never a.kinds.now a.words.now _
-    (passes.plain-is (word 3 (name a.names) (entries a.kinds.now a.words.now)) _ _
-    (after-word-len.word_len.ensures ∙ ap (wordFront _ _) after-first-entry.first_entry.ensures ∙ sym (items.word-front 3 _ _))
+    passes.both_arm (word 3 (name a.names)) (struct_body a.names) never never a.kinds.now a.words.now _
+    (passes.plain_is (word 3 (name a.names) (entries a.kinds.now a.words.now)) _ _
+    (after-word-len.word_len.ensures ∙ ap (word_front _ _) after-first-entry.first_entry.ensures ∙ sym (items.word_front_lem 3 _ _))
     after-plain.plain.ensures) _ _ after-n.n.given.1 _ _
-    (passes.plain-is (structBody a.names (lentFrom a.kinds.now a.words.now after-n.n.given.0.0)) _ _
+    (passes.plain_is (struct_body a.names (lent_from a.kinds.now a.words.now after-n.n.given.0.0)) _ _
     c.before.before.struct-body-len.ensures c.before.plain2.ensures) c.join-found.ensures ∙ sym
-    (passes.mapped-found never (λ p. record { name = p.0; body = p.1 }) (both (word 3 (name a.names)) (structBody a.names))
+    (passes.mapped_found never (λ p. record { name = p.0; body = p.1 }) (both (word 3 (name a.names)) (struct_body a.names))
     (entries a.kinds.now a.words.now))
 
 pub struct-len-spec : {M : Type 1} → statement M

@@ -2,8 +2,8 @@
 use mathlib.Core.Path.{◌∙◌, sym, ap}
 use Rattle.book.specs.Entry.{entries}
 use Rattle.book.specs.Decode.{type, item}
-use Rattle.book.specs.Forbidden.{otherItem}
-use Rattle.book_types.specs.Found.{foundOf}
+use Rattle.book.specs.Forbidden.{other_item}
+use Rattle.book_types.specs.Found.{found_of}
 use Rattle.book_values.specs.Items.{item_of}
 use Rattle.book_types.specs.Passes as passes
 use Rattle.book_values.specs.ItemLaws as items
@@ -99,8 +99,8 @@ unfolding item
 returns c =
     let entry = c.before.before.before.before.before.before in
     let a = entry.args in
-    passes.plain-is (type a.names (entries a.kinds.now a.words.now)) _ _ c.before.type-len.ensures c.plain.ensures ∙ ap
-    (λ i. foundOf (otherItem (item_of i)) (item a.names (item_of i) (entries a.kinds.now a.words.now)))
+    passes.plain_is (type a.names (entries a.kinds.now a.words.now)) _ _ c.before.type_len_lem.ensures c.plain.ensures ∙ ap
+    (λ i. found_of (other_item (item_of i)) (item a.names (item_of i) (entries a.kinds.now a.words.now)))
     (sym c.before.before.enum_told.given.1)
 
 returns-2 : tie.Need-returns-2
@@ -108,8 +108,8 @@ unfolding item
 returns-2 c =
     let entry = c.before.before.before.before.before.before in
     let a = entry.args in
-    items.atom-is a.names atom.Value (entries a.kinds.now a.words.now) _ _ c.before.first_entry.ensures c.atom-len.ensures ∙ ap
-    (λ i. foundOf (otherItem (item_of i)) (item a.names (item_of i) (entries a.kinds.now a.words.now)))
+    items.atom_is a.names atom.Value (entries a.kinds.now a.words.now) _ _ c.before.first_entry.ensures c.atom-len.ensures ∙ ap
+    (λ i. found_of (other_item (item_of i)) (item a.names (item_of i) (entries a.kinds.now a.words.now)))
     (sym c.before.before.enum-told2.given.1)
 
 returns-3 : tie.Need-returns-3
@@ -117,8 +117,8 @@ unfolding item
 returns-3 c =
     let entry = c.before.before.before.before.before.before in
     let a = entry.args in
-    items.atom-is a.names atom.Block (entries a.kinds.now a.words.now) _ _ c.before.first-entry2.ensures c.atom-len2.ensures ∙ ap
-    (λ i. foundOf (otherItem (item_of i)) (item a.names (item_of i) (entries a.kinds.now a.words.now)))
+    items.atom_is a.names atom.Block (entries a.kinds.now a.words.now) _ _ c.before.first-entry2.ensures c.atom-len2.ensures ∙ ap
+    (λ i. found_of (other_item (item_of i)) (item a.names (item_of i) (entries a.kinds.now a.words.now)))
     (sym c.before.before.enum-told3.given.1)
 
 returns-4 : tie.Need-returns-4
@@ -126,8 +126,8 @@ unfolding item
 returns-4 c =
     let entry = c.before.before.before.before.before.before in
     let a = entry.args in
-    items.atom-is a.names atom.Index (entries a.kinds.now a.words.now) _ _ c.before.first-entry3.ensures c.atom-len3.ensures ∙ ap
-    (λ i. foundOf (otherItem (item_of i)) (item a.names (item_of i) (entries a.kinds.now a.words.now)))
+    items.atom_is a.names atom.Index (entries a.kinds.now a.words.now) _ _ c.before.first-entry3.ensures c.atom-len3.ensures ∙ ap
+    (λ i. found_of (other_item (item_of i)) (item a.names (item_of i) (entries a.kinds.now a.words.now)))
     (sym c.before.before.enum-told4.given.1)
 
 returns-5 : tie.Need-returns-5
@@ -135,8 +135,8 @@ unfolding item
 returns-5 c =
     let entry = c.before.before.before.before.before.before in
     let a = entry.args in
-    items.atom-is a.names atom.Align (entries a.kinds.now a.words.now) _ _ c.before.first-entry4.ensures c.atom-len4.ensures ∙ ap
-    (λ i. foundOf (otherItem (item_of i)) (item a.names (item_of i) (entries a.kinds.now a.words.now)))
+    items.atom_is a.names atom.Align (entries a.kinds.now a.words.now) _ _ c.before.first-entry4.ensures c.atom-len4.ensures ∙ ap
+    (λ i. found_of (other_item (item_of i)) (item a.names (item_of i) (entries a.kinds.now a.words.now)))
     (sym c.before.before.enum-told5.given.1)
 
 returns-6 : tie.Need-returns-6
@@ -144,8 +144,8 @@ unfolding item
 returns-6 c =
     let entry = c.before.before.before.before.before in
     let a = entry.args in
-    c.Typed-len.ensures ∙ items.typed-pair a.names (entries a.kinds.now a.words.now) ∙ ap
-    (λ i. foundOf (otherItem (item_of i)) (item a.names (item_of i) (entries a.kinds.now a.words.now)))
+    c.Typed-len.ensures ∙ items.typed_pair a.names (entries a.kinds.now a.words.now) ∙ ap
+    (λ i. found_of (other_item (item_of i)) (item a.names (item_of i) (entries a.kinds.now a.words.now)))
     (sym c.before.enum-told6.given.1)
 
 returns-7 : tie.Need-returns-7
@@ -153,8 +153,8 @@ unfolding item
 returns-7 c =
     let entry = c.before.before.before.before.before in
     let a = entry.args in
-    c.typed-len2.ensures ∙ items.index-pair a.names (entries a.kinds.now a.words.now) ∙ ap
-    (λ i. foundOf (otherItem (item_of i)) (item a.names (item_of i) (entries a.kinds.now a.words.now)))
+    c.typed-len2.ensures ∙ items.index_pair a.names (entries a.kinds.now a.words.now) ∙ ap
+    (λ i. found_of (other_item (item_of i)) (item a.names (item_of i) (entries a.kinds.now a.words.now)))
     (sym c.before.enum-told7.given.1)
 
 returns-8 : tie.Need-returns-8
@@ -162,8 +162,8 @@ unfolding item
 returns-8 c =
     let entry = c.before.before.before.before.before in
     let a = entry.args in
-    c.pair-len.ensures ∙ items.incoming-pair a.names (entries a.kinds.now a.words.now) ∙ ap
-    (λ i. foundOf (otherItem (item_of i)) (item a.names (item_of i) (entries a.kinds.now a.words.now)))
+    c.pair-len.ensures ∙ items.incoming_pair a.names (entries a.kinds.now a.words.now) ∙ ap
+    (λ i. found_of (other_item (item_of i)) (item a.names (item_of i) (entries a.kinds.now a.words.now)))
     (sym c.before.enum-told8.given.1)
 
 returns-9 : tie.Need-returns-9
@@ -171,8 +171,8 @@ unfolding item
 returns-9 c =
     let entry = c.before.before.before.before.before in
     let a = entry.args in
-    c.pair-len2.ensures ∙ items.case-pair a.names (entries a.kinds.now a.words.now) ∙ ap
-    (λ i. foundOf (otherItem (item_of i)) (item a.names (item_of i) (entries a.kinds.now a.words.now)))
+    c.pair-len2.ensures ∙ items.case_pair a.names (entries a.kinds.now a.words.now) ∙ ap
+    (λ i. found_of (other_item (item_of i)) (item a.names (item_of i) (entries a.kinds.now a.words.now)))
     (sym c.before.enum-told9.given.1)
 
 returns-10 : tie.Need-returns-10
@@ -180,8 +180,8 @@ unfolding item
 returns-10 c =
     let entry = c.before.before.before.before.before in
     let a = entry.args in
-    c.param-len.ensures ∙ items.param-pair a.names (entries a.kinds.now a.words.now) ∙ ap
-    (λ i. foundOf (otherItem (item_of i)) (item a.names (item_of i) (entries a.kinds.now a.words.now)))
+    c.param-len.ensures ∙ items.param_pair a.names (entries a.kinds.now a.words.now) ∙ ap
+    (λ i. found_of (other_item (item_of i)) (item a.names (item_of i) (entries a.kinds.now a.words.now)))
     (sym c.before.enum-told10.given.1)
 
 pub item-len-spec : {M : Type 1} → statement M

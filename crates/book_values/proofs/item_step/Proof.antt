@@ -1,6 +1,6 @@
 -- `book_values::item_step` meets its contract: the entry in front closes the list, or an item is read.
 use Rattle.book.specs.Decode.{item}
-use Rattle.book.specs.Forbidden.{otherItem}
+use Rattle.book.specs.Forbidden.{other_item}
 use Rattle.book_values.specs.Items.{item_of}
 use Rattle.book_types.specs.Passes as passes
 use borrow.Author.Rules.{rules}
@@ -37,8 +37,8 @@ returns c =
     let after-first-entry = c.before.before.before in
     let entry = after-first-entry.before.before.before in
     let a = entry.args in
-    passes.closing-arm (otherItem (item_of a.item)) (item a.names (item_of a.item)) a.kinds.now a.words.now _ _
-    after-first-entry.first_entry.ensures c.before.before.list-head.ensures c.enum_told.given.1
+    passes.closing_arm (other_item (item_of a.item)) (item a.names (item_of a.item)) a.kinds.now a.words.now _ _
+    after-first-entry.first_entry.ensures c.before.before.list_head.ensures c.enum_told.given.1
 
 returns-2 : tie.Need-returns-2
 returns-2 c =
@@ -46,8 +46,8 @@ returns-2 c =
     let after-first-entry = after-list-head.before in
     let entry = after-first-entry.before.before.before in
     let a = entry.args in
-    passes.item-arm (otherItem (item_of a.item)) (item a.names (item_of a.item)) a.kinds.now a.words.now _ _
-    after-first-entry.first_entry.ensures after-list-head.list-head.ensures c.before.before.enum-told2.given.1 _ _
+    passes.item_arm (other_item (item_of a.item)) (item a.names (item_of a.item)) a.kinds.now a.words.now _ _
+    after-first-entry.first_entry.ensures after-list-head.list_head.ensures c.before.before.enum-told2.given.1 _ _
     c.before.listed-len.ensures c.next-pass.ensures
 
 returns-3 : tie.Need-returns-3
@@ -55,8 +55,8 @@ returns-3 c =
     let after-first-entry = c.before.before.before in
     let entry = after-first-entry.before.before.before in
     let a = entry.args in
-    passes.none-arm (otherItem (item_of a.item)) (item a.names (item_of a.item)) a.kinds.now a.words.now _ _
-    after-first-entry.first_entry.ensures c.before.before.list-head.ensures c.enum-told3.given.1
+    passes.none_arm (other_item (item_of a.item)) (item a.names (item_of a.item)) a.kinds.now a.words.now _ _
+    after-first-entry.first_entry.ensures c.before.before.list_head.ensures c.enum-told3.given.1
 
 pub item-step-spec : {M : Type 1} → statement M
 item-step-spec =

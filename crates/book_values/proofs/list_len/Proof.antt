@@ -1,11 +1,11 @@
 -- `book_values::list_len` meets its contract: the loop goes on by the list's next step, and what is left of the list tells what the whole is from there.
 use native.Mathlib.Omega.{arith}
 use mathlib.Core.Path.{refl, ◌∙◌, sym}
-use Rattle.book.specs.Read.{closing, isClosing}
+use Rattle.book.specs.Read.{closing, is_closing}
 use Rattle.book.specs.Decode.{item as itemReader}
-use Rattle.book.specs.Forbidden.{otherItem}
-use Rattle.book.specs.AgreeTy.{agrees-closing}
-use Rattle.book.specs.AgreeInst.{agrees-item}
+use Rattle.book.specs.Forbidden.{other_item}
+use Rattle.book.specs.AgreeTy.{agrees_closing}
+use Rattle.book.specs.AgreeInst.{agrees_item}
 use Rattle.book_values.specs.Items.{item_of}
 use Rattle.book_types.specs.Found.{never}
 use Rattle.book_types.specs.Passes.{Loop}
@@ -17,7 +17,7 @@ use Rattle.book_values.proofs.item_step.Reads as item-step-reads
 
 abbrev invariant-loop : tie.invariant-loop
 invariant-loop kinds words names item most at₀ left₀ seen₀ at left seen =
-    Loop (otherItem (item_of item)) never isClosing (itemReader names (item_of item)) closing most kinds words at left seen
+    Loop (other_item (item_of item)) never is_closing (itemReader names (item_of item)) closing most kinds words at left seen
 
 abbrev decreases-loop : tie.decreases-loop
 decreases-loop kinds words names item most at₀ left₀ seen₀ at left seen = left
@@ -25,7 +25,7 @@ decreases-loop kinds words names item most at₀ left₀ seen₀ at left seen = 
 loop-holds : tie.Need-loop-init invariant-loop decreases-loop
 loop-holds c =
     let a = c.before.before.args in
-    passes.loop-start (otherItem (item_of a.item)) never isClosing (itemReader a.names (item_of a.item)) closing a.most a.kinds.now a.words.now _ (refl)
+    passes.loop_start (other_item (item_of a.item)) never is_closing (itemReader a.names (item_of a.item)) closing a.most a.kinds.now a.words.now _ (refl)
 
 mul-item-step : tie.Need-overflow-mul-item-step invariant-loop decreases-loop
 mul-item-step c = omega (arith, c.loop.invariant.kinds, c.before.before.before.well-formed)
@@ -65,9 +65,9 @@ add-t24 c =
     let a = entry.args in
     omega (
       arith,
-      passes.done-there (otherItem (item_of a.item)) never isClosing (itemReader a.names (item_of a.item)) closing a.most
+      passes.done_there (other_item (item_of a.item)) never is_closing (itemReader a.names (item_of a.item)) closing a.most
           a.kinds.now a.words.now _ _ _ at-loop.loop.invariant _ after-item-step.item-step.ensures
-          (agrees-item a.names (item_of a.item)) agrees-closing _ _ c.before.n.given.1,
+          (agrees_item a.names (item_of a.item)) agrees_closing _ _ c.before.n.given.1,
       entry.well-formed,
     )
 
@@ -77,9 +77,9 @@ returns c =
     let at-loop = after-item-step.before.before.before in
     let entry = at-loop.before.before.before in
     let a = entry.args in
-    passes.loop-done (otherItem (item_of a.item)) never isClosing (itemReader a.names (item_of a.item)) closing a.most a.kinds.now
+    passes.loop_done (other_item (item_of a.item)) never is_closing (itemReader a.names (item_of a.item)) closing a.most a.kinds.now
     a.words.now _ _ _ at-loop.loop.invariant _ after-item-step.item-step.ensures _ _ c.before.n.given.1 ∙ sym
-    (passes.list-found _ _ _ _)
+    (passes.list_found _ _ _ _)
 
 enum_told : tie.Need-enum-told invariant-loop decreases-loop
 enum_told c = search rules
@@ -89,9 +89,9 @@ returns-2 c =
     let at-loop = c.before.before.before.before.before in
     let entry = at-loop.before.before.before in
     let a = entry.args in
-    passes.loop-bad (otherItem (item_of a.item)) never isClosing (itemReader a.names (item_of a.item)) closing a.most a.kinds.now
+    passes.loop_bad (other_item (item_of a.item)) never is_closing (itemReader a.names (item_of a.item)) closing a.most a.kinds.now
     a.words.now _ _ _ at-loop.loop.invariant _ c.before.before.item-step.ensures c.enum_told.given.1 ∙ sym
-    (passes.list-found _ _ _ _)
+    (passes.list_found _ _ _ _)
 
 enum-known-n-2 : tie.Need-enum-known-n-2 invariant-loop decreases-loop
 enum-known-n-2 c = search rules
@@ -102,9 +102,9 @@ returns-3 c =
     let at-loop = after-item-step.before.before.before in
     let entry = at-loop.before.before.before in
     let a = entry.args in
-    passes.loop-full (otherItem (item_of a.item)) never isClosing (itemReader a.names (item_of a.item)) closing a.most a.kinds.now
+    passes.loop_full (other_item (item_of a.item)) never is_closing (itemReader a.names (item_of a.item)) closing a.most a.kinds.now
     a.words.now _ _ _ at-loop.loop.invariant _ after-item-step.item-step.ensures _ _ c.before.before.n2.given.1 c.if1.true ∙ sym
-    (passes.list-found _ _ _ _)
+    (passes.list_found _ _ _ _)
 
 add_at : tie.Need-overflow-add-at invariant-loop decreases-loop
 add_at c =
@@ -114,9 +114,9 @@ add_at c =
     let a = entry.args in
     omega (
       arith,
-      (passes.loop-next (otherItem (item_of a.item)) never isClosing (itemReader a.names (item_of a.item)) closing a.most
+      (passes.loop_next (other_item (item_of a.item)) never is_closing (itemReader a.names (item_of a.item)) closing a.most
           a.kinds.now a.words.now _ _ _ at-loop.loop.invariant _ after-item-step.item-step.ensures
-          (agrees-item a.names (item_of a.item)) agrees-closing _ _ c.before.before.n2.given.1 c.if1.false).kinds,
+          (agrees_item a.names (item_of a.item)) agrees_closing _ _ c.before.before.n2.given.1 c.if1.false).kinds,
       entry.well-formed,
     )
 
@@ -132,8 +132,8 @@ loop-again c =
     let at-loop = after-item-step.before.before.before in
     let entry = at-loop.before.before.before in
     let a = entry.args in
-    passes.loop-next (otherItem (item_of a.item)) never isClosing (itemReader a.names (item_of a.item)) closing a.most a.kinds.now
-    a.words.now _ _ _ at-loop.loop.invariant _ after-item-step.item-step.ensures (agrees-item a.names (item_of a.item)) agrees-closing
+    passes.loop_next (other_item (item_of a.item)) never is_closing (itemReader a.names (item_of a.item)) closing a.most a.kinds.now
+    a.words.now _ _ _ at-loop.loop.invariant _ after-item-step.item-step.ensures (agrees_item a.names (item_of a.item)) agrees_closing
     _ _ c.before.before.n2.given.1 c.if1.false
 
 pub list-len-spec : {M : Type 1} → statement M

@@ -1,6 +1,6 @@
 -- `book_values::listed_len` meets its contract: two entries that are the item are told as such.
 use mathlib.Core.Path.{◌∙◌, sym}
-use Rattle.book_values.specs.Pairs.{two-found}
+use Rattle.book_values.specs.Pairs.{two_found}
 use borrow.Author.Rules.{rules}
 use Rattle.book_values.proofs.listed_len.Statement.{statement}
 use Rattle.book_values.proofs.listed_len.Tie as tie
@@ -35,7 +35,7 @@ returns c =
     let then2 = after_two.before.before.before.before.before in
     let then1 = then2.before in
     let a = then1.before.before.before.args in
-    two-found a.names a.kinds.now a.words.now then1.if1.true then2.if2.true a.item
+    two_found a.names a.kinds.now a.words.now then1.if1.true then2.if2.true a.item
     (sym after_two.two-entries.ensures ∙ then3.if3.true)
 
 item-len-requires : tie.Need-item-len-requires

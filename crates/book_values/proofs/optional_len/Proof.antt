@@ -1,7 +1,7 @@
 -- `book_values::optional_len` meets its contract: kind 21 is none, and else an item is read.
 use Rattle.book.specs.Entry.{entries}
 use Rattle.book.specs.Decode.{item}
-use Rattle.book.specs.Forbidden.{otherItem}
+use Rattle.book.specs.Forbidden.{other_item}
 use Rattle.book_values.specs.Items.{item_of}
 use Rattle.book_values.specs.ItemLaws as items
 use borrow.Author.Rules.{rules}
@@ -24,7 +24,7 @@ enum_told c = search rules
 returns : tie.Need-returns
 returns c =
     let a = c.before.before.before.before.before.args in
-    items.absent_none (otherItem (item_of a.item)) (item a.names (item_of a.item)) (entries a.kinds.now a.words.now) _ c.before.before.first_entry.ensures c.enum_told.given.1
+    items.absent_none (other_item (item_of a.item)) (item a.names (item_of a.item)) (entries a.kinds.now a.words.now) _ c.before.before.first_entry.ensures c.enum_told.given.1
 
 entry-if-requires : tie.Need-entry-if-requires
 entry-if-requires c κs = search rules
@@ -41,7 +41,7 @@ returns-2 c =
     let after-first-entry = after-k.before.before in
     let entry = after-first-entry.before.before.before in
     let a = entry.args in
-    items.absent-is (otherItem (item_of a.item)) (item a.names (item_of a.item)) (entries a.kinds.now a.words.now) _
+    items.absent_is (other_item (item_of a.item)) (item a.names (item_of a.item)) (entries a.kinds.now a.words.now) _
     after-first-entry.first_entry.ensures _ _ after-k.k.given.1 c.before.before.if1.true _ _ c.before.entry-if.ensures
     c.plain.ensures
 
@@ -51,7 +51,7 @@ returns-3 c =
     let after-first-entry = after-k.before.before in
     let entry = after-first-entry.before.before.before in
     let a = entry.args in
-    items.absent-not (otherItem (item_of a.item)) (item a.names (item_of a.item)) (entries a.kinds.now a.words.now) _
+    items.absent_not (other_item (item_of a.item)) (item a.names (item_of a.item)) (entries a.kinds.now a.words.now) _
     after-first-entry.first_entry.ensures _ _ after-k.k.given.1 c.before.if1.false _ c.item-len.ensures
 
 pub optional-len-spec : {M : Type 1} → statement M

@@ -1,8 +1,8 @@
 -- `book_values::pair_len` meets its contract: a block's name is read behind the atom.
 use native.Mathlib.Omega.{arith}
 use Rattle.book.specs.Entry.{entries}
-use Rattle.book_types.specs.Laws.{lentFrom}
-use Rattle.book_values.specs.Items.{atomReader, atomTest}
+use Rattle.book_types.specs.Laws.{lent_from}
+use Rattle.book_values.specs.Items.{atom_reader, atom_test}
 use Rattle.book_types.specs.Passes as passes
 use Rattle.book_values.specs.ItemLaws as items
 use Rattle.book_values.specs.declared.Atom.TheVariants.{Block}
@@ -30,9 +30,9 @@ returns c =
     let after-first-entry = c.before.before.before in
     let entry = after-first-entry.before.before.before in
     let a = entry.args in
-    passes.both-bad (atomReader a.names a.atom) (atomReader a.names Block) (atomTest a.atom) (atomTest Block) a.kinds.now
+    passes.both_bad (atom_reader a.names a.atom) (atom_reader a.names Block) (atom_test a.atom) (atom_test Block) a.kinds.now
     a.words.now _
-    (items.atom-is a.names a.atom (entries a.kinds.now a.words.now) _ _ after-first-entry.first_entry.ensures
+    (items.atom_is a.names a.atom (entries a.kinds.now a.words.now) _ _ after-first-entry.first_entry.ensures
     c.before.before.atom-len.ensures) c.enum_told.given.1
 
 mul-first-entry : tie.Need-overflow-mul-first-entry
@@ -43,11 +43,11 @@ mul-first-entry c =
     let a = entry.args in
     omega (
       arith,
-      passes.both-kinds (atomReader a.names a.atom) (atomReader a.names Block) (atomTest a.atom) (atomTest Block)
+      passes.both_kinds (atom_reader a.names a.atom) (atom_reader a.names Block) (atom_test a.atom) (atom_test Block)
           a.kinds.now a.words.now _
-          (items.atom-is a.names a.atom (entries a.kinds.now a.words.now) _ _ after-first-entry.first_entry.ensures
+          (items.atom_is a.names a.atom (entries a.kinds.now a.words.now) _ _ after-first-entry.first_entry.ensures
           after-atom-len.atom-len.ensures) _ _ c.before.n.given.1
-          (items.atom-within a.names a.atom (entries a.kinds.now a.words.now) _ _ after-first-entry.first_entry.ensures
+          (items.atom_within a.names a.atom (entries a.kinds.now a.words.now) _ _ after-first-entry.first_entry.ensures
           after-atom-len.atom-len.ensures),
       entry.well-formed,
     )
@@ -58,11 +58,11 @@ sub-first-entry c =
     let after-first-entry = after-atom-len.before in
     let entry = after-first-entry.before.before.before in
     let a = entry.args in
-    passes.both-kinds (atomReader a.names a.atom) (atomReader a.names Block) (atomTest a.atom) (atomTest Block) a.kinds.now
+    passes.both_kinds (atom_reader a.names a.atom) (atom_reader a.names Block) (atom_test a.atom) (atom_test Block) a.kinds.now
     a.words.now _
-    (items.atom-is a.names a.atom (entries a.kinds.now a.words.now) _ _ after-first-entry.first_entry.ensures
+    (items.atom_is a.names a.atom (entries a.kinds.now a.words.now) _ _ after-first-entry.first_entry.ensures
     after-atom-len.atom-len.ensures) _ _ c.before.n.given.1
-    (items.atom-within a.names a.atom (entries a.kinds.now a.words.now) _ _ after-first-entry.first_entry.ensures
+    (items.atom_within a.names a.atom (entries a.kinds.now a.words.now) _ _ after-first-entry.first_entry.ensures
     after-atom-len.atom-len.ensures)
 
 part-first-entry-start : tie.Need-slice-bounds-first-entry-start
@@ -71,11 +71,11 @@ part-first-entry-start c =
     let after-first-entry = after-atom-len.before in
     let entry = after-first-entry.before.before.before in
     let a = entry.args in
-    passes.both-kinds (atomReader a.names a.atom) (atomReader a.names Block) (atomTest a.atom) (atomTest Block) a.kinds.now
+    passes.both_kinds (atom_reader a.names a.atom) (atom_reader a.names Block) (atom_test a.atom) (atom_test Block) a.kinds.now
     a.words.now _
-    (items.atom-is a.names a.atom (entries a.kinds.now a.words.now) _ _ after-first-entry.first_entry.ensures
+    (items.atom_is a.names a.atom (entries a.kinds.now a.words.now) _ _ after-first-entry.first_entry.ensures
     after-atom-len.atom-len.ensures) _ _ c.before.n.given.1
-    (items.atom-within a.names a.atom (entries a.kinds.now a.words.now) _ _ after-first-entry.first_entry.ensures
+    (items.atom_within a.names a.atom (entries a.kinds.now a.words.now) _ _ after-first-entry.first_entry.ensures
     after-atom-len.atom-len.ensures)
 
 part-first-entry-end : tie.Need-slice-bounds-first-entry-end
@@ -89,11 +89,11 @@ mul-first-entry-2 c =
     let a = entry.args in
     omega (
       arith,
-      passes.both_words (atomReader a.names a.atom) (atomReader a.names Block) (atomTest a.atom) (atomTest Block)
+      passes.both_words (atom_reader a.names a.atom) (atom_reader a.names Block) (atom_test a.atom) (atom_test Block)
           a.kinds.now a.words.now _
-          (items.atom-is a.names a.atom (entries a.kinds.now a.words.now) _ _ after-first-entry.first_entry.ensures
+          (items.atom_is a.names a.atom (entries a.kinds.now a.words.now) _ _ after-first-entry.first_entry.ensures
           after-atom-len.atom-len.ensures) _ _ c.before.before.n.given.1
-          (items.atom-within a.names a.atom (entries a.kinds.now a.words.now) _ _ after-first-entry.first_entry.ensures
+          (items.atom_within a.names a.atom (entries a.kinds.now a.words.now) _ _ after-first-entry.first_entry.ensures
           after-atom-len.atom-len.ensures),
       entry.well-formed,
     )
@@ -104,11 +104,11 @@ sub-first-entry-2 c =
     let after-first-entry = after-atom-len.before in
     let entry = after-first-entry.before.before.before in
     let a = entry.args in
-    passes.both_words (atomReader a.names a.atom) (atomReader a.names Block) (atomTest a.atom) (atomTest Block) a.kinds.now
+    passes.both_words (atom_reader a.names a.atom) (atom_reader a.names Block) (atom_test a.atom) (atom_test Block) a.kinds.now
     a.words.now _
-    (items.atom-is a.names a.atom (entries a.kinds.now a.words.now) _ _ after-first-entry.first_entry.ensures
+    (items.atom_is a.names a.atom (entries a.kinds.now a.words.now) _ _ after-first-entry.first_entry.ensures
     after-atom-len.atom-len.ensures) _ _ c.before.before.n.given.1
-    (items.atom-within a.names a.atom (entries a.kinds.now a.words.now) _ _ after-first-entry.first_entry.ensures
+    (items.atom_within a.names a.atom (entries a.kinds.now a.words.now) _ _ after-first-entry.first_entry.ensures
     after-atom-len.atom-len.ensures)
 
 part-first-entry-start-2 : tie.Need-slice-bounds-first-entry-start-2
@@ -117,11 +117,11 @@ part-first-entry-start-2 c =
     let after-first-entry = after-atom-len.before in
     let entry = after-first-entry.before.before.before in
     let a = entry.args in
-    passes.both_words (atomReader a.names a.atom) (atomReader a.names Block) (atomTest a.atom) (atomTest Block) a.kinds.now
+    passes.both_words (atom_reader a.names a.atom) (atom_reader a.names Block) (atom_test a.atom) (atom_test Block) a.kinds.now
     a.words.now _
-    (items.atom-is a.names a.atom (entries a.kinds.now a.words.now) _ _ after-first-entry.first_entry.ensures
+    (items.atom_is a.names a.atom (entries a.kinds.now a.words.now) _ _ after-first-entry.first_entry.ensures
     after-atom-len.atom-len.ensures) _ _ c.before.before.n.given.1
-    (items.atom-within a.names a.atom (entries a.kinds.now a.words.now) _ _ after-first-entry.first_entry.ensures
+    (items.atom_within a.names a.atom (entries a.kinds.now a.words.now) _ _ after-first-entry.first_entry.ensures
     after-atom-len.atom-len.ensures)
 
 part-first-entry-end-2 : tie.Need-slice-bounds-first-entry-end-2
@@ -140,13 +140,13 @@ join-found-requires c κs =
     let after-first-entry = after-atom-len.before in
     let entry = after-first-entry.before.before.before in
     let a = entry.args in
-    passes.both-room (atomReader a.names a.atom) (atomReader a.names Block) (atomTest a.atom) (atomTest Block) a.kinds.now
+    passes.both_room (atom_reader a.names a.atom) (atom_reader a.names Block) (atom_test a.atom) (atom_test Block) a.kinds.now
     a.words.now _
-    (items.atom-is a.names a.atom (entries a.kinds.now a.words.now) _ _ after-first-entry.first_entry.ensures
+    (items.atom_is a.names a.atom (entries a.kinds.now a.words.now) _ _ after-first-entry.first_entry.ensures
     after-atom-len.atom-len.ensures) _ _ after-n.n.given.1
-    (items.atom-within a.names a.atom (entries a.kinds.now a.words.now) _ _ after-first-entry.first_entry.ensures
+    (items.atom_within a.names a.atom (entries a.kinds.now a.words.now) _ _ after-first-entry.first_entry.ensures
     after-atom-len.atom-len.ensures) (omega arith) _
-    (items.atom-within a.names Block (lentFrom a.kinds.now a.words.now after-n.n.given.0.0) _ _
+    (items.atom_within a.names Block (lent_from a.kinds.now a.words.now after-n.n.given.0.0) _ _
     c.before.first-entry2.ensures c.atom-len2.ensures)
 
 returns-2 : tie.Need-returns-2
@@ -156,11 +156,11 @@ returns-2 c =
     let after-first-entry = after-atom-len.before in
     let entry = after-first-entry.before.before.before in
     let a = entry.args in
-    passes.both-arm (atomReader a.names a.atom) (atomReader a.names Block) (atomTest a.atom) (atomTest Block) a.kinds.now
+    passes.both_arm (atom_reader a.names a.atom) (atom_reader a.names Block) (atom_test a.atom) (atom_test Block) a.kinds.now
     a.words.now _
-    (items.atom-is a.names a.atom (entries a.kinds.now a.words.now) _ _ after-first-entry.first_entry.ensures
+    (items.atom_is a.names a.atom (entries a.kinds.now a.words.now) _ _ after-first-entry.first_entry.ensures
     after-atom-len.atom-len.ensures) _ _ after-n.n.given.1 _ _
-    (items.atom-is a.names Block (lentFrom a.kinds.now a.words.now after-n.n.given.0.0) _ _
+    (items.atom_is a.names Block (lent_from a.kinds.now a.words.now after-n.n.given.0.0) _ _
     c.before.before.first-entry2.ensures c.before.atom-len2.ensures) c.join-found.ensures
 
 pub pair-len-spec : {M : Type 1} → statement M

@@ -2,10 +2,10 @@
 use native.Mathlib.Omega.{arith}
 use Rattle.book.specs.Entry.{entries}
 use Rattle.book.specs.Decode.{type}
-use Rattle.book.specs.AgreeTy.{agrees-type}
-use Rattle.book_types.specs.Laws.{lentFrom}
+use Rattle.book.specs.AgreeTy.{agrees_type}
+use Rattle.book_types.specs.Laws.{lent_from}
 use Rattle.book_types.specs.Found.{never}
-use Rattle.book_values.specs.Items.{atomReader, atomTest}
+use Rattle.book_values.specs.Items.{atom_reader, atom_test}
 use Rattle.book_types.specs.Passes as passes
 use Rattle.book_values.specs.ItemLaws as items
 use Rattle.book_values.specs.declared.Atom.TheVariants.{Param}
@@ -35,8 +35,8 @@ returns c =
     let after-first-entry = c.before.before.before in
     let entry = after-first-entry.before.before.before in
     let a = entry.args in
-    passes.both-bad (atomReader a.names Param) (type a.names) (atomTest Param) never a.kinds.now a.words.now _
-    (items.atom-is a.names Param (entries a.kinds.now a.words.now) _ _ after-first-entry.first_entry.ensures
+    passes.both_bad (atom_reader a.names Param) (type a.names) (atom_test Param) never a.kinds.now a.words.now _
+    (items.atom_is a.names Param (entries a.kinds.now a.words.now) _ _ after-first-entry.first_entry.ensures
     c.before.before.atom-len.ensures) c.enum_told.given.1
 
 mul-type-len : tie.Need-overflow-mul-type-len
@@ -47,10 +47,10 @@ mul-type-len c =
     let a = entry.args in
     omega (
       arith,
-      passes.both-kinds (atomReader a.names Param) (type a.names) (atomTest Param) never a.kinds.now a.words.now _
-          (items.atom-is a.names Param (entries a.kinds.now a.words.now) _ _ after-first-entry.first_entry.ensures
+      passes.both_kinds (atom_reader a.names Param) (type a.names) (atom_test Param) never a.kinds.now a.words.now _
+          (items.atom_is a.names Param (entries a.kinds.now a.words.now) _ _ after-first-entry.first_entry.ensures
           after-atom-len.atom-len.ensures) _ _ c.before.n.given.1
-          (items.atom-within a.names Param (entries a.kinds.now a.words.now) _ _ after-first-entry.first_entry.ensures
+          (items.atom_within a.names Param (entries a.kinds.now a.words.now) _ _ after-first-entry.first_entry.ensures
           after-atom-len.atom-len.ensures),
       entry.well-formed,
     )
@@ -61,10 +61,10 @@ sub-type-len c =
     let after-first-entry = after-atom-len.before in
     let entry = after-first-entry.before.before.before in
     let a = entry.args in
-    passes.both-kinds (atomReader a.names Param) (type a.names) (atomTest Param) never a.kinds.now a.words.now _
-    (items.atom-is a.names Param (entries a.kinds.now a.words.now) _ _ after-first-entry.first_entry.ensures
+    passes.both_kinds (atom_reader a.names Param) (type a.names) (atom_test Param) never a.kinds.now a.words.now _
+    (items.atom_is a.names Param (entries a.kinds.now a.words.now) _ _ after-first-entry.first_entry.ensures
     after-atom-len.atom-len.ensures) _ _ c.before.n.given.1
-    (items.atom-within a.names Param (entries a.kinds.now a.words.now) _ _ after-first-entry.first_entry.ensures
+    (items.atom_within a.names Param (entries a.kinds.now a.words.now) _ _ after-first-entry.first_entry.ensures
     after-atom-len.atom-len.ensures)
 
 part-type-len-start : tie.Need-slice-bounds-type-len-start
@@ -73,10 +73,10 @@ part-type-len-start c =
     let after-first-entry = after-atom-len.before in
     let entry = after-first-entry.before.before.before in
     let a = entry.args in
-    passes.both-kinds (atomReader a.names Param) (type a.names) (atomTest Param) never a.kinds.now a.words.now _
-    (items.atom-is a.names Param (entries a.kinds.now a.words.now) _ _ after-first-entry.first_entry.ensures
+    passes.both_kinds (atom_reader a.names Param) (type a.names) (atom_test Param) never a.kinds.now a.words.now _
+    (items.atom_is a.names Param (entries a.kinds.now a.words.now) _ _ after-first-entry.first_entry.ensures
     after-atom-len.atom-len.ensures) _ _ c.before.n.given.1
-    (items.atom-within a.names Param (entries a.kinds.now a.words.now) _ _ after-first-entry.first_entry.ensures
+    (items.atom_within a.names Param (entries a.kinds.now a.words.now) _ _ after-first-entry.first_entry.ensures
     after-atom-len.atom-len.ensures)
 
 part-type-len-end : tie.Need-slice-bounds-type-len-end
@@ -90,10 +90,10 @@ mul-type-len-2 c =
     let a = entry.args in
     omega (
       arith,
-      passes.both_words (atomReader a.names Param) (type a.names) (atomTest Param) never a.kinds.now a.words.now _
-          (items.atom-is a.names Param (entries a.kinds.now a.words.now) _ _ after-first-entry.first_entry.ensures
+      passes.both_words (atom_reader a.names Param) (type a.names) (atom_test Param) never a.kinds.now a.words.now _
+          (items.atom_is a.names Param (entries a.kinds.now a.words.now) _ _ after-first-entry.first_entry.ensures
           after-atom-len.atom-len.ensures) _ _ c.before.before.n.given.1
-          (items.atom-within a.names Param (entries a.kinds.now a.words.now) _ _ after-first-entry.first_entry.ensures
+          (items.atom_within a.names Param (entries a.kinds.now a.words.now) _ _ after-first-entry.first_entry.ensures
           after-atom-len.atom-len.ensures),
       entry.well-formed,
     )
@@ -104,10 +104,10 @@ sub-type-len-2 c =
     let after-first-entry = after-atom-len.before in
     let entry = after-first-entry.before.before.before in
     let a = entry.args in
-    passes.both_words (atomReader a.names Param) (type a.names) (atomTest Param) never a.kinds.now a.words.now _
-    (items.atom-is a.names Param (entries a.kinds.now a.words.now) _ _ after-first-entry.first_entry.ensures
+    passes.both_words (atom_reader a.names Param) (type a.names) (atom_test Param) never a.kinds.now a.words.now _
+    (items.atom_is a.names Param (entries a.kinds.now a.words.now) _ _ after-first-entry.first_entry.ensures
     after-atom-len.atom-len.ensures) _ _ c.before.before.n.given.1
-    (items.atom-within a.names Param (entries a.kinds.now a.words.now) _ _ after-first-entry.first_entry.ensures
+    (items.atom_within a.names Param (entries a.kinds.now a.words.now) _ _ after-first-entry.first_entry.ensures
     after-atom-len.atom-len.ensures)
 
 part-type-len-start-2 : tie.Need-slice-bounds-type-len-start-2
@@ -116,10 +116,10 @@ part-type-len-start-2 c =
     let after-first-entry = after-atom-len.before in
     let entry = after-first-entry.before.before.before in
     let a = entry.args in
-    passes.both_words (atomReader a.names Param) (type a.names) (atomTest Param) never a.kinds.now a.words.now _
-    (items.atom-is a.names Param (entries a.kinds.now a.words.now) _ _ after-first-entry.first_entry.ensures
+    passes.both_words (atom_reader a.names Param) (type a.names) (atom_test Param) never a.kinds.now a.words.now _
+    (items.atom_is a.names Param (entries a.kinds.now a.words.now) _ _ after-first-entry.first_entry.ensures
     after-atom-len.atom-len.ensures) _ _ c.before.before.n.given.1
-    (items.atom-within a.names Param (entries a.kinds.now a.words.now) _ _ after-first-entry.first_entry.ensures
+    (items.atom_within a.names Param (entries a.kinds.now a.words.now) _ _ after-first-entry.first_entry.ensures
     after-atom-len.atom-len.ensures)
 
 part-type-len-end-2 : tie.Need-slice-bounds-type-len-end-2
@@ -138,13 +138,13 @@ join-found-requires c κs =
     let after-first-entry = after-atom-len.before in
     let entry = after-first-entry.before.before.before in
     let a = entry.args in
-    passes.both-room (atomReader a.names Param) (type a.names) (atomTest Param) never a.kinds.now a.words.now _
-    (items.atom-is a.names Param (entries a.kinds.now a.words.now) _ _ after-first-entry.first_entry.ensures
+    passes.both_room (atom_reader a.names Param) (type a.names) (atom_test Param) never a.kinds.now a.words.now _
+    (items.atom_is a.names Param (entries a.kinds.now a.words.now) _ _ after-first-entry.first_entry.ensures
     after-atom-len.atom-len.ensures) _ _ after-n.n.given.1
-    (items.atom-within a.names Param (entries a.kinds.now a.words.now) _ _ after-first-entry.first_entry.ensures
+    (items.atom_within a.names Param (entries a.kinds.now a.words.now) _ _ after-first-entry.first_entry.ensures
     after-atom-len.atom-len.ensures) (omega arith) _
-    (passes.within never (agrees-type _) (lentFrom a.kinds.now a.words.now after-n.n.given.0.0) _
-    (passes.plain-is (type a.names (lentFrom a.kinds.now a.words.now after-n.n.given.0.0)) _ _ c.before.type-len.ensures
+    (passes.within never (agrees_type _) (lent_from a.kinds.now a.words.now after-n.n.given.0.0) _
+    (passes.plain_is (type a.names (lent_from a.kinds.now a.words.now after-n.n.given.0.0)) _ _ c.before.type_len_lem.ensures
     c.plain.ensures))
 
 returns-2 : tie.Need-returns-2
@@ -154,11 +154,11 @@ returns-2 c =
     let after-first-entry = after-atom-len.before in
     let entry = after-first-entry.before.before.before in
     let a = entry.args in
-    passes.both-arm (atomReader a.names Param) (type a.names) (atomTest Param) never a.kinds.now a.words.now _
-    (items.atom-is a.names Param (entries a.kinds.now a.words.now) _ _ after-first-entry.first_entry.ensures
+    passes.both_arm (atom_reader a.names Param) (type a.names) (atom_test Param) never a.kinds.now a.words.now _
+    (items.atom_is a.names Param (entries a.kinds.now a.words.now) _ _ after-first-entry.first_entry.ensures
     after-atom-len.atom-len.ensures) _ _ after-n.n.given.1 _ _
-    (passes.plain-is (type a.names (lentFrom a.kinds.now a.words.now after-n.n.given.0.0)) _ _
-    c.before.before.type-len.ensures c.before.plain.ensures) c.join-found.ensures
+    (passes.plain_is (type a.names (lent_from a.kinds.now a.words.now after-n.n.given.0.0)) _ _
+    c.before.before.type_len_lem.ensures c.before.plain.ensures) c.join-found.ensures
 
 pub param-len-spec : {M : Type 1} → statement M
 param-len-spec =

@@ -1,6 +1,6 @@
 -- `book_values::two_entries` meets its contract: each arm is the definition's.
 use mathlib.Core.Path.{◌∙◌, sym, ap}
-use Rattle.book_values.specs.Pairs.{twoOk}
+use Rattle.book_values.specs.Pairs.{two_ok}
 use Rattle.book_values.specs.ItemLaws as items
 use borrow.Author.Rules.{rules}
 use Rattle.book_values.proofs.two_entries.Statement.{statement}
@@ -69,19 +69,19 @@ enum-told-10 : tie.Need-enum-told-10
 enum-told-10 c = search rules
 
 returns : tie.Need-returns
-returns c = items.both-are _ _ _ _ c.before.leaf.ensures c.atom-ok.ensures ∙ ap (twoOk _ _ _ _ _) (sym c.before.before.enum_told.given.1)
+returns c = items.both_are _ _ _ _ c.before.leaf.ensures c.atom-ok.ensures ∙ ap (two_ok _ _ _ _ _) (sym c.before.before.enum_told.given.1)
 
 returns-2 : tie.Need-returns-2
-returns-2 c = items.both-are _ _ _ _ c.before.leaf2.ensures c.atom-ok2.ensures ∙ ap (twoOk _ _ _ _ _) (sym c.before.before.enum-told2.given.1)
+returns-2 c = items.both_are _ _ _ _ c.before.leaf2.ensures c.atom-ok2.ensures ∙ ap (two_ok _ _ _ _ _) (sym c.before.before.enum-told2.given.1)
 
 returns-3 : tie.Need-returns-3
-returns-3 c = items.both-are _ _ _ _ c.before.atom-ok3.ensures c.atom-ok4.ensures ∙ ap (twoOk _ _ _ _ _) (sym c.before.before.enum-told3.given.1)
+returns-3 c = items.both_are _ _ _ _ c.before.atom-ok3.ensures c.atom-ok4.ensures ∙ ap (two_ok _ _ _ _ _) (sym c.before.before.enum-told3.given.1)
 
 returns-4 : tie.Need-returns-4
-returns-4 c = items.both-are _ _ _ _ c.before.atom-ok5.ensures c.atom-ok6.ensures ∙ ap (twoOk _ _ _ _ _) (sym c.before.before.enum-told4.given.1)
+returns-4 c = items.both_are _ _ _ _ c.before.atom-ok5.ensures c.atom-ok6.ensures ∙ ap (two_ok _ _ _ _ _) (sym c.before.before.enum-told4.given.1)
 
 returns-5 : tie.Need-returns-5
-returns-5 c = items.both-are _ _ _ _ c.before.atom-ok7.ensures c.leaf3.ensures ∙ ap (twoOk _ _ _ _ _) (sym c.before.before.enum-told5.given.1)
+returns-5 c = items.both_are _ _ _ _ c.before.atom-ok7.ensures c.leaf3.ensures ∙ ap (two_ok _ _ _ _ _) (sym c.before.before.enum-told5.given.1)
 
 returns-6 : tie.Need-returns-6
 returns-6 c = search rules

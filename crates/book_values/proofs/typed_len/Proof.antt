@@ -2,10 +2,10 @@
 use native.Mathlib.Omega.{arith}
 use Rattle.book.specs.Entry.{entries}
 use Rattle.book.specs.Decode.{type}
-use Rattle.book.specs.AgreeTy.{agrees-type}
-use Rattle.book_types.specs.Laws.{lentFrom}
+use Rattle.book.specs.AgreeTy.{agrees_type}
+use Rattle.book_types.specs.Laws.{lent_from}
 use Rattle.book_types.specs.Found.{never}
-use Rattle.book_values.specs.Items.{atomReader, atomTest}
+use Rattle.book_values.specs.Items.{atom_reader, atom_test}
 use Rattle.book_types.specs.Passes as passes
 use Rattle.book_values.specs.ItemLaws as items
 use borrow.Author.Rules.{rules}
@@ -34,8 +34,8 @@ returns c =
     let after-type-len = c.before.before.before in
     let entry = after-type-len.before.before.before in
     let a = entry.args in
-    passes.both-bad (type a.names) (atomReader a.names a.atom) never (atomTest a.atom) a.kinds.now a.words.now _
-    (passes.plain-is (type a.names (entries a.kinds.now a.words.now)) _ _ after-type-len.type-len.ensures
+    passes.both_bad (type a.names) (atom_reader a.names a.atom) never (atom_test a.atom) a.kinds.now a.words.now _
+    (passes.plain_is (type a.names (entries a.kinds.now a.words.now)) _ _ after-type-len.type_len_lem.ensures
     c.before.before.plain.ensures) c.enum_told.given.1
 
 mul-first-entry : tie.Need-overflow-mul-first-entry
@@ -46,11 +46,11 @@ mul-first-entry c =
     let a = entry.args in
     omega (
       arith,
-      passes.both-kinds (type a.names) (atomReader a.names a.atom) never (atomTest a.atom) a.kinds.now a.words.now _
-          (passes.plain-is (type a.names (entries a.kinds.now a.words.now)) _ _ after-type-len.type-len.ensures
+      passes.both_kinds (type a.names) (atom_reader a.names a.atom) never (atom_test a.atom) a.kinds.now a.words.now _
+          (passes.plain_is (type a.names (entries a.kinds.now a.words.now)) _ _ after-type-len.type_len_lem.ensures
           after-plain.plain.ensures) _ _ c.before.n.given.1
-          (passes.within never (agrees-type _) (entries a.kinds.now a.words.now) _
-          (passes.plain-is (type a.names (entries a.kinds.now a.words.now)) _ _ after-type-len.type-len.ensures
+          (passes.within never (agrees_type _) (entries a.kinds.now a.words.now) _
+          (passes.plain_is (type a.names (entries a.kinds.now a.words.now)) _ _ after-type-len.type_len_lem.ensures
           after-plain.plain.ensures)),
       entry.well-formed,
     )
@@ -61,11 +61,11 @@ sub-first-entry c =
     let after-type-len = after-plain.before in
     let entry = after-type-len.before.before.before in
     let a = entry.args in
-    passes.both-kinds (type a.names) (atomReader a.names a.atom) never (atomTest a.atom) a.kinds.now a.words.now _
-    (passes.plain-is (type a.names (entries a.kinds.now a.words.now)) _ _ after-type-len.type-len.ensures
+    passes.both_kinds (type a.names) (atom_reader a.names a.atom) never (atom_test a.atom) a.kinds.now a.words.now _
+    (passes.plain_is (type a.names (entries a.kinds.now a.words.now)) _ _ after-type-len.type_len_lem.ensures
     after-plain.plain.ensures) _ _ c.before.n.given.1
-    (passes.within never (agrees-type _) (entries a.kinds.now a.words.now) _
-    (passes.plain-is (type a.names (entries a.kinds.now a.words.now)) _ _ after-type-len.type-len.ensures
+    (passes.within never (agrees_type _) (entries a.kinds.now a.words.now) _
+    (passes.plain_is (type a.names (entries a.kinds.now a.words.now)) _ _ after-type-len.type_len_lem.ensures
     after-plain.plain.ensures))
 
 part-first-entry-start : tie.Need-slice-bounds-first-entry-start
@@ -74,11 +74,11 @@ part-first-entry-start c =
     let after-type-len = after-plain.before in
     let entry = after-type-len.before.before.before in
     let a = entry.args in
-    passes.both-kinds (type a.names) (atomReader a.names a.atom) never (atomTest a.atom) a.kinds.now a.words.now _
-    (passes.plain-is (type a.names (entries a.kinds.now a.words.now)) _ _ after-type-len.type-len.ensures
+    passes.both_kinds (type a.names) (atom_reader a.names a.atom) never (atom_test a.atom) a.kinds.now a.words.now _
+    (passes.plain_is (type a.names (entries a.kinds.now a.words.now)) _ _ after-type-len.type_len_lem.ensures
     after-plain.plain.ensures) _ _ c.before.n.given.1
-    (passes.within never (agrees-type _) (entries a.kinds.now a.words.now) _
-    (passes.plain-is (type a.names (entries a.kinds.now a.words.now)) _ _ after-type-len.type-len.ensures
+    (passes.within never (agrees_type _) (entries a.kinds.now a.words.now) _
+    (passes.plain_is (type a.names (entries a.kinds.now a.words.now)) _ _ after-type-len.type_len_lem.ensures
     after-plain.plain.ensures))
 
 part-first-entry-end : tie.Need-slice-bounds-first-entry-end
@@ -92,11 +92,11 @@ mul-first-entry-2 c =
     let a = entry.args in
     omega (
       arith,
-      passes.both_words (type a.names) (atomReader a.names a.atom) never (atomTest a.atom) a.kinds.now a.words.now _
-          (passes.plain-is (type a.names (entries a.kinds.now a.words.now)) _ _ after-type-len.type-len.ensures
+      passes.both_words (type a.names) (atom_reader a.names a.atom) never (atom_test a.atom) a.kinds.now a.words.now _
+          (passes.plain_is (type a.names (entries a.kinds.now a.words.now)) _ _ after-type-len.type_len_lem.ensures
           after-plain.plain.ensures) _ _ c.before.before.n.given.1
-          (passes.within never (agrees-type _) (entries a.kinds.now a.words.now) _
-          (passes.plain-is (type a.names (entries a.kinds.now a.words.now)) _ _ after-type-len.type-len.ensures
+          (passes.within never (agrees_type _) (entries a.kinds.now a.words.now) _
+          (passes.plain_is (type a.names (entries a.kinds.now a.words.now)) _ _ after-type-len.type_len_lem.ensures
           after-plain.plain.ensures)),
       entry.well-formed,
     )
@@ -107,11 +107,11 @@ sub-first-entry-2 c =
     let after-type-len = after-plain.before in
     let entry = after-type-len.before.before.before in
     let a = entry.args in
-    passes.both_words (type a.names) (atomReader a.names a.atom) never (atomTest a.atom) a.kinds.now a.words.now _
-    (passes.plain-is (type a.names (entries a.kinds.now a.words.now)) _ _ after-type-len.type-len.ensures
+    passes.both_words (type a.names) (atom_reader a.names a.atom) never (atom_test a.atom) a.kinds.now a.words.now _
+    (passes.plain_is (type a.names (entries a.kinds.now a.words.now)) _ _ after-type-len.type_len_lem.ensures
     after-plain.plain.ensures) _ _ c.before.before.n.given.1
-    (passes.within never (agrees-type _) (entries a.kinds.now a.words.now) _
-    (passes.plain-is (type a.names (entries a.kinds.now a.words.now)) _ _ after-type-len.type-len.ensures
+    (passes.within never (agrees_type _) (entries a.kinds.now a.words.now) _
+    (passes.plain_is (type a.names (entries a.kinds.now a.words.now)) _ _ after-type-len.type_len_lem.ensures
     after-plain.plain.ensures))
 
 part-first-entry-start-2 : tie.Need-slice-bounds-first-entry-start-2
@@ -120,11 +120,11 @@ part-first-entry-start-2 c =
     let after-type-len = after-plain.before in
     let entry = after-type-len.before.before.before in
     let a = entry.args in
-    passes.both_words (type a.names) (atomReader a.names a.atom) never (atomTest a.atom) a.kinds.now a.words.now _
-    (passes.plain-is (type a.names (entries a.kinds.now a.words.now)) _ _ after-type-len.type-len.ensures
+    passes.both_words (type a.names) (atom_reader a.names a.atom) never (atom_test a.atom) a.kinds.now a.words.now _
+    (passes.plain_is (type a.names (entries a.kinds.now a.words.now)) _ _ after-type-len.type_len_lem.ensures
     after-plain.plain.ensures) _ _ c.before.before.n.given.1
-    (passes.within never (agrees-type _) (entries a.kinds.now a.words.now) _
-    (passes.plain-is (type a.names (entries a.kinds.now a.words.now)) _ _ after-type-len.type-len.ensures
+    (passes.within never (agrees_type _) (entries a.kinds.now a.words.now) _
+    (passes.plain_is (type a.names (entries a.kinds.now a.words.now)) _ _ after-type-len.type_len_lem.ensures
     after-plain.plain.ensures))
 
 part-first-entry-end-2 : tie.Need-slice-bounds-first-entry-end-2
@@ -143,13 +143,13 @@ join-found-requires c κs =
     let after-type-len = after-plain.before in
     let entry = after-type-len.before.before.before in
     let a = entry.args in
-    passes.both-room (type a.names) (atomReader a.names a.atom) never (atomTest a.atom) a.kinds.now a.words.now _
-    (passes.plain-is (type a.names (entries a.kinds.now a.words.now)) _ _ after-type-len.type-len.ensures
+    passes.both_room (type a.names) (atom_reader a.names a.atom) never (atom_test a.atom) a.kinds.now a.words.now _
+    (passes.plain_is (type a.names (entries a.kinds.now a.words.now)) _ _ after-type-len.type_len_lem.ensures
     after-plain.plain.ensures) _ _ after-n.n.given.1
-    (passes.within never (agrees-type _) (entries a.kinds.now a.words.now) _
-    (passes.plain-is (type a.names (entries a.kinds.now a.words.now)) _ _ after-type-len.type-len.ensures
+    (passes.within never (agrees_type _) (entries a.kinds.now a.words.now) _
+    (passes.plain_is (type a.names (entries a.kinds.now a.words.now)) _ _ after-type-len.type_len_lem.ensures
     after-plain.plain.ensures)) (omega arith) _
-    (items.atom-within a.names a.atom (lentFrom a.kinds.now a.words.now after-n.n.given.0.0) _ _
+    (items.atom_within a.names a.atom (lent_from a.kinds.now a.words.now after-n.n.given.0.0) _ _
     c.before.first_entry.ensures c.atom-len.ensures)
 
 returns-2 : tie.Need-returns-2
@@ -159,10 +159,10 @@ returns-2 c =
     let after-type-len = after-plain.before in
     let entry = after-type-len.before.before.before in
     let a = entry.args in
-    passes.both-arm (type a.names) (atomReader a.names a.atom) never (atomTest a.atom) a.kinds.now a.words.now _
-    (passes.plain-is (type a.names (entries a.kinds.now a.words.now)) _ _ after-type-len.type-len.ensures
+    passes.both_arm (type a.names) (atom_reader a.names a.atom) never (atom_test a.atom) a.kinds.now a.words.now _
+    (passes.plain_is (type a.names (entries a.kinds.now a.words.now)) _ _ after-type-len.type_len_lem.ensures
     after-plain.plain.ensures) _ _ after-n.n.given.1 _ _
-    (items.atom-is a.names a.atom (lentFrom a.kinds.now a.words.now after-n.n.given.0.0) _ _
+    (items.atom_is a.names a.atom (lent_from a.kinds.now a.words.now after-n.n.given.0.0) _ _
     c.before.before.first_entry.ensures c.before.atom-len.ensures) c.join-found.ensures
 
 pub typed-len-spec : {M : Type 1} → statement M

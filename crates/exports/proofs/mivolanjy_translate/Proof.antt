@@ -1,6 +1,6 @@
 -- `exports::mivolanjy_translate` meets its contract: the translator's answer, in numbers.
 use borrow.Author.Rules.{rules}
-use Rattle.exports.specs.Translated.{accepted-is, refused-is}
+use Rattle.exports.specs.Translated.{accepted_is, refused_is}
 use Rattle.exports.proofs.mivolanjy_translate.Statement.{statement}
 use Rattle.exports.proofs.mivolanjy_translate.Tie as tie
 
@@ -25,7 +25,7 @@ same-length-3 c = search rules
 returns : tie.Need-returns
 returns c =
     let called = c.before.before.before.before.before.before.before.before.before in
-    accepted-is _ _ _ _ _ _ called.translate.ensures.0 _ _ c.before.n.given.1
+    accepted_is _ _ _ _ _ _ called.translate.ensures.0 _ _ c.before.n.given.1
 
 same-length-4 : tie.Need-same-length-4
 same-length-4 c = search rules
@@ -39,7 +39,7 @@ same-length-6 c = search rules
 returns-2 : tie.Need-returns-2
 returns-2 c =
     let called = c.before.before.before.before.before.before.before.before.before in
-    refused-is _ _ _ _ _ _ called.translate.ensures.0 _ c.before.e.given.1
+    refused_is _ _ _ _ _ _ called.translate.ensures.0 _ c.before.e.given.1
 
 pub mivolanjy-translate-spec : {M : Type 1} → statement M
 mivolanjy-translate-spec =

@@ -24,7 +24,7 @@ returns c =
     let ks = entry.args.kinds.now in
     let ws = entry.args.words.now in
     let bs = entries entry.args.book-kinds.now entry.args.book-words.now in
-    laws.align-stated entry.args.names ks ws entry.args.at bs entry.args.work.now entry.requires entry.args.s then1.if1.true
+    laws.align_stated entry.args.names ks ws entry.args.at bs entry.args.work.now entry.requires entry.args.s then1.if1.true
 
 measured-align-requires : tie.Need-measured-align-requires
 measured-align-requires c κs = search rules
@@ -40,7 +40,7 @@ returns-2 c =
     let ks = entry.args.kinds.now in
     let ws = entry.args.words.now in
     let bs = entries entry.args.book-kinds.now entry.args.book-words.now in
-    laws.align-measured entry.args.names ks ws entry.args.at bs entry.args.work.now entry.requires entry.args.s else1.if1.false after-measured-align.measured-align.ensures
+    laws.align_measured entry.args.names ks ws entry.args.at bs entry.args.work.now entry.requires entry.args.s else1.if1.false after-measured-align.measured-align.ensures
 
 pub align-or-spec : {M : Type 1} → statement M
 align-or-spec =

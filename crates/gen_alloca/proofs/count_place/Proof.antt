@@ -8,34 +8,34 @@ use Rattle.gen_alloca.proofs.count_place.Tie as tie
 mul-if1 : tie.Need-overflow-mul-if1
 mul-if1 c =
     let entry = c.before.before in
-    omega (arith, entry.requires.in-kinds, entry.well-formed)
+    omega (arith, entry.requires.in_kinds, entry.well-formed)
 
 shared-slice-read-if1 : tie.Need-shared-slice-read-if1
 shared-slice-read-if1 c =
     let entry = c.before.before.before in
-    entry.requires.in-kinds
+    entry.requires.in_kinds
 
 returns : tie.Need-returns
 returns c = λ fs p f.
     let entry = c.before.before.before.before in
     let ks = entry.args.kinds.now in
     let ws = entry.args.words.now in
-    laws.count-absent entry.args.names fs ks ws entry.args.at c.if1.true p f
+    laws.count_absent entry.args.names fs ks ws entry.args.at c.if1.true p f
 
 mul-skip : tie.Need-overflow-mul-skip
 mul-skip c =
     let entry = c.before.before.before.before in
-    omega (arith, entry.requires.in-kinds, entry.well-formed)
+    omega (arith, entry.requires.in_kinds, entry.well-formed)
 
 sub-skip : tie.Need-overflow-sub-skip
 sub-skip c =
     let entry = c.before.before.before.before in
-    omega (arith, entry.requires.in-kinds)
+    omega (arith, entry.requires.in_kinds)
 
 part-skip-start : tie.Need-slice-bounds-skip-start
 part-skip-start c =
     let entry = c.before.before.before.before in
-    omega (arith, entry.requires.in-kinds)
+    omega (arith, entry.requires.in_kinds)
 
 part-skip-end : tie.Need-slice-bounds-skip-end
 part-skip-end c = search rules
@@ -67,8 +67,8 @@ add-result c =
     let entry = else1.before.before.before.before in
     let ks = entry.args.kinds.now in
     let ws = entry.args.words.now in
-    let count = laws.count-present entry.args.names entry.requires.fs ks ws entry.args.at else1.if1.false c.skip.ensures entry.requires.holds entry.requires.fields in
-    omega (arith, count.at.in-kinds, entry.well-formed)
+    let count = laws.count_present entry.args.names entry.requires.fs ks ws entry.args.at else1.if1.false c.skip.ensures entry.requires.holds entry.requires.fields in
+    omega (arith, count.at.in_kinds, entry.well-formed)
 
 returns-2 : tie.Need-returns-2
 returns-2 c = λ fs p f.
@@ -76,7 +76,7 @@ returns-2 c = λ fs p f.
     let entry = else1.before.before.before.before in
     let ks = entry.args.kinds.now in
     let ws = entry.args.words.now in
-    laws.count-present entry.args.names fs ks ws entry.args.at else1.if1.false c.skip.ensures p f
+    laws.count_present entry.args.names fs ks ws entry.args.at else1.if1.false c.skip.ensures p f
 
 pub count-place-spec : {M : Type 1} → statement M
 count-place-spec =

@@ -21,7 +21,7 @@ returns c = λ k base.
     let after-plus-offset = c.before.before.before.before in
     let after-put = after-plus-offset.before.before.before.before.before.before.before in
     let entry = after-put.before.before.before.before.before in
-    laws.fixed-puts entry.args.offset k base (search rules) after-put.put.ensures after-plus-offset.plus-offset.ensures
+    laws.fixed_puts entry.args.offset k base (search rules) after-put.put.ensures after-plus-offset.plus-offset.ensures
 
 pub fixed-place-spec : {M : Type 1} → statement M
 fixed-place-spec =

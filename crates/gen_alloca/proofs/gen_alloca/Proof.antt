@@ -12,7 +12,7 @@ returns c = λ p k fields maps base.
     let then1 = c.before in
     let entry = then1.before.before.before.before.before.before.before.before in
     record {
-      puts = laws.nameless-puts k entry.args.dest p.0 p.1.0 p.1.1.0 entry.args.lines.now entry.args.operands.now then1.if1.true c.refuse.ensures;
+      puts = laws.nameless_puts k entry.args.dest p.0 p.1.0 p.1.1.0 entry.args.lines.now entry.args.operands.now then1.if1.true c.refuse.ensures;
       maps = maps;
     }
 
@@ -42,7 +42,7 @@ returns-2 c = λ p k fields maps base.
     let entry = else1.before.before.before.before.before.before.before.before in
     let place = after-place-of.place_of.ensures p k fields maps base in
     record {
-      puts = laws.alloca-puts k entry.args.dest p.0 p.1.0 p.1.1.0 else1.if1.false place.puts
+      puts = laws.alloca_puts k entry.args.dest p.0 p.1.0 p.1.1.0 else1.if1.false place.puts
           (after-store-dest.store-dest.ensures entry.args.names k entry.requires.result place.maps.locals);
       maps = place.maps;
     }

@@ -1,8 +1,8 @@
 -- `gen_alloca::gen_dynamic_alloca` meets its contract.
 use native.Mathlib.Omega.{arith}
 use mathlib.Core.Path.{◌∙◌}
-use Rattle.gen_lines.specs.Puts.{then-puts}
-use Rattle.gen_fields.specs.Items.{align-at}
+use Rattle.gen_lines.specs.Puts.{then_puts}
+use Rattle.gen_fields.specs.Items.{align_at_lem}
 use Rattle.gen_size.specs.Lent as lent
 use Rattle.gen_fields.specs.Places as places
 use Rattle.gen_values.specs.Maps.{maps_after}
@@ -25,7 +25,7 @@ count-place-requires c κs =
     let entry = c.before.before.before.before.before.before.before.before.before.before.before.before in
     let ks = entry.args.kinds.now in
     let ws = entry.args.words.now in
-    laws.count-front entry.args.names _ ks ws c.skip.result (places.past-type ks ws entry.requires.fields c.skip.ensures)
+    laws.count_front entry.args.names _ ks ws c.skip.result (places.past_type ks ws entry.requires.fields c.skip.ensures)
 
 -- the count is behind the type
 abbrev start_of : tie.After-count-place → tie.Start
@@ -35,16 +35,16 @@ count_at : (c : tie.After-count-place)
     → CountAt (start_of c).args.names (start_of c).args.kinds.now (start_of c).args.words.now c.count-place.result (start_of c).requires.holds.1.0
 count_at c =
     let entry = start_of c in
-    (c.count-place.ensures _ entry.pre.holds.1 (places.past-type entry.args.kinds.now entry.args.words.now entry.pre.fields c.before.skip.ensures)).at
+    (c.count-place.ensures _ entry.pre.holds.1 (places.past_type entry.args.kinds.now entry.args.words.now entry.pre.fields c.before.skip.ensures)).at
 
 mul-count-kinds : tie.Need-overflow-mul-count-kinds
-mul-count-kinds c = omega (arith, (count_at c).in-kinds)
+mul-count-kinds c = omega (arith, (count_at c).in_kinds)
 
 sub-count-kinds : tie.Need-overflow-sub-count-kinds
-sub-count-kinds c = omega (arith, (count_at c).in-kinds)
+sub-count-kinds c = omega (arith, (count_at c).in_kinds)
 
 part-count-kinds-start : tie.Need-slice-bounds-count-kinds-start
-part-count-kinds-start c = omega (arith, (count_at c).in-kinds)
+part-count-kinds-start c = omega (arith, (count_at c).in_kinds)
 
 part-count-kinds-end : tie.Need-slice-bounds-count-kinds-end
 part-count-kinds-end c = search rules
@@ -68,9 +68,9 @@ add-align-or c =
     let entry = after-skip.before.before.before.before.before.before.before.before.before.before.before.before in
     let ks = entry.args.kinds.now in
     let ws = entry.args.words.now in
-    let past = places.past-type ks ws entry.requires.fields after-skip.skip.ensures in
+    let past = places.past_type ks ws entry.requires.fields after-skip.skip.ensures in
     let count = after-count-place.count-place.ensures _ entry.requires.holds.1 past in
-    omega (arith, count.at.in-kinds, entry.well-formed)
+    omega (arith, count.at.in_kinds, entry.well-formed)
 
 align-or-requires : tie.Need-align-or-requires
 align-or-requires c κs =
@@ -80,9 +80,9 @@ align-or-requires c κs =
     let entry = after-measured-size.before.before.before.before.before.before.before.before.before in
     let ks = entry.args.kinds.now in
     let ws = entry.args.words.now in
-    let past = places.past-type ks ws entry.requires.fields after-skip.skip.ensures in
+    let past = places.past_type ks ws entry.requires.fields after-skip.skip.ensures in
     let count = after-count-place.count-place.ensures _ entry.requires.holds.1 past in
-    laws.align-lent ks ws _ (align-at ks ws _ count.behind)
+    laws.align_lent ks ws _ (align_at_lem ks ws _ count.behind)
     (record { front = (lent.measurable ks ws entry.requires).front; ready = after-measured-size.measured-size.ensures.after.ready })
 
 larger-requires : tie.Need-larger-requires
@@ -99,9 +99,9 @@ push-count-requires c κs =
     let entry = after-skip.before.before.before.before.before.before.before.before.before.before.before.before in
     let ks = entry.args.kinds.now in
     let ws = entry.args.words.now in
-    let past = places.past-type ks ws entry.requires.fields after-skip.skip.ensures in
+    let past = places.past_type ks ws entry.requires.fields after-skip.skip.ensures in
     let count = after-count-place.count-place.ensures _ entry.requires.holds.1 past in
-    laws.count-there _ _ 0 (laws.count-part count.at) after-align-or.align-or.ensures.after.ready.room
+    laws.count_there _ _ 0 (laws.count_part count.at) after-align-or.align-or.ensures.after.ready.room
 
 moved-requires : tie.Need-moved-requires
 moved-requires c κs = search rules
@@ -138,13 +138,13 @@ returns c = λ p k fields maps.
     let m = entry.args.names in
     let size = after-measured-size.measured-size.ensures in
     let stated = after-align-or.align-or.ensures in
-    let count = after-count-place.count-place.ensures _ p.1 (places.past-type ks ws fields after-skip.skip.ensures) in
+    let count = after-count-place.count-place.ensures _ p.1 (places.past_type ks ws fields after-skip.skip.ensures) in
     let measured = maps_after maps size.after in
     let last = maps_after measured stated.after in
     record {
-      puts = laws.dynamic-puts k p.0 p.1.0 p.1.1.0 (lent.size-asked ks ws fields maps size)
-          (stated.asked _ p k p.1.1.0 fields measured (align-at ks ws _ count.behind)) after-larger.larger.ensures
-          (after-raised.raised.ensures _ _ _ _ (then-puts (after-push-count.push-count.ensures m k p.1.0 (laws.count-part count.at) last.locals) after-moved.moved.ensures));
+      puts = laws.dynamic_puts k p.0 p.1.0 p.1.1.0 (lent.size_asked ks ws fields maps size)
+          (stated.asked _ p k p.1.1.0 fields measured (align_at_lem ks ws _ count.behind)) after-larger.larger.ensures
+          (after-raised.raised.ensures _ _ _ _ (then_puts (after-push-count.push-count.ensures m k p.1.0 (laws.count_part count.at) last.locals) after-moved.moved.ensures));
       maps = last;
     }
 

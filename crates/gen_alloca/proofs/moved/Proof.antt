@@ -25,7 +25,7 @@ returns c =
     let after-put = after-put2.before.before.before.before.before.before.before in
     let after-times-size = after-put.before.before.before.before.before.before.before in
     let entry = after-times-size.before.before.before.before.before in
-    laws.move-puts entry.args.size after-times-size.times-size.ensures after-put.put.ensures after-put2.put2.ensures
+    laws.move_puts entry.args.size after-times-size.times-size.ensures after-put.put.ensures after-put2.put2.ensures
 
 pub moved-spec : {M : Type 1} → statement M
 moved-spec =

@@ -35,7 +35,7 @@ returns c = λ p k fields maps base.
     let then1 = after-fixed-place.before.before.before in
     let entry = then1.before.before.before.before.before.before.before.before.before in
     record {
-      puts = laws.place-fixed maps entry.args.name entry.requires.below refl p.0 p.1.0 p.1.1.0 then1.if1.true (after-fixed-place.fixed-place.ensures k base);
+      puts = laws.place_fixed maps entry.args.name entry.requires.below refl p.0 p.1.0 p.1.1.0 then1.if1.true (after-fixed-place.fixed_place_lem.ensures k base);
       maps = maps;
     }
 
@@ -58,7 +58,7 @@ returns-2 c = λ p k fields maps base.
     let entry = else1.before.before.before.before.before.before.before.before.before in
     let dynamic = after-gen-dynamic-alloca.gen-dynamic-alloca.ensures p k fields maps in
     record {
-      puts = laws.place-varying maps entry.args.name entry.requires.below refl p.0 p.1.0 p.1.1.0 else1.if1.false dynamic.puts;
+      puts = laws.place_varying maps entry.args.name entry.requires.below refl p.0 p.1.0 p.1.1.0 else1.if1.false dynamic.puts;
       maps = dynamic.maps;
     }
 

@@ -7,7 +7,7 @@ use Rattle.gen_alloca.proofs.plus_offset.Tie as tie
 returns : tie.Need-returns
 returns c =
     let entry = c.before.before.before in
-    laws.no-offset entry.args.offset entry.args.s entry.args.lines.now entry.args.operands.now c.if1.true
+    laws.no_offset entry.args.offset entry.args.s entry.args.lines.now entry.args.operands.now c.if1.true
 
 push-int-requires : tie.Need-push-int-requires
 push-int-requires c κs = search rules
@@ -27,7 +27,7 @@ returns-2 c =
     let after-push-int = after-put.before.before.before.before.before.before.before in
     let else1 = after-push-int.before.before.before in
     let entry = else1.before.before.before in
-    laws.offset-puts entry.args.offset else1.if1.false after-push-int.push-int.ensures after-put.put.ensures
+    laws.offset_puts entry.args.offset else1.if1.false after-push-int.push-int.ensures after-put.put.ensures
 
 pub plus-offset-spec : {M : Type 1} → statement M
 plus-offset-spec =

@@ -23,7 +23,7 @@ returns c = λ m k o count maps.
     let entry = then1.before.before.before.before.before.before.before in
     let ks = entry.args.kinds.now in
     let ws = entry.args.words.now in
-    laws.one-puts k m ks ws 0 count then1.if1.true after-push-int.push-int.ensures
+    laws.one_puts k m ks ws 0 count then1.if1.true after-push-int.push-int.ensures
 
 push-value-requires : tie.Need-push-value-requires
 push-value-requires c κs =
@@ -44,7 +44,7 @@ returns-2 c = λ m k o count maps.
     let entry = else1.before.before.before.before.before.before.before in
     let ks = entry.args.kinds.now in
     let ws = entry.args.words.now in
-    laws.count-puts k m ks ws 0 count else1.if1.false (λ tv v. after_push.push-value.ensures m k tv.val v maps)
+    laws.count_puts k m ks ws 0 count else1.if1.false (λ tv v. after_push.push-value.ensures m k tv.val v maps)
 
 pub push-count-spec : {M : Type 1} → statement M
 push-count-spec =

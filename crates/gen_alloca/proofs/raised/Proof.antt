@@ -69,7 +69,7 @@ returns c = λ g t ks os p.
     let after-push-int = after-put2.before.before.before.before.before.before.before in
     let after-put = after-push-int.before.before.before.before.before.before.before in
     let entry = after-put.before.before.before.before.before in
-    laws.raise-puts entry.args.align g (omega (arith, entry.requires)) after-put.put.ensures after-push-int.push-int.ensures after-put2.put2.ensures
+    laws.raise_puts entry.args.align g (omega (arith, entry.requires)) after-put.put.ensures after-push-int.push-int.ensures after-put2.put2.ensures
     after-push-int2.push-int2.ensures after-put3.put3.ensures after-put4.put4.ensures p
 
 pub raised-spec : {M : Type 1} → statement M

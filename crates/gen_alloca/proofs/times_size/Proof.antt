@@ -27,7 +27,7 @@ returns-2 c =
     let after-push-int = after-put.before.before.before.before.before.before.before in
     let else1 = after-push-int.before.before.before in
     let entry = else1.before.before.before in
-    laws.times-puts entry.args.size else1.if1.false after-push-int.push-int.ensures after-put.put.ensures
+    laws.times_puts entry.args.size else1.if1.false after-push-int.push-int.ensures after-put.put.ensures
 
 pub times-size-spec : {M : Type 1} → statement M
 times-size-spec =

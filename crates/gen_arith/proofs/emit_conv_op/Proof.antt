@@ -26,7 +26,7 @@ returns c =
     let after-emit-trunc-to = c.before.before.before.before in
     let then1 = after-emit-trunc-to.before.before.before in
     let entry = then1.before.before.before in
-    laws.trunc-puts entry.args.op entry.args.from entry.args.to then1.if1.true after-emit-trunc-to.emit-trunc-to.ensures
+    laws.trunc_puts entry.args.op entry.args.from entry.args.to then1.if1.true after-emit-trunc-to.emit-trunc-to.ensures
 
 -- src/lib.rt:123:9
 emit-sext-requires : tie.Need-emit-sext-requires
@@ -47,7 +47,7 @@ returns-2 c =
     let then2 = after-emit-sext.before.before.before in
     let else1 = then2.before in
     let entry = else1.before.before.before in
-    laws.sext-puts entry.args.op entry.args.from entry.args.to then2.if2.true after-emit-sext.emit-sext.ensures
+    laws.sext_puts entry.args.op entry.args.from entry.args.to then2.if2.true after-emit-sext.emit-sext.ensures
 
 -- src/lib.rt:127:13
 emit-trunc-to-requires-2 : tie.Need-emit-trunc-to-requires-2
@@ -70,7 +70,7 @@ returns-3 c =
     let else2 = then3.before in
     let else1 = else2.before in
     let entry = else1.before.before.before in
-    laws.pointer-puts entry.args.op entry.args.from entry.args.to then3.if3.true (laws.lt-puts entry.args.to 64 then4.if4.true after-emit-trunc-to2.emit-trunc-to2.ensures)
+    laws.pointer_puts entry.args.op entry.args.from entry.args.to then3.if3.true (laws.lt_puts entry.args.to 64 then4.if4.true after-emit-trunc-to2.emit-trunc-to2.ensures)
 
 -- src/lib.rt:115:1
 returns-4 : tie.Need-returns-4
@@ -79,8 +79,8 @@ returns-4 c =
     let else2 = then3.before in
     let else1 = else2.before in
     let entry = else1.before.before.before in
-    laws.pointer-puts entry.args.op entry.args.from entry.args.to then3.if3.true
-    (laws.le-puts entry.args.to 64 _ entry.args.s entry.args.lines.now entry.args.operands.now c.if4.false)
+    laws.pointer_puts entry.args.op entry.args.from entry.args.to then3.if3.true
+    (laws.le_puts entry.args.to 64 _ entry.args.s entry.args.lines.now entry.args.operands.now c.if4.false)
 
 -- src/lib.rt:115:1
 returns-5 : tie.Need-returns-5

@@ -3,11 +3,11 @@ use Prim.Native.Nat.{◌+◌, ◌<◌}
 use native.Mathlib.Omega.{arith}
 use lib.ListN.{length}
 use Rattle.book.specs.Fields.{Item, Field}
-use Rattle.book_types.specs.Laws.{lentFrom}
+use Rattle.book_types.specs.Laws.{lent_from}
 use mathlib.Core.List.{[], ◌∷◌}
-use Rattle.gen_values.specs.Fields.{Fields, ValueAt, OperandAt, partFrom, fields-part, value-part, type-in, width_is}
-use Rattle.gen_arith.specs.Arith.{first-value, behind-first, operand-there}
-use Rattle.gen_arith.specs.Conv.{cast-lines, conv-lines}
+use Rattle.gen_values.specs.Fields.{Fields, ValueAt, OperandAt, part_from, fields_part, value_part, type_in, width_is}
+use Rattle.gen_arith.specs.Arith.{first_value, behind_first_lem, operand_there}
+use Rattle.gen_arith.specs.Conv.{cast_lines, conv_lines}
 use borrow.Author.Rules.{rules}
 use Rattle.gen_arith.proofs.gen_conv.Statement.{statement}
 use Rattle.gen_arith.proofs.gen_conv.Tie as tie
@@ -18,37 +18,37 @@ start_of c = c.before.before.before.before.before.before.before
 
 module _ (c : tie.After-skip) where
   val : ValueAt (start_of c).args.names (start_of c).args.kinds.now (start_of c).args.words.now c.skip.result (start_of c).requires.holds.1.0
-  val = first-value (start_of c).args.kinds.now (start_of c).args.words.now (start_of c).requires.fields c.skip.ensures
+  val = first_value (start_of c).args.kinds.now (start_of c).args.words.now (start_of c).requires.fields c.skip.ensures
 
-  val-there : OperandAt (partFrom (start_of c).args.kinds.now c.skip.result) (partFrom (start_of c).args.words.now c.skip.result) 0 (start_of c).args.work.now
-  val-there = operand-there (start_of c).args.work.now (start_of c).requires.room val
+  val_there : OperandAt (part_from (start_of c).args.kinds.now c.skip.result) (part_from (start_of c).args.words.now c.skip.result) 0 (start_of c).args.work.now
+  val_there = operand_there (start_of c).args.work.now (start_of c).requires.room val
 
-  ty : Fields (start_of c).args.names (Field.plain Item.type ∷ []) (start_of c).requires.holds.1.1 (lentFrom (start_of c).args.kinds.now (start_of c).args.words.now (c.skip.result + 1))
-  ty = fields-part (start_of c).args.kinds.now (start_of c).args.words.now (c.skip.result + 1)
-      (behind-first (start_of c).args.kinds.now (start_of c).args.words.now (start_of c).requires.fields c.skip.ensures)
+  ty : Fields (start_of c).args.names (Field.plain Item.type ∷ []) (start_of c).requires.holds.1.1 (lent_from (start_of c).args.kinds.now (start_of c).args.words.now (c.skip.result + 1))
+  ty = fields_part (start_of c).args.kinds.now (start_of c).args.words.now (c.skip.result + 1)
+      (behind_first_lem (start_of c).args.kinds.now (start_of c).args.words.now (start_of c).requires.fields c.skip.ensures)
 
-  ty-there : (0 < length (partFrom (start_of c).args.kinds.now (c.skip.result + 1))) × (0 < length (partFrom (start_of c).args.words.now (c.skip.result + 1)))
-  ty-there = type-in (partFrom (start_of c).args.kinds.now (c.skip.result + 1)) (partFrom (start_of c).args.words.now (c.skip.result + 1)) 0 ty
+  ty_there : (0 < length (part_from (start_of c).args.kinds.now (c.skip.result + 1))) × (0 < length (part_from (start_of c).args.words.now (c.skip.result + 1)))
+  ty_there = type_in (part_from (start_of c).args.kinds.now (c.skip.result + 1)) (part_from (start_of c).args.words.now (c.skip.result + 1)) 0 ty
 
 need-width-requires : tie.Need-need-width-requires
 need-width-requires c κs =
     let entry = c.before.before.before.before.before in
-    type-in entry.args.kinds.now entry.args.words.now 0 entry.requires.fields
+    type_in entry.args.kinds.now entry.args.words.now 0 entry.requires.fields
 
 skip-requires : tie.Need-skip-requires
 skip-requires c κs = search rules
 
 add-ty : tie.Need-overflow-add-ty
-add-ty c = omega (arith, (val c).in-kinds, (start_of c).well-formed)
+add-ty c = omega (arith, (val c).in_kinds, (start_of c).well-formed)
 
 mul-val-kinds : tie.Need-overflow-mul-val-kinds
-mul-val-kinds c = omega (arith, (val c).in-kinds)
+mul-val-kinds c = omega (arith, (val c).in_kinds)
 
 sub-val-kinds : tie.Need-overflow-sub-val-kinds
-sub-val-kinds c = omega (arith, (val c).in-kinds)
+sub-val-kinds c = omega (arith, (val c).in_kinds)
 
 part-val-kinds-start : tie.Need-slice-bounds-val-kinds-start
-part-val-kinds-start c = omega (arith, (val c).in-kinds)
+part-val-kinds-start c = omega (arith, (val c).in_kinds)
 
 part-val-kinds-end : tie.Need-slice-bounds-val-kinds-end
 part-val-kinds-end c = search rules
@@ -66,13 +66,13 @@ part-val-words-end : tie.Need-slice-bounds-val-words-end
 part-val-words-end c = search rules
 
 mul-to-kinds : tie.Need-overflow-mul-to-kinds
-mul-to-kinds c = omega (arith, (val c.before.before).in-kinds)
+mul-to-kinds c = omega (arith, (val c.before.before).in_kinds)
 
 sub-to-kinds : tie.Need-overflow-sub-to-kinds
-sub-to-kinds c = omega (arith, (val c.before.before).in-kinds)
+sub-to-kinds c = omega (arith, (val c.before.before).in_kinds)
 
 part-to-kinds-start : tie.Need-slice-bounds-to-kinds-start
-part-to-kinds-start c = omega (arith, (val c.before.before).in-kinds)
+part-to-kinds-start c = omega (arith, (val c.before.before).in_kinds)
 
 part-to-kinds-end : tie.Need-slice-bounds-to-kinds-end
 part-to-kinds-end c = search rules
@@ -90,7 +90,7 @@ part-to-words-end : tie.Need-slice-bounds-to-words-end
 part-to-words-end c = search rules
 
 push-value-requires : tie.Need-push-value-requires
-push-value-requires c κs = val-there c.before.before.before.before.before.before.before
+push-value-requires c κs = val_there c.before.before.before.before.before.before.before
 
 same_length : tie.Need-same-length
 same_length c = search rules
@@ -109,14 +109,14 @@ returns c =
     let ws = entry.args.words.now in
     let m = entry.args.names in
     λ k o e maps p f.
-    cast-lines k p.0 p.1.0 p.1.1.0 (after-width.need-width.ensures p.0 (width_is ks ws 0 f)) entry.args.op then1.if1.true
-    (after_push.push-value.ensures m k p.1.0 (value-part (first-value ks ws f after-skip.skip.ensures)) maps) o e
+    cast_lines k p.0 p.1.0 p.1.1.0 (after-width.need-width.ensures p.0 (width_is ks ws 0 f)) entry.args.op then1.if1.true
+    (after_push.push-value.ensures m k p.1.0 (value_part (first_value ks ws f after-skip.skip.ensures)) maps) o e
 
 need-width-requires-2 : tie.Need-need-width-requires-2
-need-width-requires-2 c κs = ty-there c.before.before.before.before.before
+need-width-requires-2 c κs = ty_there c.before.before.before.before.before
 
 push-value-requires-2 : tie.Need-push-value-requires-2
-push-value-requires-2 c κs = val-there c.before.before.before.before.before.before.before.before
+push-value-requires-2 c κs = val_there c.before.before.before.before.before.before.before.before
 
 emit-conv-op-requires : tie.Need-emit-conv-op-requires
 emit-conv-op-requires c κs = search rules
@@ -141,9 +141,9 @@ returns-2 c =
     let m = entry.args.names in
     let to = after-skip.skip.result + 1 in
     λ k o e maps p f.
-    conv-lines k p.0 p.1.0 p.1.1.0 (after-width.need-width.ensures p.0 (width_is ks ws 0 f))
-    (after-width2.need-width2.ensures p.1.1.0 (width_is (partFrom ks to) (partFrom ws to) 0 (fields-part ks ws to (behind-first ks ws f after-skip.skip.ensures))))
-    (after-push2.push-value2.ensures m k p.1.0 (value-part (first-value ks ws f after-skip.skip.ensures)) maps)
+    conv_lines k p.0 p.1.0 p.1.1.0 (after-width.need-width.ensures p.0 (width_is ks ws 0 f))
+    (after-width2.need-width2.ensures p.1.1.0 (width_is (part_from ks to) (part_from ws to) 0 (fields_part ks ws to (behind_first_lem ks ws f after-skip.skip.ensures))))
+    (after-push2.push-value2.ensures m k p.1.0 (value_part (first_value ks ws f after-skip.skip.ensures)) maps)
     entry.args.op else1.if1.false after-conv.emit-conv-op.ensures o e
 
 pub gen-conv-spec : {M : Type 1} → statement M

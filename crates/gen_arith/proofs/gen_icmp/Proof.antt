@@ -4,9 +4,9 @@ use mathlib.Core.Path.{ap, ◌∙◌}
 use native.Mathlib.Omega.{arith}
 use Rattle.book.specs.Ast.{Value}
 use Rattle.assembly.specs.Number.{operation}
-use Rattle.lowering.specs.Operand.{workOf}
-use Rattle.gen_values.specs.Fields.{ValueAt, OperandAt, partFrom, value-part, type-in, width_is}
-use Rattle.gen_arith.specs.Arith.{first-value, second-value, operand-there, icmp-lines}
+use Rattle.lowering.specs.Operand.{work_of}
+use Rattle.gen_values.specs.Fields.{ValueAt, OperandAt, part_from, value_part, type_in, width_is}
+use Rattle.gen_arith.specs.Arith.{first_value, second_value, operand_there, icmp_lines}
 use borrow.Author.Rules.{rules}
 use Rattle.gen_arith.proofs.gen_icmp.Statement.{statement}
 use Rattle.gen_arith.proofs.gen_icmp.Tie as tie
@@ -17,34 +17,34 @@ start_of c = c.before.before.before.before.before.before.before
 
 module _ (c : tie.After-skip) where
   lhs : ValueAt (start_of c).args.names (start_of c).args.kinds.now (start_of c).args.words.now c.skip.result (start_of c).requires.1.holds.1.0
-  lhs = first-value (start_of c).args.kinds.now (start_of c).args.words.now (start_of c).requires.1.fields c.skip.ensures
+  lhs = first_value (start_of c).args.kinds.now (start_of c).args.words.now (start_of c).requires.1.fields c.skip.ensures
 
   rhs : ValueAt (start_of c).args.names (start_of c).args.kinds.now (start_of c).args.words.now (c.skip.result + 1) (start_of c).requires.1.holds.1.1.0
-  rhs = second-value (start_of c).args.kinds.now (start_of c).args.words.now (start_of c).requires.1.fields c.skip.ensures
+  rhs = second_value (start_of c).args.kinds.now (start_of c).args.words.now (start_of c).requires.1.fields c.skip.ensures
 
   there : {a : ℕ} {v : Value} → ValueAt (start_of c).args.names (start_of c).args.kinds.now (start_of c).args.words.now a v
-      → OperandAt (partFrom (start_of c).args.kinds.now a) (partFrom (start_of c).args.words.now a) 0 (start_of c).args.work.now
-  there v = operand-there (start_of c).args.work.now (start_of c).requires.1.room v
+      → OperandAt (part_from (start_of c).args.kinds.now a) (part_from (start_of c).args.words.now a) 0 (start_of c).args.work.now
+  there v = operand_there (start_of c).args.work.now (start_of c).requires.1.room v
 
 need-width-requires : tie.Need-need-width-requires
 need-width-requires c κs =
     let entry = c.before.before.before.before.before in
-    type-in entry.args.kinds.now entry.args.words.now 0 entry.requires.1.fields
+    type_in entry.args.kinds.now entry.args.words.now 0 entry.requires.1.fields
 
 skip-requires : tie.Need-skip-requires
 skip-requires c κs = search rules
 
 add-rhs : tie.Need-overflow-add-rhs
-add-rhs c = omega (arith, (lhs c).in-kinds, (start_of c).well-formed)
+add-rhs c = omega (arith, (lhs c).in_kinds, (start_of c).well-formed)
 
 mul-lhs-kinds : tie.Need-overflow-mul-lhs-kinds
-mul-lhs-kinds c = omega (arith, (lhs c).in-kinds)
+mul-lhs-kinds c = omega (arith, (lhs c).in_kinds)
 
 sub-lhs-kinds : tie.Need-overflow-sub-lhs-kinds
-sub-lhs-kinds c = omega (arith, (lhs c).in-kinds)
+sub-lhs-kinds c = omega (arith, (lhs c).in_kinds)
 
 part-lhs-kinds-start : tie.Need-slice-bounds-lhs-kinds-start
-part-lhs-kinds-start c = omega (arith, (lhs c).in-kinds)
+part-lhs-kinds-start c = omega (arith, (lhs c).in_kinds)
 
 part-lhs-kinds-end : tie.Need-slice-bounds-lhs-kinds-end
 part-lhs-kinds-end c = search rules
@@ -62,13 +62,13 @@ part-lhs-words-end : tie.Need-slice-bounds-lhs-words-end
 part-lhs-words-end c = search rules
 
 mul-rhs-kinds : tie.Need-overflow-mul-rhs-kinds
-mul-rhs-kinds c = omega (arith, (rhs c.before.before).in-kinds)
+mul-rhs-kinds c = omega (arith, (rhs c.before.before).in_kinds)
 
 sub-rhs-kinds : tie.Need-overflow-sub-rhs-kinds
-sub-rhs-kinds c = omega (arith, (rhs c.before.before).in-kinds)
+sub-rhs-kinds c = omega (arith, (rhs c.before.before).in_kinds)
 
 part-rhs-kinds-start : tie.Need-slice-bounds-rhs-kinds-start
-part-rhs-kinds-start c = omega (arith, (rhs c.before.before).in-kinds)
+part-rhs-kinds-start c = omega (arith, (rhs c.before.before).in_kinds)
 
 part-rhs-kinds-end : tie.Need-slice-bounds-rhs-kinds-end
 part-rhs-kinds-end c = search rules
@@ -155,10 +155,10 @@ returns c =
     let ws = entry.args.words.now in
     let m = entry.args.names in
     λ k o e maps p f.
-    icmp-lines k p.0 p.1.0 p.1.1.0 (after-width.need-width.ensures p.0 (width_is ks ws 0 f)) o
-    (after-signed-pred.signed-pred.ensures o e) (after-operation.operation.ensures ∙ ap (λ n. operation n (workOf after-width.need-width.result.width)) e)
-    (after_push.push-value.ensures m k p.1.0 (value-part (first-value ks ws f after-skip.skip.ensures)) maps) after-extend.extend.ensures
-    (after-push2.push-value2.ensures m k p.1.1.0 (value-part (second-value ks ws f after-skip.skip.ensures)) maps) after-extend2.extend2.ensures
+    icmp_lines k p.0 p.1.0 p.1.1.0 (after-width.need-width.ensures p.0 (width_is ks ws 0 f)) o
+    (after-signed-pred.signed-pred.ensures o e) (after-operation.operation.ensures ∙ ap (λ n. operation n (work_of after-width.need-width.result.width)) e)
+    (after_push.push-value.ensures m k p.1.0 (value_part (first_value ks ws f after-skip.skip.ensures)) maps) after-extend.extend.ensures
+    (after-push2.push-value2.ensures m k p.1.1.0 (value_part (second_value ks ws f after-skip.skip.ensures)) maps) after-extend2.extend2.ensures
     after-put.put.ensures
 
 pub gen-icmp-spec : {M : Type 1} → statement M

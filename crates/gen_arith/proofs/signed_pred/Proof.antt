@@ -7,7 +7,7 @@ use Rattle.gen_arith.proofs.signed_pred.Lts as lts
 
 -- src/lib.rt:42:1
 returns : tie.Need-returns
-returns c = laws.pred-by c.args.pred
+returns c = laws.pred_by c.args.pred
 
 pub signed-pred-spec : {M : Type 1} → statement M
 signed-pred-spec = tie.close (tie.spec returns)

@@ -1,6 +1,6 @@
 -- `gen_atomic::gen_atomic_load` meets its contract.
 use Rattle.std.proofs.Common.{arith, rules}
-use Rattle.gen_values.specs.Fields.{ValueAt, operand_at, operand-part, value-part}
+use Rattle.gen_values.specs.Fields.{ValueAt, operand_at, operand_part, value_part}
 use Rattle.gen_size.specs.Lent as lent
 use Rattle.gen_fields.specs.Places as places
 use Rattle.gen_atomic.specs.Atomic as laws
@@ -12,7 +12,7 @@ abbrev start_of : tie.After-skip → tie.Start
 start_of c = c.before.before.before.before.before.before.before.before.before.before.before.before
 
 ptr : (c : tie.After-skip) → ValueAt (start_of c).args.names (start_of c).args.kinds.now (start_of c).args.words.now c.skip.result (start_of c).requires.holds.1.0
-ptr c = places.typed-value (start_of c).args.kinds.now (start_of c).args.words.now 0 (start_of c).requires.fields (places.from_front c.skip.ensures)
+ptr c = places.typed_value (start_of c).args.kinds.now (start_of c).args.words.now 0 (start_of c).requires.fields (places.from_front c.skip.ensures)
 
 require-atomic-width-requires : tie.Need-require-atomic-width-requires
 require-atomic-width-requires c κs =
@@ -23,13 +23,13 @@ skip-requires : tie.Need-skip-requires
 skip-requires c κs = search rules
 
 mul-ptr-kinds : tie.Need-overflow-mul-ptr-kinds
-mul-ptr-kinds c = omega (arith, (ptr c).in-kinds)
+mul-ptr-kinds c = omega (arith, (ptr c).in_kinds)
 
 sub-ptr-kinds : tie.Need-overflow-sub-ptr-kinds
-sub-ptr-kinds c = omega (arith, (ptr c).in-kinds)
+sub-ptr-kinds c = omega (arith, (ptr c).in_kinds)
 
 part-ptr-kinds-start : tie.Need-slice-bounds-ptr-kinds-start
-part-ptr-kinds-start c = omega (arith, (ptr c).in-kinds)
+part-ptr-kinds-start c = omega (arith, (ptr c).in_kinds)
 
 part-ptr-kinds-end : tie.Need-slice-bounds-ptr-kinds-end
 part-ptr-kinds-end c = search rules
@@ -50,7 +50,7 @@ push-value-requires : tie.Need-push-value-requires
 push-value-requires c κs =
     let after-skip = c.before.before.before.before.before in
     let after-width = after-skip.before.before.before in
-    operand-part (operand_at (ptr after-skip) (rw after-width.require-atomic-width.auto.1.1.1.1.0 (start_of after-skip).requires.ready.room))
+    operand_part (operand_at (ptr after-skip) (rw after-width.require-atomic-width.auto.1.1.1.1.0 (start_of after-skip).requires.ready.room))
 
 put-requires : tie.Need-put-requires
 put-requires c κs = search rules
@@ -74,9 +74,9 @@ returns c = λ p k fields maps.
     let ks = entry.args.kinds.now in
     let ws = entry.args.words.now in
     let wide = after-width.require-atomic-width.ensures _ p k entry.args.lines.now entry.args.operands.now fields maps in
-    let address = places.typed-value ks ws 0 fields (places.from_front after-skip.skip.ensures) in
+    let address = places.typed_value ks ws 0 fields (places.from_front after-skip.skip.ensures) in
     record {
-      puts = laws.load-puts k p.0 p.1.0 wide.puts (after_push.push-value.ensures entry.args.names k p.1.0 (value-part address) wide.maps.locals) after-put.put.ensures;
+      puts = laws.load_puts k p.0 p.1.0 wide.puts (after_push.push-value.ensures entry.args.names k p.1.0 (value_part address) wide.maps.locals) after-put.put.ensures;
       maps = wide.maps;
     }
 

@@ -1,6 +1,6 @@
 -- `gen_atomic::gen_atomic_store` meets its contract.
 use Rattle.std.proofs.Common.{◌+◌, arith, rules}
-use Rattle.gen_values.specs.Fields.{ValueAt, operand_at, operand-part, value-part, value-at, behind-value}
+use Rattle.gen_values.specs.Fields.{ValueAt, operand_at, operand_part, value_part, value_at, behind_value}
 use Rattle.gen_size.specs.Lent as lent
 use Rattle.gen_fields.specs.Places as places
 use Rattle.gen_atomic.specs.Atomic as laws
@@ -13,13 +13,13 @@ start_of c = c.before.before.before.before.before.before.before.before.before.be
 
 module _ (c : tie.After-skip) where
   val : ValueAt (start_of c).args.names (start_of c).args.kinds.now (start_of c).args.words.now c.skip.result (start_of c).requires.holds.1.0
-  val = places.typed-value (start_of c).args.kinds.now (start_of c).args.words.now 0 (start_of c).requires.fields (places.from_front c.skip.ensures)
+  val = places.typed_value (start_of c).args.kinds.now (start_of c).args.words.now 0 (start_of c).requires.fields (places.from_front c.skip.ensures)
 
   ptr : ValueAt (start_of c).args.names (start_of c).args.kinds.now (start_of c).args.words.now (c.skip.result + 1) (start_of c).requires.holds.1.1.0
   ptr =
       let ks = (start_of c).args.kinds.now in
       let ws = (start_of c).args.words.now in
-      value-at ks ws (c.skip.result + 1) (behind-value ks ws c.skip.result (places.behind ks ws 0 (start_of c).requires.fields (places.from_front c.skip.ensures)))
+      value_at ks ws (c.skip.result + 1) (behind_value ks ws c.skip.result (places.behind ks ws 0 (start_of c).requires.fields (places.from_front c.skip.ensures)))
 
 require-atomic-width-requires : tie.Need-require-atomic-width-requires
 require-atomic-width-requires c κs =
@@ -30,16 +30,16 @@ skip-requires : tie.Need-skip-requires
 skip-requires c κs = search rules
 
 add-ptr : tie.Need-overflow-add-ptr
-add-ptr c = omega (arith, (val c).in-kinds, (start_of c).well-formed)
+add-ptr c = omega (arith, (val c).in_kinds, (start_of c).well-formed)
 
 mul-val-kinds : tie.Need-overflow-mul-val-kinds
-mul-val-kinds c = omega (arith, (val c).in-kinds)
+mul-val-kinds c = omega (arith, (val c).in_kinds)
 
 sub-val-kinds : tie.Need-overflow-sub-val-kinds
-sub-val-kinds c = omega (arith, (val c).in-kinds)
+sub-val-kinds c = omega (arith, (val c).in_kinds)
 
 part-val-kinds-start : tie.Need-slice-bounds-val-kinds-start
-part-val-kinds-start c = omega (arith, (val c).in-kinds)
+part-val-kinds-start c = omega (arith, (val c).in_kinds)
 
 part-val-kinds-end : tie.Need-slice-bounds-val-kinds-end
 part-val-kinds-end c = search rules
@@ -57,13 +57,13 @@ part-val-words-end : tie.Need-slice-bounds-val-words-end
 part-val-words-end c = search rules
 
 mul-ptr-kinds : tie.Need-overflow-mul-ptr-kinds
-mul-ptr-kinds c = omega (arith, (ptr c.before.before).in-kinds)
+mul-ptr-kinds c = omega (arith, (ptr c.before.before).in_kinds)
 
 sub-ptr-kinds : tie.Need-overflow-sub-ptr-kinds
-sub-ptr-kinds c = omega (arith, (ptr c.before.before).in-kinds)
+sub-ptr-kinds c = omega (arith, (ptr c.before.before).in_kinds)
 
 part-ptr-kinds-start : tie.Need-slice-bounds-ptr-kinds-start
-part-ptr-kinds-start c = omega (arith, (ptr c.before.before).in-kinds)
+part-ptr-kinds-start c = omega (arith, (ptr c.before.before).in_kinds)
 
 part-ptr-kinds-end : tie.Need-slice-bounds-ptr-kinds-end
 part-ptr-kinds-end c = search rules
@@ -84,13 +84,13 @@ push-value-requires : tie.Need-push-value-requires
 push-value-requires c κs =
     let after-skip = c.before.before.before.before.before.before.before in
     let after-width = after-skip.before.before.before in
-    operand-part (operand_at (ptr after-skip) (rw after-width.require-atomic-width.auto.1.1.1.1.0 (start_of after-skip).requires.ready.room))
+    operand_part (operand_at (ptr after-skip) (rw after-width.require-atomic-width.auto.1.1.1.1.0 (start_of after-skip).requires.ready.room))
 
 push-value-requires-2 : tie.Need-push-value-requires-2
 push-value-requires-2 c κs =
     let after-skip = c.before.before.before.before.before.before.before.before.before.before.before.before.before.before.before in
     let after-width = after-skip.before.before.before in
-    operand-part (operand_at (val after-skip) (rw after-width.require-atomic-width.auto.1.1.1.1.0 (start_of after-skip).requires.ready.room))
+    operand_part (operand_at (val after-skip) (rw after-width.require-atomic-width.auto.1.1.1.1.0 (start_of after-skip).requires.ready.room))
 
 put-requires : tie.Need-put-requires
 put-requires c κs = search rules
@@ -124,9 +124,9 @@ returns c = λ p k fields maps.
     let at = after-skip.skip.result in
     let value = places.behind ks ws 0 fields (places.from_front after-skip.skip.ensures) in
     record {
-      puts = laws.store-puts k p.0 p.1.0 p.1.1.0 wide.puts
-          (after_push.push-value.ensures entry.args.names k p.1.1.0 (value-part (value-at ks ws (at + 1) (behind-value ks ws at value))) wide.maps.locals)
-          (after-push2.push-value2.ensures entry.args.names k p.1.0 (value-part (value-at ks ws at value)) wide.maps.locals) after-put.put.ensures;
+      puts = laws.store_puts k p.0 p.1.0 p.1.1.0 wide.puts
+          (after_push.push-value.ensures entry.args.names k p.1.1.0 (value_part (value_at ks ws (at + 1) (behind_value ks ws at value))) wide.maps.locals)
+          (after-push2.push-value2.ensures entry.args.names k p.1.0 (value_part (value_at ks ws at value)) wide.maps.locals) after-put.put.ensures;
       maps = wide.maps;
     }
 

@@ -1,7 +1,7 @@
 -- `gen_atomic::gen_cmpxchg` meets its contract.
 use Rattle.std.proofs.Common.{ℕ, ◌+◌, ◌∙◌, arith, rules}
 use Rattle.book.specs.Ast.{Value}
-use Rattle.gen_values.specs.Fields.{ValueAt, OperandAt, partFrom, operand_at, operand-part, value-part, value-at, behind-value}
+use Rattle.gen_values.specs.Fields.{ValueAt, OperandAt, part_from, operand_at, operand_part, value_part, value_at, behind_value}
 use Rattle.gen_fields.specs.Places as places
 use Rattle.gen_fields.specs.Given as goal
 use Rattle.gen_atomic.specs.Atomic as laws
@@ -14,25 +14,25 @@ start_of c = c.before.before.before.before.before.before.before
 
 module _ (c : tie.After-skip) where
   ptr : ValueAt (start_of c).args.names (start_of c).args.kinds.now (start_of c).args.words.now c.skip.result (start_of c).requires.holds.1.0
-  ptr = places.typed-value (start_of c).args.kinds.now (start_of c).args.words.now 0 (start_of c).requires.fields (places.from_front c.skip.ensures)
+  ptr = places.typed_value (start_of c).args.kinds.now (start_of c).args.words.now 0 (start_of c).requires.fields (places.from_front c.skip.ensures)
 
   cmp : ValueAt (start_of c).args.names (start_of c).args.kinds.now (start_of c).args.words.now (c.skip.result + 1) (start_of c).requires.holds.1.1.0
   cmp =
       let ks = (start_of c).args.kinds.now in
       let ws = (start_of c).args.words.now in
       let at = c.skip.result in
-      value-at ks ws (at + 1) (behind-value ks ws at (places.behind ks ws 0 (start_of c).requires.fields (places.from_front c.skip.ensures)))
+      value_at ks ws (at + 1) (behind_value ks ws at (places.behind ks ws 0 (start_of c).requires.fields (places.from_front c.skip.ensures)))
 
   new : ValueAt (start_of c).args.names (start_of c).args.kinds.now (start_of c).args.words.now (c.skip.result + 1 + 1) (start_of c).requires.holds.1.1.1.0
   new =
       let ks = (start_of c).args.kinds.now in
       let ws = (start_of c).args.words.now in
       let at = c.skip.result in
-      value-at ks ws (at + 1 + 1) (behind-value ks ws (at + 1) (behind-value ks ws at (places.behind ks ws 0 (start_of c).requires.fields (places.from_front c.skip.ensures))))
+      value_at ks ws (at + 1 + 1) (behind_value ks ws (at + 1) (behind_value ks ws at (places.behind ks ws 0 (start_of c).requires.fields (places.from_front c.skip.ensures))))
 
   there : {a : ℕ} {v : Value} → ValueAt (start_of c).args.names (start_of c).args.kinds.now (start_of c).args.words.now a v
-      → OperandAt (partFrom (start_of c).args.kinds.now a) (partFrom (start_of c).args.words.now a) 0 (start_of c).args.work.now
-  there v = operand-part (operand_at v (start_of c).requires.room)
+      → OperandAt (part_from (start_of c).args.kinds.now a) (part_from (start_of c).args.words.now a) 0 (start_of c).args.work.now
+  there v = operand_part (operand_at v (start_of c).requires.room)
 
 abbrev behind : tie.After-push-value → tie.After-skip
 behind c = c.before.before.before.before.before.before.before.before.before
@@ -40,25 +40,25 @@ behind c = c.before.before.before.before.before.before.before.before.before
 slot-of-requires : tie.Need-slot-of-requires
 slot-of-requires c κs =
     let entry = c.before.before.before.before.before in
-    goal.dest-reaches entry.requires
+    goal.dest_reaches entry.requires
 
 skip-requires : tie.Need-skip-requires
 skip-requires c κs = search rules
 
 add-cmp : tie.Need-overflow-add-cmp
-add-cmp c = omega (arith, (ptr c).in-kinds, (start_of c).well-formed)
+add-cmp c = omega (arith, (ptr c).in_kinds, (start_of c).well-formed)
 
 add-val : tie.Need-overflow-add-val
-add-val c = omega (arith, (cmp c).in-kinds, (start_of c).well-formed)
+add-val c = omega (arith, (cmp c).in_kinds, (start_of c).well-formed)
 
 mul-ptr-kinds : tie.Need-overflow-mul-ptr-kinds
-mul-ptr-kinds c = omega (arith, (ptr c).in-kinds)
+mul-ptr-kinds c = omega (arith, (ptr c).in_kinds)
 
 sub-ptr-kinds : tie.Need-overflow-sub-ptr-kinds
-sub-ptr-kinds c = omega (arith, (ptr c).in-kinds)
+sub-ptr-kinds c = omega (arith, (ptr c).in_kinds)
 
 part-ptr-kinds-start : tie.Need-slice-bounds-ptr-kinds-start
-part-ptr-kinds-start c = omega (arith, (ptr c).in-kinds)
+part-ptr-kinds-start c = omega (arith, (ptr c).in_kinds)
 
 part-ptr-kinds-end : tie.Need-slice-bounds-ptr-kinds-end
 part-ptr-kinds-end c = search rules
@@ -76,13 +76,13 @@ part-ptr-words-end : tie.Need-slice-bounds-ptr-words-end
 part-ptr-words-end c = search rules
 
 mul-cmp-kinds : tie.Need-overflow-mul-cmp-kinds
-mul-cmp-kinds c = omega (arith, (cmp c.before.before).in-kinds)
+mul-cmp-kinds c = omega (arith, (cmp c.before.before).in_kinds)
 
 sub-cmp-kinds : tie.Need-overflow-sub-cmp-kinds
-sub-cmp-kinds c = omega (arith, (cmp c.before.before).in-kinds)
+sub-cmp-kinds c = omega (arith, (cmp c.before.before).in_kinds)
 
 part-cmp-kinds-start : tie.Need-slice-bounds-cmp-kinds-start
-part-cmp-kinds-start c = omega (arith, (cmp c.before.before).in-kinds)
+part-cmp-kinds-start c = omega (arith, (cmp c.before.before).in_kinds)
 
 part-cmp-kinds-end : tie.Need-slice-bounds-cmp-kinds-end
 part-cmp-kinds-end c = search rules
@@ -100,13 +100,13 @@ part-cmp-words-end : tie.Need-slice-bounds-cmp-words-end
 part-cmp-words-end c = search rules
 
 mul-new-kinds : tie.Need-overflow-mul-new-kinds
-mul-new-kinds c = omega (arith, (new c.before.before.before.before).in-kinds)
+mul-new-kinds c = omega (arith, (new c.before.before.before.before).in_kinds)
 
 sub-new-kinds : tie.Need-overflow-sub-new-kinds
-sub-new-kinds c = omega (arith, (new c.before.before.before.before).in-kinds)
+sub-new-kinds c = omega (arith, (new c.before.before.before.before).in_kinds)
 
 part-new-kinds-start : tie.Need-slice-bounds-new-kinds-start
-part-new-kinds-start c = omega (arith, (new c.before.before.before.before).in-kinds)
+part-new-kinds-start c = omega (arith, (new c.before.before.before.before).in_kinds)
 
 part-new-kinds-end : tie.Need-slice-bounds-new-kinds-end
 part-new-kinds-end c = search rules
@@ -181,13 +181,13 @@ returns c = λ p k fields maps.
     let m = entry.args.names in
     let at = after-skip.skip.result in
     let address = places.behind ks ws 0 fields (places.from_front after-skip.skip.ensures) in
-    let compared = behind-value ks ws at address in
-    let stored = behind-value ks ws (at + 1) compared in
-    laws.cmpxchg-puts k p.1.0 p.1.1.0 p.1.1.1.0 _ (after-slot-of.slot_of.ensures m k entry.pre.result maps)
-    (after_push.push-value.ensures m k p.1.0 (value-part (value-at ks ws at address)) maps)
-    (after-push2.push-value2.ensures m k p.1.1.0 (value-part (value-at ks ws (at + 1) compared)) maps)
-    (after-push3.push-value3.ensures m k p.1.1.1.0 (value-part (value-at ks ws (at + 1 + 1) stored)) maps) after-put.put.ensures
-    (after-set-both.set_both.ensures m k p.1.1.0 (value-part (value-at ks ws (at + 1) compared)) maps)
+    let compared = behind_value ks ws at address in
+    let stored = behind_value ks ws (at + 1) compared in
+    laws.cmpxchg_puts k p.1.0 p.1.1.0 p.1.1.1.0 _ (after-slot-of.slot_of.ensures m k entry.pre.result maps)
+    (after_push.push-value.ensures m k p.1.0 (value_part (value_at ks ws at address)) maps)
+    (after-push2.push-value2.ensures m k p.1.1.0 (value_part (value_at ks ws (at + 1) compared)) maps)
+    (after-push3.push-value3.ensures m k p.1.1.1.0 (value_part (value_at ks ws (at + 1 + 1) stored)) maps) after-put.put.ensures
+    (after-set-both.set_both.ensures m k p.1.1.0 (value_part (value_at ks ws (at + 1) compared)) maps)
 
 pub gen-cmpxchg-spec : {M : Type 1} → statement M
 gen-cmpxchg-spec =

@@ -23,7 +23,7 @@ returns : tie.Need-returns
 returns c = λ m k below maps.
     let then1 = c.before in
     let entry = then1.before.before.before in
-    laws.slot-missing k m entry.args.name entry.args.number entry.args.work.now below maps entry.args.s refl entry.requires.1 then1.if1.true c.refuse.ensures
+    laws.slot_missing k m entry.args.name entry.args.number entry.args.work.now below maps entry.args.s refl entry.requires.1 then1.if1.true c.refuse.ensures
 
 sub-t11 : tie.Need-overflow-sub-t11
 sub-t11 c = search rules
@@ -31,7 +31,7 @@ sub-t11 c = search rules
 returns-2 : tie.Need-returns-2
 returns-2 c = λ m k below maps.
     let entry = c.before.before.before in
-    laws.slot-found k m entry.args.name entry.args.number entry.args.work.now below maps entry.args.s refl c.if1.false
+    laws.slot_found k m entry.args.name entry.args.number entry.args.work.now below maps entry.args.s refl c.if1.false
 
 pub name-slot-spec : {M : Type 1} → statement M
 name-slot-spec =

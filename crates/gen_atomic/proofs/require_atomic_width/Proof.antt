@@ -20,7 +20,7 @@ returns c = λ fs p k qs os fields maps.
     let entry = after-measured-size.before.before.before.before.before.before.before in
     let size = after-measured-size.measured-size.ensures in
     lent.did maps size.after
-    (laws.width-puts k p.0 qs os (lent.size-asked entry.args.kinds.now entry.args.words.now fields maps size) c.need.ensures)
+    (laws.width_puts k p.0 qs os (lent.size_asked entry.args.kinds.now entry.args.words.now fields maps size) c.need.ensures)
 
 pub require-atomic-width-spec : {M : Type 1} → statement M
 require-atomic-width-spec =

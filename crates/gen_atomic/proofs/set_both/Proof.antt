@@ -49,7 +49,7 @@ returns c = λ m k v at maps.
     let after-put2 = after_push.before.before.before.before.before.before.before in
     let after-put = after-put2.before.before.before.before.before.before.before in
     let entry = after-put.before.before.before.before.before.before.before.before in
-    laws.both-puts k v entry.args.slot (search rules) after-put.put.ensures after-put2.put2.ensures
+    laws.both_puts k v entry.args.slot (search rules) after-put.put.ensures after-put2.put2.ensures
     (after_push.push-value.ensures m k v at maps) after-put3.put3.ensures after-wrapping-add-u64.wrapping-add-u64.ensures after-put4.put4.ensures
 
 pub set-both-spec : {M : Type 1} → statement M

@@ -26,7 +26,7 @@ returns-2 c = λ m k below maps.
     let else1 = c.before in
     let entry = else1.before.before in
     let z = else1.if1.false in
-    laws.result-slot k entry.args.dest entry.args.s z (c.name-slot.ensures m k (omega arith) maps)
+    laws.result_slot k entry.args.dest entry.args.s z (c.name-slot.ensures m k (omega arith) maps)
 
 pub slot-of-spec : {M : Type 1} → statement M
 slot-of-spec =

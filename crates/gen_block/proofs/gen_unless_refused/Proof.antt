@@ -1,11 +1,11 @@
 -- `gen_block::gen_unless_refused` meets its contract: behind a refusal nothing need be done.
 use borrow.Author.Rules.{rules}
-use Rattle.gen_lines.specs.Puts.{refused-puts}
+use Rattle.gen_lines.specs.Puts.{refused_puts}
 use Rattle.gen_block.proofs.gen_unless_refused.Statement.{statement}
 use Rattle.gen_block.proofs.gen_unless_refused.Tie as tie
 
 returns : tie.Need-returns
-returns c κ i a e k = record { puts = refused-puts _ _ c.if1.true; maps = k }
+returns c κ i a e k = record { puts = refused_puts _ _ c.if1.true; maps = k }
 
 gen-inst-requires : tie.Need-gen-inst-requires
 gen-inst-requires c κs = search rules

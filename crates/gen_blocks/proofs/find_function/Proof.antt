@@ -15,47 +15,47 @@ abbrev decreases-loop : tie.decreases-loop
 decreases-loop kinds words names at₀ at = length kinds - at
 
 loop-holds : tie.Need-loop-init invariant-loop decreases-loop
-loop-holds c = laws.scan-start _ _ c.requires
+loop-holds c = laws.scan_start _ _ c.requires
 
 mul-if1 : tie.Need-overflow-mul-if1 invariant-loop decreases-loop
 mul-if1 c =
     let at-loop = c in
     let entry = at-loop.before in
-    let h = laws.scan-there _ entry.args.kinds.now entry.args.words.now _ at-loop.loop.invariant in
+    let h = laws.scan_there _ entry.args.kinds.now entry.args.words.now _ at-loop.loop.invariant in
     search rules
 
 shared-slice-read-if1 : tie.Need-shared-slice-read-if1 invariant-loop decreases-loop
 shared-slice-read-if1 c =
     let at-loop = c.before in
     let entry = at-loop.before in
-    let h = laws.scan-there _ entry.args.kinds.now entry.args.words.now _ at-loop.loop.invariant in
+    let h = laws.scan_there _ entry.args.kinds.now entry.args.words.now _ at-loop.loop.invariant in
     search rules
 
 add_at : tie.Need-overflow-add-at invariant-loop decreases-loop
 add_at c =
     let at-loop = c.before.before in
     let entry = at-loop.before in
-    let h = laws.scan-there _ entry.args.kinds.now entry.args.words.now _ at-loop.loop.invariant in
+    let h = laws.scan_there _ entry.args.kinds.now entry.args.words.now _ at-loop.loop.invariant in
     search rules
 
 loop-less : tie.Need-loop-smaller invariant-loop decreases-loop
 loop-less c =
     let at-loop = c.before.before in
     let entry = at-loop.before in
-    let h = laws.scan-there _ entry.args.kinds.now entry.args.words.now _ at-loop.loop.invariant in
+    let h = laws.scan_there _ entry.args.kinds.now entry.args.words.now _ at-loop.loop.invariant in
     omega arith
 
 loop-again : tie.Need-loop-preserved invariant-loop decreases-loop
 loop-again c =
     let at-loop = c.before.before in
     let entry = at-loop.before in
-    laws.scan-next _ entry.args.kinds.now entry.args.words.now _ at-loop.loop.invariant c.if1.true
+    laws.scan_next _ entry.args.kinds.now entry.args.words.now _ at-loop.loop.invariant c.if1.true
 
 returns : tie.Need-returns invariant-loop decreases-loop
 returns c =
     let at-loop = c.before.before in
     let entry = at-loop.before in
-    laws.scan-done _ entry.args.kinds.now entry.args.words.now _ at-loop.loop.invariant c.if1.false
+    laws.scan_done _ entry.args.kinds.now entry.args.words.now _ at-loop.loop.invariant c.if1.false
 
 pub find-function-spec : {M : Type 1} → statement M
 find-function-spec =

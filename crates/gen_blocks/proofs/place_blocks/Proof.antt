@@ -4,7 +4,7 @@ use mathlib.Core.Logic.{⊎_elim}
 use mathlib.Core.List.{List}
 use Rattle.book.specs.Ast.{BasicBlock}
 use Rattle.book.specs.Entry.{Entry, entries}
-use Rattle.gen_blocks.specs.Words.{WordsKept, words-none, words-then}
+use Rattle.gen_blocks.specs.Words.{WordsKept, words_none, words_then}
 use Rattle.gen_blocks.specs.Blocks as laws
 use borrow.Author.Rules.{rules}
 use Rattle.gen_blocks.proofs.place_blocks.Statement.{statement}
@@ -22,7 +22,7 @@ shorter-requires : tie.Need-shorter-requires invariant-loop decreases-loop
 shorter-requires c κs = search rules
 
 loop-holds : tie.Need-loop-init invariant-loop decreases-loop
-loop-holds c = λ blocks rest book k. (laws.blocks_start _ blocks rest book _ _ _ k, words-none)
+loop-holds c = λ blocks rest book k. (laws.blocks_start _ blocks rest book _ _ _ k, words_none)
 
 mul-if1 : tie.Need-overflow-mul-if1 invariant-loop decreases-loop
 mul-if1 c =
@@ -35,7 +35,7 @@ mul-if1 c =
     let l = rw after-shorter.shorter.ensures at in-loop.loop-test.true in
     let k = entry.requires.1.1 in
     let i = (at-loop.loop.invariant entry.requires.0 entry.requires.1.0 k.0 k.1).0 in
-    let h = laws.in-kinds _ ks ws _ _ _ _ _ _ i l in
+    let h = laws.in_kinds _ ks ws _ _ _ _ _ _ i l in
     search rules
 
 shared-slice-read-if1 : tie.Need-shared-slice-read-if1 invariant-loop decreases-loop
@@ -49,7 +49,7 @@ shared-slice-read-if1 c =
     let l = rw after-shorter.shorter.ensures at in-loop.loop-test.true in
     let k = entry.requires.1.1 in
     let i = (at-loop.loop.invariant entry.requires.0 entry.requires.1.0 k.0 k.1).0 in
-    let h = laws.in-kinds _ ks ws _ _ _ _ _ _ i l in
+    let h = laws.in_kinds _ ks ws _ _ _ _ _ _ i l in
     search rules
 
 same_length : tie.Need-same-length invariant-loop decreases-loop
@@ -70,8 +70,8 @@ returns c =
     let l = rw after-shorter.shorter.ensures at in-loop.loop-test.true in
     λ blocks rest book k.
     let i = at-loop.loop.invariant blocks rest book k in
-    let z = laws.blocks-five _ ks ws _ _ _ _ _ _ i.0 l c.if1.true in
-    laws.blocks-done _ ks ws _ _ _ _ _ _ i.0 _ z.0 z.1 i.1
+    let z = laws.blocks_five _ ks ws _ _ _ _ _ _ i.0 l c.if1.true in
+    laws.blocks_done _ ks ws _ _ _ _ _ _ i.0 _ z.0 z.1 i.1
 
 mul-if2 : tie.Need-overflow-mul-if2 invariant-loop decreases-loop
 mul-if2 c =
@@ -84,7 +84,7 @@ mul-if2 c =
     let l = rw after-shorter.shorter.ensures at in-loop.loop-test.true in
     let k = entry.requires.1.1 in
     let i = (at-loop.loop.invariant entry.requires.0 entry.requires.1.0 k.0 k.1).0 in
-    let h = laws.in-kinds _ ks ws _ _ _ _ _ _ i l in
+    let h = laws.in_kinds _ ks ws _ _ _ _ _ _ i l in
     search rules
 
 shared-slice-read-if2 : tie.Need-shared-slice-read-if2 invariant-loop decreases-loop
@@ -98,7 +98,7 @@ shared-slice-read-if2 c =
     let l = rw after-shorter.shorter.ensures at in-loop.loop-test.true in
     let k = entry.requires.1.1 in
     let i = (at-loop.loop.invariant entry.requires.0 entry.requires.1.0 k.0 k.1).0 in
-    let h = laws.in-kinds _ ks ws _ _ _ _ _ _ i l in
+    let h = laws.in_kinds _ ks ws _ _ _ _ _ _ i l in
     search rules
 
 add-first : tie.Need-overflow-add-first invariant-loop decreases-loop
@@ -112,7 +112,7 @@ add-first c =
     let l = rw after-shorter.shorter.ensures at in-loop.loop-test.true in
     let k = entry.requires.1.1 in
     let i = (at-loop.loop.invariant entry.requires.0 entry.requires.1.0 k.0 k.1).0 in
-    let h = laws.place-few _ ks ws _ _ _ _ _ _ i l in
+    let h = laws.place_few _ ks ws _ _ _ _ _ _ i l in
     search rules
 
 add-first-2 : tie.Need-overflow-add-first-2 invariant-loop decreases-loop
@@ -126,7 +126,7 @@ add-first-2 c =
     let l = rw after-shorter.shorter.ensures at in-loop.loop-test.true in
     let k = entry.requires.1.1 in
     let i = (at-loop.loop.invariant entry.requires.0 entry.requires.1.0 k.0 k.1).0 in
-    let h = laws.place-few _ ks ws _ _ _ _ _ _ i l in
+    let h = laws.place_few _ ks ws _ _ _ _ _ _ i l in
     search rules
 
 mul-work : tie.Need-overflow-mul-work invariant-loop decreases-loop
@@ -170,7 +170,7 @@ mul-work-2 c =
     let l = rw after-shorter.shorter.ensures at in-loop.loop-test.true in
     let k = entry.requires.1.1 in
     let i = (at-loop.loop.invariant entry.requires.0 entry.requires.1.0 k.0 k.1).0 in
-    let h = laws.label-below _ ks ws _ _ _ _ _ _ i l else1.if1.false then2.if2.true in
+    let h = laws.label_below _ ks ws _ _ _ _ _ _ i l else1.if1.false then2.if2.true in
     let r = i.room in
     search rules
 
@@ -187,7 +187,7 @@ add-work c =
     let l = rw after-shorter.shorter.ensures at in-loop.loop-test.true in
     let k = entry.requires.1.1 in
     let i = (at-loop.loop.invariant entry.requires.0 entry.requires.1.0 k.0 k.1).0 in
-    let h = laws.label-below _ ks ws _ _ _ _ _ _ i l else1.if1.false then2.if2.true in
+    let h = laws.label_below _ ks ws _ _ _ _ _ _ i l else1.if1.false then2.if2.true in
     let r = i.room in
     search rules
 
@@ -204,7 +204,7 @@ mul-work-3 c =
     let l = rw after-shorter.shorter.ensures at in-loop.loop-test.true in
     let k = entry.requires.1.1 in
     let i = (at-loop.loop.invariant entry.requires.0 entry.requires.1.0 k.0 k.1).0 in
-    let h = laws.label-below _ ks ws _ _ _ _ _ _ i l else1.if1.false then2.if2.true in
+    let h = laws.label_below _ ks ws _ _ _ _ _ _ i l else1.if1.false then2.if2.true in
     let r = i.room in
     search rules
 
@@ -221,7 +221,7 @@ slice-write-work c =
     let l = rw after-shorter.shorter.ensures at in-loop.loop-test.true in
     let k = entry.requires.1.1 in
     let i = (at-loop.loop.invariant entry.requires.0 entry.requires.1.0 k.0 k.1).0 in
-    let h = laws.label-below _ ks ws _ _ _ _ _ _ i l else1.if1.false then2.if2.true in
+    let h = laws.label_below _ ks ws _ _ _ _ _ _ i l else1.if1.false then2.if2.true in
     let r = i.room in
     search rules
 
@@ -236,7 +236,7 @@ add-next c =
     let l = rw after-shorter.shorter.ensures at in-loop.loop-test.true in
     let k = entry.requires.1.1 in
     let i = (at-loop.loop.invariant entry.requires.0 entry.requires.1.0 k.0 k.1).0 in
-    let h = laws.in-kinds _ ks ws _ _ _ _ _ _ i l in
+    let h = laws.in_kinds _ ks ws _ _ _ _ _ _ i l in
     search rules
 
 loop-less : tie.Need-loop-smaller invariant-loop decreases-loop
@@ -255,8 +255,8 @@ loop-again c =
     λ blocks rest book k.
     let i = at-loop.loop.invariant blocks rest book k in
     ⊎_elim
-    (λ w. rw w.2 (laws.blocks-next _ ks ws _ _ _ _ _ _ i.0 l else1.if1.false w.0.taken, words-then i.1 (laws.blocks-kept _ ks ws _ _ _ _ _ _ i.0 l else1.if1.false w.0.taken)))
-    (λ w. rw w.1 (laws.blocks-skip _ ks ws _ _ _ _ _ _ i.0 l else1.if1.false w.0.left, i.1))
+    (λ w. rw w.2 (laws.blocks_next _ ks ws _ _ _ _ _ _ i.0 l else1.if1.false w.0.taken, words_then i.1 (laws.blocks_kept _ ks ws _ _ _ _ _ _ i.0 l else1.if1.false w.0.taken)))
+    (λ w. rw w.1 (laws.blocks_skip _ ks ws _ _ _ _ _ _ i.0 l else1.if1.false w.0.left, i.1))
     c.if2.branch
 
 same-length-2 : tie.Need-same-length-2 invariant-loop decreases-loop
@@ -276,7 +276,7 @@ returns-2 c =
     λ blocks rest book k.
     let i = at-loop.loop.invariant blocks rest book k in
     let z = laws.blocks_last _ ks ws _ _ _ _ _ _ i.0 (rw after-shorter.shorter.ensures at c.loop-test.false) in
-    laws.blocks-done _ ks ws _ _ _ _ _ _ i.0 _ z.0 z.1 i.1
+    laws.blocks_done _ ks ws _ _ _ _ _ _ i.0 _ z.0 z.1 i.1
 
 pub place-blocks-spec : {M : Type 1} → statement M
 place-blocks-spec =

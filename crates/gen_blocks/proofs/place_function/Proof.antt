@@ -8,7 +8,7 @@ use Rattle.gen_blocks.proofs.place_function.Tie as tie
 place-params-requires : tie.Need-place-params-requires
 place-params-requires c κs =
     let entry = c.before.before.before.before in
-    (_, (_, laws.asked-params entry.args.kinds.now entry.args.words.now entry.requires.1.1))
+    (_, (_, laws.asked_params entry.args.kinds.now entry.args.words.now entry.requires.1.1))
 
 add-blocks : tie.Need-overflow-add-blocks
 add-blocks c =
@@ -17,8 +17,8 @@ add-blocks c =
     let ks = entry.args.kinds.now in
     let ws = entry.args.words.now in
     let k = entry.requires.1.1 in
-    let p = after-params.place-params.ensures _ _ (laws.asked-params ks ws k) in
-    omega (arith, laws.blocks-few ks ws k p)
+    let p = after-params.place-params.ensures _ _ (laws.asked_params ks ws k) in
+    omega (arith, laws.blocks_few ks ws k p)
 
 mul-place-blocks : tie.Need-overflow-mul-place-blocks
 mul-place-blocks c =
@@ -27,8 +27,8 @@ mul-place-blocks c =
     let ks = entry.args.kinds.now in
     let ws = entry.args.words.now in
     let k = entry.requires.1.1 in
-    let p = after-params.place-params.ensures _ _ (laws.asked-params ks ws k) in
-    let h = (laws.blocks-in ks ws k p).0 in
+    let p = after-params.place-params.ensures _ _ (laws.asked_params ks ws k) in
+    let h = (laws.blocks_in ks ws k p).0 in
     search rules
 
 sub-place-blocks : tie.Need-overflow-sub-place-blocks
@@ -38,8 +38,8 @@ sub-place-blocks c =
     let ks = entry.args.kinds.now in
     let ws = entry.args.words.now in
     let k = entry.requires.1.1 in
-    let p = after-params.place-params.ensures _ _ (laws.asked-params ks ws k) in
-    let h = (laws.blocks-in ks ws k p).0 in
+    let p = after-params.place-params.ensures _ _ (laws.asked_params ks ws k) in
+    let h = (laws.blocks_in ks ws k p).0 in
     search rules
 
 part-place-blocks-start : tie.Need-slice-bounds-place-blocks-start
@@ -49,8 +49,8 @@ part-place-blocks-start c =
     let ks = entry.args.kinds.now in
     let ws = entry.args.words.now in
     let k = entry.requires.1.1 in
-    let p = after-params.place-params.ensures _ _ (laws.asked-params ks ws k) in
-    let h = (laws.blocks-in ks ws k p).0 in
+    let p = after-params.place-params.ensures _ _ (laws.asked_params ks ws k) in
+    let h = (laws.blocks_in ks ws k p).0 in
     search rules
 
 part-place-blocks-end : tie.Need-slice-bounds-place-blocks-end
@@ -63,8 +63,8 @@ mul-place-blocks-2 c =
     let ks = entry.args.kinds.now in
     let ws = entry.args.words.now in
     let k = entry.requires.1.1 in
-    let p = after-params.place-params.ensures _ _ (laws.asked-params ks ws k) in
-    let h = (laws.blocks-in ks ws k p).1 in
+    let p = after-params.place-params.ensures _ _ (laws.asked_params ks ws k) in
+    let h = (laws.blocks_in ks ws k p).1 in
     search rules
 
 sub-place-blocks-2 : tie.Need-overflow-sub-place-blocks-2
@@ -74,8 +74,8 @@ sub-place-blocks-2 c =
     let ks = entry.args.kinds.now in
     let ws = entry.args.words.now in
     let k = entry.requires.1.1 in
-    let p = after-params.place-params.ensures _ _ (laws.asked-params ks ws k) in
-    let h = (laws.blocks-in ks ws k p).1 in
+    let p = after-params.place-params.ensures _ _ (laws.asked_params ks ws k) in
+    let h = (laws.blocks_in ks ws k p).1 in
     search rules
 
 part-place-blocks-start-2 : tie.Need-slice-bounds-place-blocks-start-2
@@ -85,8 +85,8 @@ part-place-blocks-start-2 c =
     let ks = entry.args.kinds.now in
     let ws = entry.args.words.now in
     let k = entry.requires.1.1 in
-    let p = after-params.place-params.ensures _ _ (laws.asked-params ks ws k) in
-    let h = (laws.blocks-in ks ws k p).1 in
+    let p = after-params.place-params.ensures _ _ (laws.asked_params ks ws k) in
+    let h = (laws.blocks_in ks ws k p).1 in
     search rules
 
 part-place-blocks-end-2 : tie.Need-slice-bounds-place-blocks-end-2
@@ -99,8 +99,8 @@ place-blocks-requires c κs =
     let ks = entry.args.kinds.now in
     let ws = entry.args.words.now in
     let k = entry.requires.1.1 in
-    let p = after-params.place-params.ensures _ _ (laws.asked-params ks ws k) in
-    (_, (_, (_, laws.asked-blocks ks ws k p)))
+    let p = after-params.place-params.ensures _ _ (laws.asked_params ks ws k) in
+    (_, (_, (_, laws.asked_blocks ks ws k p)))
 
 add-t11 : tie.Need-overflow-add-t11
 add-t11 c =
@@ -110,8 +110,8 @@ add-t11 c =
     let ks = entry.args.kinds.now in
     let ws = entry.args.words.now in
     let k = entry.requires.1.1 in
-    let p = after-params.place-params.ensures _ _ (laws.asked-params ks ws k) in
-    omega (arith, laws.end-few ks ws k p (after-blocks.place-blocks.ensures _ _ _ (laws.asked-blocks ks ws k p)))
+    let p = after-params.place-params.ensures _ _ (laws.asked_params ks ws k) in
+    omega (arith, laws.end_few ks ws k p (after-blocks.place-blocks.ensures _ _ _ (laws.asked_blocks ks ws k p)))
 
 same_length : tie.Need-same-length
 same_length c = search rules
@@ -124,8 +124,8 @@ returns c =
     let ks = entry.args.kinds.now in
     let ws = entry.args.words.now in
     λ book last k.
-    let p = after-params.place-params.ensures _ _ (laws.asked-params ks ws k) in
-    laws.function-placed ks ws k p (after-blocks.place-blocks.ensures _ _ _ (laws.asked-blocks ks ws k p))
+    let p = after-params.place-params.ensures _ _ (laws.asked_params ks ws k) in
+    laws.function_placed ks ws k p (after-blocks.place-blocks.ensures _ _ _ (laws.asked_blocks ks ws k p))
 
 pub place-function-spec : {M : Type 1} → statement M
 place-function-spec =

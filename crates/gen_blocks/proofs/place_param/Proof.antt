@@ -8,19 +8,19 @@ use Rattle.gen_blocks.proofs.place_param.Tie as tie
 shared-slice-read-name : tie.Need-shared-slice-read-name
 shared-slice-read-name c =
     let entry = c.before.before.before.before in
-    let h = laws.params-words _ entry.args.kinds.now entry.args.words.now _ _ _ _ _ entry.requires.1.1.params in
+    let h = laws.params_words _ entry.args.kinds.now entry.args.words.now _ _ _ _ _ entry.requires.1.1.params in
     search rules
 
 sub-skip : tie.Need-overflow-sub-skip
 sub-skip c =
     let entry = c.before.before.before.before in
-    let h = laws.params-kinds _ entry.args.kinds.now entry.args.words.now _ _ _ _ _ entry.requires.1.1.params in
+    let h = laws.params_kinds _ entry.args.kinds.now entry.args.words.now _ _ _ _ _ entry.requires.1.1.params in
     search rules
 
 part-skip-start : tie.Need-slice-bounds-skip-start
 part-skip-start c =
     let entry = c.before.before.before.before in
-    let h = laws.params-kinds _ entry.args.kinds.now entry.args.words.now _ _ _ _ _ entry.requires.1.1.params in
+    let h = laws.params_kinds _ entry.args.kinds.now entry.args.words.now _ _ _ _ _ entry.requires.1.1.params in
     search rules
 
 part-skip-end : tie.Need-slice-bounds-skip-end
@@ -29,13 +29,13 @@ part-skip-end c = search rules
 sub-skip-2 : tie.Need-overflow-sub-skip-2
 sub-skip-2 c =
     let entry = c.before.before.before.before.before in
-    let h = laws.params-words _ entry.args.kinds.now entry.args.words.now _ _ _ _ _ entry.requires.1.1.params in
+    let h = laws.params_words _ entry.args.kinds.now entry.args.words.now _ _ _ _ _ entry.requires.1.1.params in
     search rules
 
 part-skip-start-2 : tie.Need-slice-bounds-skip-start-2
 part-skip-start-2 c =
     let entry = c.before.before.before.before.before in
-    let h = laws.params-words _ entry.args.kinds.now entry.args.words.now _ _ _ _ _ entry.requires.1.1.params in
+    let h = laws.params_words _ entry.args.kinds.now entry.args.words.now _ _ _ _ _ entry.requires.1.1.params in
     search rules
 
 part-skip-end-2 : tie.Need-slice-bounds-skip-end-2
@@ -48,7 +48,7 @@ add-next : tie.Need-overflow-add-next
 add-next c =
     let entry = c.before.before.before.before.before.before.before in
     let p = entry.requires.1.1 in
-    omega (arith, laws.type-fits _ entry.args.kinds.now entry.args.words.now _ _ _ _ _ p.params p.kind _ c.skip.ensures)
+    omega (arith, laws.type_fits _ entry.args.kinds.now entry.args.words.now _ _ _ _ _ p.params p.kind _ c.skip.ensures)
 
 returns : tie.Need-returns
 returns c =

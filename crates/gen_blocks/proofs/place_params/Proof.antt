@@ -5,7 +5,7 @@ use native.Mathlib.Omega.{arith}
 use lib.ListN.{length}
 use Rattle.book.specs.Ast.{Function}
 use Rattle.book.specs.Entry.{Entry, entries}
-use Rattle.gen_blocks.specs.Words.{WordsKept, words-none, words-then}
+use Rattle.gen_blocks.specs.Words.{WordsKept, words_none, words_then}
 use Rattle.gen_blocks.specs.Params as laws
 use borrow.Author.Rules.{rules}
 use Rattle.gen_blocks.proofs.place_params.Statement.{statement}
@@ -14,7 +14,7 @@ use Rattle.gen_blocks.proofs.place_params.Tie as tie
 abbrev invariant-loop : tie.invariant-loop
 invariant-loop kinds words work₀ names next₀ index₀ work next index =
     ((f : Function) (rest : List Entry) → laws.ParamsAsked names f rest (entries kinds words) work₀
-    → laws.ParamsAt names f.params (laws.blocksOf f rest) (entries kinds words) work next index)
+    → laws.ParamsAt names f.params (laws.blocks_of f rest) (entries kinds words) work next index)
     × WordsKept names 0 work₀ work × (index ≤ next)
 
 abbrev decreases-loop : tie.decreases-loop
@@ -23,13 +23,13 @@ decreases-loop kinds words work₀ names next₀ index₀ work next index = leng
 sub-skip : tie.Need-overflow-sub-skip invariant-loop decreases-loop
 sub-skip c =
     let entry = c.before.before.before in
-    let h = laws.return-kinds _ entry.args.kinds.now entry.args.words.now _ _ _ entry.requires.1.1 in
+    let h = laws.return_kinds _ entry.args.kinds.now entry.args.words.now _ _ _ entry.requires.1.1 in
     search rules
 
 part-skip-start : tie.Need-slice-bounds-skip-start invariant-loop decreases-loop
 part-skip-start c =
     let entry = c.before.before.before in
-    let h = laws.return-kinds _ entry.args.kinds.now entry.args.words.now _ _ _ entry.requires.1.1 in
+    let h = laws.return_kinds _ entry.args.kinds.now entry.args.words.now _ _ _ entry.requires.1.1 in
     search rules
 
 part-skip-end : tie.Need-slice-bounds-skip-end invariant-loop decreases-loop
@@ -38,13 +38,13 @@ part-skip-end c = search rules
 sub-skip-2 : tie.Need-overflow-sub-skip-2 invariant-loop decreases-loop
 sub-skip-2 c =
     let entry = c.before.before.before.before in
-    let h = laws.return-words _ entry.args.kinds.now entry.args.words.now _ _ _ entry.requires.1.1 in
+    let h = laws.return_words _ entry.args.kinds.now entry.args.words.now _ _ _ entry.requires.1.1 in
     search rules
 
 part-skip-start-2 : tie.Need-slice-bounds-skip-start-2 invariant-loop decreases-loop
 part-skip-start-2 c =
     let entry = c.before.before.before.before in
-    let h = laws.return-words _ entry.args.kinds.now entry.args.words.now _ _ _ entry.requires.1.1 in
+    let h = laws.return_words _ entry.args.kinds.now entry.args.words.now _ _ _ entry.requires.1.1 in
     search rules
 
 part-skip-end-2 : tie.Need-slice-bounds-skip-end-2 invariant-loop decreases-loop
@@ -61,7 +61,7 @@ add-next c =
 loop-holds : tie.Need-loop-init invariant-loop decreases-loop
 loop-holds c =
     let entry = c.before.before.before.before.before.before in
-    ((λ f rest k. laws.params-start _ entry.args.kinds.now entry.args.words.now f rest _ k _ c.skip.ensures), words-none, omega arith)
+    ((λ f rest k. laws.params_start _ entry.args.kinds.now entry.args.words.now f rest _ k _ c.skip.ensures), words_none, omega arith)
 
 mul-if1 : tie.Need-overflow-mul-if1 invariant-loop decreases-loop
 mul-if1 c =
@@ -70,7 +70,7 @@ mul-if1 c =
     let ks = entry.args.kinds.now in
     let ws = entry.args.words.now in
     let i = at-loop.loop.invariant.0 entry.requires.0 entry.requires.1.0 entry.requires.1.1 in
-    let h = laws.params-kinds _ ks ws _ _ _ _ _ i in
+    let h = laws.params_kinds _ ks ws _ _ _ _ _ i in
     search rules
 
 shared-slice-read-if1 : tie.Need-shared-slice-read-if1 invariant-loop decreases-loop
@@ -80,7 +80,7 @@ shared-slice-read-if1 c =
     let ks = entry.args.kinds.now in
     let ws = entry.args.words.now in
     let i = at-loop.loop.invariant.0 entry.requires.0 entry.requires.1.0 entry.requires.1.1 in
-    let h = laws.params-kinds _ ks ws _ _ _ _ _ i in
+    let h = laws.params_kinds _ ks ws _ _ _ _ _ i in
     search rules
 
 mul-place-param : tie.Need-overflow-mul-place-param invariant-loop decreases-loop
@@ -90,7 +90,7 @@ mul-place-param c =
     let ks = entry.args.kinds.now in
     let ws = entry.args.words.now in
     let i = at-loop.loop.invariant.0 entry.requires.0 entry.requires.1.0 entry.requires.1.1 in
-    let h = laws.params-kinds _ ks ws _ _ _ _ _ i in
+    let h = laws.params_kinds _ ks ws _ _ _ _ _ i in
     search rules
 
 sub-place-param : tie.Need-overflow-sub-place-param invariant-loop decreases-loop
@@ -100,7 +100,7 @@ sub-place-param c =
     let ks = entry.args.kinds.now in
     let ws = entry.args.words.now in
     let i = at-loop.loop.invariant.0 entry.requires.0 entry.requires.1.0 entry.requires.1.1 in
-    let h = laws.params-kinds _ ks ws _ _ _ _ _ i in
+    let h = laws.params_kinds _ ks ws _ _ _ _ _ i in
     search rules
 
 part-place-param-start : tie.Need-slice-bounds-place-param-start invariant-loop decreases-loop
@@ -110,7 +110,7 @@ part-place-param-start c =
     let ks = entry.args.kinds.now in
     let ws = entry.args.words.now in
     let i = at-loop.loop.invariant.0 entry.requires.0 entry.requires.1.0 entry.requires.1.1 in
-    let h = laws.params-kinds _ ks ws _ _ _ _ _ i in
+    let h = laws.params_kinds _ ks ws _ _ _ _ _ i in
     search rules
 
 part-place-param-end : tie.Need-slice-bounds-place-param-end invariant-loop decreases-loop
@@ -123,7 +123,7 @@ mul-place-param-2 c =
     let ks = entry.args.kinds.now in
     let ws = entry.args.words.now in
     let i = at-loop.loop.invariant.0 entry.requires.0 entry.requires.1.0 entry.requires.1.1 in
-    let h = laws.params-words _ ks ws _ _ _ _ _ i in
+    let h = laws.params_words _ ks ws _ _ _ _ _ i in
     search rules
 
 sub-place-param-2 : tie.Need-overflow-sub-place-param-2 invariant-loop decreases-loop
@@ -133,7 +133,7 @@ sub-place-param-2 c =
     let ks = entry.args.kinds.now in
     let ws = entry.args.words.now in
     let i = at-loop.loop.invariant.0 entry.requires.0 entry.requires.1.0 entry.requires.1.1 in
-    let h = laws.params-words _ ks ws _ _ _ _ _ i in
+    let h = laws.params_words _ ks ws _ _ _ _ _ i in
     search rules
 
 part-place-param-start-2 : tie.Need-slice-bounds-place-param-start-2 invariant-loop decreases-loop
@@ -143,7 +143,7 @@ part-place-param-start-2 c =
     let ks = entry.args.kinds.now in
     let ws = entry.args.words.now in
     let i = at-loop.loop.invariant.0 entry.requires.0 entry.requires.1.0 entry.requires.1.1 in
-    let h = laws.params-words _ ks ws _ _ _ _ _ i in
+    let h = laws.params_words _ ks ws _ _ _ _ _ i in
     search rules
 
 part-place-param-end-2 : tie.Need-slice-bounds-place-param-end-2 invariant-loop decreases-loop
@@ -157,8 +157,8 @@ place-param-requires c κs =
     let ks = entry.args.kinds.now in
     let ws = entry.args.words.now in
     let i = at-loop.loop.invariant.0 entry.requires.0 entry.requires.1.0 entry.requires.1.1 in
-    let small : at-loop.loop.index ≤ 1048576 = omega (arith, laws.params-few _ ks ws _ _ _ _ _ i, at-loop.loop.invariant.2) in
-    (_, (_, laws.at-param ks ws _ i then1.if1.true small))
+    let small : at-loop.loop.index ≤ 1048576 = omega (arith, laws.params_few _ ks ws _ _ _ _ _ i, at-loop.loop.invariant.2) in
+    (_, (_, laws.at_param ks ws _ i then1.if1.true small))
 
 add-next-2 : tie.Need-overflow-add-next-2 invariant-loop decreases-loop
 add-next-2 c =
@@ -169,10 +169,10 @@ add-next-2 c =
     let ks = entry.args.kinds.now in
     let ws = entry.args.words.now in
     let i = at-loop.loop.invariant.0 entry.requires.0 entry.requires.1.0 entry.requires.1.1 in
-    let small : at-loop.loop.index ≤ 1048576 = omega (arith, laws.params-few _ ks ws _ _ _ _ _ i, at-loop.loop.invariant.2) in
-    let n = after-place-param.place-param.ensures _ _ (laws.at-param ks ws _ i then1.if1.true small) in
-    let j = laws.behind-param ks ws _ i n in
-    omega (arith, laws.params-few _ ks ws _ _ _ _ _ j)
+    let small : at-loop.loop.index ≤ 1048576 = omega (arith, laws.params_few _ ks ws _ _ _ _ _ i, at-loop.loop.invariant.2) in
+    let n = after-place-param.place-param.ensures _ _ (laws.at_param ks ws _ i then1.if1.true small) in
+    let j = laws.behind_param ks ws _ i n in
+    omega (arith, laws.params_few _ ks ws _ _ _ _ _ j)
 
 add-index : tie.Need-overflow-add-index invariant-loop decreases-loop
 add-index c =
@@ -183,9 +183,9 @@ add-index c =
     let ks = entry.args.kinds.now in
     let ws = entry.args.words.now in
     let i = at-loop.loop.invariant.0 entry.requires.0 entry.requires.1.0 entry.requires.1.1 in
-    let small : at-loop.loop.index ≤ 1048576 = omega (arith, laws.params-few _ ks ws _ _ _ _ _ i, at-loop.loop.invariant.2) in
-    let n = after-place-param.place-param.ensures _ _ (laws.at-param ks ws _ i then1.if1.true small) in
-    let j = laws.behind-param ks ws _ i n in
+    let small : at-loop.loop.index ≤ 1048576 = omega (arith, laws.params_few _ ks ws _ _ _ _ _ i, at-loop.loop.invariant.2) in
+    let n = after-place-param.place-param.ensures _ _ (laws.at_param ks ws _ i then1.if1.true small) in
+    let j = laws.behind_param ks ws _ i n in
     omega arith
 
 loop-less : tie.Need-loop-smaller invariant-loop decreases-loop
@@ -197,10 +197,10 @@ loop-less c =
     let ks = entry.args.kinds.now in
     let ws = entry.args.words.now in
     let i = at-loop.loop.invariant.0 entry.requires.0 entry.requires.1.0 entry.requires.1.1 in
-    let small : at-loop.loop.index ≤ 1048576 = omega (arith, laws.params-few _ ks ws _ _ _ _ _ i, at-loop.loop.invariant.2) in
-    let n = after-place-param.place-param.ensures _ _ (laws.at-param ks ws _ i then1.if1.true small) in
-    let j = laws.behind-param ks ws _ i n in
-    omega (arith, laws.params-kinds _ ks ws _ _ _ _ _ j, n.more)
+    let small : at-loop.loop.index ≤ 1048576 = omega (arith, laws.params_few _ ks ws _ _ _ _ _ i, at-loop.loop.invariant.2) in
+    let n = after-place-param.place-param.ensures _ _ (laws.at_param ks ws _ i then1.if1.true small) in
+    let j = laws.behind_param ks ws _ i n in
+    omega (arith, laws.params_kinds _ ks ws _ _ _ _ _ j, n.more)
 
 loop-again : tie.Need-loop-preserved invariant-loop decreases-loop
 loop-again c =
@@ -211,13 +211,13 @@ loop-again c =
     let ks = entry.args.kinds.now in
     let ws = entry.args.words.now in
     let i = at-loop.loop.invariant.0 entry.requires.0 entry.requires.1.0 entry.requires.1.1 in
-    let small : at-loop.loop.index ≤ 1048576 = omega (arith, laws.params-few _ ks ws _ _ _ _ _ i, at-loop.loop.invariant.2) in
-    let n = after-place-param.place-param.ensures _ _ (laws.at-param ks ws _ i then1.if1.true small) in
-    let j = laws.behind-param ks ws _ i n in (
+    let small : at-loop.loop.index ≤ 1048576 = omega (arith, laws.params_few _ ks ws _ _ _ _ _ i, at-loop.loop.invariant.2) in
+    let n = after-place-param.place-param.ensures _ _ (laws.at_param ks ws _ i then1.if1.true small) in
+    let j = laws.behind_param ks ws _ i n in (
       (λ f rest k.
           let i' = at-loop.loop.invariant.0 f rest k in
-          laws.behind-param ks ws _ i' (after-place-param.place-param.ensures _ _ (laws.at-param ks ws _ i' then1.if1.true small))),
-      words-then at-loop.loop.invariant.1 n.kept,
+          laws.behind_param ks ws _ i' (after-place-param.place-param.ensures _ _ (laws.at_param ks ws _ i' then1.if1.true small))),
+      words_then at-loop.loop.invariant.1 n.kept,
       omega (arith, at-loop.loop.invariant.2, n.more),
     )
 
@@ -228,7 +228,7 @@ add-result c =
     let ks = entry.args.kinds.now in
     let ws = entry.args.words.now in
     let i = at-loop.loop.invariant.0 entry.requires.0 entry.requires.1.0 entry.requires.1.1 in
-    omega (arith, laws.params-few _ ks ws _ _ _ _ _ i)
+    omega (arith, laws.params_few _ ks ws _ _ _ _ _ i)
 
 same_length : tie.Need-same-length invariant-loop decreases-loop
 same_length c = c.before.before.loop.invariant.1.long
@@ -238,7 +238,7 @@ returns c =
     let at-loop = c.before.before in
     let entry = at-loop.before.before.before.before.before.before.before in
     λ f rest k.
-    let d = laws.params-done _ entry.args.kinds.now entry.args.words.now _ _ _ _ _ (at-loop.loop.invariant.0 f rest k) c.if1.false in
+    let d = laws.params_done _ entry.args.kinds.now entry.args.words.now _ _ _ _ _ (at-loop.loop.invariant.0 f rest k) c.if1.false in
     record { words = d.0; blocks = d.1; there = d.2; kept = at-loop.loop.invariant.1 }
 
 pub place-params-spec : {M : Type 1} → statement M

@@ -7,7 +7,7 @@ use Rattle.gen_call.proofs.call_class.Tie as tie
 shared-slice-read-if1 : tie.Need-shared-slice-read-if1
 shared-slice-read-if1 c =
     let entry = c.before in
-    entry.requires.in-kinds
+    entry.requires.in_kinds
 
 shared-slice-read-result : tie.Need-shared-slice-read-result
 shared-slice-read-result c =
@@ -44,14 +44,14 @@ returns c = λ m k v value marks.
     let entry = global.before.before in
     let kind = get_or entry.args.kinds.now 0 0 in
     let word = get_or entry.args.words.now 0 0 in
-    rw value.is at (laws.class-global m k kind word entry.args.work.now global.if1.true (rw value.is value.limits) marks)
+    rw value.is at (laws.class_global m k kind word entry.args.work.now global.if1.true (rw value.is value.limits) marks)
 
 returns-2 : tie.Need-returns-2
 returns-2 c = λ m k v value marks.
     let entry = c.before.before in
     let kind = get_or entry.args.kinds.now 0 0 in
     let word = get_or entry.args.words.now 0 0 in
-    rw value.is at (laws.class-other m k kind word c.if1.false)
+    rw value.is at (laws.class_other m k kind word c.if1.false)
 
 pub call-class-spec : {M : Type 1} → statement M
 call-class-spec =

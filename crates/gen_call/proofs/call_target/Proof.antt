@@ -34,7 +34,7 @@ returns c = λ m k v value maps defined.
     let entry = global.before.before.before.before.before.before.before in
     let kind = get_or entry.args.kinds.now 0 0 in
     let word = get_or entry.args.words.now 0 0 in
-    rw (sym value.is) (laws.target-global k kind word entry.args.args global.if1.true entry.args.defined (rw value.is defined)
+    rw (sym value.is) (laws.target_global k kind word entry.args.args global.if1.true entry.args.defined (rw value.is defined)
     after-need.need.ensures after-operand.call-operand.ensures after-put.put.ensures)
 
 shared-slice-read-if2 : tie.Need-shared-slice-read-if2
@@ -60,7 +60,7 @@ returns-2 c = λ m k v value maps defined.
     let entry = local.before.before.before.before.before.before.before.before.before in
     let kind = get_or entry.args.kinds.now 0 0 in
     let word = get_or entry.args.words.now 0 0 in
-    rw (sym value.is) (laws.target-local k kind word entry.args.args local.if2.true
+    rw (sym value.is) (laws.target_local k kind word entry.args.args local.if2.true
     (search rules) (rw value.is (pushed.push-value.ensures m k v value maps)) after-put2.put2.ensures)
 
 refuse-requires : tie.Need-refuse-requires

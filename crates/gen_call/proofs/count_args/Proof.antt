@@ -13,7 +13,7 @@ decreases-loop kinds words names at₀ args₀ at args = length kinds - at
 loop-holds : tie.Need-loop-init invariant-loop decreases-loop
 loop-holds c =
     let entry = c.before.before in
-    laws.count-start entry.args.kinds.now entry.args.words.now
+    laws.count_start entry.args.kinds.now entry.args.words.now
 
 mul-if1 : tie.Need-overflow-mul-if1 invariant-loop decreases-loop
 mul-if1 c =
@@ -23,7 +23,7 @@ mul-if1 c =
     let ws = entry.args.words.now in
     let at = loop.loop.at in
     let left = laws.count_left ks ws at loop.loop.args loop.loop.invariant entry.requires in
-    omega (arith, laws.lent-in ks ws at left, entry.well-formed)
+    omega (arith, laws.lent_in ks ws at left, entry.well-formed)
 
 shared-slice-read-if1 : tie.Need-shared-slice-read-if1 invariant-loop decreases-loop
 shared-slice-read-if1 c =
@@ -33,7 +33,7 @@ shared-slice-read-if1 c =
     let ws = entry.args.words.now in
     let at = loop.loop.at in
     let left = laws.count_left ks ws at loop.loop.args loop.loop.invariant entry.requires in
-    laws.lent-in ks ws at left
+    laws.lent_in ks ws at left
 
 mul-skip : tie.Need-overflow-mul-skip invariant-loop decreases-loop
 mul-skip c =
@@ -44,8 +44,8 @@ mul-skip c =
     let ws = entry.args.words.now in
     let at = loop.loop.at in
     let left = laws.count_left ks ws at loop.loop.args loop.loop.invariant entry.requires in
-    let front = laws.lent-front ks ws at left turn.if1.true in
-    omega (arith, front.in-kinds, front.in_words, front.fits, entry.well-formed)
+    let front = laws.lent_front ks ws at left turn.if1.true in
+    omega (arith, front.in_kinds, front.in_words, front.fits, entry.well-formed)
 
 sub-skip : tie.Need-overflow-sub-skip invariant-loop decreases-loop
 sub-skip c =
@@ -56,8 +56,8 @@ sub-skip c =
     let ws = entry.args.words.now in
     let at = loop.loop.at in
     let left = laws.count_left ks ws at loop.loop.args loop.loop.invariant entry.requires in
-    let front = laws.lent-front ks ws at left turn.if1.true in
-    omega (arith, front.in-kinds, front.in_words, front.fits, entry.well-formed)
+    let front = laws.lent_front ks ws at left turn.if1.true in
+    omega (arith, front.in_kinds, front.in_words, front.fits, entry.well-formed)
 
 part-skip-start : tie.Need-slice-bounds-skip-start invariant-loop decreases-loop
 part-skip-start c =
@@ -68,8 +68,8 @@ part-skip-start c =
     let ws = entry.args.words.now in
     let at = loop.loop.at in
     let left = laws.count_left ks ws at loop.loop.args loop.loop.invariant entry.requires in
-    let front = laws.lent-front ks ws at left turn.if1.true in
-    omega (arith, front.in-kinds, front.in_words, front.fits, entry.well-formed)
+    let front = laws.lent_front ks ws at left turn.if1.true in
+    omega (arith, front.in_kinds, front.in_words, front.fits, entry.well-formed)
 
 part-skip-end : tie.Need-slice-bounds-skip-end invariant-loop decreases-loop
 part-skip-end c =
@@ -80,8 +80,8 @@ part-skip-end c =
     let ws = entry.args.words.now in
     let at = loop.loop.at in
     let left = laws.count_left ks ws at loop.loop.args loop.loop.invariant entry.requires in
-    let front = laws.lent-front ks ws at left turn.if1.true in
-    omega (arith, front.in-kinds, front.in_words, front.fits, entry.well-formed)
+    let front = laws.lent_front ks ws at left turn.if1.true in
+    omega (arith, front.in_kinds, front.in_words, front.fits, entry.well-formed)
 
 mul-skip-2 : tie.Need-overflow-mul-skip-2 invariant-loop decreases-loop
 mul-skip-2 c =
@@ -92,8 +92,8 @@ mul-skip-2 c =
     let ws = entry.args.words.now in
     let at = loop.loop.at in
     let left = laws.count_left ks ws at loop.loop.args loop.loop.invariant entry.requires in
-    let front = laws.lent-front ks ws at left turn.if1.true in
-    omega (arith, front.in-kinds, front.in_words, front.fits, entry.well-formed)
+    let front = laws.lent_front ks ws at left turn.if1.true in
+    omega (arith, front.in_kinds, front.in_words, front.fits, entry.well-formed)
 
 sub-skip-2 : tie.Need-overflow-sub-skip-2 invariant-loop decreases-loop
 sub-skip-2 c =
@@ -104,8 +104,8 @@ sub-skip-2 c =
     let ws = entry.args.words.now in
     let at = loop.loop.at in
     let left = laws.count_left ks ws at loop.loop.args loop.loop.invariant entry.requires in
-    let front = laws.lent-front ks ws at left turn.if1.true in
-    omega (arith, front.in-kinds, front.in_words, front.fits, entry.well-formed)
+    let front = laws.lent_front ks ws at left turn.if1.true in
+    omega (arith, front.in_kinds, front.in_words, front.fits, entry.well-formed)
 
 part-skip-start-2 : tie.Need-slice-bounds-skip-start-2 invariant-loop decreases-loop
 part-skip-start-2 c =
@@ -116,8 +116,8 @@ part-skip-start-2 c =
     let ws = entry.args.words.now in
     let at = loop.loop.at in
     let left = laws.count_left ks ws at loop.loop.args loop.loop.invariant entry.requires in
-    let front = laws.lent-front ks ws at left turn.if1.true in
-    omega (arith, front.in-kinds, front.in_words, front.fits, entry.well-formed)
+    let front = laws.lent_front ks ws at left turn.if1.true in
+    omega (arith, front.in_kinds, front.in_words, front.fits, entry.well-formed)
 
 part-skip-end-2 : tie.Need-slice-bounds-skip-end-2 invariant-loop decreases-loop
 part-skip-end-2 c =
@@ -128,8 +128,8 @@ part-skip-end-2 c =
     let ws = entry.args.words.now in
     let at = loop.loop.at in
     let left = laws.count_left ks ws at loop.loop.args loop.loop.invariant entry.requires in
-    let front = laws.lent-front ks ws at left turn.if1.true in
-    omega (arith, front.in-kinds, front.in_words, front.fits, entry.well-formed)
+    let front = laws.lent_front ks ws at left turn.if1.true in
+    omega (arith, front.in_kinds, front.in_words, front.fits, entry.well-formed)
 
 skip-requires : tie.Need-skip-requires invariant-loop decreases-loop
 skip-requires c κs = search rules
@@ -145,8 +145,8 @@ add_at c =
     let m = entry.args.names in
     let at = loop.loop.at in
     let left = laws.count_left ks ws at loop.loop.args loop.loop.invariant entry.requires in
-    let front = laws.lent-front ks ws at left turn.if1.true in
-    let long = laws.part-len m ks ws at after-skip.skip.ensures in
+    let front = laws.lent_front ks ws at left turn.if1.true in
+    let long = laws.part_len m ks ws at after-skip.skip.ensures in
     omega (arith, front.fits, long, entry.well-formed)
 
 add-at-2 : tie.Need-overflow-add-at-2 invariant-loop decreases-loop
@@ -160,8 +160,8 @@ add-at-2 c =
     let m = entry.args.names in
     let at = loop.loop.at in
     let left = laws.count_left ks ws at loop.loop.args loop.loop.invariant entry.requires in
-    let front = laws.lent-front ks ws at left turn.if1.true in
-    let long = laws.part-len m ks ws at after-skip.skip.ensures in
+    let front = laws.lent_front ks ws at left turn.if1.true in
+    let long = laws.part_len m ks ws at after-skip.skip.ensures in
     omega (arith, front.fits, long, entry.well-formed)
 
 add-args : tie.Need-overflow-add-args invariant-loop decreases-loop
@@ -173,8 +173,8 @@ add-args c =
     let ws = entry.args.words.now in
     let at = loop.loop.at in
     let left = laws.count_left ks ws at loop.loop.args loop.loop.invariant entry.requires in
-    let front = laws.lent-front ks ws at left turn.if1.true in
-    omega (arith, laws.count-few ks ws at loop.loop.args loop.loop.invariant entry.requires, front.in-kinds, entry.well-formed)
+    let front = laws.lent_front ks ws at left turn.if1.true in
+    omega (arith, laws.count_few ks ws at loop.loop.args loop.loop.invariant entry.requires, front.in_kinds, entry.well-formed)
 
 loop-less : tie.Need-loop-smaller invariant-loop decreases-loop
 loop-less c =
@@ -187,8 +187,8 @@ loop-less c =
     let m = entry.args.names in
     let at = loop.loop.at in
     let left = laws.count_left ks ws at loop.loop.args loop.loop.invariant entry.requires in
-    let front = laws.lent-front ks ws at left turn.if1.true in
-    let long = laws.part-len m ks ws at after-skip.skip.ensures in
+    let front = laws.lent_front ks ws at left turn.if1.true in
+    let long = laws.part_len m ks ws at after-skip.skip.ensures in
     omega (arith, front.fits, long)
 
 loop-again : tie.Need-loop-preserved invariant-loop decreases-loop
@@ -201,7 +201,7 @@ loop-again c =
     let ws = entry.args.words.now in
     let m = entry.args.names in
     let at = loop.loop.at in
-    let long = laws.part-len m ks ws at after-skip.skip.ensures in
+    let long = laws.part_len m ks ws at after-skip.skip.ensures in
     laws.count_next ks ws at loop.loop.args loop.loop.invariant turn.if1.true long
 
 returns : tie.Need-returns invariant-loop decreases-loop
@@ -212,7 +212,7 @@ returns c = λ args f.
     let ws = entry.args.words.now in
     let at = loop.loop.at in
     let left = laws.count_left ks ws at loop.loop.args loop.loop.invariant entry.requires in
-    laws.count-done ks ws at loop.loop.args loop.loop.invariant c.if1.false args f
+    laws.count_done ks ws at loop.loop.args loop.loop.invariant c.if1.false args f
 
 pub count-args-spec : {M : Type 1} → statement M
 count-args-spec =

@@ -1,6 +1,6 @@
 -- `gen_call::gen_call` meets its contract: the mark of the callee tells which call it is.
 use Rattle.std.proofs.Common.{get_or, sym, ◌∙◌, arith, rules}
-use Rattle.gen_values.specs.Fields.{partFrom, value-at, type-in}
+use Rattle.gen_values.specs.Fields.{part_from, value_at, type_in}
 use Rattle.gen_call.specs.Calls as laws
 use Rattle.gen_call.proofs.gen_call.Statement.{statement}
 use Rattle.gen_call.proofs.gen_call.Tie as tie
@@ -14,7 +14,7 @@ mul-callee-kinds c =
     let entry = after-skip.before.before.before.before.before.before in
     let ks = entry.args.kinds.now in
     let ws = entry.args.words.now in
-    let callee = laws.callee-part ks ws entry.requires.fields after-skip.skip.ensures in
+    let callee = laws.callee_part ks ws entry.requires.fields after-skip.skip.ensures in
     omega (arith, callee.0, callee.1, entry.well-formed)
 
 sub-callee-kinds : tie.Need-overflow-sub-callee-kinds
@@ -23,7 +23,7 @@ sub-callee-kinds c =
     let entry = after-skip.before.before.before.before.before.before in
     let ks = entry.args.kinds.now in
     let ws = entry.args.words.now in
-    let callee = laws.callee-part ks ws entry.requires.fields after-skip.skip.ensures in
+    let callee = laws.callee_part ks ws entry.requires.fields after-skip.skip.ensures in
     omega (arith, callee.0, callee.1, entry.well-formed)
 
 part-callee-kinds-start : tie.Need-slice-bounds-callee-kinds-start
@@ -32,7 +32,7 @@ part-callee-kinds-start c =
     let entry = after-skip.before.before.before.before.before.before in
     let ks = entry.args.kinds.now in
     let ws = entry.args.words.now in
-    let callee = laws.callee-part ks ws entry.requires.fields after-skip.skip.ensures in
+    let callee = laws.callee_part ks ws entry.requires.fields after-skip.skip.ensures in
     omega (arith, callee.0, callee.1, entry.well-formed)
 
 part-callee-kinds-end : tie.Need-slice-bounds-callee-kinds-end
@@ -41,7 +41,7 @@ part-callee-kinds-end c =
     let entry = after-skip.before.before.before.before.before.before in
     let ks = entry.args.kinds.now in
     let ws = entry.args.words.now in
-    let callee = laws.callee-part ks ws entry.requires.fields after-skip.skip.ensures in
+    let callee = laws.callee_part ks ws entry.requires.fields after-skip.skip.ensures in
     omega (arith, callee.0, callee.1, entry.well-formed)
 
 mul-callee-words : tie.Need-overflow-mul-callee-words
@@ -50,7 +50,7 @@ mul-callee-words c =
     let entry = after-skip.before.before.before.before.before.before in
     let ks = entry.args.kinds.now in
     let ws = entry.args.words.now in
-    let callee = laws.callee-part ks ws entry.requires.fields after-skip.skip.ensures in
+    let callee = laws.callee_part ks ws entry.requires.fields after-skip.skip.ensures in
     omega (arith, callee.0, callee.1, entry.well-formed)
 
 sub-callee-words : tie.Need-overflow-sub-callee-words
@@ -59,7 +59,7 @@ sub-callee-words c =
     let entry = after-skip.before.before.before.before.before.before in
     let ks = entry.args.kinds.now in
     let ws = entry.args.words.now in
-    let callee = laws.callee-part ks ws entry.requires.fields after-skip.skip.ensures in
+    let callee = laws.callee_part ks ws entry.requires.fields after-skip.skip.ensures in
     omega (arith, callee.0, callee.1, entry.well-formed)
 
 part-callee-words-start : tie.Need-slice-bounds-callee-words-start
@@ -68,7 +68,7 @@ part-callee-words-start c =
     let entry = after-skip.before.before.before.before.before.before in
     let ks = entry.args.kinds.now in
     let ws = entry.args.words.now in
-    let callee = laws.callee-part ks ws entry.requires.fields after-skip.skip.ensures in
+    let callee = laws.callee_part ks ws entry.requires.fields after-skip.skip.ensures in
     omega (arith, callee.0, callee.1, entry.well-formed)
 
 part-callee-words-end : tie.Need-slice-bounds-callee-words-end
@@ -77,7 +77,7 @@ part-callee-words-end c =
     let entry = after-skip.before.before.before.before.before.before in
     let ks = entry.args.kinds.now in
     let ws = entry.args.words.now in
-    let callee = laws.callee-part ks ws entry.requires.fields after-skip.skip.ensures in
+    let callee = laws.callee_part ks ws entry.requires.fields after-skip.skip.ensures in
     omega (arith, callee.0, callee.1, entry.well-formed)
 
 call-class-requires : tie.Need-call-class-requires
@@ -88,15 +88,15 @@ call-class-requires c κs =
     let ws = entry.args.words.now in
     let m = entry.args.names in
     let at = after-skip.skip.result in
-    let callee = laws.callee-part ks ws entry.requires.fields after-skip.skip.ensures in
-    laws.class-reaches m (partFrom ks at) (partFrom ws at) (value-at (partFrom ks at) (partFrom ws at) 0 callee.2) entry.requires.room
+    let callee = laws.callee_part ks ws entry.requires.fields after-skip.skip.ensures in
+    laws.class_reaches m (part_from ks at) (part_from ws at) (value_at (part_from ks at) (part_from ws at) 0 callee.2) entry.requires.room
 
 shared-slice-read-gen-syscall : tie.Need-shared-slice-read-gen-syscall
 shared-slice-read-gen-syscall c =
     let entry = c.before.before.before.before.before.before.before.before.before.before.before in
     let ks = entry.args.kinds.now in
     let ws = entry.args.words.now in
-    (type-in ks ws 0 entry.requires.fields).0
+    (type_in ks ws 0 entry.requires.fields).0
 
 gen-syscall-requires : tie.Need-gen-syscall-requires
 gen-syscall-requires c κs =
@@ -104,7 +104,7 @@ gen-syscall-requires c κs =
     let entry = after-skip.before.before.before.before.before.before in
     let ks = entry.args.kinds.now in
     let ws = entry.args.words.now in
-    let callee = laws.callee-part ks ws entry.requires.fields after-skip.skip.ensures in
+    let callee = laws.callee_part ks ws entry.requires.fields after-skip.skip.ensures in
     record { holds = entry.requires.holds.1; fields = callee.2; result = entry.requires.result; room = entry.requires.room }
 
 gen-memcmp-call-requires : tie.Need-gen-memcmp-call-requires
@@ -113,7 +113,7 @@ gen-memcmp-call-requires c κs =
     let entry = after-skip.before.before.before.before.before.before in
     let ks = entry.args.kinds.now in
     let ws = entry.args.words.now in
-    let callee = laws.callee-part ks ws entry.requires.fields after-skip.skip.ensures in
+    let callee = laws.callee_part ks ws entry.requires.fields after-skip.skip.ensures in
     record { holds = entry.requires.holds.1; fields = callee.2; result = entry.requires.result; room = entry.requires.room }
 
 gen-plain-call-requires : tie.Need-gen-plain-call-requires
@@ -122,7 +122,7 @@ gen-plain-call-requires c κs =
     let entry = after-skip.before.before.before.before.before.before in
     let ks = entry.args.kinds.now in
     let ws = entry.args.words.now in
-    let callee = laws.callee-part ks ws entry.requires.fields after-skip.skip.ensures in
+    let callee = laws.callee_part ks ws entry.requires.fields after-skip.skip.ensures in
     record { holds = entry.requires.holds.1; fields = callee.2; result = entry.requires.result; room = entry.requires.room }
 
 same_length : tie.Need-same-length
@@ -142,12 +142,12 @@ returns c = λ bs p k fields maps.
     let ws = entry.args.words.now in
     let m = entry.args.names in
     let at = after-skip.skip.result in
-    let part = (laws.callee-part ks ws fields after-skip.skip.ensures).2 in
-    let value = value-at (partFrom ks at) (partFrom ws at) 0 part in
+    let part = (laws.callee_part ks ws fields after-skip.skip.ensures).2 in
+    let value = value_at (part_from ks at) (part_from ws at) 0 part in
     let class = classed.call-class.ensures m k p.1.0 value maps.marks in
-    let system-call = called.gen-syscall.ensures p.1 k p.0 part maps.locals (laws.void-kind ks ws fields) in
-    laws.system-puts k _ p.0 p.1.1.0 p.1.0 class system.match.keys1
-    (λ x e. rw (sym (laws.global-word (get_or (partFrom ks at) 0 0) (get_or (partFrom ws at) 0 0) (value.is ∙ e))) system-call)
+    let system-call = called.gen-syscall.ensures p.1 k p.0 part maps.locals (laws.void_kind ks ws fields) in
+    laws.system_puts k _ p.0 p.1.1.0 p.1.0 class system.match.keys1
+    (λ x e. rw (sym (laws.global_word (get_or (part_from ks at) 0 0) (get_or (part_from ws at) 0 0) (value.is ∙ e))) system-call)
 
 same-length-3 : tie.Need-same-length-3
 same-length-3 c = search rules
@@ -166,10 +166,10 @@ returns-2 c = λ bs p k fields maps.
     let ws = entry.args.words.now in
     let m = entry.args.names in
     let at = after-skip.skip.result in
-    let part = (laws.callee-part ks ws fields after-skip.skip.ensures).2 in
-    let value = value-at (partFrom ks at) (partFrom ws at) 0 part in
+    let part = (laws.callee_part ks ws fields after-skip.skip.ensures).2 in
+    let value = value_at (part_from ks at) (part_from ws at) 0 part in
     let class = classed.call-class.ensures m k p.1.0 value maps.marks in
-    laws.memory-puts k _ p.0 p.1.1.0 p.1.0 class memory.match.keys2 (called.gen-memcmp-call.ensures p.1 k part maps.locals)
+    laws.memory_puts k _ p.0 p.1.1.0 p.1.0 class memory.match.keys2 (called.gen-memcmp-call.ensures p.1 k part maps.locals)
 
 same-length-5 : tie.Need-same-length-5
 same-length-5 c = search rules
@@ -188,13 +188,13 @@ returns-3 c = λ bs p k fields maps.
     let ws = entry.args.words.now in
     let m = entry.args.names in
     let at = after-skip.skip.result in
-    let part = (laws.callee-part ks ws fields after-skip.skip.ensures).2 in
-    let value = value-at (partFrom ks at) (partFrom ws at) 0 part in
+    let part = (laws.callee_part ks ws fields after-skip.skip.ensures).2 in
+    let value = value_at (part_from ks at) (part_from ws at) 0 part in
     let class = classed.call-class.ensures m k p.1.0 value maps.marks in
     let no-syscall = other.match.rest.0.1 in
     let no-memcmp = other.match.rest.1 in
-    laws.other-puts k _ p.0 p.1.1.0 p.1.0 class no-syscall no-memcmp
-    (called.gen-plain-call.ensures p.1 k part maps.locals (laws.defined-by k p.1.0 class no-syscall no-memcmp))
+    laws.other_puts k _ p.0 p.1.1.0 p.1.0 class no-syscall no-memcmp
+    (called.gen-plain-call.ensures p.1 k part maps.locals (laws.defined_by_lem k p.1.0 class no-syscall no-memcmp))
 
 pub gen-call-spec : {M : Type 1} → statement M
 gen-call-spec =

@@ -1,6 +1,6 @@
 -- `gen_call::gen_syscall` meets its contract.
 use Rattle.std.proofs.Common.{arith, rules}
-use Rattle.gen_fields.specs.Given.{dest-reaches}
+use Rattle.gen_fields.specs.Given.{dest_reaches}
 use Rattle.gen_call.specs.Calls as laws
 use Rattle.gen_call.proofs.gen_syscall.Statement.{statement}
 use Rattle.gen_call.proofs.gen_syscall.Tie as tie
@@ -10,7 +10,7 @@ sub-push-args c =
     let entry = c.before.before.before.before.before in
     let ks = entry.args.kinds.now in
     let ws = entry.args.words.now in
-    let inside = laws.callee-in ks ws entry.requires.fields in
+    let inside = laws.callee_in ks ws entry.requires.fields in
     omega (arith, inside.0, inside.1)
 
 part-push-args-start : tie.Need-slice-bounds-push-args-start
@@ -18,7 +18,7 @@ part-push-args-start c =
     let entry = c.before.before.before.before.before in
     let ks = entry.args.kinds.now in
     let ws = entry.args.words.now in
-    let inside = laws.callee-in ks ws entry.requires.fields in
+    let inside = laws.callee_in ks ws entry.requires.fields in
     omega (arith, inside.0, inside.1)
 
 part-push-args-end : tie.Need-slice-bounds-push-args-end
@@ -29,7 +29,7 @@ sub-push-args-2 c =
     let entry = c.before.before.before.before.before.before in
     let ks = entry.args.kinds.now in
     let ws = entry.args.words.now in
-    let inside = laws.callee-in ks ws entry.requires.fields in
+    let inside = laws.callee_in ks ws entry.requires.fields in
     omega (arith, inside.0, inside.1)
 
 part-push-args-start-2 : tie.Need-slice-bounds-push-args-start-2
@@ -37,7 +37,7 @@ part-push-args-start-2 c =
     let entry = c.before.before.before.before.before.before in
     let ks = entry.args.kinds.now in
     let ws = entry.args.words.now in
-    let inside = laws.callee-in ks ws entry.requires.fields in
+    let inside = laws.callee_in ks ws entry.requires.fields in
     omega (arith, inside.0, inside.1)
 
 part-push-args-end-2 : tie.Need-slice-bounds-push-args-end-2
@@ -48,14 +48,14 @@ push-args-requires c κs =
     let entry = c.before.before.before.before.before.before.before.before.before in
     let ks = entry.args.kinds.now in
     let ws = entry.args.words.now in
-    (laws.lent-args ks ws entry.requires, entry.requires.room)
+    (laws.lent_args ks ws entry.requires, entry.requires.room)
 
 shared-slice-read-put : tie.Need-shared-slice-read-put
 shared-slice-read-put c =
     let entry = c.before.before.before.before.before.before.before.before.before.before.before.before.before.before.before.before.before in
     let ks = entry.args.kinds.now in
     let ws = entry.args.words.now in
-    let inside = laws.callee-in ks ws entry.requires.fields in
+    let inside = laws.callee_in ks ws entry.requires.fields in
     omega (arith, inside.0, inside.1)
 
 put-requires : tie.Need-put-requires
@@ -74,14 +74,14 @@ returns c = λ p k ty fields maps void.
     let entry = pushed.before.before.before.before.before.before.before.before.before.before in
     let ks = entry.args.kinds.now in
     let ws = entry.args.words.now in
-    let args = pushed.push-args.ensures p.1.0 k (laws.args-part ks ws fields) maps in
+    let args = pushed.push-args.ensures p.1.0 k (laws.args_part ks ws fields) maps in
     let few = after-put.before.shared-slice-known4.given 0 in
-    laws.void-puts k _ _ ty p.1.0 (omega (arith, few)) void c.if1.true args after-put.put.ensures
+    laws.void_puts k _ _ ty p.1.0 (omega (arith, few)) void c.if1.true args after-put.put.ensures
 
 store-or-pop-requires : tie.Need-store-or-pop-requires
 store-or-pop-requires c κs =
     let entry = c.before.before.before.before.before.before.before.before.before.before.before.before.before.before.before.before.before.before.before.before.before.before.before.before.before in
-    dest-reaches entry.requires
+    dest_reaches entry.requires
 
 same-length-3 : tie.Need-same-length-3
 same-length-3 c = search rules
@@ -99,9 +99,9 @@ returns-2 c = λ p k ty fields maps void.
     let ks = entry.args.kinds.now in
     let ws = entry.args.words.now in
     let m = entry.args.names in
-    let args = pushed.push-args.ensures p.1.0 k (laws.args-part ks ws fields) maps in
+    let args = pushed.push-args.ensures p.1.0 k (laws.args_part ks ws fields) maps in
     let few = after-put.before.shared-slice-known4.given 0 in
-    laws.result-puts k _ _ ty p.1.0 (omega (arith, few)) void valued.if1.false args after-put.put.ensures (stored.store-or-pop.ensures m k entry.requires.result maps)
+    laws.result_puts k _ _ ty p.1.0 (omega (arith, few)) void valued.if1.false args after-put.put.ensures (stored.store-or-pop.ensures m k entry.requires.result maps)
 
 pub gen-syscall-spec : {M : Type 1} → statement M
 gen-syscall-spec =

@@ -1,6 +1,6 @@
 -- `gen_call::push_args` meets its contract: the arguments in front of the place are pushed, and the rest is left.
 use Rattle.std.proofs.Common.{◌-◌, length, arith, rules}
-use Rattle.gen_values.specs.Fields.{partFrom, fields-part}
+use Rattle.gen_values.specs.Fields.{part_from, fields_part}
 use Rattle.gen_fields.specs.Places.{from_front, typed_at}
 use Rattle.gen_call.specs.Args as laws
 use Rattle.gen_call.proofs.push_args.Statement.{statement}
@@ -18,7 +18,7 @@ loop-holds c =
     let ks = entry.args.kinds.now in
     let ws = entry.args.words.now in
     let work = entry.args.work.now in
-    laws.push-start ks ws work entry.args.s entry.args.lines.now entry.args.operands.now
+    laws.push_start ks ws work entry.args.s entry.args.lines.now entry.args.operands.now
 
 mul-if1 : tie.Need-overflow-mul-if1 invariant-loop decreases-loop
 mul-if1 c =
@@ -28,8 +28,8 @@ mul-if1 c =
     let ws = entry.args.words.now in
     let work = entry.args.work.now in
     let at = loop.loop.at in
-    let left = laws.push-left ks ws work at loop.loop.invariant entry.requires.0 in
-    omega (arith, laws.lent-in ks ws at left, entry.well-formed)
+    let left = laws.push_left ks ws work at loop.loop.invariant entry.requires.0 in
+    omega (arith, laws.lent_in ks ws at left, entry.well-formed)
 
 shared-slice-read-if1 : tie.Need-shared-slice-read-if1 invariant-loop decreases-loop
 shared-slice-read-if1 c =
@@ -39,8 +39,8 @@ shared-slice-read-if1 c =
     let ws = entry.args.words.now in
     let work = entry.args.work.now in
     let at = loop.loop.at in
-    let left = laws.push-left ks ws work at loop.loop.invariant entry.requires.0 in
-    laws.lent-in ks ws at left
+    let left = laws.push_left ks ws work at loop.loop.invariant entry.requires.0 in
+    laws.lent_in ks ws at left
 
 mul-type-kinds : tie.Need-overflow-mul-type-kinds invariant-loop decreases-loop
 mul-type-kinds c =
@@ -51,9 +51,9 @@ mul-type-kinds c =
     let ws = entry.args.words.now in
     let work = entry.args.work.now in
     let at = loop.loop.at in
-    let left = laws.push-left ks ws work at loop.loop.invariant entry.requires.0 in
-    let front = laws.lent-front ks ws at left turn.if1.true in
-    omega (arith, front.in-kinds, front.in_words, front.fits, entry.well-formed)
+    let left = laws.push_left ks ws work at loop.loop.invariant entry.requires.0 in
+    let front = laws.lent_front ks ws at left turn.if1.true in
+    omega (arith, front.in_kinds, front.in_words, front.fits, entry.well-formed)
 
 sub-type-kinds : tie.Need-overflow-sub-type-kinds invariant-loop decreases-loop
 sub-type-kinds c =
@@ -64,9 +64,9 @@ sub-type-kinds c =
     let ws = entry.args.words.now in
     let work = entry.args.work.now in
     let at = loop.loop.at in
-    let left = laws.push-left ks ws work at loop.loop.invariant entry.requires.0 in
-    let front = laws.lent-front ks ws at left turn.if1.true in
-    omega (arith, front.in-kinds, front.in_words, front.fits, entry.well-formed)
+    let left = laws.push_left ks ws work at loop.loop.invariant entry.requires.0 in
+    let front = laws.lent_front ks ws at left turn.if1.true in
+    omega (arith, front.in_kinds, front.in_words, front.fits, entry.well-formed)
 
 part-type-kinds-start : tie.Need-slice-bounds-type-kinds-start invariant-loop decreases-loop
 part-type-kinds-start c =
@@ -77,9 +77,9 @@ part-type-kinds-start c =
     let ws = entry.args.words.now in
     let work = entry.args.work.now in
     let at = loop.loop.at in
-    let left = laws.push-left ks ws work at loop.loop.invariant entry.requires.0 in
-    let front = laws.lent-front ks ws at left turn.if1.true in
-    omega (arith, front.in-kinds, front.in_words, front.fits, entry.well-formed)
+    let left = laws.push_left ks ws work at loop.loop.invariant entry.requires.0 in
+    let front = laws.lent_front ks ws at left turn.if1.true in
+    omega (arith, front.in_kinds, front.in_words, front.fits, entry.well-formed)
 
 part-type-kinds-end : tie.Need-slice-bounds-type-kinds-end invariant-loop decreases-loop
 part-type-kinds-end c =
@@ -90,9 +90,9 @@ part-type-kinds-end c =
     let ws = entry.args.words.now in
     let work = entry.args.work.now in
     let at = loop.loop.at in
-    let left = laws.push-left ks ws work at loop.loop.invariant entry.requires.0 in
-    let front = laws.lent-front ks ws at left turn.if1.true in
-    omega (arith, front.in-kinds, front.in_words, front.fits, entry.well-formed)
+    let left = laws.push_left ks ws work at loop.loop.invariant entry.requires.0 in
+    let front = laws.lent_front ks ws at left turn.if1.true in
+    omega (arith, front.in_kinds, front.in_words, front.fits, entry.well-formed)
 
 mul-type-words : tie.Need-overflow-mul-type-words invariant-loop decreases-loop
 mul-type-words c =
@@ -103,9 +103,9 @@ mul-type-words c =
     let ws = entry.args.words.now in
     let work = entry.args.work.now in
     let at = loop.loop.at in
-    let left = laws.push-left ks ws work at loop.loop.invariant entry.requires.0 in
-    let front = laws.lent-front ks ws at left turn.if1.true in
-    omega (arith, front.in-kinds, front.in_words, front.fits, entry.well-formed)
+    let left = laws.push_left ks ws work at loop.loop.invariant entry.requires.0 in
+    let front = laws.lent_front ks ws at left turn.if1.true in
+    omega (arith, front.in_kinds, front.in_words, front.fits, entry.well-formed)
 
 sub-type-words : tie.Need-overflow-sub-type-words invariant-loop decreases-loop
 sub-type-words c =
@@ -116,9 +116,9 @@ sub-type-words c =
     let ws = entry.args.words.now in
     let work = entry.args.work.now in
     let at = loop.loop.at in
-    let left = laws.push-left ks ws work at loop.loop.invariant entry.requires.0 in
-    let front = laws.lent-front ks ws at left turn.if1.true in
-    omega (arith, front.in-kinds, front.in_words, front.fits, entry.well-formed)
+    let left = laws.push_left ks ws work at loop.loop.invariant entry.requires.0 in
+    let front = laws.lent_front ks ws at left turn.if1.true in
+    omega (arith, front.in_kinds, front.in_words, front.fits, entry.well-formed)
 
 part-type-words-start : tie.Need-slice-bounds-type-words-start invariant-loop decreases-loop
 part-type-words-start c =
@@ -129,9 +129,9 @@ part-type-words-start c =
     let ws = entry.args.words.now in
     let work = entry.args.work.now in
     let at = loop.loop.at in
-    let left = laws.push-left ks ws work at loop.loop.invariant entry.requires.0 in
-    let front = laws.lent-front ks ws at left turn.if1.true in
-    omega (arith, front.in-kinds, front.in_words, front.fits, entry.well-formed)
+    let left = laws.push_left ks ws work at loop.loop.invariant entry.requires.0 in
+    let front = laws.lent_front ks ws at left turn.if1.true in
+    omega (arith, front.in_kinds, front.in_words, front.fits, entry.well-formed)
 
 part-type-words-end : tie.Need-slice-bounds-type-words-end invariant-loop decreases-loop
 part-type-words-end c =
@@ -142,9 +142,9 @@ part-type-words-end c =
     let ws = entry.args.words.now in
     let work = entry.args.work.now in
     let at = loop.loop.at in
-    let left = laws.push-left ks ws work at loop.loop.invariant entry.requires.0 in
-    let front = laws.lent-front ks ws at left turn.if1.true in
-    omega (arith, front.in-kinds, front.in_words, front.fits, entry.well-formed)
+    let left = laws.push_left ks ws work at loop.loop.invariant entry.requires.0 in
+    let front = laws.lent_front ks ws at left turn.if1.true in
+    omega (arith, front.in_kinds, front.in_words, front.fits, entry.well-formed)
 
 skip-requires : tie.Need-skip-requires invariant-loop decreases-loop
 skip-requires c κs = search rules
@@ -159,9 +159,9 @@ push-typed-requires c κs =
     let ws = entry.args.words.now in
     let work = entry.args.work.now in
     let at = loop.loop.at in
-    let left = laws.push-left ks ws work at loop.loop.invariant entry.requires.0 in
+    let left = laws.push_left ks ws work at loop.loop.invariant entry.requires.0 in
     let one = laws.lent_one ks ws at left turn.if1.true in
-    typed_at (partFrom ks at) (partFrom ws at) 0 (fields-part ks ws at one.fields) (from_front after-skip.skip.ensures) entry.requires.1
+    typed_at (part_from ks at) (part_from ws at) 0 (fields_part ks ws at one.fields) (from_front after-skip.skip.ensures) entry.requires.1
 
 add_at : tie.Need-overflow-add-at invariant-loop decreases-loop
 add_at c =
@@ -174,9 +174,9 @@ add_at c =
     let m = entry.args.names in
     let work = entry.args.work.now in
     let at = loop.loop.at in
-    let left = laws.push-left ks ws work at loop.loop.invariant entry.requires.0 in
-    let front = laws.lent-front ks ws at left turn.if1.true in
-    let long = laws.part-len m ks ws at after-skip.skip.ensures in
+    let left = laws.push_left ks ws work at loop.loop.invariant entry.requires.0 in
+    let front = laws.lent_front ks ws at left turn.if1.true in
+    let long = laws.part_len m ks ws at after-skip.skip.ensures in
     omega (arith, front.fits, long, entry.well-formed)
 
 add-at-2 : tie.Need-overflow-add-at-2 invariant-loop decreases-loop
@@ -190,9 +190,9 @@ add-at-2 c =
     let m = entry.args.names in
     let work = entry.args.work.now in
     let at = loop.loop.at in
-    let left = laws.push-left ks ws work at loop.loop.invariant entry.requires.0 in
-    let front = laws.lent-front ks ws at left turn.if1.true in
-    let long = laws.part-len m ks ws at after-skip.skip.ensures in
+    let left = laws.push_left ks ws work at loop.loop.invariant entry.requires.0 in
+    let front = laws.lent_front ks ws at left turn.if1.true in
+    let long = laws.part_len m ks ws at after-skip.skip.ensures in
     omega (arith, front.fits, long, entry.well-formed)
 
 loop-less : tie.Need-loop-smaller invariant-loop decreases-loop
@@ -206,9 +206,9 @@ loop-less c =
     let m = entry.args.names in
     let work = entry.args.work.now in
     let at = loop.loop.at in
-    let left = laws.push-left ks ws work at loop.loop.invariant entry.requires.0 in
-    let front = laws.lent-front ks ws at left turn.if1.true in
-    let long = laws.part-len m ks ws at after-skip.skip.ensures in
+    let left = laws.push_left ks ws work at loop.loop.invariant entry.requires.0 in
+    let front = laws.lent_front ks ws at left turn.if1.true in
+    let long = laws.part_len m ks ws at after-skip.skip.ensures in
     omega (arith, front.fits, long)
 
 loop-again : tie.Need-loop-preserved invariant-loop decreases-loop
@@ -223,19 +223,19 @@ loop-again c =
     let m = entry.args.names in
     let work = entry.args.work.now in
     let at = loop.loop.at in
-    let long = laws.part-len m ks ws at after-skip.skip.ensures in
-    laws.push-next ks ws work at loop.loop.invariant turn.if1.true long pushed.push-typed.auto.1.1.1.1.0 pushed.push-typed.auto.1.1.1.1.1.0
-    (λ k x xs f maps. pushed.push-typed.ensures m k _ _ (fields-part ks ws at f) after-skip.skip.ensures maps)
+    let long = laws.part_len m ks ws at after-skip.skip.ensures in
+    laws.push_next ks ws work at loop.loop.invariant turn.if1.true long pushed.push-typed.auto.1.1.1.1.0 pushed.push-typed.auto.1.1.1.1.1.0
+    (λ k x xs f maps. pushed.push-typed.ensures m k _ _ (fields_part ks ws at f) after-skip.skip.ensures maps)
 
 same_length : tie.Need-same-length invariant-loop decreases-loop
 same_length c =
     let loop = c.before.before in
-    loop.loop.invariant.long-lines
+    loop.loop.invariant.long_lines
 
 same-length-2 : tie.Need-same-length-2 invariant-loop decreases-loop
 same-length-2 c =
     let loop = c.before.before in
-    loop.loop.invariant.long-operands
+    loop.loop.invariant.long_operands
 
 returns : tie.Need-returns invariant-loop decreases-loop
 returns c = λ args k f maps.
@@ -245,8 +245,8 @@ returns c = λ args k f maps.
     let ws = entry.args.words.now in
     let work = entry.args.work.now in
     let at = loop.loop.at in
-    let left = laws.push-left ks ws work at loop.loop.invariant entry.requires.0 in
-    laws.push-done ks ws work at loop.loop.invariant k maps c.if1.false args f
+    let left = laws.push_left ks ws work at loop.loop.invariant entry.requires.0 in
+    laws.push_done ks ws work at loop.loop.invariant k maps c.if1.false args f
 
 pub push-args-spec : {M : Type 1} → statement M
 push-args-spec =

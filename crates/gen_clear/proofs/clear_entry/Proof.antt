@@ -90,13 +90,13 @@ returns c =
     let word = entry.requires.0.inst then1.if1.true in
     let positive = laws.positive_of _ c.if2.true in
     let room = entry.requires.1 in
-    laws.result-cleared _ _ _ _ then1.if1.true c.if2.true word room
+    laws.result_cleared _ _ _ _ then1.if1.true c.if2.true word room
 
 returns-2 : tie.Need-returns-2
 returns-2 c =
     let then1 = c.before in
     let zero = c.if2.false in
-    rw zero (laws.unnamed-cleared _ _ _ (λ e. omega (arith, then1.if1.true)))
+    rw zero (laws.unnamed_cleared _ _ _ (λ e. omega (arith, then1.if1.true)))
 
 mul-work-3 : tie.Need-overflow-mul-work-3
 mul-work-3 c =
@@ -134,7 +134,7 @@ returns-3 c =
     let entry = c.before.before in
     let word = entry.requires.0.block c.if3.true in
     let room = entry.requires.1 in
-    rw c.if3.true (laws.block-cleared _ _ _ word room)
+    rw c.if3.true (laws.block_cleared _ _ _ word room)
 
 sub-work : tie.Need-overflow-sub-work
 sub-work c =
@@ -180,18 +180,18 @@ returns-4 c =
     let then4 = c.before in
     let entry = then4.before.before.before in
     let word = entry.requires.0.param then4.if4.true in
-    rw then4.if4.true (laws.param-cleared _ _ _ c.if5.true word entry.requires.1)
+    rw then4.if4.true (laws.param_cleared _ _ _ c.if5.true word entry.requires.1)
 
 returns-5 : tie.Need-returns-5
 returns-5 c =
     let then4 = c.before in
-    rw c.if5.false (laws.unnamed-cleared _ _ _ (λ e. omega (arith, then4.if4.true)))
+    rw c.if5.false (laws.unnamed_cleared _ _ _ (λ e. omega (arith, then4.if4.true)))
 
 returns-6 : tie.Need-returns-6
 returns-6 c =
     let else3 = c.before in
     let else1 = else3.before in
-    laws.other-cleared _ _ _ _ else1.if1.false else3.if3.false c.if4.false
+    laws.other_cleared _ _ _ _ else1.if1.false else3.if3.false c.if4.false
 
 pub clear-entry-spec : {M : Type 1} → statement M
 clear-entry-spec =

@@ -27,7 +27,7 @@ mul-clear-entry c =
     let entry = after-shorter.before.before.before.before in
     let l = rw after-shorter.shorter.ensures at in-loop.loop-test.true in
     let h = laws.here _ entry.args.kinds.now entry.args.words.now _ _ _ _ at-loop.loop.invariant l in
-    let k = h.in-kinds in
+    let k = h.in_kinds in
     search rules
 
 shared-slice-read-clear-entry : tie.Need-shared-slice-read-clear-entry invariant-loop decreases-loop
@@ -38,7 +38,7 @@ shared-slice-read-clear-entry c =
     let entry = after-shorter.before.before.before.before in
     let l = rw after-shorter.shorter.ensures at in-loop.loop-test.true in
     let h = laws.here _ entry.args.kinds.now entry.args.words.now _ _ _ _ at-loop.loop.invariant l in
-    let k = h.in-kinds in
+    let k = h.in_kinds in
     search rules
 
 mul-clear-entry-2 : tie.Need-overflow-mul-clear-entry-2 invariant-loop decreases-loop
@@ -71,7 +71,7 @@ clear-entry-requires c κs =
     let entry = after-shorter.before.before.before.before in
     let l = rw after-shorter.shorter.ensures at in-loop.loop-test.true in
     let inv = at-loop.loop.invariant in
-    (laws.now-bounded _ entry.args.kinds.now entry.args.words.now _ _ _ _ inv l, inv.room)
+    (laws.now_bounded _ entry.args.kinds.now entry.args.words.now _ _ _ _ inv l, inv.room)
 
 add_at : tie.Need-overflow-add-at invariant-loop decreases-loop
 add_at c =
@@ -81,7 +81,7 @@ add_at c =
     let entry = after-shorter.before.before.before.before in
     let l = rw after-shorter.shorter.ensures at in-loop.loop-test.true in
     let h = laws.here _ entry.args.kinds.now entry.args.words.now _ _ _ _ at-loop.loop.invariant l in
-    let k = h.in-kinds in
+    let k = h.in_kinds in
     search rules
 
 loop-less : tie.Need-loop-smaller invariant-loop decreases-loop
@@ -105,7 +105,7 @@ same_length c =
 returns : tie.Need-returns invariant-loop decreases-loop
 returns c =
     let at-loop = c.before in
-    laws.clear-done _ _ _ _ _ _ at-loop.loop.invariant (rw at-loop.before.shorter.ensures at c.loop-test.false)
+    laws.clear_done _ _ _ _ _ _ at-loop.loop.invariant (rw at-loop.before.shorter.ensures at c.loop-test.false)
 
 pub clear-function-spec : {M : Type 1} → statement M
 clear-function-spec =

@@ -1,5 +1,5 @@
 -- `gen_edge::edge` meets its contract.
-use Rattle.gen_edge.specs.Edges.{edge-puts}
+use Rattle.gen_edge.specs.Edges.{edge_puts}
 use Rattle.std.proofs.Common.{rules}
 use Rattle.gen_edge.proofs.edge.Statement.{statement}
 use Rattle.gen_edge.proofs.edge.Tie as tie
@@ -27,7 +27,7 @@ returns c = λ k maps.
     let after-copies = after-put.before.before.before.before.before.before.before in
     let entry = after-copies.before.before.before.before.before.before.before.before in
     let a = entry.args in
-    edge-puts k a.pred a.succ a.names a.book-kinds.now a.book-words.now a.work.now maps entry.requires.target (search rules)
+    edge_puts k a.pred a.succ a.names a.book-kinds.now a.book-words.now a.work.now maps entry.requires.target (search rules)
     (after-copies.emit-edge-copies.ensures k maps) after-put.put.ensures
 
 pub edge-spec : {M : Type 1} → statement M

@@ -1,6 +1,6 @@
 -- `gen_edge::emit_edge_copies` meets its contract: the entries lent on are those of the block that the name leads to.
 use Rattle.std.proofs.Common.{refl, arith, rules}
-use Rattle.gen_edge.specs.Edges.{unknown-puts, target, copied-puts}
+use Rattle.gen_edge.specs.Edges.{unknown_puts, target, copied_puts}
 use Rattle.gen_edge.proofs.emit_edge_copies.Statement.{statement}
 use Rattle.gen_edge.proofs.emit_edge_copies.Tie as tie
 
@@ -29,7 +29,7 @@ returns : tie.Need-returns
 returns c = λ k maps.
     let entry = c.before.before.before.before.before.before.before.before in
     let a = entry.args in
-    unknown-puts k a.pred a.succ a.names a.book-kinds.now a.book-words.now a.work.now maps entry.requires.target refl c.before.if1.true
+    unknown_puts k a.pred a.succ a.names a.book-kinds.now a.book-words.now a.work.now maps entry.requires.target refl c.before.if1.true
     a.s a.lines.now a.operands.now c.refuse.ensures
 
 -- src/lib.rt:268:15
@@ -43,7 +43,7 @@ mul-kinds c =
     let entry = found.before.before.before.before.before.before.before in
     let a = entry.args in
     let there = target entry.requires.ctx a.pred a.succ a.names a.book-kinds.now a.book-words.now a.work.now entry.requires.maps entry.requires.target refl found.if1.false in
-    omega (arith, there.in-kinds, entry.well-formed)
+    omega (arith, there.in_kinds, entry.well-formed)
 
 -- src/lib.rt:269:17
 sub-kinds : tie.Need-overflow-sub-kinds
@@ -52,7 +52,7 @@ sub-kinds c =
     let entry = found.before.before.before.before.before.before.before in
     let a = entry.args in
     let there = target entry.requires.ctx a.pred a.succ a.names a.book-kinds.now a.book-words.now a.work.now entry.requires.maps entry.requires.target refl found.if1.false in
-    omega (arith, there.in-kinds, entry.well-formed)
+    omega (arith, there.in_kinds, entry.well-formed)
 
 -- src/lib.rt:269:17
 part-kinds-start : tie.Need-slice-bounds-kinds-start
@@ -61,7 +61,7 @@ part-kinds-start c =
     let entry = found.before.before.before.before.before.before.before in
     let a = entry.args in
     let there = target entry.requires.ctx a.pred a.succ a.names a.book-kinds.now a.book-words.now a.work.now entry.requires.maps entry.requires.target refl found.if1.false in
-    omega (arith, there.in-kinds, entry.well-formed)
+    omega (arith, there.in_kinds, entry.well-formed)
 
 -- src/lib.rt:269:17
 part-kinds-end : tie.Need-slice-bounds-kinds-end
@@ -129,15 +129,15 @@ same-length-2 c = search rules
 -- src/lib.rt:249:1
 returns-2 : tie.Need-returns-2
 returns-2 c = λ k maps.
-    let after-set = c.before.before.before.before in
-    let after_push = after-set.before.before.before.before.before.before.before.before in
+    let after_set = c.before.before.before.before in
+    let after_push = after_set.before.before.before.before.before.before.before.before in
     let found = after_push.before.before.before.before.before in
     let entry = found.before.before.before.before.before.before.before in
     let a = entry.args in
     let there = target k a.pred a.succ a.names a.book-kinds.now a.book-words.now a.work.now maps entry.requires.target refl found.if1.false in
     let passed = after_push.push-copies.ensures k _ maps.locals there.front in
-    copied-puts k a.pred a.succ a.names a.book-kinds.now a.book-words.now a.work.now maps entry.requires.target there.block there.found passed
-    (λ cps slots. after-set.set-slots.ensures k _ cps there.front passed.counted slots)
+    copied_puts k a.pred a.succ a.names a.book-kinds.now a.book-words.now a.work.now maps entry.requires.target there.block there.found passed
+    (λ cps slots. after_set.set-slots.ensures k _ cps there.front passed.counted slots)
 
 pub emit-edge-copies-spec : {M : Type 1} → statement M
 emit-edge-copies-spec =

@@ -2,7 +2,7 @@
 use Rattle.std.proofs.Common.{◌-◌, List, ◌∷◌, length, arith, rules}
 use Rattle.book.specs.Entry.{entries}
 use Rattle.gen_edge.specs.Phis.{Phi, Leading}
-use Rattle.gen_edge.specs.Edges.{Left, front-phi, left-start, left_in, left-next, left_end}
+use Rattle.gen_edge.specs.Edges.{Left, front_phi, left_start, left_in, left_next, left_end}
 use Rattle.gen_edge.proofs.phi_len.Statement.{statement}
 use Rattle.gen_edge.proofs.phi_len.Tie as tie
 
@@ -18,8 +18,8 @@ sub-skip c =
     let ks = entry.args.kinds.now in
     let ws = entry.args.words.now in
     let lent = entry.requires in
-    let phi = front-phi ks ws lent.phi lent.more lent.front in
-    omega (arith, phi.in-kinds, phi.in_words, entry.well-formed)
+    let phi = front_phi ks ws lent.phi lent.more lent.front in
+    omega (arith, phi.in_kinds, phi.in_words, entry.well-formed)
 
 part-skip-start : tie.Need-slice-bounds-skip-start invariant-loop decreases-loop
 part-skip-start c =
@@ -27,8 +27,8 @@ part-skip-start c =
     let ks = entry.args.kinds.now in
     let ws = entry.args.words.now in
     let lent = entry.requires in
-    let phi = front-phi ks ws lent.phi lent.more lent.front in
-    omega (arith, phi.in-kinds, phi.in_words, entry.well-formed)
+    let phi = front_phi ks ws lent.phi lent.more lent.front in
+    omega (arith, phi.in_kinds, phi.in_words, entry.well-formed)
 
 part-skip-end : tie.Need-slice-bounds-skip-end invariant-loop decreases-loop
 part-skip-end c =
@@ -36,8 +36,8 @@ part-skip-end c =
     let ks = entry.args.kinds.now in
     let ws = entry.args.words.now in
     let lent = entry.requires in
-    let phi = front-phi ks ws lent.phi lent.more lent.front in
-    omega (arith, phi.in-kinds, phi.in_words, entry.well-formed)
+    let phi = front_phi ks ws lent.phi lent.more lent.front in
+    omega (arith, phi.in_kinds, phi.in_words, entry.well-formed)
 
 sub-skip-2 : tie.Need-overflow-sub-skip-2 invariant-loop decreases-loop
 sub-skip-2 c =
@@ -45,8 +45,8 @@ sub-skip-2 c =
     let ks = entry.args.kinds.now in
     let ws = entry.args.words.now in
     let lent = entry.requires in
-    let phi = front-phi ks ws lent.phi lent.more lent.front in
-    omega (arith, phi.in-kinds, phi.in_words, entry.well-formed)
+    let phi = front_phi ks ws lent.phi lent.more lent.front in
+    omega (arith, phi.in_kinds, phi.in_words, entry.well-formed)
 
 part-skip-start-2 : tie.Need-slice-bounds-skip-start-2 invariant-loop decreases-loop
 part-skip-start-2 c =
@@ -54,8 +54,8 @@ part-skip-start-2 c =
     let ks = entry.args.kinds.now in
     let ws = entry.args.words.now in
     let lent = entry.requires in
-    let phi = front-phi ks ws lent.phi lent.more lent.front in
-    omega (arith, phi.in-kinds, phi.in_words, entry.well-formed)
+    let phi = front_phi ks ws lent.phi lent.more lent.front in
+    omega (arith, phi.in_kinds, phi.in_words, entry.well-formed)
 
 part-skip-end-2 : tie.Need-slice-bounds-skip-end-2 invariant-loop decreases-loop
 part-skip-end-2 c =
@@ -63,8 +63,8 @@ part-skip-end-2 c =
     let ks = entry.args.kinds.now in
     let ws = entry.args.words.now in
     let lent = entry.requires in
-    let phi = front-phi ks ws lent.phi lent.more lent.front in
-    omega (arith, phi.in-kinds, phi.in_words, entry.well-formed)
+    let phi = front_phi ks ws lent.phi lent.more lent.front in
+    omega (arith, phi.in_kinds, phi.in_words, entry.well-formed)
 
 skip-requires : tie.Need-skip-requires invariant-loop decreases-loop
 skip-requires c κs = search rules
@@ -77,7 +77,7 @@ add-pair c =
     let ws = entry.args.words.now in
     let m = entry.args.names in
     let lent = entry.requires in
-    let first = left-start ks ws lent.phi lent.more lent.front after-skip.skip.ensures in
+    let first = left_start ks ws lent.phi lent.more lent.front after-skip.skip.ensures in
     omega (arith, (left_in m ks ws lent.more first).0, entry.well-formed)
 
 loop-holds : tie.Need-loop-init invariant-loop decreases-loop
@@ -86,7 +86,7 @@ loop-holds c = λ p ps f.
     let entry = after-skip.before.before.before.before.before in
     let ks = entry.args.kinds.now in
     let ws = entry.args.words.now in
-    left-start ks ws p ps f after-skip.skip.ensures
+    left_start ks ws p ps f after-skip.skip.ensures
 
 mul-if1 : tie.Need-overflow-mul-if1 invariant-loop decreases-loop
 mul-if1 c =
@@ -122,7 +122,7 @@ add-pair-2 c =
     let m = entry.args.names in
     let lent = entry.requires in
     let left = loop.loop.invariant lent.phi lent.more lent.front in
-    omega (arith, (left-next m ks ws lent.more left turn.if1.true).0, entry.well-formed)
+    omega (arith, (left_next m ks ws lent.more left turn.if1.true).0, entry.well-formed)
 
 loop-less : tie.Need-loop-smaller invariant-loop decreases-loop
 loop-less c =
@@ -144,7 +144,7 @@ loop-again c = λ p ps f.
     let ks = entry.args.kinds.now in
     let ws = entry.args.words.now in
     let m = entry.args.names in
-    (left-next m ks ws ps (loop.loop.invariant p ps f) turn.if1.true).1
+    (left_next m ks ws ps (loop.loop.invariant p ps f) turn.if1.true).1
 
 add-result : tie.Need-overflow-add-result invariant-loop decreases-loop
 add-result c =

@@ -5,17 +5,17 @@ use Rattle.book.specs.Entry.{entries}
 use Rattle.lowering.specs.Context.{FnCtx}
 use Rattle.gen_values.specs.Maps.{Locals}
 use Rattle.gen_edge.specs.Phis.{Phi, Leading}
-use Rattle.gen_edge.specs.Copies.{found-hit, found-miss}
-use Rattle.gen_edge.specs.Walks.{Walk, PairWalk, pairs_start, pair-in, pair-label, pair-more, pair-asks, pair_found, pair-long, phi-reaches, walk_start, walk-in, walk_more, walk_end}
+use Rattle.gen_edge.specs.Copies.{found_hit, found_miss}
+use Rattle.gen_edge.specs.Walks.{Walk, PairWalk, pairs_start, pair_in, pair_label, pair_more, pair_asks, pair_found, pair_long, phi_reaches, walk_start, walk_in, walk_more, walk_end}
 use Rattle.gen_edge.proofs.push_copies.Statement.{statement}
 use Rattle.gen_edge.proofs.push_copies.Tie as tie
 
 abbrev invariant-loop : tie.invariant-loop
-invariant-loop pred kinds words names work lines operands noted reached phis at ty type-kinds type-words pair₀ found₀ pair found =
+invariant-loop pred kinds words names work lines operands noted reached phis at ty type_kinds type_words pair₀ found₀ pair found =
     (at + 2 ≤ pair) × ((ps : List Phi) → Leading names ps (drop at (entries kinds words)) → PairWalk pred names kinds words at ps pair found)
 
 abbrev decreases-loop : tie.decreases-loop
-decreases-loop pred kinds words names work lines operands noted reached phis at ty type-kinds type-words pair₀ found₀ pair found = length kinds - pair
+decreases-loop pred kinds words names work lines operands noted reached phis at ty type_kinds type_words pair₀ found₀ pair found = length kinds - pair
 
 abbrev invariant-phis : tie.invariant-phis
 invariant-phis pred kinds words names work lines₀ operands₀ noted₀ reached₀ phis₀ at₀ lines operands noted reached phis at =
@@ -46,7 +46,7 @@ mul-if1 c =
     let m = a.names in
     let work = a.work.now in
     let walk = phis.phis.invariant.1 entry.requires.ctx entry.requires.phis entry.requires.locals entry.requires.front in
-    let inside = walk-in entry.requires.ctx a.pred m ks ws work entry.requires.phis walk in
+    let inside = walk_in entry.requires.ctx a.pred m ks ws work entry.requires.phis walk in
     omega (arith, inside.0, entry.well-formed)
 
 shared-slice-read-if1 : tie.Need-shared-slice-read-if1 invariant-loop decreases-loop invariant-phis decreases-phis
@@ -59,7 +59,7 @@ shared-slice-read-if1 c =
     let m = a.names in
     let work = a.work.now in
     let walk = phis.phis.invariant.1 entry.requires.ctx entry.requires.phis entry.requires.locals entry.requires.front in
-    let inside = walk-in entry.requires.ctx a.pred m ks ws work entry.requires.phis walk in
+    let inside = walk_in entry.requires.ctx a.pred m ks ws work entry.requires.phis walk in
     inside.0
 
 add-ty : tie.Need-overflow-add-ty invariant-loop decreases-loop invariant-phis decreases-phis
@@ -72,7 +72,7 @@ add-ty c =
     let m = a.names in
     let work = a.work.now in
     let walk = phis.phis.invariant.1 entry.requires.ctx entry.requires.phis entry.requires.locals entry.requires.front in
-    let inside = walk-in entry.requires.ctx a.pred m ks ws work entry.requires.phis walk in
+    let inside = walk_in entry.requires.ctx a.pred m ks ws work entry.requires.phis walk in
     omega (arith, inside.0, entry.well-formed)
 
 mul-type-kinds : tie.Need-overflow-mul-type-kinds invariant-loop decreases-loop invariant-phis decreases-phis
@@ -85,7 +85,7 @@ mul-type-kinds c =
     let m = a.names in
     let work = a.work.now in
     let walk = phis.phis.invariant.1 entry.requires.ctx entry.requires.phis entry.requires.locals entry.requires.front in
-    let inside = walk-in entry.requires.ctx a.pred m ks ws work entry.requires.phis walk in
+    let inside = walk_in entry.requires.ctx a.pred m ks ws work entry.requires.phis walk in
     omega (arith, inside.0, inside.1, entry.well-formed)
 
 sub-type-kinds : tie.Need-overflow-sub-type-kinds invariant-loop decreases-loop invariant-phis decreases-phis
@@ -98,7 +98,7 @@ sub-type-kinds c =
     let m = a.names in
     let work = a.work.now in
     let walk = phis.phis.invariant.1 entry.requires.ctx entry.requires.phis entry.requires.locals entry.requires.front in
-    let inside = walk-in entry.requires.ctx a.pred m ks ws work entry.requires.phis walk in
+    let inside = walk_in entry.requires.ctx a.pred m ks ws work entry.requires.phis walk in
     omega (arith, inside.0, inside.1, entry.well-formed)
 
 part-type-kinds-start : tie.Need-slice-bounds-type-kinds-start invariant-loop decreases-loop invariant-phis decreases-phis
@@ -111,7 +111,7 @@ part-type-kinds-start c =
     let m = a.names in
     let work = a.work.now in
     let walk = phis.phis.invariant.1 entry.requires.ctx entry.requires.phis entry.requires.locals entry.requires.front in
-    let inside = walk-in entry.requires.ctx a.pred m ks ws work entry.requires.phis walk in
+    let inside = walk_in entry.requires.ctx a.pred m ks ws work entry.requires.phis walk in
     omega (arith, inside.0, inside.1, entry.well-formed)
 
 part-type-kinds-end : tie.Need-slice-bounds-type-kinds-end invariant-loop decreases-loop invariant-phis decreases-phis
@@ -124,7 +124,7 @@ part-type-kinds-end c =
     let m = a.names in
     let work = a.work.now in
     let walk = phis.phis.invariant.1 entry.requires.ctx entry.requires.phis entry.requires.locals entry.requires.front in
-    let inside = walk-in entry.requires.ctx a.pred m ks ws work entry.requires.phis walk in
+    let inside = walk_in entry.requires.ctx a.pred m ks ws work entry.requires.phis walk in
     omega (arith, inside.0, inside.1, entry.well-formed)
 
 mul-type-words : tie.Need-overflow-mul-type-words invariant-loop decreases-loop invariant-phis decreases-phis
@@ -137,7 +137,7 @@ mul-type-words c =
     let m = a.names in
     let work = a.work.now in
     let walk = phis.phis.invariant.1 entry.requires.ctx entry.requires.phis entry.requires.locals entry.requires.front in
-    let inside = walk-in entry.requires.ctx a.pred m ks ws work entry.requires.phis walk in
+    let inside = walk_in entry.requires.ctx a.pred m ks ws work entry.requires.phis walk in
     omega (arith, inside.0, inside.1, entry.well-formed)
 
 sub-type-words : tie.Need-overflow-sub-type-words invariant-loop decreases-loop invariant-phis decreases-phis
@@ -150,7 +150,7 @@ sub-type-words c =
     let m = a.names in
     let work = a.work.now in
     let walk = phis.phis.invariant.1 entry.requires.ctx entry.requires.phis entry.requires.locals entry.requires.front in
-    let inside = walk-in entry.requires.ctx a.pred m ks ws work entry.requires.phis walk in
+    let inside = walk_in entry.requires.ctx a.pred m ks ws work entry.requires.phis walk in
     omega (arith, inside.0, inside.1, entry.well-formed)
 
 part-type-words-start : tie.Need-slice-bounds-type-words-start invariant-loop decreases-loop invariant-phis decreases-phis
@@ -163,7 +163,7 @@ part-type-words-start c =
     let m = a.names in
     let work = a.work.now in
     let walk = phis.phis.invariant.1 entry.requires.ctx entry.requires.phis entry.requires.locals entry.requires.front in
-    let inside = walk-in entry.requires.ctx a.pred m ks ws work entry.requires.phis walk in
+    let inside = walk_in entry.requires.ctx a.pred m ks ws work entry.requires.phis walk in
     omega (arith, inside.0, inside.1, entry.well-formed)
 
 part-type-words-end : tie.Need-slice-bounds-type-words-end invariant-loop decreases-loop invariant-phis decreases-phis
@@ -176,7 +176,7 @@ part-type-words-end c =
     let m = a.names in
     let work = a.work.now in
     let walk = phis.phis.invariant.1 entry.requires.ctx entry.requires.phis entry.requires.locals entry.requires.front in
-    let inside = walk-in entry.requires.ctx a.pred m ks ws work entry.requires.phis walk in
+    let inside = walk_in entry.requires.ctx a.pred m ks ws work entry.requires.phis walk in
     omega (arith, inside.0, inside.1, entry.well-formed)
 
 skip-requires : tie.Need-skip-requires invariant-loop decreases-loop invariant-phis decreases-phis
@@ -195,7 +195,7 @@ add-pair c =
     let at = phis.phis.at in
     let walk = phis.phis.invariant.1 entry.requires.ctx entry.requires.phis entry.requires.locals entry.requires.front in
     let first = pairs_start a.pred m ks ws at walk.todo walk.front is-phi.if1.false after-skip.skip.ensures in
-    omega (arith, (pair-in a.pred m ks ws at walk.todo first).0, entry.well-formed)
+    omega (arith, (pair_in a.pred m ks ws at walk.todo first).0, entry.well-formed)
 
 loop-holds : tie.Need-loop-init invariant-loop decreases-loop invariant-phis decreases-phis
 loop-holds c =
@@ -210,7 +210,7 @@ loop-holds c =
     let at = phis.phis.at in
     let walk = phis.phis.invariant.1 entry.requires.ctx entry.requires.phis entry.requires.locals entry.requires.front in
     let first = pairs_start a.pred m ks ws at walk.todo walk.front is-phi.if1.false after-skip.skip.ensures in
-    (omega (arith, pair-long a.pred m ks ws at walk.todo first after-skip.skip.ensures), λ ps front. pairs_start a.pred m ks ws at ps front is-phi.if1.false after-skip.skip.ensures)
+    (omega (arith, pair_long a.pred m ks ws at walk.todo first after-skip.skip.ensures), λ ps front. pairs_start a.pred m ks ws at ps front is-phi.if1.false after-skip.skip.ensures)
 
 mul-if2 : tie.Need-overflow-mul-if2 invariant-loop decreases-loop invariant-phis decreases-phis
 mul-if2 c =
@@ -224,7 +224,7 @@ mul-if2 c =
     let at = phis.phis.at in
     let walk = phis.phis.invariant.1 entry.requires.ctx entry.requires.phis entry.requires.locals entry.requires.front in
     let pairs = loop.loop.invariant.1 walk.todo walk.front in
-    let in_pairs = pair-in a.pred m ks ws at walk.todo pairs in
+    let in_pairs = pair_in a.pred m ks ws at walk.todo pairs in
     omega (arith, in_pairs.0, entry.well-formed)
 
 shared-slice-read-if2 : tie.Need-shared-slice-read-if2 invariant-loop decreases-loop invariant-phis decreases-phis
@@ -239,7 +239,7 @@ shared-slice-read-if2 c =
     let at = phis.phis.at in
     let walk = phis.phis.invariant.1 entry.requires.ctx entry.requires.phis entry.requires.locals entry.requires.front in
     let pairs = loop.loop.invariant.1 walk.todo walk.front in
-    let in_pairs = pair-in a.pred m ks ws at walk.todo pairs in
+    let in_pairs = pair_in a.pred m ks ws at walk.todo pairs in
     in_pairs.0
 
 add-if3 : tie.Need-overflow-add-if3 invariant-loop decreases-loop invariant-phis decreases-phis
@@ -255,7 +255,7 @@ add-if3 c =
     let at = phis.phis.at in
     let walk = phis.phis.invariant.1 entry.requires.ctx entry.requires.phis entry.requires.locals entry.requires.front in
     let pairs = loop.loop.invariant.1 walk.todo walk.front in
-    let label = pair-label a.pred m ks ws at walk.todo pairs turn.if2.true in
+    let label = pair_label a.pred m ks ws at walk.todo pairs turn.if2.true in
     omega (arith, label, entry.well-formed)
 
 mul-if3 : tie.Need-overflow-mul-if3 invariant-loop decreases-loop invariant-phis decreases-phis
@@ -271,7 +271,7 @@ mul-if3 c =
     let at = phis.phis.at in
     let walk = phis.phis.invariant.1 entry.requires.ctx entry.requires.phis entry.requires.locals entry.requires.front in
     let pairs = loop.loop.invariant.1 walk.todo walk.front in
-    let label = pair-label a.pred m ks ws at walk.todo pairs turn.if2.true in
+    let label = pair_label a.pred m ks ws at walk.todo pairs turn.if2.true in
     omega (arith, label, entry.well-formed)
 
 shared-slice-read-if3 : tie.Need-shared-slice-read-if3 invariant-loop decreases-loop invariant-phis decreases-phis
@@ -287,7 +287,7 @@ shared-slice-read-if3 c =
     let at = phis.phis.at in
     let walk = phis.phis.invariant.1 entry.requires.ctx entry.requires.phis entry.requires.locals entry.requires.front in
     let pairs = loop.loop.invariant.1 walk.todo walk.front in
-    let label = pair-label a.pred m ks ws at walk.todo pairs turn.if2.true in
+    let label = pair_label a.pred m ks ws at walk.todo pairs turn.if2.true in
     label
 
 add-pair-2 : tie.Need-overflow-add-pair-2 invariant-loop decreases-loop invariant-phis decreases-phis
@@ -303,7 +303,7 @@ add-pair-2 c =
     let at = phis.phis.at in
     let walk = phis.phis.invariant.1 entry.requires.ctx entry.requires.phis entry.requires.locals entry.requires.front in
     let pairs = loop.loop.invariant.1 walk.todo walk.front in
-    let label = pair-label a.pred m ks ws at walk.todo pairs turn.if2.true in
+    let label = pair_label a.pred m ks ws at walk.todo pairs turn.if2.true in
     omega (arith, label, entry.well-formed)
 
 loop-less : tie.Need-loop-smaller invariant-loop decreases-loop invariant-phis decreases-phis
@@ -318,7 +318,7 @@ loop-less c =
     let at = phis.phis.at in
     let walk = phis.phis.invariant.1 entry.requires.ctx entry.requires.phis entry.requires.locals entry.requires.front in
     let pairs = loop.loop.invariant.1 walk.todo walk.front in
-    let in_pairs = pair-in a.pred m ks ws at walk.todo pairs in
+    let in_pairs = pair_in a.pred m ks ws at walk.todo pairs in
     omega (arith, in_pairs.0)
 
 loop-again : tie.Need-loop-preserved invariant-loop decreases-loop invariant-phis decreases-phis
@@ -334,13 +334,13 @@ loop-again c =
     let at = phis.phis.at in
     let walk = phis.phis.invariant.1 entry.requires.ctx entry.requires.phis entry.requires.locals entry.requires.front in
     let pairs = loop.loop.invariant.1 walk.todo walk.front in
-    let label = pair-label a.pred m ks ws at walk.todo pairs turn.if2.true in (
+    let label = pair_label a.pred m ks ws at walk.todo pairs turn.if2.true in (
       omega (arith, loop.loop.invariant.0),
       λ ps front.
-          pair-more a.pred m ks ws at ps (loop.loop.invariant.1 ps front) turn.if2.true
+          pair_more a.pred m ks ws at ps (loop.loop.invariant.1 ps front) turn.if2.true
           (λ is i f label value. ⊎_elim
-          (λ w. found-hit m a.pred ks ws is i f label w.0.taken (λ z. omega (arith, loop.loop.invariant.0)) w.1 value)
-          (λ w. found-miss m a.pred ks ws is i f label w.0.left w.1) c.if3.branch),
+          (λ w. found_hit m a.pred ks ws is i f label w.0.taken (λ z. omega (arith, loop.loop.invariant.0)) w.1 value)
+          (λ w. found_miss m a.pred ks ws is i f label w.0.left w.1) c.if3.branch),
     )
 
 mul-note : tie.Need-overflow-mul-note invariant-loop decreases-loop invariant-phis decreases-phis
@@ -353,7 +353,7 @@ mul-note c =
     let m = a.names in
     let work = a.work.now in
     let walk = phis.phis.invariant.1 entry.requires.ctx entry.requires.phis entry.requires.locals entry.requires.front in
-    let inside = walk-in entry.requires.ctx a.pred m ks ws work entry.requires.phis walk in
+    let inside = walk_in entry.requires.ctx a.pred m ks ws work entry.requires.phis walk in
     omega (arith, inside.1, entry.well-formed)
 
 shared-slice-read-note : tie.Need-shared-slice-read-note invariant-loop decreases-loop invariant-phis decreases-phis
@@ -366,7 +366,7 @@ shared-slice-read-note c =
     let m = a.names in
     let work = a.work.now in
     let walk = phis.phis.invariant.1 entry.requires.ctx entry.requires.phis entry.requires.locals entry.requires.front in
-    let inside = walk-in entry.requires.ctx a.pred m ks ws work entry.requires.phis walk in
+    let inside = walk_in entry.requires.ctx a.pred m ks ws work entry.requires.phis walk in
     inside.1
 
 note-requires : tie.Need-note-requires invariant-loop decreases-loop invariant-phis decreases-phis
@@ -381,7 +381,7 @@ note-requires c κs =
     let at = phis.phis.at in
     let walk = phis.phis.invariant.1 entry.requires.ctx entry.requires.phis entry.requires.locals entry.requires.front in
     let pairs = loop.loop.invariant.1 walk.todo walk.front in
-    phi-reaches a.pred m ks ws at walk.todo pairs entry.requires.room
+    phi_reaches a.pred m ks ws at walk.todo pairs entry.requires.room
 
 mul-push-found : tie.Need-overflow-mul-push-found invariant-loop decreases-loop invariant-phis decreases-phis
 mul-push-found c =
@@ -515,7 +515,7 @@ push-found-requires c κs =
     let at = phis.phis.at in
     let walk = phis.phis.invariant.1 entry.requires.ctx entry.requires.phis entry.requires.locals entry.requires.front in
     let pairs = loop.loop.invariant.1 walk.todo walk.front in
-    λ t. pair-asks a.pred m ks ws at walk.todo pairs entry.requires.room t
+    λ t. pair_asks a.pred m ks ws at walk.todo pairs entry.requires.room t
 
 add-phis : tie.Need-overflow-add-phis invariant-loop decreases-loop invariant-phis decreases-phis
 add-phis c =
@@ -529,7 +529,7 @@ add-phis c =
     let at = phis.phis.at in
     let walk = phis.phis.invariant.1 entry.requires.ctx entry.requires.phis entry.requires.locals entry.requires.front in
     let pairs = loop.loop.invariant.1 walk.todo walk.front in
-    let in_pairs = pair-in a.pred m ks ws at walk.todo pairs in
+    let in_pairs = pair_in a.pred m ks ws at walk.todo pairs in
     omega (arith, phis.phis.invariant.0, loop.loop.invariant.0, in_pairs.0, entry.well-formed)
 
 add_at : tie.Need-overflow-add-at invariant-loop decreases-loop invariant-phis decreases-phis
@@ -544,7 +544,7 @@ add_at c =
     let at = phis.phis.at in
     let walk = phis.phis.invariant.1 entry.requires.ctx entry.requires.phis entry.requires.locals entry.requires.front in
     let pairs = loop.loop.invariant.1 walk.todo walk.front in
-    let in_pairs = pair-in a.pred m ks ws at walk.todo pairs in
+    let in_pairs = pair_in a.pred m ks ws at walk.todo pairs in
     omega (arith, in_pairs.0, entry.well-formed)
 
 phis-less : tie.Need-phis-smaller invariant-loop decreases-loop invariant-phis decreases-phis
@@ -559,14 +559,14 @@ phis-less c =
     let at = phis.phis.at in
     let walk = phis.phis.invariant.1 entry.requires.ctx entry.requires.phis entry.requires.locals entry.requires.front in
     let pairs = loop.loop.invariant.1 walk.todo walk.front in
-    let in_pairs = pair-in a.pred m ks ws at walk.todo pairs in
+    let in_pairs = pair_in a.pred m ks ws at walk.todo pairs in
     omega (arith, in_pairs.0, loop.loop.invariant.0)
 
 phis-again : tie.Need-phis-preserved invariant-loop decreases-loop invariant-phis decreases-phis
 phis-again c =
     let after_push = c.before.before.before.before in
-    let after-note = after_push.before.before.before.before.before in
-    let closed = after-note.before.before in
+    let after_note = after_push.before.before.before.before.before in
+    let closed = after_note.before.before in
     let loop = closed.before.before in
     let phis = loop.before.before.before.before.before.before in
     let entry = phis.before.before.before.before.before.before in
@@ -580,7 +580,7 @@ phis-again c =
       λ k ps maps front.
           let walk = phis.phis.invariant.1 k ps maps front in
           walk_more k a.pred m ks ws work ps walk maps (loop.loop.invariant.1 walk.todo walk.front) closed.if2.false
-          after-note.note.ensures after_push.push-found.ensures after_push.push-found.auto.1.1.1.1.1.1.0 after_push.push-found.auto.1.1.1.1.1.1.1.0,
+          after_note.note.ensures after_push.push-found.ensures after_push.push-found.auto.1.1.1.1.1.1.0 after_push.push-found.auto.1.1.1.1.1.1.1.0,
     )
 
 noted-first-requires : tie.Need-noted-first-requires invariant-loop decreases-loop invariant-phis decreases-phis
@@ -591,14 +591,14 @@ same_length c =
     let phis = c.before.before.before in
     let entry = phis.before.before.before.before.before.before in
     let walk = phis.phis.invariant.1 entry.requires.ctx entry.requires.phis entry.requires.locals entry.requires.front in
-    walk.pushed.long-kinds
+    walk.pushed.long_kinds
 
 same-length-2 : tie.Need-same-length-2 invariant-loop decreases-loop invariant-phis decreases-phis
 same-length-2 c =
     let phis = c.before.before.before in
     let entry = phis.before.before.before.before.before.before in
     let walk = phis.phis.invariant.1 entry.requires.ctx entry.requires.phis entry.requires.locals entry.requires.front in
-    walk.pushed.long-operands
+    walk.pushed.long_operands
 
 returns : tie.Need-returns invariant-loop decreases-loop invariant-phis decreases-phis
 returns c = λ k ps maps front.

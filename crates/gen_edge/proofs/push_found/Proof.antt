@@ -1,6 +1,6 @@
 -- `gen_edge::push_found` meets its contract.
 use Rattle.std.proofs.Common.{rules}
-use Rattle.gen_edge.specs.Copies.{typed-puts}
+use Rattle.gen_edge.specs.Copies.{typed_puts}
 use Rattle.gen_edge.specs.Walks.{never}
 use Rattle.gen_edge.proofs.push_found.Statement.{statement}
 use Rattle.gen_edge.proofs.push_found.Tie as tie
@@ -10,7 +10,7 @@ need-width-requires c κs =
     let is_found = c in
     let entry = is_found.before.before.before.before.before.before.before.before in
     let ask = entry.requires is_found.if1.true in
-    (ask.type-kinds, ask.type-words)
+    (ask.type_kinds, ask.type_words)
 
 push-value-requires : tie.Need-push-value-requires
 push-value-requires c κs =
@@ -29,7 +29,7 @@ returns : tie.Need-returns
 returns c = λ t m k ty v says value maps.
     let pushed = c.before.before.before.before in
     let wide = pushed.before.before.before in
-    typed-puts k ty v (wide.need-width.ensures ty says) (pushed.push-value.ensures m k v value maps)
+    typed_puts k ty v (wide.need-width.ensures ty says) (pushed.push-value.ensures m k v value maps)
 
 returns-2 : tie.Need-returns-2
 returns-2 c = λ t. never t c.if1.false

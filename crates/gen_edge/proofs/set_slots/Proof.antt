@@ -2,8 +2,8 @@
 use Rattle.std.proofs.Common.{◌≡◌, ◌+◌, ◌%◌, ◌^◌, List, length, set, refl, ap, ◌∙◌, arith, rules}
 use Rattle.book.specs.Entry.{entries}
 use Rattle.gen_lines.specs.Puts.{further}
-use Rattle.gen_edge.specs.Phis.{Phi, Leading, leading-in}
-use Rattle.gen_edge.specs.Edges.{SetWalk, few-phis, set-start, set-in, set-lent, set-behind, set-reaches, set_next, set-end}
+use Rattle.gen_edge.specs.Phis.{Phi, Leading, leading_in}
+use Rattle.gen_edge.specs.Edges.{SetWalk, few_phis, set_start, set_in, set_lent, set_behind, set_reaches, set_next, set_end}
 use Rattle.gen_edge.proofs.set_slots.Statement.{statement}
 use Rattle.gen_edge.proofs.set_slots.Tie as tie
 
@@ -22,7 +22,7 @@ loop-holds c = λ ps front e.
     let ws = a.words.now in
     let m = a.names in
     let work = a.work.now in
-    set-start m ks ws work ps front e a.s.at a.lines.now a.operands.now
+    set_start m ks ws work ps front e a.s.at a.lines.now a.operands.now
 
 sub-left : tie.Need-overflow-sub-left invariant-loop decreases-loop
 sub-left c = search rules
@@ -39,7 +39,7 @@ mul-slot-number c =
     let work = a.work.now in
     let phis = entry.requires.phis in
     let walk = loop.loop.invariant phis entry.requires.front entry.requires.counted in
-    let inside = set-in m ks ws work phis walk turn.loop-test.true in
+    let inside = set_in m ks ws work phis walk turn.loop-test.true in
     omega (arith, inside.0, inside.1, entry.well-formed)
 
 shared-slice-read-slot-number : tie.Need-shared-slice-read-slot-number invariant-loop decreases-loop
@@ -54,7 +54,7 @@ shared-slice-read-slot-number c =
     let work = a.work.now in
     let phis = entry.requires.phis in
     let walk = loop.loop.invariant phis entry.requires.front entry.requires.counted in
-    let inside = set-in m ks ws work phis walk turn.loop-test.true in
+    let inside = set_in m ks ws work phis walk turn.loop-test.true in
     inside.1
 
 slot-number-requires : tie.Need-slot-number-requires invariant-loop decreases-loop
@@ -69,7 +69,7 @@ slot-number-requires c κs =
     let work = a.work.now in
     let phis = entry.requires.phis in
     let walk = loop.loop.invariant phis entry.requires.front entry.requires.counted in
-    set-reaches m ks ws work phis walk turn.loop-test.true entry.requires.room
+    set_reaches m ks ws work phis walk turn.loop-test.true entry.requires.room
 
 wrapping-add-usize-requires : tie.Need-wrapping-add-usize-requires invariant-loop decreases-loop
 wrapping-add-usize-requires c κs = search rules
@@ -89,7 +89,7 @@ mul-phi-len c =
     let work = a.work.now in
     let phis = entry.requires.phis in
     let walk = loop.loop.invariant phis entry.requires.front entry.requires.counted in
-    let inside = set-in m ks ws work phis walk turn.loop-test.true in
+    let inside = set_in m ks ws work phis walk turn.loop-test.true in
     omega (arith, inside.0, inside.1, entry.well-formed)
 
 sub-phi-len : tie.Need-overflow-sub-phi-len invariant-loop decreases-loop
@@ -104,7 +104,7 @@ sub-phi-len c =
     let work = a.work.now in
     let phis = entry.requires.phis in
     let walk = loop.loop.invariant phis entry.requires.front entry.requires.counted in
-    let inside = set-in m ks ws work phis walk turn.loop-test.true in
+    let inside = set_in m ks ws work phis walk turn.loop-test.true in
     omega (arith, inside.0, inside.1, entry.well-formed)
 
 part-phi-len-start : tie.Need-slice-bounds-phi-len-start invariant-loop decreases-loop
@@ -119,7 +119,7 @@ part-phi-len-start c =
     let work = a.work.now in
     let phis = entry.requires.phis in
     let walk = loop.loop.invariant phis entry.requires.front entry.requires.counted in
-    let inside = set-in m ks ws work phis walk turn.loop-test.true in
+    let inside = set_in m ks ws work phis walk turn.loop-test.true in
     omega (arith, inside.0, inside.1, entry.well-formed)
 
 part-phi-len-end : tie.Need-slice-bounds-phi-len-end invariant-loop decreases-loop
@@ -134,7 +134,7 @@ part-phi-len-end c =
     let work = a.work.now in
     let phis = entry.requires.phis in
     let walk = loop.loop.invariant phis entry.requires.front entry.requires.counted in
-    let inside = set-in m ks ws work phis walk turn.loop-test.true in
+    let inside = set_in m ks ws work phis walk turn.loop-test.true in
     omega (arith, inside.0, inside.1, entry.well-formed)
 
 mul-phi-len-2 : tie.Need-overflow-mul-phi-len-2 invariant-loop decreases-loop
@@ -149,7 +149,7 @@ mul-phi-len-2 c =
     let work = a.work.now in
     let phis = entry.requires.phis in
     let walk = loop.loop.invariant phis entry.requires.front entry.requires.counted in
-    let inside = set-in m ks ws work phis walk turn.loop-test.true in
+    let inside = set_in m ks ws work phis walk turn.loop-test.true in
     omega (arith, inside.0, inside.1, entry.well-formed)
 
 sub-phi-len-2 : tie.Need-overflow-sub-phi-len-2 invariant-loop decreases-loop
@@ -164,7 +164,7 @@ sub-phi-len-2 c =
     let work = a.work.now in
     let phis = entry.requires.phis in
     let walk = loop.loop.invariant phis entry.requires.front entry.requires.counted in
-    let inside = set-in m ks ws work phis walk turn.loop-test.true in
+    let inside = set_in m ks ws work phis walk turn.loop-test.true in
     omega (arith, inside.0, inside.1, entry.well-formed)
 
 part-phi-len-start-2 : tie.Need-slice-bounds-phi-len-start-2 invariant-loop decreases-loop
@@ -179,7 +179,7 @@ part-phi-len-start-2 c =
     let work = a.work.now in
     let phis = entry.requires.phis in
     let walk = loop.loop.invariant phis entry.requires.front entry.requires.counted in
-    let inside = set-in m ks ws work phis walk turn.loop-test.true in
+    let inside = set_in m ks ws work phis walk turn.loop-test.true in
     omega (arith, inside.0, inside.1, entry.well-formed)
 
 part-phi-len-end-2 : tie.Need-slice-bounds-phi-len-end-2 invariant-loop decreases-loop
@@ -194,7 +194,7 @@ part-phi-len-end-2 c =
     let work = a.work.now in
     let phis = entry.requires.phis in
     let walk = loop.loop.invariant phis entry.requires.front entry.requires.counted in
-    let inside = set-in m ks ws work phis walk turn.loop-test.true in
+    let inside = set_in m ks ws work phis walk turn.loop-test.true in
     omega (arith, inside.0, inside.1, entry.well-formed)
 
 phi-len-requires : tie.Need-phi-len-requires invariant-loop decreases-loop
@@ -209,7 +209,7 @@ phi-len-requires c κs =
     let work = a.work.now in
     let phis = entry.requires.phis in
     let walk = loop.loop.invariant phis entry.requires.front entry.requires.counted in
-    set-lent m ks ws work phis walk turn.loop-test.true
+    set_lent m ks ws work phis walk turn.loop-test.true
 
 add_at : tie.Need-overflow-add-at invariant-loop decreases-loop
 add_at c =
@@ -225,8 +225,8 @@ add_at c =
     let phis = entry.requires.phis in
     let at = loop.loop.at in
     let walk = loop.loop.invariant phis entry.requires.front entry.requires.counted in
-    let behind = set-behind m ks ws work phis walk turn.loop-test.true after-phi.phi-len.result after-phi.phi-len.ensures in
-    omega (arith, (leading-in ks ws (at + after-phi.phi-len.result) _ behind).0, entry.well-formed)
+    let behind = set_behind m ks ws work phis walk turn.loop-test.true after-phi.phi-len.result after-phi.phi-len.ensures in
+    omega (arith, (leading_in ks ws (at + after-phi.phi-len.result) _ behind).0, entry.well-formed)
 
 loop-less : tie.Need-loop-smaller invariant-loop decreases-loop
 loop-less c = search rules
@@ -248,7 +248,7 @@ loop-again c = λ ps front e.
     let phis = entry.requires.phis in
     let walk = loop.loop.invariant phis entry.requires.front entry.requires.counted in
     let walk = loop.loop.invariant ps front e in
-    set_next m ks ws work ps walk turn.loop-test.true (set-behind m ks ws work ps walk turn.loop-test.true after-phi.phi-len.result after-phi.phi-len.ensures)
+    set_next m ks ws work ps walk turn.loop-test.true (set_behind m ks ws work ps walk turn.loop-test.true after-phi.phi-len.result after-phi.phi-len.ensures)
     after-place.wrapping-add-usize.ensures after-put.put-at.ensures.0
     (after-put.put-at.ensures.1 ∙ ap (λ x. set loop.loop.operands after-place.wrapping-add-usize.result (x % 2 ^ 64)) after-slot.slot-number.ensures)
 
@@ -260,7 +260,7 @@ beyond-requires c κs =
     let ws = a.words.now in
     let m = a.names in
     let phis = entry.requires.phis in
-    omega (arith, few-phis m phis (entries ks ws) entry.requires.front, entry.requires.counted)
+    omega (arith, few_phis m phis (entries ks ws) entry.requires.front, entry.requires.counted)
 
 same_length : tie.Need-same-length invariant-loop decreases-loop
 same_length c =
@@ -268,7 +268,7 @@ same_length c =
     let entry = loop.before.before.before.before.before.before in
     let phis = entry.requires.phis in
     let walk = loop.loop.invariant phis entry.requires.front entry.requires.counted in
-    walk.stored.long-kinds
+    walk.stored.long_kinds
 
 same-length-2 : tie.Need-same-length-2 invariant-loop decreases-loop
 same-length-2 c =
@@ -276,7 +276,7 @@ same-length-2 c =
     let entry = loop.before.before.before.before.before.before in
     let phis = entry.requires.phis in
     let walk = loop.loop.invariant phis entry.requires.front entry.requires.counted in
-    walk.stored.long-operands
+    walk.stored.long_operands
 
 returns : tie.Need-returns invariant-loop decreases-loop
 returns c = λ k ps cps front e slots.
@@ -287,7 +287,7 @@ returns c = λ k ps cps front e slots.
     let ws = a.words.now in
     let m = a.names in
     let work = a.work.now in
-    set-end m ks ws work ps (loop.loop.invariant ps front e) c.before.loop-test.false k cps slots refl
+    set_end m ks ws work ps (loop.loop.invariant ps front e) c.before.loop-test.false k cps slots refl
     (c.beyond.ensures ∙ ap (further a.s.at) e) refl refl
 
 pub set-slots-spec : {M : Type 1} → statement M

@@ -1,12 +1,12 @@
 -- `gen_edge::slot_word` meets its contract.
-use Rattle.gen_edge.specs.Copies.{slotWord}
+use Rattle.gen_edge.specs.Copies.{slot_word}
 use Rattle.std.proofs.Common.{arith, rules, eq-eqb, ne_eqb}
 use Rattle.gen_edge.proofs.slot_word.Statement.{statement}
 use Rattle.gen_edge.proofs.slot_word.Tie as tie
 
 -- src/lib.rt:40:9
 returns : tie.Need-returns
-unfolding slotWord
+unfolding slot_word
 returns c = rw (eq-eqb _ _ c.if1.true)
 
 -- src/lib.rt:42:16
@@ -39,7 +39,7 @@ shared-slice-read-result c =
 
 -- src/lib.rt:35:1
 returns-2 : tie.Need-returns-2
-unfolding slotWord
+unfolding slot_word
 returns-2 c = rw (ne_eqb _ _ c.before.if1.false)
 
 pub slot-word-spec : {M : Type 1} → statement M

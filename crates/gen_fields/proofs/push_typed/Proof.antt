@@ -1,5 +1,5 @@
 -- `gen_fields::push_typed` meets its contract.
-use Rattle.gen_values.specs.Fields.{width_is, value-part, operand-part}
+use Rattle.gen_values.specs.Fields.{width_is, value_part, operand_part}
 use Rattle.gen_fields.specs.Places as laws
 use borrow.Author.Rules.{rules}
 use Rattle.gen_fields.proofs.push_typed.Statement.{statement}
@@ -36,7 +36,7 @@ push-value-requires : tie.Need-push-value-requires
 push-value-requires c κs =
     let after-width = c.before.before.before.before in
     let entry = after-width.before.before.before.before.before.before in
-    operand-part entry.requires.value
+    operand_part entry.requires.value
 
 same_length : tie.Need-same-length
 same_length c = search rules
@@ -52,8 +52,8 @@ returns c = λ m k fs p fields behind maps.
     let ks = entry.args.kinds.now in
     let ws = entry.args.words.now in
     let value = laws.from_front behind in
-    laws.typed-puts ks ws 0 fields value k (after-width.need-width.ensures p.0 (width_is ks ws 0 fields))
-    (after_push.push-value.ensures m k p.1.0 (value-part (laws.typed-value ks ws 0 fields value)) maps)
+    laws.typed_puts ks ws 0 fields value k (after-width.need-width.ensures p.0 (width_is ks ws 0 fields))
+    (after_push.push-value.ensures m k p.1.0 (value_part (laws.typed_value ks ws 0 fields value)) maps)
 
 pub push-typed-spec : {M : Type 1} → statement M
 push-typed-spec =

@@ -119,7 +119,7 @@ frame-inst-requires c κs =
     let entry = after-shorter.before.before.before.before.before.before in
     let l = laws.inside entry.args.kinds.now entry.args.words.now after-shorter.shorter.ensures in-loop.loop-test.true in
     let does = then1.before.acts.ensures.does then1.if1.true in
-    laws.going-ask entry.args.kinds.now entry.args.words.now at-loop.loop.invariant l.0 does.0 does.1
+    laws.going_ask entry.args.kinds.now entry.args.words.now at-loop.loop.invariant l.0 does.0 does.1
 
 add_at : tie.Need-overflow-add-at invariant-loop decreases-loop
 add_at c =
@@ -145,8 +145,8 @@ loop-again c =
     let g = at-loop.loop.invariant in
     let acts = after-acts.acts.ensures in
     ⊎_elim
-    (λ w. let does = acts.does w.0.taken in rw (w.7, w.8) (laws.going-inst ks ws g l.0 does.0 does.1 w.4.ensures))
-    (λ w. rw (w.1, w.2) (laws.going-idle ks ws g l.0 (acts.idle w.0.left)))
+    (λ w. let does = acts.does w.0.taken in rw (w.7, w.8) (laws.going_inst ks ws g l.0 does.0 does.1 w.4.ensures))
+    (λ w. rw (w.1, w.2) (laws.going_idle ks ws g l.0 (acts.idle w.0.left)))
     c.if1.branch
 
 same_length : tie.Need-same-length invariant-loop decreases-loop

@@ -2,7 +2,7 @@
 use Prim.Native.Nat.{◌-◌}
 use native.Mathlib.Omega.{arith}
 use borrow.Author.Rules.{rules}
-use Rattle.gen_function.specs.Blocks.{BlocksWalk, in_words, walk_start, walk_block, walk_end, walk_more, walk_refused, walk-done}
+use Rattle.gen_function.specs.Blocks.{BlocksWalk, in_words, walk_start, walk_block, walk_end, walk_more, walk_refused, walk_done}
 use Rattle.gen_function.proofs.gen_blocks.Statement.{statement}
 use Rattle.gen_function.proofs.gen_blocks.Tie as tie
 use Rattle.gen_function.proofs.gen_blocks.Reads as reads
@@ -19,7 +19,7 @@ decreases-loop book-kinds book-words from last work₀ names base lines₀ opera
     last - at
 
 next-block-requires : tie.Need-next-block-requires invariant-loop decreases-loop
-next-block-requires c κs = let entry = c.before.before.before.before.before in (entry.requires.order, entry.requires.in-kinds)
+next-block-requires c κs = let entry = c.before.before.before.before.before in (entry.requires.order, entry.requires.in_kinds)
 
 loop-holds : tie.Need-loop-init invariant-loop decreases-loop
 loop-holds c =
@@ -28,13 +28,13 @@ loop-holds c =
     entry.args.work.now entry.args.lines.now entry.args.operands.now entry.args.s c.next-block.ensures
 
 same_length : tie.Need-same-length invariant-loop decreases-loop
-same_length c = c.before.before.before.loop.invariant.long-work
+same_length c = c.before.before.before.loop.invariant.long_work
 
 same-length-2 : tie.Need-same-length-2 invariant-loop decreases-loop
-same-length-2 c = c.before.before.before.loop.invariant.long-lines
+same-length-2 c = c.before.before.before.loop.invariant.long_lines
 
 same-length-3 : tie.Need-same-length-3 invariant-loop decreases-loop
-same-length-3 c = c.before.before.before.loop.invariant.long-operands
+same-length-3 c = c.before.before.before.loop.invariant.long_operands
 
 returns : tie.Need-returns invariant-loop decreases-loop
 returns c =
@@ -46,19 +46,19 @@ mul-gen-block : tie.Need-overflow-mul-gen-block invariant-loop decreases-loop
 mul-gen-block c =
     let in-loop = c.before.before in
     let entry = in-loop.before.before.before.before.before.before.before.before in
-    omega (arith, in-loop.loop-test.true, entry.requires.in-kinds, entry.well-formed)
+    omega (arith, in-loop.loop-test.true, entry.requires.in_kinds, entry.well-formed)
 
 sub-gen-block : tie.Need-overflow-sub-gen-block invariant-loop decreases-loop
 sub-gen-block c =
     let in-loop = c.before.before in
     let entry = in-loop.before.before.before.before.before.before.before.before in
-    omega (arith, in-loop.loop-test.true, entry.requires.in-kinds)
+    omega (arith, in-loop.loop-test.true, entry.requires.in_kinds)
 
 part-gen-block-start : tie.Need-slice-bounds-gen-block-start invariant-loop decreases-loop
 part-gen-block-start c =
     let in-loop = c.before.before in
     let entry = in-loop.before.before.before.before.before.before.before.before in
-    omega (arith, in-loop.loop-test.true, entry.requires.in-kinds)
+    omega (arith, in-loop.loop-test.true, entry.requires.in_kinds)
 
 part-gen-block-end : tie.Need-slice-bounds-gen-block-end invariant-loop decreases-loop
 part-gen-block-end c = search rules
@@ -98,7 +98,7 @@ add-end c =
     let at-loop = in-loop.before in
     let entry = at-loop.before.before.before.before.before.before.before in
     let there = walk_end entry.args.book-kinds.now entry.args.book-words.now at-loop.loop.invariant in-loop.loop-test.true after-gen-block.gen-block.ensures entry.requires in
-    omega (arith, there, entry.requires.in-kinds, entry.well-formed)
+    omega (arith, there, entry.requires.in_kinds, entry.well-formed)
 
 add-next-block : tie.Need-overflow-add-next-block invariant-loop decreases-loop
 add-next-block c =
@@ -107,7 +107,7 @@ add-next-block c =
     let at-loop = in-loop.before in
     let entry = at-loop.before.before.before.before.before.before.before in
     let there = walk_end entry.args.book-kinds.now entry.args.book-words.now at-loop.loop.invariant in-loop.loop-test.true after-gen-block.gen-block.ensures entry.requires in
-    omega (arith, there, entry.requires.in-kinds, entry.well-formed)
+    omega (arith, there, entry.requires.in_kinds, entry.well-formed)
 
 next-block-requires-2 : tie.Need-next-block-requires-2 invariant-loop decreases-loop
 next-block-requires-2 c κs =
@@ -116,7 +116,7 @@ next-block-requires-2 c κs =
     let at-loop = in-loop.before in
     let entry = at-loop.before.before.before.before.before.before.before in
     let there = walk_end entry.args.book-kinds.now entry.args.book-words.now at-loop.loop.invariant in-loop.loop-test.true after-gen-block.gen-block.ensures entry.requires in
-    (omega (arith, there), entry.requires.in-kinds)
+    (omega (arith, there), entry.requires.in_kinds)
 
 loop-less : tie.Need-loop-smaller invariant-loop decreases-loop
 loop-less c =
@@ -134,19 +134,19 @@ loop-again c =
     kept.1.1.1.1.1.0 kept.1.1.1.1.1.1.1.1.0 kept.1.1.1.1.1.1.1.1.1.0 c.next-block2.ensures
 
 same-length-4 : tie.Need-same-length-4 invariant-loop decreases-loop
-same-length-4 c = c.before.loop.invariant.long-work
+same-length-4 c = c.before.loop.invariant.long_work
 
 same-length-5 : tie.Need-same-length-5 invariant-loop decreases-loop
-same-length-5 c = c.before.loop.invariant.long-lines
+same-length-5 c = c.before.loop.invariant.long_lines
 
 same-length-6 : tie.Need-same-length-6 invariant-loop decreases-loop
-same-length-6 c = c.before.loop.invariant.long-operands
+same-length-6 c = c.before.loop.invariant.long_operands
 
 returns-2 : tie.Need-returns-2 invariant-loop decreases-loop
 returns-2 c =
     let at-loop = c.before in
     let entry = at-loop.before.before.before.before.before.before.before in
-    walk-done entry.args.book-kinds.now entry.args.book-words.now at-loop.loop.invariant c.loop-test.false
+    walk_done entry.args.book-kinds.now entry.args.book-words.now at-loop.loop.invariant c.loop-test.false
 
 pub gen-blocks-spec : {M : Type 1} → statement M
 gen-blocks-spec =

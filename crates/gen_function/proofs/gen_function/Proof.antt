@@ -1,7 +1,7 @@
 -- `gen_function::gen_function` meets its contract: its lines are those of its parts, one after the other.
 use mathlib.Core.Path.{refl, ◌∙◌}
 use native.Mathlib.Omega.{arith}
-use Rattle.gen_function.specs.Function.{name_in, name-is, slots-limit, function-lines}
+use Rattle.gen_function.specs.Function.{name_in, name_is, slots_limit, function_lines}
 use borrow.Author.Rules.{rules}
 use Rattle.gen_function.proofs.gen_function.Statement.{statement}
 use Rattle.gen_function.proofs.gen_function.Tie as tie
@@ -48,7 +48,7 @@ gen-blocks-requires c κs =
     let after-put = after-put2.before.before.before.before.before.before.before in
     let entry = after-put.before.before.before.before.before.before.before.before.before.before in
     let a = entry.requires in
-    record { ctx = a.ctx; maps = a.maps; based = (a.framed.slots, a.framed.framed); blocks = a.fn.blocks; listed = a.here.blocks; order = a.here.order; in-kinds = a.here.in-kinds }
+    record { ctx = a.ctx; maps = a.maps; based = (a.framed.slots, a.framed.framed); blocks = a.fn.blocks; listed = a.here.blocks; order = a.here.order; in_kinds = a.here.in_kinds }
 
 put-requires-3 : tie.Need-put-requires-3
 put-requires-3 c κs = search rules
@@ -94,9 +94,9 @@ returns c =
     let entry = name-known.before.before.before.before.before.before in
     let total = after-total.total-slots.result in
     λ k f here framed maps.
-    function-lines k f (name-is entry.args.book-kinds.now entry.args.book-words.now entry.args.head here) (omega (arith, name-known.shared-slice-known3.given entry.args.head.at))
+    function_lines k f (name_is entry.args.book-kinds.now entry.args.book-words.now entry.args.head here) (omega (arith, name-known.shared-slice-known3.given entry.args.head.at))
     after-total.total-slots.ensures
-    after-put.put.ensures after-put2.put2.ensures (slots-limit total _ _ refl after-need.need.ensures) after-push-slots.push-slots.ensures
+    after-put.put.ensures after-put2.put2.ensures (slots_limit total _ _ refl after-need.need.ensures) after-push-slots.push-slots.ensures
     (after-enter-frame.enter-frame.ensures k framed) (after-gen-blocks.gen-blocks.ensures k f.blocks here.blocks (framed.slots, framed.framed) maps) after-put3.put3.ensures
 
 pub gen-function-spec : {M : Type 1} → statement M

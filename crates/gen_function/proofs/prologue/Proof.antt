@@ -1,7 +1,7 @@
 -- `gen_function::prologue` meets its contract.
 use mathlib.Core.Path.{◌∙◌}
 use native.Mathlib.Omega.{arith}
-use Rattle.gen_function.specs.Function.{prologue-lines}
+use Rattle.gen_function.specs.Function.{prologue_lines}
 use borrow.Author.Rules.{rules}
 use Rattle.gen_function.proofs.prologue.Statement.{statement}
 use Rattle.gen_function.proofs.prologue.Tie as tie
@@ -58,7 +58,7 @@ returns c =
     let after-put2 = after-put3.before.before.before.before.before.before.before in
     let after-put = after-put2.before.before.before.before.before.before.before in
     let entry = after-put.before.before.before.before.before in
-    λ k e i. prologue-lines k e i (omega (arith, entry.well-formed)) (omega (arith, entry.well-formed)) after-put.put.ensures after-put2.put2.ensures after-put3.put3.ensures
+    λ k e i. prologue_lines k e i (omega (arith, entry.well-formed)) (omega (arith, entry.well-formed)) after-put.put.ensures after-put2.put2.ensures after-put3.put3.ensures
     after-put4.put4.ensures after-put5.put5.ensures after-put6.put6.ensures
 
 pub prologue-spec : {M : Type 1} → statement M

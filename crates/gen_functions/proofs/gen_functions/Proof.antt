@@ -24,25 +24,25 @@ gen-turn-requires c κs =
     let in-loop = c.before.before.before in
     let at-loop = in-loop.before in
     let entry = at-loop.before.before.before.before.before.before in
-    laws.turn-ask entry.args.book-kinds.now entry.args.book-words.now at-loop.loop.invariant entry.requires in-loop.loop-test.true
+    laws.turn_ask entry.args.book-kinds.now entry.args.book-words.now at-loop.loop.invariant entry.requires in-loop.loop-test.true
 
 same_length : tie.Need-same-length invariant-loop decreases-loop
 same_length c =
     let after-gen-turn = c.before.before.before.before.before.before.before.before in
     let at-loop = after-gen-turn.before.before.before.before.before in
-    after-gen-turn.gen-turn.auto.1.1.0 ∙ at-loop.loop.invariant.long-work
+    after-gen-turn.gen-turn.auto.1.1.0 ∙ at-loop.loop.invariant.long_work
 
 same-length-2 : tie.Need-same-length-2 invariant-loop decreases-loop
 same-length-2 c =
     let after-gen-turn = c.before.before.before.before.before.before.before.before in
     let at-loop = after-gen-turn.before.before.before.before.before in
-    after-gen-turn.gen-turn.auto.1.1.1.1.1.1.0 ∙ at-loop.loop.invariant.long-lines
+    after-gen-turn.gen-turn.auto.1.1.1.1.1.1.0 ∙ at-loop.loop.invariant.long_lines
 
 same-length-3 : tie.Need-same-length-3 invariant-loop decreases-loop
 same-length-3 c =
     let after-gen-turn = c.before.before.before.before.before.before.before.before in
     let at-loop = after-gen-turn.before.before.before.before.before in
-    after-gen-turn.gen-turn.auto.1.1.1.1.1.1.1.0 ∙ at-loop.loop.invariant.long-operands
+    after-gen-turn.gen-turn.auto.1.1.1.1.1.1.1.0 ∙ at-loop.loop.invariant.long_operands
 
 returns : tie.Need-returns invariant-loop decreases-loop
 returns c =
@@ -59,7 +59,7 @@ loop-less c =
     let in-loop = after-gen-turn.before.before.before.before in
     let at-loop = in-loop.before in
     let entry = at-loop.before.before.before.before.before.before in
-    let further = laws.turn-further entry.args.book-kinds.now entry.args.book-words.now at-loop.loop.invariant in-loop.loop-test.true after-gen-turn.gen-turn.ensures entry.requires in
+    let further = laws.turn_further entry.args.book-kinds.now entry.args.book-words.now at-loop.loop.invariant in-loop.loop-test.true after-gen-turn.gen-turn.ensures entry.requires in
     omega (arith, further, in-loop.loop-test.true)
 
 loop-again : tie.Need-loop-preserved invariant-loop decreases-loop
@@ -75,19 +75,19 @@ loop-again c =
     kept.1.1.0 lines-kept.0 lines-kept.1.0
 
 same-length-4 : tie.Need-same-length-4 invariant-loop decreases-loop
-same-length-4 c = c.before.loop.invariant.long-work
+same-length-4 c = c.before.loop.invariant.long_work
 
 same-length-5 : tie.Need-same-length-5 invariant-loop decreases-loop
-same-length-5 c = c.before.loop.invariant.long-lines
+same-length-5 c = c.before.loop.invariant.long_lines
 
 same-length-6 : tie.Need-same-length-6 invariant-loop decreases-loop
-same-length-6 c = c.before.loop.invariant.long-operands
+same-length-6 c = c.before.loop.invariant.long_operands
 
 returns-2 : tie.Need-returns-2 invariant-loop decreases-loop
 returns-2 c =
     let at-loop = c.before in
     let entry = at-loop.before.before.before.before.before.before in
-    laws.walk-done entry.args.book-kinds.now entry.args.book-words.now at-loop.loop.invariant c.loop-test.false
+    laws.walk_done entry.args.book-kinds.now entry.args.book-words.now at-loop.loop.invariant c.loop-test.false
 
 pub gen-functions-spec : {M : Type 1} → statement M
 gen-functions-spec =

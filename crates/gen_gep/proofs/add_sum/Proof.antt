@@ -1,5 +1,5 @@
 -- `gen_gep::add_sum` meets its contract.
-use Rattle.gen_gep.specs.Lines.{no-sum, one-sum}
+use Rattle.gen_gep.specs.Lines.{no_sum, one_sum}
 use borrow.Author.Rules.{rules}
 use Rattle.gen_gep.proofs.add_sum.Statement.{statement}
 use Rattle.gen_gep.proofs.add_sum.Tie as tie
@@ -7,7 +7,7 @@ use Rattle.gen_gep.proofs.add_sum.Tie as tie
 returns : tie.Need-returns
 returns c =
     let entry = c.before.before.before in
-    no-sum entry.args.sum entry.args.s entry.args.lines.now entry.args.operands.now c.if1.true
+    no_sum entry.args.sum entry.args.s entry.args.lines.now entry.args.operands.now c.if1.true
 
 push-int-requires : tie.Need-push-int-requires
 push-int-requires c κs = search rules
@@ -27,7 +27,7 @@ returns-2 c =
     let after-push-int = after-put.before.before.before.before.before.before.before in
     let else1 = after-push-int.before.before.before in
     let entry = else1.before.before.before in
-    one-sum entry.args.sum else1.if1.false after-push-int.push-int.ensures after-put.put.ensures
+    one_sum entry.args.sum else1.if1.false after-push-int.push-int.ensures after-put.put.ensures
 
 pub add-sum-spec : {M : Type 1} → statement M
 add-sum-spec =

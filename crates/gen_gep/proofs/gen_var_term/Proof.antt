@@ -4,37 +4,37 @@ use mathlib.Core.Path.{◌≡◌, refl, sym, ◌∙◌}
 use mathlib.Core.List.{List}
 use native.Mathlib.Omega.{arith}
 use lib.ListN.{get_or}
-use Rattle.gen_values.specs.Fields.{partFrom, part-front, part-there, value-part, operand-part, type-in, operand_at}
+use Rattle.gen_values.specs.Fields.{part_from, part_front, part_there, value_part, operand_part, type_in, operand_at}
 use Rattle.gen_values.specs.Values.{width_by}
-use Rattle.gen_gep.specs.Indices.{value-behind}
-use Rattle.gen_gep.specs.Lines.{term-lines}
+use Rattle.gen_gep.specs.Indices.{value_behind}
+use Rattle.gen_gep.specs.Lines.{term_lines}
 use borrow.Author.Rules.{rules}
 use Rattle.gen_gep.proofs.gen_var_term.Statement.{statement}
 use Rattle.gen_gep.proofs.gen_var_term.Tie as tie
 
 -- the width of the type at a place is told at the front of the part
-part-width : (ks ws : List ℕ) (a : ℕ) → width_by (get_or (partFrom ks a) 0 0) (get_or (partFrom ws a) 0 0) ≡ width_by (get_or ks a 0) (get_or ws a 0)
-part-width ks ws a = rw (part-front ks a, part-front ws a)
+part_width : (ks ws : List ℕ) (a : ℕ) → width_by (get_or (part_from ks a) 0 0) (get_or (part_from ws a) 0 0) ≡ width_by (get_or ks a 0) (get_or ws a 0)
+part_width ks ws a = rw (part_front ks a, part_front ws a)
 
 mul-width-of : tie.Need-overflow-mul-width-of
 mul-width-of c =
     let entry = c.before.before.before.before.before in
     let a = entry.args in
-    let q = type-in a.book-kinds.now a.book-words.now a.index entry.requires.is.fields in
+    let q = type_in a.book-kinds.now a.book-words.now a.index entry.requires.is.fields in
     omega (arith, q.0, entry.well-formed)
 
 sub-width-of : tie.Need-overflow-sub-width-of
 sub-width-of c =
     let entry = c.before.before.before.before.before in
     let a = entry.args in
-    let q = type-in a.book-kinds.now a.book-words.now a.index entry.requires.is.fields in
+    let q = type_in a.book-kinds.now a.book-words.now a.index entry.requires.is.fields in
     omega (arith, q.0, entry.well-formed)
 
 part-width-of-start : tie.Need-slice-bounds-width-of-start
 part-width-of-start c =
     let entry = c.before.before.before.before.before in
     let a = entry.args in
-    let q = type-in a.book-kinds.now a.book-words.now a.index entry.requires.is.fields in
+    let q = type_in a.book-kinds.now a.book-words.now a.index entry.requires.is.fields in
     omega (arith, q.0, entry.well-formed)
 
 part-width-of-end : tie.Need-slice-bounds-width-of-end
@@ -44,21 +44,21 @@ mul-width-of-2 : tie.Need-overflow-mul-width-of-2
 mul-width-of-2 c =
     let entry = c.before.before.before.before.before.before in
     let a = entry.args in
-    let q = type-in a.book-kinds.now a.book-words.now a.index entry.requires.is.fields in
+    let q = type_in a.book-kinds.now a.book-words.now a.index entry.requires.is.fields in
     omega (arith, q.1, entry.well-formed)
 
 sub-width-of-2 : tie.Need-overflow-sub-width-of-2
 sub-width-of-2 c =
     let entry = c.before.before.before.before.before.before in
     let a = entry.args in
-    let q = type-in a.book-kinds.now a.book-words.now a.index entry.requires.is.fields in
+    let q = type_in a.book-kinds.now a.book-words.now a.index entry.requires.is.fields in
     omega (arith, q.1, entry.well-formed)
 
 part-width-of-start-2 : tie.Need-slice-bounds-width-of-start-2
 part-width-of-start-2 c =
     let entry = c.before.before.before.before.before.before in
     let a = entry.args in
-    let q = type-in a.book-kinds.now a.book-words.now a.index entry.requires.is.fields in
+    let q = type_in a.book-kinds.now a.book-words.now a.index entry.requires.is.fields in
     omega (arith, q.1, entry.well-formed)
 
 part-width-of-end-2 : tie.Need-slice-bounds-width-of-end-2
@@ -68,43 +68,43 @@ width-of-requires : tie.Need-width-of-requires
 width-of-requires c κs =
     let entry = c.before.before.before.before.before.before.before in
     let a = entry.args in
-    let q = type-in a.book-kinds.now a.book-words.now a.index entry.requires.is.fields in
-    (part-there a.book-kinds.now a.index q.0, part-there a.book-words.now a.index q.1)
+    let q = type_in a.book-kinds.now a.book-words.now a.index entry.requires.is.fields in
+    (part_there a.book-kinds.now a.index q.0, part_there a.book-words.now a.index q.1)
 
 skip-at-requires : tie.Need-skip-at-requires
 skip-at-requires c κs =
     let entry = c.before.before.before.before.before.before.before.before in
     let a = entry.args in
-    let q = type-in a.book-kinds.now a.book-words.now a.index entry.requires.is.fields in
+    let q = type_in a.book-kinds.now a.book-words.now a.index entry.requires.is.fields in
     q
 
 add-value : tie.Need-overflow-add-value
 add-value c =
     let entry = c.before.before.before.before.before.before.before.before.before in
     let a = entry.args in
-    let v = value-behind a.book-kinds.now a.book-words.now a.index entry.requires.is.fields c.skip_at.ensures refl in
-    omega (arith, v.in-kinds, entry.well-formed)
+    let v = value_behind a.book-kinds.now a.book-words.now a.index entry.requires.is.fields c.skip_at.ensures refl in
+    omega (arith, v.in_kinds, entry.well-formed)
 
 mul-push-value : tie.Need-overflow-mul-push-value
 mul-push-value c =
     let entry = c.before.before.before.before.before.before.before.before.before in
     let a = entry.args in
-    let v = value-behind a.book-kinds.now a.book-words.now a.index entry.requires.is.fields c.skip_at.ensures refl in
-    omega (arith, v.in-kinds, entry.well-formed)
+    let v = value_behind a.book-kinds.now a.book-words.now a.index entry.requires.is.fields c.skip_at.ensures refl in
+    omega (arith, v.in_kinds, entry.well-formed)
 
 sub-push-value : tie.Need-overflow-sub-push-value
 sub-push-value c =
     let entry = c.before.before.before.before.before.before.before.before.before in
     let a = entry.args in
-    let v = value-behind a.book-kinds.now a.book-words.now a.index entry.requires.is.fields c.skip_at.ensures refl in
-    omega (arith, v.in-kinds, entry.well-formed)
+    let v = value_behind a.book-kinds.now a.book-words.now a.index entry.requires.is.fields c.skip_at.ensures refl in
+    omega (arith, v.in_kinds, entry.well-formed)
 
 part-push-value-start : tie.Need-slice-bounds-push-value-start
 part-push-value-start c =
     let entry = c.before.before.before.before.before.before.before.before.before in
     let a = entry.args in
-    let v = value-behind a.book-kinds.now a.book-words.now a.index entry.requires.is.fields c.skip_at.ensures refl in
-    omega (arith, v.in-kinds, entry.well-formed)
+    let v = value_behind a.book-kinds.now a.book-words.now a.index entry.requires.is.fields c.skip_at.ensures refl in
+    omega (arith, v.in_kinds, entry.well-formed)
 
 part-push-value-end : tie.Need-slice-bounds-push-value-end
 part-push-value-end c = search rules
@@ -114,7 +114,7 @@ mul-push-value-2 c =
     let after-skip-at = c.before in
     let entry = after-skip-at.before.before.before.before.before.before.before.before.before in
     let a = entry.args in
-    let v = value-behind a.book-kinds.now a.book-words.now a.index entry.requires.is.fields after-skip-at.skip_at.ensures refl in
+    let v = value_behind a.book-kinds.now a.book-words.now a.index entry.requires.is.fields after-skip-at.skip_at.ensures refl in
     omega (arith, v.in_words, entry.well-formed)
 
 sub-push-value-2 : tie.Need-overflow-sub-push-value-2
@@ -122,7 +122,7 @@ sub-push-value-2 c =
     let after-skip-at = c.before in
     let entry = after-skip-at.before.before.before.before.before.before.before.before.before in
     let a = entry.args in
-    let v = value-behind a.book-kinds.now a.book-words.now a.index entry.requires.is.fields after-skip-at.skip_at.ensures refl in
+    let v = value_behind a.book-kinds.now a.book-words.now a.index entry.requires.is.fields after-skip-at.skip_at.ensures refl in
     omega (arith, v.in_words, entry.well-formed)
 
 part-push-value-start-2 : tie.Need-slice-bounds-push-value-start-2
@@ -130,7 +130,7 @@ part-push-value-start-2 c =
     let after-skip-at = c.before in
     let entry = after-skip-at.before.before.before.before.before.before.before.before.before in
     let a = entry.args in
-    let v = value-behind a.book-kinds.now a.book-words.now a.index entry.requires.is.fields after-skip-at.skip_at.ensures refl in
+    let v = value_behind a.book-kinds.now a.book-words.now a.index entry.requires.is.fields after-skip-at.skip_at.ensures refl in
     omega (arith, v.in_words, entry.well-formed)
 
 part-push-value-end-2 : tie.Need-slice-bounds-push-value-end-2
@@ -141,8 +141,8 @@ push-value-requires c κs =
     let after-skip-at = c.before.before.before.before in
     let entry = after-skip-at.before.before.before.before.before.before.before.before.before in
     let a = entry.args in
-    let v = value-behind a.book-kinds.now a.book-words.now a.index entry.requires.is.fields after-skip-at.skip_at.ensures refl in
-    operand-part (operand_at v (omega (arith, entry.requires.room)))
+    let v = value_behind a.book-kinds.now a.book-words.now a.index entry.requires.is.fields after-skip-at.skip_at.ensures refl in
+    operand_part (operand_at v (omega (arith, entry.requires.room)))
 
 widen-requires : tie.Need-widen-requires
 widen-requires c κs = search rules
@@ -187,10 +187,10 @@ returns c =
     let after-width-of = after-skip-at.before in
     let entry = after-width-of.before.before.before.before.before.before.before.before in
     let a = entry.args in
-    let width = after-width-of.width_of_lem.ensures ∙ part-width a.book-kinds.now a.book-words.now a.index in
+    let width = after-width-of.width_of_lem.ensures ∙ part_width a.book-kinds.now a.book-words.now a.index in
     λ k t locals h.
-    let v = value-behind a.book-kinds.now a.book-words.now a.index h.fields after-skip-at.skip_at.ensures refl in
-    term-lines k t h.val (h.width ∙ sym width) h.stride (after-push-value.push-value.ensures a.names k h.holds.1.0 (value-part v) locals)
+    let v = value_behind a.book-kinds.now a.book-words.now a.index h.fields after-skip-at.skip_at.ensures refl in
+    term_lines k t h.val (h.width ∙ sym width) h.stride (after-push-value.push-value.ensures a.names k h.holds.1.0 (value_part v) locals)
     after-widen.widen.ensures after-push-int.push-int.ensures after-put.put.ensures after-put2.put2.ensures
 
 pub gen-var-term-spec : {M : Type 1} → statement M

@@ -6,12 +6,12 @@ use native.Mathlib.Omega.{arith}
 use lib.ListN.{length, take}
 use Rattle.lowering.specs.Context.{FnCtx}
 use Rattle.lowering.specs.Gen.{each}
-use Rattle.lowering.specs.Gep.{VarTerm, genVarTerm}
+use Rattle.lowering.specs.Gep.{VarTerm, gen_var_term}
 use Rattle.gen_lines.specs.Puts.{Puts}
-use Rattle.gen_lines.specs.Follow.{none-puts}
+use Rattle.gen_lines.specs.Follow.{none_puts}
 use Rattle.gen_values.specs.Maps.{Locals}
-use Rattle.gen_gep.specs.Terms.{Terms, term-asked, term-there}
-use Rattle.gen_gep.specs.Lines.{terms-on, terms-all}
+use Rattle.gen_gep.specs.Terms.{Terms, term_asked, term_there}
+use Rattle.gen_gep.specs.Lines.{terms_on, terms_all}
 use Rattle.gen_gep.proofs.gen_var_terms.Statement.{statement}
 use Rattle.gen_gep.proofs.gen_var_terms.Tie as tie
 
@@ -19,7 +19,7 @@ abbrev invariant-loop : tie.invariant-loop
 invariant-loop book-kinds book-words names terms work lines₀ operands₀ reached₀ i₀ lines operands reached i =
     (i ≤ terms) × (length lines ≡ length lines₀) × (length operands ≡ length operands₀)
     × ((c : FnCtx) (ts : List VarTerm) → Locals c names work → Terms names book-kinds book-words work 0 ts → length ts ≡ terms
-    → Puts (each (genVarTerm c) (take i ts)) reached₀ reached lines₀ operands₀ lines operands)
+    → Puts (each (gen_var_term c) (take i ts)) reached₀ reached lines₀ operands₀ lines operands)
 
 abbrev decreases-loop : tie.decreases-loop
 decreases-loop book-kinds book-words names terms work lines₀ operands₀ reached₀ i₀ lines operands reached i =
@@ -29,34 +29,34 @@ loop-holds : tie.Need-loop-init invariant-loop decreases-loop
 loop-holds c =
     let entry = c.before.before.before.before.before in
     let a = entry.args in
-    (omega arith, refl, refl, λ k ts locals terms e. none-puts (genVarTerm k) a.s a.lines.now a.operands.now)
+    (omega arith, refl, refl, λ k ts locals terms e. none_puts (gen_var_term k) a.s a.lines.now a.operands.now)
 
 mul-from : tie.Need-overflow-mul-from invariant-loop decreases-loop
 mul-from c =
     let at-loop = c.before in
     let entry = at-loop.before.before.before.before.before.before in
-    let there = term-there entry.requires at-loop.loop.i c.loop-test.true in
+    let there = term_there entry.requires at-loop.loop.i c.loop-test.true in
     omega (arith, there, entry.well-formed)
 
 mul-from-2 : tie.Need-overflow-mul-from-2 invariant-loop decreases-loop
 mul-from-2 c =
     let at-loop = c.before in
     let entry = at-loop.before.before.before.before.before.before in
-    let there = term-there entry.requires at-loop.loop.i c.loop-test.true in
+    let there = term_there entry.requires at-loop.loop.i c.loop-test.true in
     omega (arith, there, entry.well-formed)
 
 add-from : tie.Need-overflow-add-from invariant-loop decreases-loop
 add-from c =
     let at-loop = c.before in
     let entry = at-loop.before.before.before.before.before.before in
-    let there = term-there entry.requires at-loop.loop.i c.loop-test.true in
+    let there = term_there entry.requires at-loop.loop.i c.loop-test.true in
     omega (arith, there, entry.well-formed)
 
 mul-index : tie.Need-overflow-mul-index invariant-loop decreases-loop
 mul-index c =
     let at-loop = c.before in
     let entry = at-loop.before.before.before.before.before.before in
-    let there = term-there entry.requires at-loop.loop.i c.loop-test.true in
+    let there = term_there entry.requires at-loop.loop.i c.loop-test.true in
     omega (arith, there, entry.well-formed)
 
 shared-slice-read-index : tie.Need-shared-slice-read-index invariant-loop decreases-loop
@@ -64,7 +64,7 @@ shared-slice-read-index c =
     let in-loop = c.before in
     let at-loop = in-loop.before in
     let entry = at-loop.before.before.before.before.before.before in
-    let there = term-there entry.requires at-loop.loop.i in-loop.loop-test.true in
+    let there = term_there entry.requires at-loop.loop.i in-loop.loop-test.true in
     omega (arith, there)
 
 add-gen-var-term : tie.Need-overflow-add-gen-var-term invariant-loop decreases-loop
@@ -72,7 +72,7 @@ add-gen-var-term c =
     let in-loop = c.before in
     let at-loop = in-loop.before in
     let entry = at-loop.before.before.before.before.before.before in
-    let there = term-there entry.requires at-loop.loop.i in-loop.loop-test.true in
+    let there = term_there entry.requires at-loop.loop.i in-loop.loop-test.true in
     omega (arith, there, entry.well-formed)
 
 mul-gen-var-term : tie.Need-overflow-mul-gen-var-term invariant-loop decreases-loop
@@ -80,7 +80,7 @@ mul-gen-var-term c =
     let in-loop = c.before in
     let at-loop = in-loop.before in
     let entry = at-loop.before.before.before.before.before.before in
-    let there = term-there entry.requires at-loop.loop.i in-loop.loop-test.true in
+    let there = term_there entry.requires at-loop.loop.i in-loop.loop-test.true in
     omega (arith, there, entry.well-formed)
 
 shared-slice-read-gen-var-term : tie.Need-shared-slice-read-gen-var-term invariant-loop decreases-loop
@@ -88,14 +88,14 @@ shared-slice-read-gen-var-term c =
     let in-loop = c.before.before in
     let at-loop = in-loop.before in
     let entry = at-loop.before.before.before.before.before.before in
-    term-there entry.requires at-loop.loop.i in-loop.loop-test.true
+    term_there entry.requires at-loop.loop.i in-loop.loop-test.true
 
 gen-var-term-requires : tie.Need-gen-var-term-requires invariant-loop decreases-loop
 gen-var-term-requires c κs =
     let in-loop = c.before.before.before.before in
     let at-loop = in-loop.before in
     let entry = at-loop.before.before.before.before.before.before in
-    term-asked entry.requires at-loop.loop.i in-loop.loop-test.true
+    term_asked entry.requires at-loop.loop.i in-loop.loop-test.true
 
 add-i : tie.Need-overflow-add-i invariant-loop decreases-loop
 add-i c =
@@ -122,7 +122,7 @@ loop-again c =
       called.auto.1.1.1.1.1.1.1.0 ∙ inv.2,
       λ k ts locals terms e.
           let so_far = inv.3 k ts locals terms e in
-          terms-on k a.names a.book-kinds.now a.book-words.now a.work.now at-loop.loop.i ts (omega arith) terms so_far (λ x here. called.ensures k x locals here),
+          terms_on k a.names a.book-kinds.now a.book-words.now a.work.now at-loop.loop.i ts (omega arith) terms so_far (λ x here. called.ensures k x locals here),
     )
 
 same_length : tie.Need-same-length invariant-loop decreases-loop
@@ -138,7 +138,7 @@ same-length-2 c =
 returns : tie.Need-returns invariant-loop decreases-loop
 returns c =
     let at-loop = c.before in
-    λ k ts locals terms e. terms-all k at-loop.loop.i ts (omega (arith, c.loop-test.false)) (at-loop.loop.invariant.3 k ts locals terms e)
+    λ k ts locals terms e. terms_all k at-loop.loop.i ts (omega (arith, c.loop-test.false)) (at-loop.loop.invariant.3 k ts locals terms e)
 
 pub gen-var-terms-spec : {M : Type 1} → statement M
 gen-var-terms-spec =

@@ -1,5 +1,5 @@
 -- `gen_gep::next_step` meets its contract.
-use Rattle.gen_gep.specs.Walks.{first-outcome, later-outcome}
+use Rattle.gen_gep.specs.Walks.{first_outcome, later_outcome}
 use borrow.Author.Rules.{rules}
 use Rattle.gen_gep.proofs.next_step.Statement.{statement}
 use Rattle.gen_gep.proofs.next_step.Tie as tie
@@ -14,7 +14,7 @@ returns : tie.Need-returns
 returns c =
     let after-array-step = c.before.before in
     let then1 = after-array-step.before.before in
-    first-outcome _ _ _ then1.if1.true after-array-step.array-step.ensures
+    first_outcome _ _ _ then1.if1.true after-array-step.array-step.ensures
 
 gep-step-requires : tie.Need-gep-step-requires
 gep-step-requires c κs = search rules
@@ -26,7 +26,7 @@ returns-2 : tie.Need-returns-2
 returns-2 c =
     let after-gep-step = c.before.before in
     let else1 = after-gep-step.before.before in
-    later-outcome _ _ _ else1.if1.false after-gep-step.gep-step.ensures
+    later_outcome _ _ _ else1.if1.false after-gep-step.gep-step.ensures
 
 pub next-step-spec : {M : Type 1} → statement M
 next-step-spec =

@@ -1,7 +1,7 @@
 -- `gen_gep::skip_at` meets its contract.
 use mathlib.Core.Path.{ap, ◌∙◌}
-use Rattle.layout_memo.specs.Front.{tyLen}
-use Rattle.book_types.specs.Laws.{entries-part}
+use Rattle.layout_memo.specs.Front.{ty_len}
+use Rattle.book_types.specs.Laws.{entries_part}
 use borrow.Author.Rules.{rules}
 use Rattle.gen_gep.proofs.skip_at.Statement.{statement}
 use Rattle.gen_gep.proofs.skip_at.Tie as tie
@@ -36,7 +36,7 @@ skip-requires c κs = search rules
 returns : tie.Need-returns
 returns c =
     let entry = c.before.before.before.before.before in
-    c.skip.ensures ∙ ap (tyLen entry.args.names) (entries-part entry.args.at entry.args.book-kinds.now entry.args.book-words.now)
+    c.skip.ensures ∙ ap (ty_len entry.args.names) (entries_part entry.args.at entry.args.book-kinds.now entry.args.book-words.now)
 
 pub skip-at-spec : {M : Type 1} → statement M
 skip-at-spec =

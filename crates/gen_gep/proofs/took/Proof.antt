@@ -3,8 +3,8 @@ use mathlib.Core.Path.{subst}
 use Rattle.book.specs.Entry.{entries}
 use Rattle.layout_step.specs.Steps.{Steps}
 use Rattle.layout_step.specs.declared.Step.{Step}
-use Rattle.gen_gep.specs.Indices.{indexIn}
-use Rattle.gen_gep.specs.Walks.{Numbered, refused-went, constant-went, varying-went}
+use Rattle.gen_gep.specs.Indices.{index_in}
+use Rattle.gen_gep.specs.Walks.{Numbered, refused_went, constant_went, varying_went}
 use borrow.Author.Rules.{rules}
 use Rattle.gen_gep.proofs.took.Statement.{statement}
 use Rattle.gen_gep.proofs.took.Tie as tie
@@ -37,7 +37,7 @@ returns c =
     let a = entry.args in
     let es = entries a.book-kinds.now a.book-words.now in
     λ p k answer f ready front says at.
-    refused-went (indexIn p) ready at front _ (subst Numbered after-step.step.given.1 entry.requires.1)
+    refused_went (index_in p) ready at front _ (subst Numbered after-step.step.given.1 entry.requires.1)
     (subst (λ (t : Step). Steps a.names es answer t) after-step.step.given.1 says) c.refuse.ensures
 
 returns-2 : tie.Need-returns-2
@@ -47,7 +47,7 @@ returns-2 c =
     let a = entry.args in
     let es = entries a.book-kinds.now a.book-words.now in
     λ p k answer f ready front says at.
-    constant-went (indexIn p) ready at _ _ (subst (λ (t : Step). Steps a.names es answer t) after-step2.step2.given.1 says) c.wrapping_add.ensures
+    constant_went (index_in p) ready at _ _ (subst (λ (t : Step). Steps a.names es answer t) after-step2.step2.given.1 says) c.wrapping_add.ensures
 
 same_length : tie.Need-same-length
 same_length c = search rules
@@ -61,7 +61,7 @@ returns-3 c =
     let es = entries a.book-kinds.now a.book-words.now in
     λ p k answer f ready front says at.
     let q = subst (λ (t : Step). Steps a.names es answer t) after-step3.step3.given.1 says in
-    varying-went k (indexIn p) _ _ q (after-vary.vary.ensures p k f ready q.front at)
+    varying_went k (index_in p) _ _ q (after-vary.vary.ensures p k f ready q.front at)
 
 pub took-spec : {M : Type 1} → statement M
 took-spec =

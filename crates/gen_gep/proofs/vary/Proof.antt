@@ -2,8 +2,8 @@
 use mathlib.Core.Path.{refl}
 use native.Mathlib.Omega.{arith}
 use lib.ListN.{length-set}
-use Rattle.gen_values.specs.Fields.{partFrom, fields-part, width_is}
-use Rattle.gen_gep.specs.Walks.{vary-went}
+use Rattle.gen_values.specs.Fields.{part_from, fields_part, width_is}
+use Rattle.gen_gep.specs.Walks.{vary_went}
 use borrow.Author.Rules.{rules}
 use Rattle.gen_gep.proofs.vary.Statement.{statement}
 use Rattle.gen_gep.proofs.vary.Tie as tie
@@ -73,9 +73,9 @@ returns c =
     let entry = after-need-width.before.before.before.before.before.before in
     let a = entry.args in
     λ p k f ready front at.
-    let type-here = fields-part a.book-kinds.now a.book-words.now a.index f in
-    vary-went a.names a.book-kinds.now a.book-words.now a.work.now k a.w a.index f ready at entry.requires.room entry.requires.few a.stride a.next front refl
-    (after-need-width.need-width.ensures p.0 (width_is (partFrom a.book-kinds.now a.index) (partFrom a.book-words.now a.index) 0 type-here))
+    let type-here = fields_part a.book-kinds.now a.book-words.now a.index f in
+    vary_went a.names a.book-kinds.now a.book-words.now a.work.now k a.w a.index f ready at entry.requires.room entry.requires.few a.stride a.next front refl
+    (after-need-width.need-width.ensures p.0 (width_is (part_from a.book-kinds.now a.index) (part_from a.book-words.now a.index) 0 type-here))
 
 pub vary-spec : {M : Type 1} → statement M
 vary-spec =

@@ -5,18 +5,18 @@ use native.Mathlib.Omega.{arith}
 use lib.ListN.{length, drop}
 use Rattle.book.specs.Entry.{entries}
 use Rattle.book.specs.Fields.{Meanings}
-use Rattle.layout_memo.specs.Work.{structsIn}
+use Rattle.layout_memo.specs.Work.{structs_in}
 use Rattle.lowering.specs.Gep.{walk}
 use Rattle.gen_values.specs.Fields.{Fields}
-use Rattle.gen_gep.specs.Indices.{gepFields, indexList}
-use Rattle.gen_gep.specs.Loop.{WalkLoop, loop-start, loop-in, loop-there, loop-value, loop-take, loop-more, loop-done}
+use Rattle.gen_gep.specs.Indices.{gep_fields, index_list}
+use Rattle.gen_gep.specs.Loop.{WalkLoop, loop_start, loop_in, loop_there, loop_value, loop_take, loop_more, loop_done}
 use Rattle.gen_gep.proofs.walk.Statement.{statement}
 use Rattle.gen_gep.proofs.walk.Tie as tie
 
 abbrev invariant-loop : tie.invariant-loop
 invariant-loop book-kinds book-words work₀ names at indices w₀ index₀ work w index =
-    (p : Meanings gepFields) → Fields names gepFields p (drop at (entries book-kinds book-words)) → Fields names indexList p.1.1 (drop indices (entries book-kinds book-words))
-    → WalkLoop names book-kinds book-words work₀ work (walk (structsIn names (entries book-kinds book-words)) p.0 p.1.1.0) w₀.s index w
+    (p : Meanings gep_fields) → Fields names gep_fields p (drop at (entries book-kinds book-words)) → Fields names index_list p.1.1 (drop indices (entries book-kinds book-words))
+    → WalkLoop names book-kinds book-words work₀ work (walk (structs_in names (entries book-kinds book-words)) p.0 p.1.1.0) w₀.s index w
 
 abbrev decreases-loop : tie.decreases-loop
 decreases-loop book-kinds book-words work₀ names at indices w₀ index₀ work w index =
@@ -26,27 +26,27 @@ loop-holds : tie.Need-loop-init invariant-loop decreases-loop
 loop-holds c =
     let entry = c.before.before.before in
     let a = entry.args in
-    λ p f list. loop-start a.names a.book-kinds.now a.book-words.now a.work.now p a.at a.indices f list entry.requires.lent.ready a.s
+    λ p f list. loop_start a.names a.book-kinds.now a.book-words.now a.work.now p a.at a.indices f list entry.requires.lent.ready a.s
 
 mul-if1 : tie.Need-overflow-mul-if1 invariant-loop decreases-loop
 mul-if1 c =
     let entry = c.before.before.before.before in
     let l = c.loop.invariant entry.requires.lent.holds entry.requires.lent.fields entry.requires.list in
-    omega (arith, loop-in l, entry.well-formed)
+    omega (arith, loop_in l, entry.well-formed)
 
 shared-slice-read-if1 : tie.Need-shared-slice-read-if1 invariant-loop decreases-loop
 shared-slice-read-if1 c =
     let at-loop = c.before in
     let entry = at-loop.before.before.before.before in
     let l = at-loop.loop.invariant entry.requires.lent.holds entry.requires.lent.fields entry.requires.list in
-    loop-in l
+    loop_in l
 
 skip-at-requires : tie.Need-skip-at-requires invariant-loop decreases-loop
 skip-at-requires c κs =
     let at-loop = c.before.before in
     let entry = at-loop.before.before.before.before in
     let l = at-loop.loop.invariant entry.requires.lent.holds entry.requires.lent.fields entry.requires.list in
-    loop-there l c.if1.true
+    loop_there l c.if1.true
 
 add-value : tie.Need-overflow-add-value invariant-loop decreases-loop
 add-value c =
@@ -54,7 +54,7 @@ add-value c =
     let at-loop = then1.before.before in
     let entry = at-loop.before.before.before.before in
     let l = at-loop.loop.invariant entry.requires.lent.holds entry.requires.lent.fields entry.requires.list in
-    omega (arith, loop-value l then1.if1.true refl c.skip_at.ensures, entry.well-formed)
+    omega (arith, loop_value l then1.if1.true refl c.skip_at.ensures, entry.well-formed)
 
 walk-index-requires : tie.Need-walk-index-requires invariant-loop decreases-loop
 walk-index-requires c κs =
@@ -63,7 +63,7 @@ walk-index-requires c κs =
     let at-loop = then1.before.before in
     let entry = at-loop.before.before.before.before in
     let l = at-loop.loop.invariant entry.requires.lent.holds entry.requires.lent.fields entry.requires.list in
-    loop-take l then1.if1.true entry.requires.lent.room refl after-skip-at.skip_at.ensures
+    loop_take l then1.if1.true entry.requires.lent.room refl after-skip-at.skip_at.ensures
 
 add-index : tie.Need-overflow-add-index invariant-loop decreases-loop
 add-index c =
@@ -72,14 +72,14 @@ add-index c =
     let at-loop = then1.before.before in
     let entry = at-loop.before.before.before.before in
     let l = at-loop.loop.invariant entry.requires.lent.holds entry.requires.lent.fields entry.requires.list in
-    omega (arith, loop-value l then1.if1.true refl after-skip-at.skip_at.ensures, entry.well-formed)
+    omega (arith, loop_value l then1.if1.true refl after-skip-at.skip_at.ensures, entry.well-formed)
 
 loop-less : tie.Need-loop-smaller invariant-loop decreases-loop
 loop-less c =
     let at-loop = c.before.before.before.before.before.before.before in
     let entry = at-loop.before.before.before.before in
     let l = at-loop.loop.invariant entry.requires.lent.holds entry.requires.lent.fields entry.requires.list in
-    omega (arith, loop-in l)
+    omega (arith, loop_in l)
 
 loop-again : tie.Need-loop-preserved invariant-loop decreases-loop
 loop-again c =
@@ -87,7 +87,7 @@ loop-again c =
     let after-skip-at = after-walk-index.before.before in
     let then1 = after-skip-at.before in
     let at-loop = then1.before.before in
-    λ p f list. loop-more (at-loop.loop.invariant p f list) then1.if1.true refl after-skip-at.skip_at.ensures after-walk-index.walk-index.ensures
+    λ p f list. loop_more (at-loop.loop.invariant p f list) then1.if1.true refl after-skip-at.skip_at.ensures after-walk-index.walk-index.ensures
 
 same_length : tie.Need-same-length invariant-loop decreases-loop
 same_length c =
@@ -99,7 +99,7 @@ same_length c =
 returns : tie.Need-returns invariant-loop decreases-loop
 returns c =
     let at-loop = c.before.before in
-    λ p f list. loop-done (at-loop.loop.invariant p f list) c.if1.false
+    λ p f list. loop_done (at-loop.loop.invariant p f list) c.if1.false
 
 pub walk-spec : {M : Type 1} → statement M
 walk-spec =

@@ -1,8 +1,8 @@
 -- `gen_inst::gen_inst` meets its contract: the body, and the result where one is stored.
 use native.Mathlib.Omega.{arith}
-use Rattle.gen_inst.specs.View.{kind-is, dest-word, inst_in}
+use Rattle.gen_inst.specs.View.{kind_is, dest_word_lem, inst_in}
 use Rattle.gen_inst.specs.Body.{result}
-use Rattle.gen_inst.specs.Whole.{inst-within, body-held, part-fields, dest-few, inst-stored, inst-unstored}
+use Rattle.gen_inst.specs.Whole.{inst_within, body_held, part_fields, dest_few, inst_stored, inst_unstored}
 use borrow.Author.Rules.{rules}
 use Rattle.gen_inst.proofs.gen_inst.Statement.{statement}
 use Rattle.gen_inst.proofs.gen_inst.Tie as tie
@@ -51,12 +51,12 @@ part-inst-body-end-2 c = search rules
 add-inst-body : tie.Need-overflow-add-inst-body
 add-inst-body c =
     let entry = c.before.before.before.before.before.before.before.before.before.before.before in
-    omega (arith, inst-within entry.args.kinds.now entry.args.words.now entry.args.book-kinds.now entry.args.book-words.now entry.args.at entry.requires, entry.well-formed)
+    omega (arith, inst_within entry.args.kinds.now entry.args.words.now entry.args.book-kinds.now entry.args.book-words.now entry.args.at entry.requires, entry.well-formed)
 
 inst-body-requires : tie.Need-inst-body-requires
 inst-body-requires c κs =
     let entry = c.before.before.before.before.before.before.before.before.before.before.before.before.before.before in
-    body-held entry.args.kinds.now entry.args.words.now entry.args.book-kinds.now entry.args.book-words.now entry.args.at entry.requires
+    body_held entry.args.kinds.now entry.args.words.now entry.args.book-kinds.now entry.args.book-words.now entry.args.at entry.requires
 
 stores-requires : tie.Need-stores-requires
 stores-requires c κs = search rules
@@ -65,7 +65,7 @@ store-dest-requires : tie.Need-store-dest-requires
 store-dest-requires c κs =
     let after-inst-body = c.before.before.before.before.before.before.before.before.before.before.before in
     let entry = after-inst-body.before.before.before.before.before.before.before.before.before.before.before.before.before.before.before in
-    record { there = λ z. omega (arith, dest-few entry.args.kinds.now entry.args.words.now entry.requires.here, entry.requires.room, after-inst-body.inst-body.auto.1.1.1.1.1.1.0) }
+    record { there = λ z. omega (arith, dest_few entry.args.kinds.now entry.args.words.now entry.requires.here, entry.requires.room, after-inst-body.inst-body.auto.1.1.1.1.1.1.0) }
 
 same_length : tie.Need-same-length
 same_length c = search rules
@@ -84,12 +84,12 @@ returns c =
     let after-inst-body = after-stores.before.before.before.before.before.before.before in
     let entry = after-inst-body.before.before.before.before.before.before.before.before.before.before.before.before.before.before.before in
     λ k i here base maps.
-    let e = kind-is entry.args.kinds.now entry.args.words.now here in
-    let d = dest-word entry.args.kinds.now entry.args.words.now here in
-    let b = after-inst-body.inst-body.ensures k i.dest i.kind e d base maps (part-fields entry.args.kinds.now entry.args.words.now here) in
-    inst-stored k i e (after-stores.stores.ensures.0 then1.if1.true) b
+    let e = kind_is entry.args.kinds.now entry.args.words.now here in
+    let d = dest_word_lem entry.args.kinds.now entry.args.words.now here in
+    let b = after-inst-body.inst-body.ensures k i.dest i.kind e d base maps (part_fields entry.args.kinds.now entry.args.words.now here) in
+    inst_stored k i e (after-stores.stores.ensures.0 then1.if1.true) b
     (result k _ i.dest d
-    (after-store-dest.store-dest.ensures entry.args.names k (dest-few entry.args.kinds.now entry.args.words.now here) b.maps.locals))
+    (after-store-dest.store-dest.ensures entry.args.names k (dest_few entry.args.kinds.now entry.args.words.now here) b.maps.locals))
 
 same-length-4 : tie.Need-same-length-4
 same-length-4 c = search rules
@@ -106,9 +106,9 @@ returns-2 c =
     let after-inst-body = after-stores.before.before.before.before.before.before.before in
     let entry = after-inst-body.before.before.before.before.before.before.before.before.before.before.before.before.before.before.before in
     λ k i here base maps.
-    let e = kind-is entry.args.kinds.now entry.args.words.now here in
-    let b = after-inst-body.inst-body.ensures k i.dest i.kind e (dest-word entry.args.kinds.now entry.args.words.now here) base maps (part-fields entry.args.kinds.now entry.args.words.now here) in
-    inst-unstored k i e (after-stores.stores.ensures.1 c.if1.false) b
+    let e = kind_is entry.args.kinds.now entry.args.words.now here in
+    let b = after-inst-body.inst-body.ensures k i.dest i.kind e (dest_word_lem entry.args.kinds.now entry.args.words.now here) base maps (part_fields entry.args.kinds.now entry.args.words.now here) in
+    inst_unstored k i e (after-stores.stores.ensures.1 c.if1.false) b
 
 pub gen-inst-spec : {M : Type 1} → statement M
 gen-inst-spec =

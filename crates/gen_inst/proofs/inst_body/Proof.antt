@@ -2,10 +2,10 @@
 use mathlib.Core.Path.{sym, ◌∙◌}
 use mathlib.Core.Logic.{⊎_elim}
 use native.Mathlib.Omega.{arith}
-use Rattle.gen_inst.specs.View.{not-59}
-use Rattle.gen_inst.specs.Body.{kind-from}
-use Rattle.gen_inst.specs.Values.{bin-there, conv-there, icmp-there, bin-arm, conv-arm, icmp-arm}
-use Rattle.gen_inst.specs.Measured.{Measures, measures-low, measures-high}
+use Rattle.gen_inst.specs.View.{not_59}
+use Rattle.gen_inst.specs.Body.{kind_from}
+use Rattle.gen_inst.specs.Values.{bin_there, conv_there, icmp_there, bin_arm, conv_arm, icmp_arm}
+use Rattle.gen_inst.specs.Measured.{Measures, measures_low, measures_high}
 use Rattle.gen_inst.specs.Own.{Own, own_at}
 use borrow.Author.Rules.{rules}
 use Rattle.gen_inst.proofs.inst_body.Statement.{statement}
@@ -26,7 +26,7 @@ gen-bin-requires c κs =
     let below53 = c.before.before.before in
     let from40 = below53.before in
     let entry = from40.before.before.before.before.before.before.before.before.before in
-    (omega (arith, below53.if3.true), bin-there entry.requires.held (omega (arith, from40.if2.false)) (omega (arith, below53.if3.true)))
+    (omega (arith, below53.if3.true), bin_there entry.requires.held (omega (arith, from40.if2.false)) (omega (arith, below53.if3.true)))
 
 cast-op-2 : tie.Need-overflow-cast-op-2
 cast-op-2 c = search rules
@@ -36,7 +36,7 @@ gen-conv-requires c κs =
     let below59 = c.before.before.before in
     let from53 = below59.before in
     let entry = from53.before.before.before.before.before.before.before.before.before.before in
-    conv-there entry.requires.held (omega (arith, from53.if3.false)) (omega (arith, below59.if4.true))
+    conv_there entry.requires.held (omega (arith, from53.if3.false)) (omega (arith, below59.if4.true))
 
 sub-pred : tie.Need-overflow-sub-pred
 sub-pred c = search rules
@@ -49,7 +49,7 @@ gen-icmp-requires c κs =
     let from60 = c.before.before.before in
     let below70 = from60.before.before.before.before in
     let entry = below70.before.before.before.before.before.before.before.before in
-    (omega (arith, below70.if1.true), icmp-there entry.requires.held (omega (arith, from60.if5.false)) (omega (arith, below70.if1.true)))
+    (omega (arith, below70.if1.true), icmp_there entry.requires.held (omega (arith, from60.if5.false)) (omega (arith, below70.if1.true)))
 
 measured-lines-requires : tie.Need-measured-lines-requires
 measured-lines-requires c κs = search rules
@@ -72,7 +72,7 @@ returns c =
     let below53 = after-gen-bin.before.before.before.before in
     let from40 = below53.before in
     λ k d i e named base maps f.
-    bin-arm k d i e f maps (omega (arith, from40.if2.false)) (omega (arith, below53.if3.true)) (λ o q p g. after-gen-bin.gen-bin.ensures k o q maps.locals p g)
+    bin_arm k d i e f maps (omega (arith, from40.if2.false)) (omega (arith, below53.if3.true)) (λ o q p g. after-gen-bin.gen-bin.ensures k o q maps.locals p g)
 
 same-length-4 : tie.Need-same-length-4
 same-length-4 c = search rules
@@ -89,7 +89,7 @@ returns-2 c =
     let below59 = after-gen-conv.before.before.before.before in
     let from53 = below59.before in
     λ k d i e named base maps f.
-    conv-arm k d i e f maps (omega (arith, from53.if3.false)) (omega (arith, below59.if4.true)) (λ o q p g. after-gen-conv.gen-conv.ensures k o q maps.locals p g)
+    conv_arm k d i e f maps (omega (arith, from53.if3.false)) (omega (arith, below59.if4.true)) (λ o q p g. after-gen-conv.gen-conv.ensures k o q maps.locals p g)
 
 same-length-7 : tie.Need-same-length-7
 same-length-7 c = search rules
@@ -106,7 +106,7 @@ returns-3 c =
     let from60 = after-gen-icmp.before.before.before.before in
     let below70 = from60.before.before.before.before in
     λ k d i e named base maps f.
-    icmp-arm k d i e f maps (omega (arith, from60.if5.false)) (omega (arith, below70.if1.true)) (λ o q p g. after-gen-icmp.gen-icmp.ensures k o q maps.locals p g)
+    icmp_arm k d i e f maps (omega (arith, from60.if5.false)) (omega (arith, below70.if1.true)) (λ o q p g. after-gen-icmp.gen-icmp.ensures k o q maps.locals p g)
 
 same-length-10 : tie.Need-same-length-10
 same-length-10 c = search rules
@@ -125,7 +125,7 @@ returns-4 c =
     let entry = from71.before.before.before.before.before.before.before.before.before in
     let kind = entry.args.kind in
     let measures : Measures kind =
-    ⊎_elim (λ w. measures-low kind (omega (arith, from71.if6.false)) (omega (arith, w.taken))) (λ w. measures-high kind (omega (arith, w.1.left)) (omega (arith, w.2.taken)))
+    ⊎_elim (λ w. measures_low kind (omega (arith, from71.if6.false)) (omega (arith, w.taken))) (λ w. measures_high kind (omega (arith, w.1.left)) (omega (arith, w.2.taken)))
     joined.if7.branch in
     λ k d i e named base maps f. after-measured-lines.measured-lines.ensures k d i e measures maps f
 
@@ -146,13 +146,13 @@ returns-5 c =
     let kind = entry.args.kind in
     λ k d i e named base maps f.
     let own : Own kind =
-    ⊎_elim (λ w. absurd (omega (arith, w.1.taken, e, kind-from i)))
-    (⊎_elim (λ w. absurd (not-59 i (sym e ∙ omega (arith, w.3.left, w.4.taken))))
+    ⊎_elim (λ w. absurd (omega (arith, w.1.taken, e, kind_from i)))
+    (⊎_elim (λ w. absurd (not_59 i (sym e ∙ omega (arith, w.3.left, w.4.taken))))
     (⊎_elim (λ w. own_at kind (omega (arith, w.0.left)) (λ l. omega (arith, w.1.taken)) (λ l. omega (arith, w.1.taken)))
     (⊎_elim (λ w. own_at kind (omega (arith, w.0.left)) (λ l. omega (arith, w.2.left)) (λ l. omega (arith, w.3.taken)))
     (λ w. own_at kind (omega (arith, w.0.left)) (λ l. omega (arith, w.2.left)) (λ l. omega (arith, w.4.left))))))
     joined.if1.branch in
-    after-own-lines.own-lines.ensures k d i e own named base maps f
+    after-own-lines.own_lines.ensures k d i e own named base maps f
 
 pub inst-body-spec : {M : Type 1} → statement M
 inst-body-spec =

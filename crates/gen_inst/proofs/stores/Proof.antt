@@ -29,9 +29,9 @@ returns-4 c =
       λ e. inr (inr (inr (eqb-true entry.args.kind 78 e))),
       λ e. record {
         high = omega (arith, else1.if1.false);
-        no-gep = else2.if2.false;
-        no-freeze = c.if3.false;
-        no-atomic = eqb-false entry.args.kind 78 e;
+        no_gep = else2.if2.false;
+        no_freeze = c.if3.false;
+        no_atomic = eqb-false entry.args.kind 78 e;
       },
     )
 

@@ -25,7 +25,7 @@ shorter-requires c κs = search rules
 loop-holds : tie.Need-loop-init invariant-loop decreases-loop
 loop-holds c =
     let entry = c.before.before.before.before in
-    laws.define-start _ _ _ entry.requires
+    laws.define_start _ _ _ entry.requires
 
 mul-defines : tie.Need-overflow-mul-defines invariant-loop decreases-loop
 mul-defines c =
@@ -35,7 +35,7 @@ mul-defines c =
     let entry = after-shorter.before.before.before.before in
     let l : at-loop.loop.at < length (entries entry.args.kinds.now entry.args.words.now) = rw after-shorter.shorter.ensures at in-loop.loop-test.true in
     let h = laws.seen_here _ entry.args.kinds.now entry.args.words.now _ _ _ at-loop.loop.invariant l in
-    let k = h.in-kinds in
+    let k = h.in_kinds in
     search rules
 
 shared-slice-read-defines : tie.Need-shared-slice-read-defines invariant-loop decreases-loop
@@ -46,7 +46,7 @@ shared-slice-read-defines c =
     let entry = after-shorter.before.before.before.before in
     let l : at-loop.loop.at < length (entries entry.args.kinds.now entry.args.words.now) = rw after-shorter.shorter.ensures at in-loop.loop-test.true in
     let h = laws.seen_here _ entry.args.kinds.now entry.args.words.now _ _ _ at-loop.loop.invariant l in
-    let k = h.in-kinds in
+    let k = h.in_kinds in
     search rules
 
 defines-requires : tie.Need-defines-requires invariant-loop decreases-loop
@@ -163,7 +163,7 @@ add_at c =
     let entry = after-shorter.before.before.before.before in
     let l : at-loop.loop.at < length (entries entry.args.kinds.now entry.args.words.now) = rw after-shorter.shorter.ensures at in-loop.loop-test.true in
     let h = laws.seen_here _ entry.args.kinds.now entry.args.words.now _ _ _ at-loop.loop.invariant l in
-    let k = h.in-kinds in
+    let k = h.in_kinds in
     search rules
 
 loop-less : tie.Need-loop-smaller invariant-loop decreases-loop
@@ -191,7 +191,7 @@ returns c =
     let at-loop = c.before in
     let after-shorter = at-loop.before in
     let entry = after-shorter.before.before.before.before in
-    laws.define-done _ entry.args.kinds.now entry.args.words.now _ _ _ at-loop.loop.invariant (rw after-shorter.shorter.ensures at c.loop-test.false)
+    laws.define_done _ entry.args.kinds.now entry.args.words.now _ _ _ at-loop.loop.invariant (rw after-shorter.shorter.ensures at c.loop-test.false)
 
 pub define-marks-spec : {M : Type 1} → statement M
 define-marks-spec =

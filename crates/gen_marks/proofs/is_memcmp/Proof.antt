@@ -1,7 +1,7 @@
 -- `gen_marks::is_memcmp` meets its contract: a text of another length is not the name.
 use mathlib.Core.Path.{◌∙◌}
 use Rattle.names.specs.Text.{bytes}
-use Rattle.gen_marks.proofs.Scan.{memcmp-four, memcmp-six, memcmp-other}
+use Rattle.gen_marks.proofs.Scan.{memcmp_four, memcmp_six, memcmp_other}
 use borrow.Author.Rules.{rules}
 use Rattle.gen_marks.proofs.is_memcmp.Statement.{statement}
 use Rattle.gen_marks.proofs.is_memcmp.Tie as tie
@@ -21,7 +21,7 @@ unfolding bytes
 returns c =
     let then1 = c.before.before in
     let entry = then1.before.before in
-    c.name-starts.ensures ∙ memcmp-four _ _ _ entry.requires.ends then1.if1.true
+    c.name-starts.ensures ∙ memcmp_four _ _ _ entry.requires.ends then1.if1.true
 
 slice-aggregate-name-starts-2 : tie.Need-slice-aggregate-name-starts-2
 slice-aggregate-name-starts-2 c = search rules
@@ -34,13 +34,13 @@ unfolding bytes
 returns-2 c =
     let then2 = c.before.before in
     let entry = then2.before.before.before in
-    c.name-starts2.ensures ∙ memcmp-six _ _ _ entry.requires.ends then2.if2.true
+    c.name-starts2.ensures ∙ memcmp_six _ _ _ entry.requires.ends then2.if2.true
 
 returns-3 : tie.Need-returns-3
 returns-3 c =
     let else1 = c.before in
     let entry = else1.before.before in
-    memcmp-other _ _ _ entry.requires.ends else1.if1.false c.if2.false
+    memcmp_other _ _ _ entry.requires.ends else1.if1.false c.if2.false
 
 pub is-memcmp-spec : {M : Type 1} → statement M
 is-memcmp-spec =

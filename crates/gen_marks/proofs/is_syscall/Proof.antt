@@ -1,7 +1,7 @@
 -- `gen_marks::is_syscall` meets its contract: a name with another first byte does not start so.
 use mathlib.Core.Path.{sym}
 use Rattle.names.specs.Text.{bytes}
-use Rattle.names.specs.Spelling.{isSyscall}
+use Rattle.names.specs.Spelling.{is_syscall}
 use Rattle.gen_marks.proofs.Scan.{starts_other}
 use borrow.Author.Rules.{rules}
 use Rattle.gen_marks.proofs.is_syscall.Statement.{statement}
@@ -18,11 +18,11 @@ name-starts-requires : tie.Need-name-starts-requires
 name-starts-requires c κs = search rules
 
 returns : tie.Need-returns
-unfolding isSyscall bytes
+unfolding is_syscall bytes
 returns c = c.name-starts.ensures
 
 returns-2 : tie.Need-returns-2
-unfolding isSyscall bytes
+unfolding is_syscall bytes
 returns-2 c =
     let entry = c.before.before.before in
     sym (starts_other entry.args.names.now entry.args.at 95 _ entry.requires c.if1.false)

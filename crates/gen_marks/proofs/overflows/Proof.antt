@@ -4,7 +4,7 @@ use mathlib.Core.Path.{sym, ◌∙◌}
 use mathlib.Core.Logic.{⊎_elim}
 use native.Mathlib.Omega.{arith}
 use Rattle.names.specs.Text.{bytes}
-use Rattle.gen_marks.proofs.Scan.{Looking, look-start, look-here, look-end, look-later, look-other}
+use Rattle.gen_marks.proofs.Scan.{Looking, look_start, look_here, look_end, look_later, look_other}
 use borrow.Author.Rules.{rules}
 use Rattle.gen_marks.proofs.overflows.Statement.{statement}
 use Rattle.gen_marks.proofs.overflows.Tie as tie
@@ -22,10 +22,10 @@ sub-if1 c = let entry = c.before in omega (arith, entry.requires.ends)
 returns : tie.Need-returns invariant-loop decreases-loop
 returns c =
     let entry = c.before.before in
-    look-end (look-start entry.requires) (omega (arith, c.if1.true))
+    look_end (look_start entry.requires) (omega (arith, c.if1.true))
 
 loop-holds : tie.Need-loop-init invariant-loop decreases-loop
-loop-holds c = let entry = c.before.before in look-start entry.requires
+loop-holds c = let entry = c.before.before in look_start entry.requires
 
 add-loop : tie.Need-overflow-add-loop invariant-loop decreases-loop
 add-loop c =
@@ -48,7 +48,7 @@ unfolding bytes
 returns-2 c =
     let after-name-starts = c.before in
     let at-loop = after-name-starts.before.before.before.before.before in
-    look-here at-loop.loop.invariant (sym after-name-starts.name-starts.ensures ∙ c.if3.true)
+    look_here at-loop.loop.invariant (sym after-name-starts.name-starts.ensures ∙ c.if3.true)
 
 add-i : tie.Need-overflow-add-i invariant-loop decreases-loop
 add-i c = search rules
@@ -62,14 +62,14 @@ loop-again c =
     let in-loop = c.before.before in
     let at-loop = in-loop.before in
     ⊎_elim
-    (λ w. look-later at-loop.loop.invariant (omega (arith, in-loop.loop-test.true)) (sym w.2.ensures ∙ w.3.left))
-    (λ w. look-other at-loop.loop.invariant (omega (arith, in-loop.loop-test.true)) w.left)
+    (λ w. look_later at-loop.loop.invariant (omega (arith, in-loop.loop-test.true)) (sym w.2.ensures ∙ w.3.left))
+    (λ w. look_other at-loop.loop.invariant (omega (arith, in-loop.loop-test.true)) w.left)
     c.if2.branch
 
 returns-3 : tie.Need-returns-3 invariant-loop decreases-loop
 returns-3 c =
     let at-loop = c.before in
-    look-end at-loop.loop.invariant (omega (arith, c.loop-test.false))
+    look_end at-loop.loop.invariant (omega (arith, c.loop-test.false))
 
 pub overflows-spec : {M : Type 1} → statement M
 overflows-spec =

@@ -20,7 +20,7 @@ returns c =
     let after-define-marks = c.before.before in
     let after-spell-marks = after-define-marks.before.before.before.before in
     let entry = after-spell-marks.before.before.before.before.before.before in
-    laws.marks-placed entry.args.kinds.now entry.args.words.now entry.requires after-spell-marks.spell-marks.ensures after-define-marks.define-marks.ensures
+    laws.marks_placed entry.args.kinds.now entry.args.words.now entry.requires after-spell-marks.spell-marks.ensures after-define-marks.define-marks.ensures
 
 pub place-marks-spec : {M : Type 1} → statement M
 place-marks-spec =

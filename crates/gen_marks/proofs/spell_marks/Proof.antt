@@ -3,7 +3,7 @@ use borrow.Author.Rules.{rules}
 use Prim.Native.Nat.{◌-◌}
 use lib.ListN.{length}
 use native.Mathlib.Omega.{arith}
-use Rattle.gen_marks.specs.Mark.{spelled-small}
+use Rattle.gen_marks.specs.Mark.{spelled_small}
 use Rattle.gen_marks.specs.Spelling as laws
 use Rattle.gen_marks.proofs.spell_marks.Statement.{statement}
 use Rattle.gen_marks.proofs.spell_marks.Tie as tie
@@ -20,13 +20,13 @@ decreases-loop names work₀ count at₀ x₀ work at x = length names - at
 loop-holds : tie.Need-loop-init invariant-loop decreases-loop
 loop-holds c =
     let entry = c.before.before in
-    laws.spell-start _ _ _ entry.requires
+    laws.spell_start _ _ _ entry.requires
 
 mul-place : tie.Need-overflow-mul-place invariant-loop decreases-loop
 mul-place c =
     let in-loop = c in
     let at-loop = in-loop.before in
-    let q = laws.spell-more at-loop.loop.invariant in-loop.loop-test.true in
+    let q = laws.spell_more at-loop.loop.invariant in-loop.loop-test.true in
     let r = at-loop.loop.invariant.room in
     search rules
 
@@ -34,7 +34,7 @@ add-place : tie.Need-overflow-add-place invariant-loop decreases-loop
 add-place c =
     let in-loop = c in
     let at-loop = in-loop.before in
-    let q = laws.spell-more at-loop.loop.invariant in-loop.loop-test.true in
+    let q = laws.spell_more at-loop.loop.invariant in-loop.loop-test.true in
     let r = at-loop.loop.invariant.room in
     search rules
 
@@ -42,7 +42,7 @@ mul-end : tie.Need-overflow-mul-end invariant-loop decreases-loop
 mul-end c =
     let in-loop = c in
     let at-loop = in-loop.before in
-    let q = laws.spell-more at-loop.loop.invariant in-loop.loop-test.true in
+    let q = laws.spell_more at-loop.loop.invariant in-loop.loop-test.true in
     let r = at-loop.loop.invariant.room in
     search rules
 
@@ -50,7 +50,7 @@ slice-read-end : tie.Need-slice-read-end invariant-loop decreases-loop
 slice-read-end c =
     let in-loop = c.before in
     let at-loop = in-loop.before in
-    let q = laws.spell-more at-loop.loop.invariant in-loop.loop-test.true in
+    let q = laws.spell_more at-loop.loop.invariant in-loop.loop-test.true in
     let r = at-loop.loop.invariant.room in
     search rules
 
@@ -58,7 +58,7 @@ sub-end : tie.Need-overflow-sub-end invariant-loop decreases-loop
 sub-end c =
     let in-loop = c.before in
     let at-loop = in-loop.before in
-    laws.more-than-none at-loop.loop.invariant in-loop.loop-test.true
+    laws.more_than_none at-loop.loop.invariant in-loop.loop-test.true
 
 spelled-requires : tie.Need-spelled-requires invariant-loop decreases-loop
 spelled-requires c κs =
@@ -75,13 +75,13 @@ overflows-requires c κs =
 with-overflow-requires : tie.Need-with-overflow-requires invariant-loop decreases-loop
 with-overflow-requires c κs =
     let after-spelled = c.before in
-    rw after-spelled.spelled.ensures (spelled-small _)
+    rw after-spelled.spelled.ensures (spelled_small _)
 
 mul-work : tie.Need-overflow-mul-work invariant-loop decreases-loop
 mul-work c =
     let in-loop = c.before.before.before.before in
     let at-loop = in-loop.before in
-    let q = laws.spell-more at-loop.loop.invariant in-loop.loop-test.true in
+    let q = laws.spell_more at-loop.loop.invariant in-loop.loop-test.true in
     let r = at-loop.loop.invariant.room in
     search rules
 
@@ -89,7 +89,7 @@ slice-write-work : tie.Need-slice-write-work invariant-loop decreases-loop
 slice-write-work c =
     let in-loop = c.before.before.before.before in
     let at-loop = in-loop.before in
-    let q = laws.spell-more at-loop.loop.invariant in-loop.loop-test.true in
+    let q = laws.spell_more at-loop.loop.invariant in-loop.loop-test.true in
     let r = at-loop.loop.invariant.room in
     search rules
 
@@ -97,7 +97,7 @@ add-x : tie.Need-overflow-add-x invariant-loop decreases-loop
 add-x c =
     let in-loop = c.before.before.before.before in
     let at-loop = in-loop.before in
-    let q = laws.spell-more at-loop.loop.invariant in-loop.loop-test.true in
+    let q = laws.spell_more at-loop.loop.invariant in-loop.loop-test.true in
     let r = at-loop.loop.invariant.room in
     search rules
 
@@ -124,7 +124,7 @@ loop-again c =
     let at-loop = in-loop.before in
     let more = in-loop.loop-test.true in
     laws.spell_next at-loop.loop.invariant more (laws.ended_here at-loop.loop.invariant more) _
-    (laws.word-is _ _ _ _ _ after-spelled.spelled.ensures after-overflows.overflows.ensures c.with-overflow.ensures)
+    (laws.word_is _ _ _ _ _ after-spelled.spelled.ensures after-overflows.overflows.ensures c.with-overflow.ensures)
 
 same_length : tie.Need-same-length invariant-loop decreases-loop
 same_length c = search rules
@@ -132,7 +132,7 @@ same_length c = search rules
 returns : tie.Need-returns invariant-loop decreases-loop
 returns c =
     let at-loop = c.before in
-    laws.spell-done at-loop.loop.invariant c.loop-test.false
+    laws.spell_done at-loop.loop.invariant c.loop-test.false
 
 pub spell-marks-spec : {M : Type 1} → statement M
 spell-marks-spec =

@@ -1,6 +1,6 @@
 -- `gen_memory::gen_freeze` meets its contract.
 use native.Mathlib.Omega.{arith}
-use Rattle.gen_values.specs.Fields.{ValueAt, operand_at, operand-part, value-part, type-in, width_is}
+use Rattle.gen_values.specs.Fields.{ValueAt, operand_at, operand_part, value_part, type_in, width_is}
 use Rattle.gen_values.specs.Maps.{maps_after}
 use Rattle.gen_size.specs.Lent as lent
 use Rattle.gen_fields.specs.Places as places
@@ -14,7 +14,7 @@ abbrev start_of : tie.After-skip → tie.Start
 start_of c = c.before.before.before.before.before.before.before.before.before.before.before.before.before
 
 val : (c : tie.After-skip) → ValueAt (start_of c).args.names (start_of c).args.kinds.now (start_of c).args.words.now c.skip.result (start_of c).requires.holds.1.0
-val c = places.typed-value (start_of c).args.kinds.now (start_of c).args.words.now 0 (start_of c).requires.fields (places.from_front c.skip.ensures)
+val c = places.typed_value (start_of c).args.kinds.now (start_of c).args.words.now 0 (start_of c).requires.fields (places.from_front c.skip.ensures)
 
 measured-size-requires : tie.Need-measured-size-requires
 measured-size-requires c κs =
@@ -24,19 +24,19 @@ measured-size-requires c κs =
 width-or-requires : tie.Need-width-or-requires
 width-or-requires c κs =
     let entry = c.before.before.before.before.before.before.before.before.before.before.before in
-    (type-in entry.args.kinds.now entry.args.words.now 0 entry.requires.fields, search rules)
+    (type_in entry.args.kinds.now entry.args.words.now 0 entry.requires.fields, search rules)
 
 skip-requires : tie.Need-skip-requires
 skip-requires c κs = search rules
 
 mul-val-kinds : tie.Need-overflow-mul-val-kinds
-mul-val-kinds c = omega (arith, (val c).in-kinds, (start_of c).well-formed)
+mul-val-kinds c = omega (arith, (val c).in_kinds, (start_of c).well-formed)
 
 sub-val-kinds : tie.Need-overflow-sub-val-kinds
-sub-val-kinds c = omega (arith, (val c).in-kinds)
+sub-val-kinds c = omega (arith, (val c).in_kinds)
 
 part-val-kinds-start : tie.Need-slice-bounds-val-kinds-start
-part-val-kinds-start c = omega (arith, (val c).in-kinds)
+part-val-kinds-start c = omega (arith, (val c).in_kinds)
 
 part-val-kinds-end : tie.Need-slice-bounds-val-kinds-end
 part-val-kinds-end c = search rules
@@ -57,7 +57,7 @@ push-value-requires : tie.Need-push-value-requires
 push-value-requires c κs =
     let after-skip = c.before.before.before.before.before in
     let after-measured = after-skip.before.before.before.before in
-    operand-part (operand_at (val after-skip) after-measured.measured-size.ensures.after.ready.room)
+    operand_part (operand_at (val after-skip) after-measured.measured-size.ensures.after.ready.room)
 
 same_length : tie.Need-same-length
 same_length c = search rules
@@ -80,8 +80,8 @@ returns c = λ p k fields maps.
     let size = after-measured.measured-size.ensures in
     let locals = (maps_after maps size.after).locals in
     lent.did maps size.after
-    (laws.freeze-puts k p.0 p.1.0 (lent.size-asked ks ws fields maps size) (after-width.width-or.ensures p.0 (width_is ks ws 0 fields))
-    (after_push.push-value.ensures entry.args.names k p.1.0 (value-part (places.typed-value ks ws 0 fields (places.from_front after-skip.skip.ensures))) locals))
+    (laws.freeze_puts k p.0 p.1.0 (lent.size_asked ks ws fields maps size) (after-width.width-or.ensures p.0 (width_is ks ws 0 fields))
+    (after_push.push-value.ensures entry.args.names k p.1.0 (value_part (places.typed_value ks ws 0 fields (places.from_front after-skip.skip.ensures))) locals))
 
 pub gen-freeze-spec : {M : Type 1} → statement M
 gen-freeze-spec =

@@ -1,6 +1,6 @@
 -- `gen_memory::gen_load` meets its contract.
 use native.Mathlib.Omega.{arith}
-use Rattle.gen_values.specs.Fields.{ValueAt, operand_at, operand-part, value-part}
+use Rattle.gen_values.specs.Fields.{ValueAt, operand_at, operand_part, value_part}
 use Rattle.gen_values.specs.Maps.{maps_after}
 use Rattle.gen_size.specs.Lent as lent
 use Rattle.gen_fields.specs.Places as places
@@ -14,7 +14,7 @@ abbrev start_of : tie.After-skip → tie.Start
 start_of c = c.before.before.before.before.before.before.before.before.before.before.before.before.before
 
 ptr : (c : tie.After-skip) → ValueAt (start_of c).args.names (start_of c).args.kinds.now (start_of c).args.words.now c.skip.result (start_of c).requires.holds.1.0
-ptr c = places.typed-value (start_of c).args.kinds.now (start_of c).args.words.now 0 (start_of c).requires.fields (places.from_front c.skip.ensures)
+ptr c = places.typed_value (start_of c).args.kinds.now (start_of c).args.words.now 0 (start_of c).requires.fields (places.from_front c.skip.ensures)
 
 measured-size-requires : tie.Need-measured-size-requires
 measured-size-requires c κs =
@@ -28,13 +28,13 @@ skip-requires : tie.Need-skip-requires
 skip-requires c κs = search rules
 
 mul-ptr-kinds : tie.Need-overflow-mul-ptr-kinds
-mul-ptr-kinds c = omega (arith, (ptr c).in-kinds, (start_of c).well-formed)
+mul-ptr-kinds c = omega (arith, (ptr c).in_kinds, (start_of c).well-formed)
 
 sub-ptr-kinds : tie.Need-overflow-sub-ptr-kinds
-sub-ptr-kinds c = omega (arith, (ptr c).in-kinds)
+sub-ptr-kinds c = omega (arith, (ptr c).in_kinds)
 
 part-ptr-kinds-start : tie.Need-slice-bounds-ptr-kinds-start
-part-ptr-kinds-start c = omega (arith, (ptr c).in-kinds)
+part-ptr-kinds-start c = omega (arith, (ptr c).in_kinds)
 
 part-ptr-kinds-end : tie.Need-slice-bounds-ptr-kinds-end
 part-ptr-kinds-end c = search rules
@@ -55,7 +55,7 @@ push-value-requires : tie.Need-push-value-requires
 push-value-requires c κs =
     let after-skip = c.before.before.before.before.before in
     let after-measured = after-skip.before.before.before.before in
-    operand-part (operand_at (ptr after-skip) after-measured.measured-size.ensures.after.ready.room)
+    operand_part (operand_at (ptr after-skip) after-measured.measured-size.ensures.after.ready.room)
 
 add-put : tie.Need-overflow-add-put
 add-put c = search rules
@@ -85,8 +85,8 @@ returns c = λ p k fields maps.
     let size = after-measured.measured-size.ensures in
     let locals = (maps_after maps size.after).locals in
     lent.did maps size.after
-    (laws.load-puts k p.0 p.1.0 (lent.size-asked ks ws fields maps size) after-mem-of.mem-of.ensures
-    (after_push.push-value.ensures entry.args.names k p.1.0 (value-part (places.typed-value ks ws 0 fields (places.from_front after-skip.skip.ensures))) locals)
+    (laws.load_puts k p.0 p.1.0 (lent.size_asked ks ws fields maps size) after-mem-of.mem-of.ensures
+    (after_push.push-value.ensures entry.args.names k p.1.0 (value_part (places.typed_value ks ws 0 fields (places.from_front after-skip.skip.ensures))) locals)
     after-put.put.ensures)
 
 pub gen-load-spec : {M : Type 1} → statement M

@@ -1,7 +1,7 @@
 -- `gen_memory::gen_store` meets its contract.
 use native.Mathlib.Omega.{arith}
 use Prim.Native.Nat.{◌+◌}
-use Rattle.gen_values.specs.Fields.{ValueAt, operand_at, operand-part, value-part, value-at, behind-value}
+use Rattle.gen_values.specs.Fields.{ValueAt, operand_at, operand_part, value_part, value_at, behind_value}
 use Rattle.gen_values.specs.Maps.{maps_after}
 use Rattle.gen_size.specs.Lent as lent
 use Rattle.gen_fields.specs.Places as places
@@ -16,13 +16,13 @@ start_of c = c.before.before.before.before.before.before.before.before.before.be
 
 module _ (c : tie.After-skip) where
   val : ValueAt (start_of c).args.names (start_of c).args.kinds.now (start_of c).args.words.now c.skip.result (start_of c).requires.holds.1.0
-  val = places.typed-value (start_of c).args.kinds.now (start_of c).args.words.now 0 (start_of c).requires.fields (places.from_front c.skip.ensures)
+  val = places.typed_value (start_of c).args.kinds.now (start_of c).args.words.now 0 (start_of c).requires.fields (places.from_front c.skip.ensures)
 
   ptr : ValueAt (start_of c).args.names (start_of c).args.kinds.now (start_of c).args.words.now (c.skip.result + 1) (start_of c).requires.holds.1.1.0
   ptr =
       let ks = (start_of c).args.kinds.now in
       let ws = (start_of c).args.words.now in
-      value-at ks ws (c.skip.result + 1) (behind-value ks ws c.skip.result (places.behind ks ws 0 (start_of c).requires.fields (places.from_front c.skip.ensures)))
+      value_at ks ws (c.skip.result + 1) (behind_value ks ws c.skip.result (places.behind ks ws 0 (start_of c).requires.fields (places.from_front c.skip.ensures)))
 
 measured-size-requires : tie.Need-measured-size-requires
 measured-size-requires c κs =
@@ -36,16 +36,16 @@ skip-requires : tie.Need-skip-requires
 skip-requires c κs = search rules
 
 add-ptr : tie.Need-overflow-add-ptr
-add-ptr c = omega (arith, (val c).in-kinds, (start_of c).well-formed)
+add-ptr c = omega (arith, (val c).in_kinds, (start_of c).well-formed)
 
 mul-ptr-kinds : tie.Need-overflow-mul-ptr-kinds
-mul-ptr-kinds c = omega (arith, (ptr c).in-kinds, (start_of c).well-formed)
+mul-ptr-kinds c = omega (arith, (ptr c).in_kinds, (start_of c).well-formed)
 
 sub-ptr-kinds : tie.Need-overflow-sub-ptr-kinds
-sub-ptr-kinds c = omega (arith, (ptr c).in-kinds)
+sub-ptr-kinds c = omega (arith, (ptr c).in_kinds)
 
 part-ptr-kinds-start : tie.Need-slice-bounds-ptr-kinds-start
-part-ptr-kinds-start c = omega (arith, (ptr c).in-kinds)
+part-ptr-kinds-start c = omega (arith, (ptr c).in_kinds)
 
 part-ptr-kinds-end : tie.Need-slice-bounds-ptr-kinds-end
 part-ptr-kinds-end c = search rules
@@ -66,7 +66,7 @@ push-value-requires : tie.Need-push-value-requires
 push-value-requires c κs =
     let after-skip = c.before.before.before.before.before in
     let after-measured = after-skip.before.before.before.before in
-    operand-part (operand_at (ptr after-skip) after-measured.measured-size.ensures.after.ready.room)
+    operand_part (operand_at (ptr after-skip) after-measured.measured-size.ensures.after.ready.room)
 
 push-typed-requires : tie.Need-push-typed-requires
 push-typed-requires c κs =
@@ -119,8 +119,8 @@ returns c = λ p k fields maps.
     let locals = (maps_after maps size.after).locals in
     let value = places.behind ks ws 0 fields (places.from_front after-skip.skip.ensures) in
     lent.did maps size.after
-    (laws.store-puts k p.0 p.1.0 p.1.1.0 (lent.size-asked ks ws fields maps size) after-mem-of.mem-of.ensures
-    (after_push.push-value.ensures entry.args.names k p.1.1.0 (value-part (value-at ks ws (at + 1) (behind-value ks ws at value))) locals)
+    (laws.store_puts k p.0 p.1.0 p.1.1.0 (lent.size_asked ks ws fields maps size) after-mem-of.mem-of.ensures
+    (after_push.push-value.ensures entry.args.names k p.1.1.0 (value_part (value_at ks ws (at + 1) (behind_value ks ws at value))) locals)
     (after-push-typed.push-typed.ensures entry.args.names k _ p fields after-skip.skip.ensures locals) after-put.put.ensures)
 
 pub gen-store-spec : {M : Type 1} → statement M

@@ -11,7 +11,7 @@ returns : tie.Need-returns
 returns c = λ t says.
     let after-width = c.before in
     let entry = after-width.before.before.before in
-    laws.width-there t entry.args.bytes c.if1.true (rw after-width.width_of_lem.ensures says)
+    laws.width_there t entry.args.bytes c.if1.true (rw after-width.width_of_lem.ensures says)
 
 mul-result : tie.Need-overflow-mul-result
 mul-result c = search rules
@@ -23,7 +23,7 @@ returns-2 : tie.Need-returns-2
 returns-2 c = λ t says.
     let after-width = c.before in
     let entry = after-width.before.before.before in
-    laws.width-bytes t entry.args.bytes c.if1.false (rw after-width.width_of_lem.ensures says)
+    laws.width_bytes t entry.args.bytes c.if1.false (rw after-width.width_of_lem.ensures says)
 
 pub width-or-spec : {M : Type 1} → statement M
 width-or-spec = tie.close (tie.spec width-of-requires returns mul-result cast-result returns-2)

@@ -3,9 +3,9 @@ use native.Mathlib.Omega.{arith}
 use mathlib.Core.Path.{ap}
 use mathlib.Core.Bool.{not}
 use borrow.Author.Tests.{eq-eqb}
-use Rattle.lowering.specs.Function.{genFunctions}
-use Rattle.gen_slices.specs.Fits.{fit-lines}
-use Rattle.gen_passes.specs.Passes.{clear_first, fit_none, fit-copied, fit_written}
+use Rattle.lowering.specs.Function.{gen_functions}
+use Rattle.gen_slices.specs.Fits.{fit_lines}
+use Rattle.gen_passes.specs.Passes.{clear_first, fit_none, fit_copied, fit_written}
 use borrow.Author.Rules.{rules}
 use Rattle.gen_passes.proofs.pass_over.Statement.{statement}
 use Rattle.gen_passes.proofs.pass_over.Tie as tie
@@ -41,7 +41,7 @@ copy-kinds-requires : tie.Need-copy-kinds-requires
 copy-kinds-requires c κs =
     let after-many = c.before.before.before.before in
     let after-fit = after-many.before.before in
-    let fits = (fit-lines _ _ _ _ after-fit.lines_fit.ensures _ after-many.many.given.1).1.1 in
+    let fits = (fit_lines _ _ _ _ after-fit.lines_fit.ensures _ after-many.many.given.1).1.1 in
     search rules
 
 copy-operands-requires : tie.Need-copy-operands-requires
@@ -50,11 +50,11 @@ copy-operands-requires c κs =
     let after-many = then1.before.before in
     let after-fit = after-many.before.before in
     let entry = after-fit.before.before.before.before.before.before.before.before.before.before.before.before.before.before.before.before.before.before in
-    let fits = (fit-lines _ _ _ _ after-fit.lines_fit.ensures _ after-many.many.given.1).1.1 in
+    let fits = (fit_lines _ _ _ _ after-fit.lines_fit.ensures _ after-many.many.given.1).1.1 in
     let own = then1.if1.true in
     let even = entry.requires.1 in
-    let long-operands = after-fit.before.slice-known8.given in
-    let long-kinds = after-fit.before.before.before.slice-known7.given in
+    let long_operands = after-fit.before.slice-known8.given in
+    let long_kinds = after-fit.before.before.before.slice-known7.given in
     search rules
 
 same_length : tie.Need-same-length
@@ -85,10 +85,10 @@ returns c =
     let ks = entry.args.book-kinds.now in
     let ws = entry.args.book-words.now in
     let first = after-gen-functions.gen-functions.ensures g fs here shared (clear_first ks ws here shared clean) in
-    fit-copied (genFunctions g fs) entry.args.counter
-    (record { puts = first.puts; small = omega (arith, entry.well-formed); few-kinds = omega (arith, entry.well-formed); few-operands = omega (arith, entry.well-formed) })
+    fit_copied (gen_functions g fs) entry.args.counter
+    (record { puts = first.puts; small = omega (arith, entry.well-formed); few_kinds = omega (arith, entry.well-formed); few_operands = omega (arith, entry.well-formed) })
     entry.args.lines.now entry.args.operands.now (omega (arith, entry.well-formed)) _ after-fit.lines_fit.ensures _ after-many.many.given.1
-    (omega (arith, then1.if1.true, first.puts.long-kinds)) entry.requires.1 _ _ after-copy-kinds.copy-kinds.ensures after-copy-operands.copy-operands.ensures
+    (omega (arith, then1.if1.true, first.puts.long_kinds)) entry.requires.1 _ _ after-copy-kinds.copy-kinds.ensures after-copy-operands.copy-operands.ensures
 
 gen-functions-requires-2 : tie.Need-gen-functions-requires-2
 gen-functions-requires-2 c κs =
@@ -99,7 +99,7 @@ gen-functions-requires-2 c κs =
     let a = entry.requires.0 in
     let ks = entry.args.book-kinds.now in
     let ws = entry.args.book-words.now in
-    let told = fit-lines _ _ _ _ after-fit.lines_fit.ensures _ after-many.many.given.1 in
+    let told = fit_lines _ _ _ _ after-fit.lines_fit.ensures _ after-many.many.given.1 in
     let first = after-gen-functions.gen-functions.ensures a.codegen a.functions a.here a.shared (clear_first ks ws a.here a.shared a.clean) in
     let left = first.again (ap not (eq-eqb _ 0 told.0)) in
     record { codegen = a.codegen; functions = a.functions; here = a.here; shared = left.0; ask = left.1 }
@@ -122,8 +122,8 @@ returns-2 c =
     let ks = entry.args.book-kinds.now in
     let ws = entry.args.book-words.now in
     let first = after-gen-functions.gen-functions.ensures g fs here shared (clear_first ks ws here shared clean) in
-    fit_none (genFunctions g fs) entry.args.counter
-    (record { puts = first.puts; small = omega (arith, entry.well-formed); few-kinds = omega (arith, entry.well-formed); few-operands = omega (arith, entry.well-formed) })
+    fit_none (gen_functions g fs) entry.args.counter
+    (record { puts = first.puts; small = omega (arith, entry.well-formed); few_kinds = omega (arith, entry.well-formed); few_operands = omega (arith, entry.well-formed) })
     entry.args.lines.now entry.args.operands.now (omega (arith, entry.well-formed)) _ after-fit.lines_fit.ensures _ c.before.e.given.1
 
 same-length-9 : tie.Need-same-length-9
@@ -152,13 +152,13 @@ returns-3 c =
     let ks = entry.args.book-kinds.now in
     let ws = entry.args.book-words.now in
     let first = after-gen-functions.gen-functions.ensures g fs here shared (clear_first ks ws here shared clean) in
-    let told = fit-lines _ _ _ _ after-fit.lines_fit.ensures _ after-many.many.given.1 in
+    let told = fit_lines _ _ _ _ after-fit.lines_fit.ensures _ after-many.many.given.1 in
     let left = first.again (ap not (eq-eqb _ 0 told.0)) in
     let second = after-gen-functions2.gen-functions2.ensures g fs here left.0 left.1 in
-    fit_written (genFunctions g fs) entry.args.counter
-    (record { puts = first.puts; small = omega (arith, entry.well-formed); few-kinds = omega (arith, entry.well-formed); few-operands = omega (arith, entry.well-formed) })
+    fit_written (gen_functions g fs) entry.args.counter
+    (record { puts = first.puts; small = omega (arith, entry.well-formed); few_kinds = omega (arith, entry.well-formed); few_operands = omega (arith, entry.well-formed) })
     entry.args.lines.now entry.args.operands.now (omega (arith, entry.well-formed)) _ after-fit.lines_fit.ensures _ after-many.many.given.1
-    (record { puts = second.puts; small = omega (arith, entry.well-formed); few-kinds = omega (arith, entry.well-formed); few-operands = omega (arith, entry.well-formed) })
+    (record { puts = second.puts; small = omega (arith, entry.well-formed); few_kinds = omega (arith, entry.well-formed); few_operands = omega (arith, entry.well-formed) })
 
 pub pass-over-spec : {M : Type 1} → statement M
 pass-over-spec =

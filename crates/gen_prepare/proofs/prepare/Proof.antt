@@ -1,5 +1,5 @@
 -- `gen_prepare::prepare` meets its contract: the parameters and blocks, then the frame pass.
-use Rattle.book_types.specs.Laws.{within-kinds, within-words}
+use Rattle.book_types.specs.Laws.{within_kinds, within_words}
 use Rattle.gen_prepare.specs.Passes as laws
 use borrow.Author.Rules.{rules}
 use Rattle.gen_prepare.proofs.prepare.Statement.{statement}
@@ -8,55 +8,55 @@ use Rattle.gen_prepare.proofs.prepare.Tie as tie
 mul-place-function : tie.Need-overflow-mul-place-function
 mul-place-function c =
     let entry = c.before.before.before in
-    let w = laws.function-within entry.args.kinds.now entry.args.words.now entry.requires in
+    let w = laws.function_within entry.args.kinds.now entry.args.words.now entry.requires in
     search rules
 
 sub-place-function : tie.Need-overflow-sub-place-function
 sub-place-function c =
     let entry = c.before.before.before in
-    let w = laws.function-within entry.args.kinds.now entry.args.words.now entry.requires in
+    let w = laws.function_within entry.args.kinds.now entry.args.words.now entry.requires in
     search rules
 
 part-place-function-start : tie.Need-slice-bounds-place-function-start
 part-place-function-start c =
     let entry = c.before.before.before in
-    let w = laws.function-within entry.args.kinds.now entry.args.words.now entry.requires in
+    let w = laws.function_within entry.args.kinds.now entry.args.words.now entry.requires in
     search rules
 
 part-place-function-end : tie.Need-slice-bounds-place-function-end
 part-place-function-end c =
     let entry = c.before.before.before in
-    let w = laws.function-within entry.args.kinds.now entry.args.words.now entry.requires in
+    let w = laws.function_within entry.args.kinds.now entry.args.words.now entry.requires in
     search rules
 
 mul-place-function-2 : tie.Need-overflow-mul-place-function-2
 mul-place-function-2 c =
     let entry = c.before.before.before.before in
-    let w = laws.function-within entry.args.kinds.now entry.args.words.now entry.requires in
+    let w = laws.function_within entry.args.kinds.now entry.args.words.now entry.requires in
     search rules
 
 sub-place-function-2 : tie.Need-overflow-sub-place-function-2
 sub-place-function-2 c =
     let entry = c.before.before.before.before in
-    let w = laws.function-within entry.args.kinds.now entry.args.words.now entry.requires in
+    let w = laws.function_within entry.args.kinds.now entry.args.words.now entry.requires in
     search rules
 
 part-place-function-start-2 : tie.Need-slice-bounds-place-function-start-2
 part-place-function-start-2 c =
     let entry = c.before.before.before.before in
-    let w = laws.function-within entry.args.kinds.now entry.args.words.now entry.requires in
+    let w = laws.function_within entry.args.kinds.now entry.args.words.now entry.requires in
     search rules
 
 part-place-function-end-2 : tie.Need-slice-bounds-place-function-end-2
 part-place-function-end-2 c =
     let entry = c.before.before.before.before in
-    let w = laws.function-within entry.args.kinds.now entry.args.words.now entry.requires in
+    let w = laws.function_within entry.args.kinds.now entry.args.words.now entry.requires in
     search rules
 
 place-function-requires : tie.Need-place-function-requires
 place-function-requires c κs =
     let entry = c.before.before.before.before.before.before in
-    (_, (_, laws.function-ask entry.args.kinds.now entry.args.words.now entry.requires))
+    (_, (_, laws.function_ask entry.args.kinds.now entry.args.words.now entry.requires))
 
 mul-frame-pass : tie.Need-overflow-mul-frame-pass
 mul-frame-pass c =
@@ -64,9 +64,9 @@ mul-frame-pass c =
     let entry = after-place.before.before.before.before.before.before.before in
     let ks = entry.args.kinds.now in
     let ws = entry.args.words.now in
-    let placed = after-place.place-function.ensures _ _ (laws.function-ask ks ws entry.requires) in
+    let placed = after-place.place-function.ensures _ _ (laws.function_ask ks ws entry.requires) in
     let order = laws.in_order ks ws entry.requires placed in
-    let h = within-kinds _ ks ws placed.there in
+    let h = within_kinds _ ks ws placed.there in
     search rules
 
 sub-frame-pass : tie.Need-overflow-sub-frame-pass
@@ -75,9 +75,9 @@ sub-frame-pass c =
     let entry = after-place.before.before.before.before.before.before.before in
     let ks = entry.args.kinds.now in
     let ws = entry.args.words.now in
-    let placed = after-place.place-function.ensures _ _ (laws.function-ask ks ws entry.requires) in
+    let placed = after-place.place-function.ensures _ _ (laws.function_ask ks ws entry.requires) in
     let order = laws.in_order ks ws entry.requires placed in
-    let h = within-kinds _ ks ws placed.there in
+    let h = within_kinds _ ks ws placed.there in
     search rules
 
 part-frame-pass-start : tie.Need-slice-bounds-frame-pass-start
@@ -86,9 +86,9 @@ part-frame-pass-start c =
     let entry = after-place.before.before.before.before.before.before.before in
     let ks = entry.args.kinds.now in
     let ws = entry.args.words.now in
-    let placed = after-place.place-function.ensures _ _ (laws.function-ask ks ws entry.requires) in
+    let placed = after-place.place-function.ensures _ _ (laws.function_ask ks ws entry.requires) in
     let order = laws.in_order ks ws entry.requires placed in
-    let h = within-kinds _ ks ws placed.there in
+    let h = within_kinds _ ks ws placed.there in
     search rules
 
 part-frame-pass-end : tie.Need-slice-bounds-frame-pass-end
@@ -97,9 +97,9 @@ part-frame-pass-end c =
     let entry = after-place.before.before.before.before.before.before.before in
     let ks = entry.args.kinds.now in
     let ws = entry.args.words.now in
-    let placed = after-place.place-function.ensures _ _ (laws.function-ask ks ws entry.requires) in
+    let placed = after-place.place-function.ensures _ _ (laws.function_ask ks ws entry.requires) in
     let order = laws.in_order ks ws entry.requires placed in
-    let h = within-kinds _ ks ws placed.there in
+    let h = within_kinds _ ks ws placed.there in
     search rules
 
 mul-frame-pass-2 : tie.Need-overflow-mul-frame-pass-2
@@ -108,9 +108,9 @@ mul-frame-pass-2 c =
     let entry = after-place.before.before.before.before.before.before.before in
     let ks = entry.args.kinds.now in
     let ws = entry.args.words.now in
-    let placed = after-place.place-function.ensures _ _ (laws.function-ask ks ws entry.requires) in
+    let placed = after-place.place-function.ensures _ _ (laws.function_ask ks ws entry.requires) in
     let order = laws.in_order ks ws entry.requires placed in
-    let h = within-words _ ks ws placed.there in
+    let h = within_words _ ks ws placed.there in
     search rules
 
 sub-frame-pass-2 : tie.Need-overflow-sub-frame-pass-2
@@ -119,9 +119,9 @@ sub-frame-pass-2 c =
     let entry = after-place.before.before.before.before.before.before.before in
     let ks = entry.args.kinds.now in
     let ws = entry.args.words.now in
-    let placed = after-place.place-function.ensures _ _ (laws.function-ask ks ws entry.requires) in
+    let placed = after-place.place-function.ensures _ _ (laws.function_ask ks ws entry.requires) in
     let order = laws.in_order ks ws entry.requires placed in
-    let h = within-words _ ks ws placed.there in
+    let h = within_words _ ks ws placed.there in
     search rules
 
 part-frame-pass-start-2 : tie.Need-slice-bounds-frame-pass-start-2
@@ -130,9 +130,9 @@ part-frame-pass-start-2 c =
     let entry = after-place.before.before.before.before.before.before.before in
     let ks = entry.args.kinds.now in
     let ws = entry.args.words.now in
-    let placed = after-place.place-function.ensures _ _ (laws.function-ask ks ws entry.requires) in
+    let placed = after-place.place-function.ensures _ _ (laws.function_ask ks ws entry.requires) in
     let order = laws.in_order ks ws entry.requires placed in
-    let h = within-words _ ks ws placed.there in
+    let h = within_words _ ks ws placed.there in
     search rules
 
 part-frame-pass-end-2 : tie.Need-slice-bounds-frame-pass-end-2
@@ -141,9 +141,9 @@ part-frame-pass-end-2 c =
     let entry = after-place.before.before.before.before.before.before.before in
     let ks = entry.args.kinds.now in
     let ws = entry.args.words.now in
-    let placed = after-place.place-function.ensures _ _ (laws.function-ask ks ws entry.requires) in
+    let placed = after-place.place-function.ensures _ _ (laws.function_ask ks ws entry.requires) in
     let order = laws.in_order ks ws entry.requires placed in
-    let h = within-words _ ks ws placed.there in
+    let h = within_words _ ks ws placed.there in
     search rules
 
 frame-pass-requires : tie.Need-frame-pass-requires
@@ -152,7 +152,7 @@ frame-pass-requires c κs =
     let entry = after-place.before.before.before.before.before.before.before in
     let ks = entry.args.kinds.now in
     let ws = entry.args.words.now in
-    laws.frame-ask ks ws entry.requires (after-place.place-function.ensures _ _ (laws.function-ask ks ws entry.requires))
+    laws.frame_ask ks ws entry.requires (after-place.place-function.ensures _ _ (laws.function_ask ks ws entry.requires))
 
 framed-requires : tie.Need-framed-requires
 framed-requires c κs =
@@ -169,7 +169,7 @@ returns c =
     let entry = after-place.before.before.before.before.before.before.before in
     let ks = entry.args.kinds.now in
     let ws = entry.args.words.now in
-    let placed = after-place.place-function.ensures _ _ (laws.function-ask ks ws entry.requires) in
+    let placed = after-place.place-function.ensures _ _ (laws.function_ask ks ws entry.requires) in
     rw c.framed.ensures (laws.prepared ks ws entry.requires placed After-frame.frame-pass.ensures)
 
 pub prepare-spec : {M : Type 1} → statement M

@@ -10,13 +10,13 @@ use Rattle.layout_memo.proofs.structs.place_structs.Reads as place-structs-reads
 place-structs-requires : tie.Need-place-structs-requires
 place-structs-requires c κs =
     let entry = c.before.before.before.before.before in
-    laws.structs-ask _ entry.requires
+    laws.structs_ask _ entry.requires
 
 place-marks-requires : tie.Need-place-marks-requires
 place-marks-requires c κs =
     let after-structs = c.before.before.before in
     let entry = after-structs.before.before.before.before.before.before in
-    laws.marks-ask _ entry.requires after-structs.place-structs.ensures
+    laws.marks_ask _ entry.requires after-structs.place-structs.ensures
 
 find-function-requires : tie.Need-find-function-requires
 find-function-requires c κs = search rules
@@ -29,7 +29,7 @@ returns c =
     let after-marks = c.before.before.before in
     let after-structs = after-marks.before.before.before.before in
     let entry = after-structs.before.before.before.before.before.before in
-    laws.book-done _ entry.requires after-structs.place-structs.ensures after-marks.place-marks.ensures c.find-function.ensures
+    laws.book_done _ entry.requires after-structs.place-structs.ensures after-marks.place-marks.ensures c.find-function.ensures
 
 pub prepare-book-spec : {M : Type 1} → statement M
 prepare-book-spec =

@@ -17,7 +17,7 @@ enum-known-e c = search rules
 refuse-requires : tie.Need-refuse-requires
 refuse-requires c κs =
     let after-align-of = c.before.before.before.before.before in
-    laws.align-number _ after-align-of.align-of.ensures c.before.e.given.1
+    laws.align_number _ after-align-of.align-of.ensures c.before.e.given.1
 
 same_length : tie.Need-same-length
 same_length c = search rules
@@ -26,7 +26,7 @@ returns : tie.Need-returns
 returns c =
     let after-align-of = c.before.before.before.before.before in
     let entry = after-align-of.before.before.before.before.before.before.before in
-    laws.align-bytes entry.args.s after-align-of.align-of.ensures c.before.bytes.given.1
+    laws.align_bytes entry.args.s after-align-of.align-of.ensures c.before.bytes.given.1
 
 same-length-2 : tie.Need-same-length-2
 same-length-2 c = search rules
@@ -35,7 +35,7 @@ returns-2 : tie.Need-returns-2
 returns-2 c =
     let after-align-of = c.before.before.before.before.before.before in
     let entry = after-align-of.before.before.before.before.before.before.before in
-    laws.align-refused entry.args.s after-align-of.align-of.ensures c.before.before.e.given.1 c.refuse.ensures
+    laws.align_refused entry.args.s after-align-of.align-of.ensures c.before.before.e.given.1 c.refuse.ensures
 
 pub measured-align-spec : {M : Type 1} → statement M
 measured-align-spec =

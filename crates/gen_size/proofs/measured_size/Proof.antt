@@ -17,7 +17,7 @@ enum-known-e c = search rules
 refuse-requires : tie.Need-refuse-requires
 refuse-requires c κs =
     let after-size-of = c.before.before.before.before.before in
-    laws.size_number _ after-size-of.size-of.ensures c.before.e.given.1
+    laws.size_number _ after-size-of.size_of_lem.ensures c.before.e.given.1
 
 same_length : tie.Need-same-length
 same_length c = search rules
@@ -26,7 +26,7 @@ returns : tie.Need-returns
 returns c =
     let after-size-of = c.before.before.before.before.before in
     let entry = after-size-of.before.before.before.before.before.before.before in
-    laws.size-bytes entry.args.s after-size-of.size-of.ensures c.before.bytes.given.1
+    laws.size_bytes entry.args.s after-size-of.size_of_lem.ensures c.before.bytes.given.1
 
 same-length-2 : tie.Need-same-length-2
 same-length-2 c = search rules
@@ -35,7 +35,7 @@ returns-2 : tie.Need-returns-2
 returns-2 c =
     let after-size-of = c.before.before.before.before.before.before in
     let entry = after-size-of.before.before.before.before.before.before.before in
-    laws.size-refused entry.args.s after-size-of.size-of.ensures c.before.before.e.given.1 c.refuse.ensures
+    laws.size_refused entry.args.s after-size-of.size_of_lem.ensures c.before.before.e.given.1 c.refuse.ensures
 
 pub measured-size-spec : {M : Type 1} → statement M
 measured-size-spec =

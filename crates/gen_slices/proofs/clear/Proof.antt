@@ -4,7 +4,7 @@ use mathlib.Core.Path.{◌≡◌, refl, ap, ◌∙◌}
 use native.Mathlib.Omega.{arith}
 use lib.ListN.{length, get_or, replicate, length-set}
 use borrow.Author.Rules.{rules}
-use Rattle.gen_slices.specs.Clear.{one_more, cleared}
+use Rattle.gen_slices.specs.Clear.{one_more_lem, cleared}
 use Rattle.gen_slices.proofs.clear.Statement.{statement}
 use Rattle.gen_slices.proofs.clear.Tie as tie
 use Rattle.gen_slices.proofs.clear.Reads as reads
@@ -35,7 +35,7 @@ loop-again : tie.Need-loop-preserved invariant-loop decreases-loop
 loop-again c =
     let at-loop = c.before in
     let work = at-loop.loop.work in
-    (length-set work at-loop.loop.at 0 ∙ at-loop.loop.invariant.0, one_more work at-loop.loop.at c.loop-test.true at-loop.loop.invariant.1)
+    (length-set work at-loop.loop.at 0 ∙ at-loop.loop.invariant.0, one_more_lem work at-loop.loop.at c.loop-test.true at-loop.loop.invariant.1)
 
 same_length : tie.Need-same-length invariant-loop decreases-loop
 same_length c = c.before.loop.invariant.0

@@ -27,17 +27,17 @@ same-length-2 c = search rules
 -- src/lib.rt:50:9
 returns : tie.Need-returns
 returns c = λ k based.
-    let after-set = c.before.before.before.before in
-    let after-get = after-set.before.before.before.before.before.before.before in
+    let after_set = c.before.before.before.before in
+    let after-get = after_set.before.before.before.before.before.before.before in
     let after-word = after-get.before.before.before in
     let framed = after-word.before in
-    laws.leave-puts k based.0 based.1 framed.if1.true after-word.word.ensures.0 after-word.word.ensures.1 after-get.put.ensures after-set.put2.ensures
+    laws.leave_puts k based.0 based.1 framed.if1.true after-word.word.ensures.0 after-word.word.ensures.1 after-get.put.ensures after_set.put2.ensures
 
 -- src/lib.rt:43:1
 returns-2 : tie.Need-returns-2
 returns-2 c = λ k based.
     let entry = c.before.before.before in
-    laws.stay-puts k based.1 c.if1.false entry.args.s entry.args.lines.now entry.args.operands.now
+    laws.stay_puts k based.1 c.if1.false entry.args.s entry.args.lines.now entry.args.operands.now
 
 pub emit-frame-leave-spec : {M : Type 1} → statement M
 emit-frame-leave-spec =

@@ -1,8 +1,8 @@
 -- `gen_term::gen_cond_br` meets its contract.
 use Rattle.std.proofs.Common.{◌∙◌, arith, rules}
-use Rattle.gen_values.specs.Fields.{value-part, operand-part}
-use Rattle.gen_edge.specs.Walks.{value-reaches}
-use Rattle.gen_term.specs.Terms.{br_at, cond-at}
+use Rattle.gen_values.specs.Fields.{value_part, operand_part}
+use Rattle.gen_edge.specs.Walks.{value_reaches}
+use Rattle.gen_term.specs.Terms.{br_at, cond_at}
 use Rattle.gen_term.specs.Branches as laws
 use Rattle.gen_term.proofs.gen_cond_br.Statement.{statement}
 use Rattle.gen_term.proofs.gen_cond_br.Tie as tie
@@ -13,8 +13,8 @@ shared-slice-read-if1 c =
     let a = entry.args in
     let ks = a.kinds.now in
     let ws = a.words.now in
-    let br = br_at ks ws _ entry.pre.ifTrue entry.pre.ifFalse entry.pre.fields in
-    br.in-kinds
+    let br = br_at ks ws _ entry.pre.if_true entry.pre.if_false entry.pre.fields in
+    br.in_kinds
 
 refuse-requires : tie.Need-refuse-requires
 refuse-requires c κs = search rules
@@ -27,7 +27,7 @@ returns c = λ k v x y fields maps.
     let ks = a.kinds.now in
     let ws = a.words.now in
     let is = br_at ks ws _ x y fields in
-    laws.one-way-puts k a.pred x y v (is.one_way one_way.if1.taken) a.s a.lines.now a.operands.now c.refuse.ensures
+    laws.one_way_puts k a.pred x y v (is.one_way one_way.if1.taken) a.s a.lines.now a.operands.now c.refuse.ensures
 
 sub-push-value : tie.Need-sub-push-value
 sub-push-value c =
@@ -35,8 +35,8 @@ sub-push-value c =
     let a = entry.args in
     let ks = a.kinds.now in
     let ws = a.words.now in
-    let br = br_at ks ws _ entry.pre.ifTrue entry.pre.ifFalse entry.pre.fields in
-    omega (arith, br.in-kinds, br.in_words)
+    let br = br_at ks ws _ entry.pre.if_true entry.pre.if_false entry.pre.fields in
+    omega (arith, br.in_kinds, br.in_words)
 
 part-push-value-start : tie.Need-part-push-value-start
 part-push-value-start c =
@@ -44,8 +44,8 @@ part-push-value-start c =
     let a = entry.args in
     let ks = a.kinds.now in
     let ws = a.words.now in
-    let br = br_at ks ws _ entry.pre.ifTrue entry.pre.ifFalse entry.pre.fields in
-    omega (arith, br.in-kinds, br.in_words)
+    let br = br_at ks ws _ entry.pre.if_true entry.pre.if_false entry.pre.fields in
+    omega (arith, br.in_kinds, br.in_words)
 
 part-push-value-end : tie.Need-part-push-value-end
 part-push-value-end c =
@@ -53,8 +53,8 @@ part-push-value-end c =
     let a = entry.args in
     let ks = a.kinds.now in
     let ws = a.words.now in
-    let br = br_at ks ws _ entry.pre.ifTrue entry.pre.ifFalse entry.pre.fields in
-    omega (arith, br.in-kinds, br.in_words)
+    let br = br_at ks ws _ entry.pre.if_true entry.pre.if_false entry.pre.fields in
+    omega (arith, br.in_kinds, br.in_words)
 
 sub-push-value-2 : tie.Need-sub-push-value-2
 sub-push-value-2 c =
@@ -62,8 +62,8 @@ sub-push-value-2 c =
     let a = entry.args in
     let ks = a.kinds.now in
     let ws = a.words.now in
-    let br = br_at ks ws _ entry.pre.ifTrue entry.pre.ifFalse entry.pre.fields in
-    omega (arith, br.in-kinds, br.in_words)
+    let br = br_at ks ws _ entry.pre.if_true entry.pre.if_false entry.pre.fields in
+    omega (arith, br.in_kinds, br.in_words)
 
 part-push-value-start-2 : tie.Need-part-push-value-start-2
 part-push-value-start-2 c =
@@ -71,8 +71,8 @@ part-push-value-start-2 c =
     let a = entry.args in
     let ks = a.kinds.now in
     let ws = a.words.now in
-    let br = br_at ks ws _ entry.pre.ifTrue entry.pre.ifFalse entry.pre.fields in
-    omega (arith, br.in-kinds, br.in_words)
+    let br = br_at ks ws _ entry.pre.if_true entry.pre.if_false entry.pre.fields in
+    omega (arith, br.in_kinds, br.in_words)
 
 part-push-value-end-2 : tie.Need-part-push-value-end-2
 part-push-value-end-2 c =
@@ -80,8 +80,8 @@ part-push-value-end-2 c =
     let a = entry.args in
     let ks = a.kinds.now in
     let ws = a.words.now in
-    let br = br_at ks ws _ entry.pre.ifTrue entry.pre.ifFalse entry.pre.fields in
-    omega (arith, br.in-kinds, br.in_words)
+    let br = br_at ks ws _ entry.pre.if_true entry.pre.if_false entry.pre.fields in
+    omega (arith, br.in_kinds, br.in_words)
 
 push-value-requires : tie.Need-push-value-requires
 push-value-requires c κs =
@@ -90,7 +90,7 @@ push-value-requires c κs =
     let ks = a.kinds.now in
     let ws = a.words.now in
     let m = a.names in
-    operand-part (value-reaches m (cond-at ks ws entry.pre.fields) entry.pre.maps.room)
+    operand_part (value_reaches m (cond_at ks ws entry.pre.fields) entry.pre.maps.room)
 
 word-requires : tie.Need-word-requires
 word-requires c κs = search rules
@@ -107,7 +107,7 @@ shared-slice-read-edge c =
     let a = entry.args in
     let ks = a.kinds.now in
     let ws = a.words.now in
-    let br = br_at ks ws _ entry.pre.ifTrue entry.pre.ifFalse entry.pre.fields in
+    let br = br_at ks ws _ entry.pre.if_true entry.pre.if_false entry.pre.fields in
     omega (arith, br.in_words)
 
 edge-requires : tie.Need-edge-requires
@@ -116,8 +116,8 @@ edge-requires c κs =
     let a = entry.args in
     let ks = a.kinds.now in
     let ws = a.words.now in
-    let br = br_at ks ws _ entry.pre.ifTrue entry.pre.ifFalse entry.pre.fields in
-    record { ctx = entry.pre.ctx; maps = entry.pre.maps; target = rw br.true-is br.true_below }
+    let br = br_at ks ws _ entry.pre.if_true entry.pre.if_false entry.pre.fields in
+    record { ctx = entry.pre.ctx; maps = entry.pre.maps; target = rw br.true_is br.true_below }
 
 put-requires-2 : tie.Need-put-requires-2
 put-requires-2 c κs = search rules
@@ -132,7 +132,7 @@ shared-slice-read-edge-2 c =
     let a = entry.args in
     let ks = a.kinds.now in
     let ws = a.words.now in
-    let br = br_at ks ws _ entry.pre.ifTrue entry.pre.ifFalse entry.pre.fields in
+    let br = br_at ks ws _ entry.pre.if_true entry.pre.if_false entry.pre.fields in
     br.in_words
 
 edge-requires-2 : tie.Need-edge-requires-2
@@ -146,7 +146,7 @@ edge-requires-2 c κs =
     let a = entry.args in
     let ks = a.kinds.now in
     let ws = a.words.now in
-    let br = br_at ks ws _ entry.pre.ifTrue entry.pre.ifFalse entry.pre.fields in
+    let br = br_at ks ws _ entry.pre.if_true entry.pre.if_false entry.pre.fields in
     record { ctx = entry.pre.ctx; maps = entry.pre.maps; target = (br.both_ways both.if1.left).1 }
 
 same_length : tie.Need-same-length
@@ -183,9 +183,9 @@ returns-2 c = λ k v x y fields maps.
     let ws = a.words.now in
     let m = a.names in
     let is = br_at ks ws _ x y fields in
-    let push = pushed.push-value.ensures m k v (value-part (cond-at ks ws fields)) maps.locals in
-    laws.both-ways-puts k a.pred x y v _ (is.both_ways both.if1.left).0 push made.fresh.ensures named.word.ensures.0 named.word.ensures.1
-    jumped.put.ensures (rw is.true-is at (first.edge.ensures k maps)) labelled.put2.ensures (second.edge2.ensures k maps)
+    let push = pushed.push-value.ensures m k v (value_part (cond_at ks ws fields)) maps.locals in
+    laws.both_ways_puts k a.pred x y v _ (is.both_ways both.if1.left).0 push made.fresh.ensures named.word.ensures.0 named.word.ensures.1
+    jumped.put.ensures (rw is.true_is at (first.edge.ensures k maps)) labelled.put2.ensures (second.edge2.ensures k maps)
 
 pub gen-cond-br-spec : {M : Type 1} → statement M
 gen-cond-br-spec =

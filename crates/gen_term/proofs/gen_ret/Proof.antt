@@ -30,7 +30,7 @@ returns c = λ k val fields maps based.
     let after-put = c.before.before.before.before in
     let after_leave = after-put.before.before.before.before.before.before.before in
     let after-value = after_leave.before.before.before.before.before.before.before in
-    laws.ret-puts k val (after-value.ret-value.ensures k val fields maps) (after_leave.emit-frame-leave.ensures k based) after-put.put.ensures
+    laws.ret_puts k val (after-value.ret_value_lem.ensures k val fields maps) (after_leave.emit-frame-leave.ensures k based) after-put.put.ensures
 
 pub gen-ret-spec : {M : Type 1} → statement M
 gen-ret-spec =

@@ -1,5 +1,5 @@
 -- `gen_term::gen_term` meets its contract: the kind of the first entry tells the terminator.
-use Rattle.gen_term.specs.Terms.{term-fields}
+use Rattle.gen_term.specs.Terms.{term_fields_lem}
 use Rattle.gen_term.specs.Whole as laws
 use Rattle.std.proofs.Common.{rules}
 use Rattle.gen_term.proofs.gen_term.Statement.{statement}
@@ -9,28 +9,28 @@ use Rattle.gen_term.proofs.gen_term.Tie as tie
 shared-slice-read-kind : tie.Need-shared-slice-read-kind
 shared-slice-read-kind c =
     let entry = c.before.before.before.before.before.before.before.before in
-    (term-fields entry.args.names entry.requires.term entry.args.kinds.now entry.args.words.now entry.requires.front).1
+    (term_fields_lem entry.args.names entry.requires.term entry.args.kinds.now entry.args.words.now entry.requires.front).1
 
 -- src/lib.rt:188:15
 gen-ret-requires : tie.Need-gen-ret-requires
 gen-ret-requires c κs =
     let arm = c.before.before in
     let entry = arm.before.before.before.before.before.before.before.before.before in
-    laws.lends-ret entry.requires arm.match.keys1
+    laws.lends_ret entry.requires arm.match.keys1
 
 -- src/lib.rt:189:15
 gen-br-requires : tie.Need-gen-br-requires
 gen-br-requires c κs =
     let arm = c.before.before in
     let entry = arm.before.before.before.before.before.before.before.before.before in
-    laws.lends-br entry.requires arm.match.keys2
+    laws.lends_br entry.requires arm.match.keys2
 
 -- src/lib.rt:192:15
 gen-switch-requires : tie.Need-gen-switch-requires
 gen-switch-requires c κs =
     let arm = c.before.before in
     let entry = arm.before.before.before.before.before.before.before.before.before in
-    laws.lends-switch entry.requires arm.match.keys3
+    laws.lends_switch entry.requires arm.match.keys3
 
 -- src/lib.rt:195:14
 put-requires : tie.Need-put-requires
@@ -50,8 +50,8 @@ returns c = λ k t front maps based.
     let after = c.before.before.before.before in
     let arm = after.before.before.before in
     let entry = arm.before.before.before.before.before.before.before.before.before in
-    let q = laws.is-ret entry.args.kinds.now entry.args.words.now t front arm.match.keys1 in
-    laws.term-ret k entry.args.pred t q.is (after.gen-ret.ensures k q.val q.fields maps.locals based)
+    let q = laws.is_ret entry.args.kinds.now entry.args.words.now t front arm.match.keys1 in
+    laws.term_ret k entry.args.pred t q.is (after.gen-ret.ensures k q.val q.fields maps.locals based)
 
 -- src/lib.rt:167:1
 same-length-3 : tie.Need-same-length-3
@@ -67,8 +67,8 @@ returns-2 c = λ k t front maps based.
     let after = c.before.before.before.before in
     let arm = after.before.before.before in
     let entry = arm.before.before.before.before.before.before.before.before.before in
-    let q = laws.is-br entry.args.kinds.now entry.args.words.now t front arm.match.keys2 in
-    laws.term-br k entry.args.pred t q.is (after.gen-br.ensures k q.cond q.ifTrue q.ifFalse q.fields maps)
+    let q = laws.is_br entry.args.kinds.now entry.args.words.now t front arm.match.keys2 in
+    laws.term_br k entry.args.pred t q.is (after.gen-br.ensures k q.cond q.if_true q.if_false q.fields maps)
 
 -- src/lib.rt:167:1
 same-length-5 : tie.Need-same-length-5
@@ -84,8 +84,8 @@ returns-3 c = λ k t front maps based.
     let after = c.before.before.before.before in
     let arm = after.before.before.before in
     let entry = arm.before.before.before.before.before.before.before.before.before in
-    let q = laws.is-switch entry.args.kinds.now entry.args.words.now t front arm.match.keys3 in
-    laws.term-switch k entry.args.pred t q.is (after.gen-switch.ensures k q.ty q.val q.default q.cases q.fields maps)
+    let q = laws.is_switch entry.args.kinds.now entry.args.words.now t front arm.match.keys3 in
+    laws.term_switch k entry.args.pred t q.is (after.gen-switch.ensures k q.ty q.val q.default q.cases q.fields maps)
 
 -- src/lib.rt:167:1
 same-length-7 : tie.Need-same-length-7
@@ -102,8 +102,8 @@ returns-4 c = λ k t front maps based.
     let arm = after.before.before.before in
     let entry = arm.before.before.before.before.before.before.before.before.before in
     let others = arm.match.rest in
-    laws.term-unreachable k entry.args.pred t
-    (laws.is-unreachable entry.args.kinds.now entry.args.words.now t front others.0.0.1 others.0.1 others.1) after.put.ensures
+    laws.term_unreachable k entry.args.pred t
+    (laws.is_unreachable entry.args.kinds.now entry.args.words.now t front others.0.0.1 others.0.1 others.1) after.put.ensures
 
 pub gen-term-spec : {M : Type 1} → statement M
 gen-term-spec =

@@ -1,8 +1,8 @@
 -- `gen_term::ret_value` meets its contract: 21 stands for no value.
 use Rattle.std.proofs.Common.{arith, rules}
-use Rattle.gen_values.specs.Fields.{partFrom, fields-part}
+use Rattle.gen_values.specs.Fields.{part_from, fields_part}
 use Rattle.gen_fields.specs.Places.{from_front, typed_at}
-use Rattle.gen_term.specs.Terms.{ret-in, ret-void, ret-value}
+use Rattle.gen_term.specs.Terms.{ret_in, ret_void_lem, ret_value_lem}
 use Rattle.gen_term.specs.Returns as laws
 use Rattle.gen_term.proofs.ret_value.Statement.{statement}
 use Rattle.gen_term.proofs.ret_value.Tie as tie
@@ -13,7 +13,7 @@ shared-slice-read-if1 c =
     let a = entry.args in
     let ks = a.kinds.now in
     let ws = a.words.now in
-    let inside = ret-in ks ws entry.requires.val entry.requires.fields in
+    let inside = ret_in ks ws entry.requires.val entry.requires.fields in
     inside.0
 
 put-requires : tie.Need-put-requires
@@ -33,7 +33,7 @@ returns c = λ k val fields maps.
     let a = entry.args in
     let ks = a.kinds.now in
     let ws = a.words.now in
-    laws.void-puts k (ret-void ks ws val fields void.if1.true) after-put.put.ensures
+    laws.void_puts k (ret_void_lem ks ws val fields void.if1.true) after-put.put.ensures
 
 sub-type-kinds : tie.Need-overflow-sub-type-kinds
 sub-type-kinds c =
@@ -41,7 +41,7 @@ sub-type-kinds c =
     let a = entry.args in
     let ks = a.kinds.now in
     let ws = a.words.now in
-    let inside = ret-in ks ws entry.requires.val entry.requires.fields in
+    let inside = ret_in ks ws entry.requires.val entry.requires.fields in
     omega (arith, inside.0, inside.1)
 
 part-type-kinds-start : tie.Need-slice-bounds-type-kinds-start
@@ -50,7 +50,7 @@ part-type-kinds-start c =
     let a = entry.args in
     let ks = a.kinds.now in
     let ws = a.words.now in
-    let inside = ret-in ks ws entry.requires.val entry.requires.fields in
+    let inside = ret_in ks ws entry.requires.val entry.requires.fields in
     omega (arith, inside.0, inside.1)
 
 part-type-kinds-end : tie.Need-slice-bounds-type-kinds-end
@@ -59,7 +59,7 @@ part-type-kinds-end c =
     let a = entry.args in
     let ks = a.kinds.now in
     let ws = a.words.now in
-    let inside = ret-in ks ws entry.requires.val entry.requires.fields in
+    let inside = ret_in ks ws entry.requires.val entry.requires.fields in
     omega (arith, inside.0, inside.1)
 
 sub-type-words : tie.Need-overflow-sub-type-words
@@ -68,7 +68,7 @@ sub-type-words c =
     let a = entry.args in
     let ks = a.kinds.now in
     let ws = a.words.now in
-    let inside = ret-in ks ws entry.requires.val entry.requires.fields in
+    let inside = ret_in ks ws entry.requires.val entry.requires.fields in
     omega (arith, inside.0, inside.1)
 
 part-type-words-start : tie.Need-slice-bounds-type-words-start
@@ -77,7 +77,7 @@ part-type-words-start c =
     let a = entry.args in
     let ks = a.kinds.now in
     let ws = a.words.now in
-    let inside = ret-in ks ws entry.requires.val entry.requires.fields in
+    let inside = ret_in ks ws entry.requires.val entry.requires.fields in
     omega (arith, inside.0, inside.1)
 
 part-type-words-end : tie.Need-slice-bounds-type-words-end
@@ -86,7 +86,7 @@ part-type-words-end c =
     let a = entry.args in
     let ks = a.kinds.now in
     let ws = a.words.now in
-    let inside = ret-in ks ws entry.requires.val entry.requires.fields in
+    let inside = ret_in ks ws entry.requires.val entry.requires.fields in
     omega (arith, inside.0, inside.1)
 
 skip-requires : tie.Need-skip-requires
@@ -100,8 +100,8 @@ push-typed-requires c κs =
     let a = entry.args in
     let ks = a.kinds.now in
     let ws = a.words.now in
-    let ret = ret-value ks ws entry.requires.val entry.requires.fields valued.if1.false in
-    typed_at (partFrom ks 1) (partFrom ws 1) 0 (fields-part ks ws 1 ret.fields) (from_front after-skip.skip.ensures) (omega (arith, entry.requires.room))
+    let ret = ret_value_lem ks ws entry.requires.val entry.requires.fields valued.if1.false in
+    typed_at (part_from ks 1) (part_from ws 1) 0 (fields_part ks ws 1 ret.fields) (from_front after-skip.skip.ensures) (omega (arith, entry.requires.room))
 
 same-length-3 : tie.Need-same-length-3
 same-length-3 c = search rules
@@ -119,8 +119,8 @@ returns-2 c = λ k val fields maps.
     let ks = a.kinds.now in
     let ws = a.words.now in
     let m = a.names in
-    let given = ret-value ks ws val fields valued.if1.false in
-    laws.value-puts k given.typed given.is (pushed.push-typed.ensures m k _ _ (fields-part ks ws 1 given.fields) after-skip.skip.ensures maps)
+    let given = ret_value_lem ks ws val fields valued.if1.false in
+    laws.value_puts k given.typed given.is (pushed.push-typed.ensures m k _ _ (fields_part ks ws 1 given.fields) after-skip.skip.ensures maps)
 
 pub ret-value-spec : {M : Type 1} → statement M
 ret-value-spec =

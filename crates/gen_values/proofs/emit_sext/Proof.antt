@@ -29,7 +29,7 @@ returns c =
     let after-bit = c.before.before.before.before in
     let is-bit = after-bit.before.before.before in
     let entry = is-bit.before.before.before in
-    laws.sext-bit entry.args.from entry.args.to is-bit.if1.true after-bit.sext-bit.ensures
+    laws.sext_bit_lem entry.args.from entry.args.to is-bit.if1.true after-bit.sext_bit_lem.ensures
 
 -- src/lib.rt:215:9
 sx-kind-requires : tie.Need-sx-kind-requires
@@ -46,7 +46,7 @@ returns-2 c =
     let after-kind = no_line.before in
     let no-bit = after-kind.before in
     let entry = no-bit.before.before.before in
-    laws.sext-none entry.args.from entry.args.to no-bit.if1.false after-kind.sx-kind.ensures entry.args.lines.now entry.args.operands.now
+    laws.sext_none entry.args.from entry.args.to no-bit.if1.false after-kind.sx_kind_lem.ensures entry.args.lines.now entry.args.operands.now
     no_line.if2.true c.refuse.ensures
 
 -- src/lib.rt:219:9
@@ -74,7 +74,7 @@ returns-3 c =
     let after-kind = has-line.before in
     let no-bit = after-kind.before in
     let entry = no-bit.before.before.before in
-    laws.sext-puts entry.args.from entry.args.to no-bit.if1.false after-kind.sx-kind.ensures has-line.if2.false
+    laws.sext_puts entry.args.from entry.args.to no-bit.if1.false after-kind.sx_kind_lem.ensures has-line.if2.false
     after-put.put.ensures after-trunc.trunc-below.ensures
 
 pub emit-sext-spec : {M : Type 1} → statement M

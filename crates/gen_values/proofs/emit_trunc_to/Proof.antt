@@ -42,7 +42,7 @@ returns c =
     let after-put = after-put2.before.before.before.before.before.before.before in
     let at-match = after-put.before.before.before in
     let entry = at-match.before.before.before in
-    rw at-match.match.keys1 (laws.trunc-1 after-put.put.ensures after-put2.put2.ensures)
+    rw at-match.match.keys1 (laws.trunc_1 after-put.put.ensures after-put2.put2.ensures)
 
 -- src/lib.rt:135:1
 same-length-3 : tie.Need-same-length-3
@@ -57,7 +57,7 @@ returns-2 : tie.Need-returns-2
 returns-2 c =
     let after-put = c.before.before.before.before in
     let at-match = after-put.before.before.before in
-    rw at-match.match.keys2 (laws.trunc-8 after-put.put3.ensures)
+    rw at-match.match.keys2 (laws.trunc_8 after-put.put3.ensures)
 
 -- src/lib.rt:135:1
 same-length-5 : tie.Need-same-length-5
@@ -72,7 +72,7 @@ returns-3 : tie.Need-returns-3
 returns-3 c =
     let after-put = c.before.before.before.before in
     let at-match = after-put.before.before.before in
-    rw at-match.match.keys3 (laws.trunc-16 after-put.put4.ensures)
+    rw at-match.match.keys3 (laws.trunc_16 after-put.put4.ensures)
 
 -- src/lib.rt:135:1
 same-length-7 : tie.Need-same-length-7
@@ -87,13 +87,13 @@ returns-4 : tie.Need-returns-4
 returns-4 c =
     let after-put = c.before.before.before.before in
     let at-match = after-put.before.before.before in
-    rw at-match.match.keys4 (laws.trunc-32 after-put.put5.ensures)
+    rw at-match.match.keys4 (laws.trunc_32 after-put.put5.ensures)
 
 -- src/lib.rt:135:1
 returns-5 : tie.Need-returns-5
 returns-5 c =
     let entry = c.before.before.before in
-    laws.trunc-none entry.args.width entry.args.s entry.args.lines.now entry.args.operands.now
+    laws.trunc_none entry.args.width entry.args.s entry.args.lines.now entry.args.operands.now
     c.match.rest.0.0.0.1 c.match.rest.0.0.1 c.match.rest.0.1 c.match.rest.1
 
 pub emit-trunc-to-spec : {M : Type 1} → statement M

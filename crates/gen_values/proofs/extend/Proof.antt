@@ -12,7 +12,7 @@ use Rattle.gen_values.proofs.emit_sext.Reads as emit-sext-reads
 returns : tie.Need-returns
 returns c =
     let entry = c.before.before.before in
-    laws.unsigned-kept entry.args.signed entry.args.width entry.args.s entry.args.lines.now entry.args.operands.now (laws.not_is entry.args.signed c.if1.true)
+    laws.unsigned_kept entry.args.signed entry.args.width entry.args.s entry.args.lines.now entry.args.operands.now (laws.not_is entry.args.signed c.if1.true)
 
 -- src/lib.rt:217:9
 emit-sext-requires : tie.Need-emit-sext-requires
@@ -33,14 +33,14 @@ returns-2 c =
     let narrow = after-sext.before.before.before in
     let is_Signed = narrow.before in
     let entry = is_Signed.before.before.before in
-    laws.narrow-extended entry.args.signed entry.args.width (laws.not_is entry.args.signed is_Signed.if1.false) narrow.if2.true after-sext.emit-sext.ensures
+    laws.narrow_extended entry.args.signed entry.args.width (laws.not_is entry.args.signed is_Signed.if1.false) narrow.if2.true after-sext.emit-sext.ensures
 
 -- src/lib.rt:220:9
 returns-3 : tie.Need-returns-3
 returns-3 c =
     let is_Signed = c.before.before in
     let entry = is_Signed.before.before.before in
-    laws.kept-32 entry.args.signed entry.args.width entry.args.s entry.args.lines.now entry.args.operands.now (laws.not_is entry.args.signed is_Signed.if1.false) c.if3.true
+    laws.kept_32 entry.args.signed entry.args.width entry.args.s entry.args.lines.now entry.args.operands.now (laws.not_is entry.args.signed is_Signed.if1.false) c.if3.true
 
 -- src/lib.rt:223:9
 emit-sext-requires-2 : tie.Need-emit-sext-requires-2
@@ -61,14 +61,14 @@ returns-4 c =
     let wide = after-sext.before.before.before in
     let is_Signed = wide.before.before.before in
     let entry = is_Signed.before.before.before in
-    laws.wide-extended entry.args.signed entry.args.width (laws.not_is entry.args.signed is_Signed.if1.false) (omega arith) wide.if4.true after-sext.emit-sext2.ensures
+    laws.wide_extended entry.args.signed entry.args.width (laws.not_is entry.args.signed is_Signed.if1.false) (omega arith) wide.if4.true after-sext.emit-sext2.ensures
 
 -- src/lib.rt:210:1
 returns-5 : tie.Need-returns-5
 returns-5 c =
     let is_Signed = c.before.before.before in
     let entry = is_Signed.before.before.before in
-    laws.kept-64 entry.args.signed entry.args.width entry.args.s entry.args.lines.now entry.args.operands.now (laws.not_is entry.args.signed is_Signed.if1.false) c.if4.false
+    laws.kept_64 entry.args.signed entry.args.width entry.args.s entry.args.lines.now entry.args.operands.now (laws.not_is entry.args.signed is_Signed.if1.false) c.if4.false
 
 pub extend-spec : {M : Type 1} → statement M
 extend-spec =

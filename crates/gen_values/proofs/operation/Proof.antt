@@ -15,12 +15,12 @@ operation-64-requires c κs = search rules
 returns : tie.Need-returns
 returns c =
     let narrow = c.before in
-    c.operation-32.ensures ∙ laws.narrow-operation narrow.before.args.number narrow.before.args.width (omega (arith, narrow.if1.true))
+    c.operation-32.ensures ∙ laws.narrow_operation narrow.before.args.number narrow.before.args.width (omega (arith, narrow.if1.true))
 
 returns-2 : tie.Need-returns-2
 returns-2 c =
     let wide = c.before in
-    c.operation-64.ensures ∙ laws.wide-operation wide.before.args.number wide.before.args.width (omega (arith, wide.if1.false))
+    c.operation-64.ensures ∙ laws.wide_operation wide.before.args.number wide.before.args.width (omega (arith, wide.if1.false))
 
 pub operation-spec : {M : Type 1} → statement M
 operation-spec = tie.close (tie.spec operation-32-requires operation-64-requires returns returns-2)

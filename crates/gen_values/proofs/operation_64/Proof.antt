@@ -1,6 +1,6 @@
 -- `gen_values::operation_64` meets its contract, row by row.
 use native.Mathlib.Omega.{arith}
-use Rattle.gen_values.specs.Widths.{not-below}
+use Rattle.gen_values.specs.Widths.{not_below}
 use borrow.Author.Rules.{rules}
 use Rattle.gen_values.proofs.operation_64.Statement.{statement}
 use Rattle.gen_values.proofs.operation_64.Tie as tie
@@ -72,7 +72,7 @@ returns-22 : tie.Need-returns-22
 returns-22 c = search rules
 
 returns-23 : tie.Need-returns-23
-returns-23 c = omega (arith, not-below 22 c.before.args.number c.match.rest)
+returns-23 c = omega (arith, not_below 22 c.before.args.number c.match.rest)
 
 pub operation-64-spec : {M : Type 1} → statement M
 operation-64-spec =

@@ -31,7 +31,7 @@ returns c =
     let after-put = c.before.before.before.before in
     let after-mask = after-put.before in
     let entry = after-mask.before.before.before.before.before in
-    laws.int-puts entry.args.value entry.args.width after-mask.mask-to-width.ensures (omega arith) after-put.put.ensures
+    laws.int_puts entry.args.value entry.args.width after-mask.mask-to-width.ensures (omega arith) after-put.put.ensures
 
 pub push-int-spec : {M : Type 1} → statement M
 push-int-spec =

@@ -43,7 +43,7 @@ returns c = λ m k below maps.
     let in-param = after-put.before.before.before in
     let entry = in-param.before.before.before.before.before in
     let at = param_at entry.args.name in
-    laws.param-puts k m entry.args.name 0 entry.args.work.now below maps refl in-param.if1.true
+    laws.param_puts k m entry.args.name 0 entry.args.work.now below maps refl in-param.if1.true
     (omega (arith, in-param.before.shared-slice-known2.given at)) after-put.put.ensures
 
 -- src/lib.rt:59:21
@@ -79,10 +79,10 @@ returns-2 : tie.Need-returns-2
 returns-2 c = λ m k below maps.
     let after-put = c.before.before.before.before in
     let in-slot = after-put.before.before.before in
-    let no-param = in-slot.before.before in
-    let entry = no-param.before.before.before.before.before in
+    let no_param = in-slot.before.before in
+    let entry = no_param.before.before.before.before.before in
     let at = param_at entry.args.name in
-    laws.slot-puts k m entry.args.name 0 entry.args.work.now below maps refl no-param.if1.false refl in-slot.if2.true
+    laws.slot_puts k m entry.args.name 0 entry.args.work.now below maps refl no_param.if1.false refl in-slot.if2.true
     (omega (arith, in-slot.before.shared-slice-known3.given (at + 1))) after-put.put2.ensures
 
 -- src/lib.rt:63:5
@@ -93,10 +93,10 @@ refuse-requires c κs = search rules
 returns-3 : tie.Need-returns-3
 returns-3 c = λ m k below maps.
     let no_slot = c.before in
-    let no-param = no_slot.before.before in
-    let entry = no-param.before.before.before.before.before in
-    laws.unknown-puts k m entry.args.name 0 entry.args.work.now below maps entry.args.lines.now entry.args.operands.now
-    refl no-param.if1.false refl no_slot.if2.false c.refuse.ensures
+    let no_param = no_slot.before.before in
+    let entry = no_param.before.before.before.before.before in
+    laws.unknown_puts k m entry.args.name 0 entry.args.work.now below maps entry.args.lines.now entry.args.operands.now
+    refl no_param.if1.false refl no_slot.if2.false c.refuse.ensures
 
 pub push-local-spec : {M : Type 1} → statement M
 push-local-spec =

@@ -2,8 +2,8 @@
 use mathlib.Core.Path.{sym, ◌∙◌}
 use native.Mathlib.Omega.{arith}
 use lib.ListN.{get_or}
-use Rattle.gen_values.specs.Values.{value-shape}
-use Rattle.gen_values.specs.Fields.{local-below}
+use Rattle.gen_values.specs.Values.{value_shape}
+use Rattle.gen_values.specs.Fields.{local_below}
 use Rattle.gen_values.specs.Push as laws
 use borrow.Author.Rules.{rules}
 use Rattle.gen_values.proofs.push_value.Statement.{statement}
@@ -26,7 +26,7 @@ push-local-requires c κs =
     let told = c.before.before in
     let after-group = told.before.before in
     let entry = after-group.before.before.before.before.before.before.before.before in
-    entry.requires.reaches.there (value-shape (get_or entry.args.kinds.now 0 0) (get_or entry.args.words.now 0 0) (sym told.enum_told.given.1 ∙ after-group.value-group.ensures))
+    entry.requires.reaches.there (value_shape (get_or entry.args.kinds.now 0 0) (get_or entry.args.words.now 0 0) (sym told.enum_told.given.1 ∙ after-group.value-group.ensures))
 
 enum-told-2 : tie.Need-enum-told-2
 enum-told-2 c = search rules
@@ -70,9 +70,9 @@ returns c = λ m k v at maps.
     let told = after-put.before.before.before in
     let after-group = told.before.before in
     let entry = after-group.before.before.before.before.before.before.before.before in
-    let shape = value-shape (get_or entry.args.kinds.now 0 0) (get_or entry.args.words.now 0 0) (sym told.enum_told.given.1 ∙ after-group.value-group.ensures) in
-    rw (sym at.is, shape) (laws.local-width k entry.args.width (get_or entry.args.words.now 0 0)
-    (after-put.push-local.ensures m k (local-below m _ v at.limits (sym at.is ∙ shape)) maps))
+    let shape = value_shape (get_or entry.args.kinds.now 0 0) (get_or entry.args.words.now 0 0) (sym told.enum_told.given.1 ∙ after-group.value-group.ensures) in
+    rw (sym at.is, shape) (laws.local_width k entry.args.width (get_or entry.args.words.now 0 0)
+    (after-put.push-local.ensures m k (local_below m _ v at.limits (sym at.is ∙ shape)) maps))
 
 same-length-3 : tie.Need-same-length-3
 same-length-3 c = search rules
@@ -86,8 +86,8 @@ returns-2 c = λ m k v at maps.
     let told = after-put.before.before.before in
     let after-group = told.before.before in
     let entry = after-group.before.before.before.before.before.before.before.before in
-    let shape = value-shape (get_or entry.args.kinds.now 0 0) (get_or entry.args.words.now 0 0) (sym told.enum-told2.given.1 ∙ after-group.value-group.ensures) in
-    rw (sym at.is, shape) (laws.global-puts k entry.args.width (get_or entry.args.words.now 0 0)
+    let shape = value_shape (get_or entry.args.kinds.now 0 0) (get_or entry.args.words.now 0 0) (sym told.enum-told2.given.1 ∙ after-group.value-group.ensures) in
+    rw (sym at.is, shape) (laws.global_puts k entry.args.width (get_or entry.args.words.now 0 0)
     (omega (arith, after-group.before.before.shared-slice-known4.given 0)) after-put.put.ensures)
 
 same-length-5 : tie.Need-same-length-5
@@ -102,8 +102,8 @@ returns-3 c = λ m k v at maps.
     let told = after-put.before.before.before in
     let after-group = told.before.before in
     let entry = after-group.before.before.before.before.before.before.before.before in
-    let shape = value-shape (get_or entry.args.kinds.now 0 0) (get_or entry.args.words.now 0 0) (sym told.enum-told3.given.1 ∙ after-group.value-group.ensures) in
-    rw (sym at.is, shape) (laws.number-puts k entry.args.width (get_or entry.args.words.now 0 0) after-put.push-int.ensures)
+    let shape = value_shape (get_or entry.args.kinds.now 0 0) (get_or entry.args.words.now 0 0) (sym told.enum-told3.given.1 ∙ after-group.value-group.ensures) in
+    rw (sym at.is, shape) (laws.number_puts k entry.args.width (get_or entry.args.words.now 0 0) after-put.push-int.ensures)
 
 same-length-7 : tie.Need-same-length-7
 same-length-7 c = search rules
@@ -117,24 +117,24 @@ returns-4 c = λ m k v at maps.
     let told = after-put.before.before.before in
     let after-group = told.before.before in
     let entry = after-group.before.before.before.before.before.before.before.before in
-    let shape = value-shape (get_or entry.args.kinds.now 0 0) (get_or entry.args.words.now 0 0) (sym told.enum-told4.given.1 ∙ after-group.value-group.ensures) in
-    rw (sym at.is, shape.1) (laws.zero-puts k entry.args.width shape.0 after-put.put2.ensures)
+    let shape = value_shape (get_or entry.args.kinds.now 0 0) (get_or entry.args.words.now 0 0) (sym told.enum-told4.given.1 ∙ after-group.value-group.ensures) in
+    rw (sym at.is, shape.1) (laws.zero_puts k entry.args.width shape.0 after-put.put2.ensures)
 
 returns-5 : tie.Need-returns-5
 returns-5 c = λ m k v at maps.
     let told = c.before in
     let after-group = told.before.before in
     let entry = after-group.before.before.before.before.before.before.before.before in
-    let shape = value-shape (get_or entry.args.kinds.now 0 0) (get_or entry.args.words.now 0 0) (sym told.enum-told5.given.1 ∙ after-group.value-group.ensures) in
-    rw (sym at.is, shape) (laws.other-puts k entry.args.width entry.args.lines.now entry.args.operands.now c.refuse.ensures)
+    let shape = value_shape (get_or entry.args.kinds.now 0 0) (get_or entry.args.words.now 0 0) (sym told.enum-told5.given.1 ∙ after-group.value-group.ensures) in
+    rw (sym at.is, shape) (laws.other_puts k entry.args.width entry.args.lines.now entry.args.operands.now c.refuse.ensures)
 
 returns-6 : tie.Need-returns-6
 returns-6 c = λ m k v at maps.
     let told = c.before in
     let after-group = told.before.before in
     let entry = after-group.before.before.before.before.before.before.before.before in
-    let shape = value-shape (get_or entry.args.kinds.now 0 0) (get_or entry.args.words.now 0 0) (sym told.enum-told6.given.1 ∙ after-group.value-group.ensures) in
-    rw (sym at.is, shape) (laws.other-puts k entry.args.width entry.args.lines.now entry.args.operands.now c.refuse2.ensures)
+    let shape = value_shape (get_or entry.args.kinds.now 0 0) (get_or entry.args.words.now 0 0) (sym told.enum-told6.given.1 ∙ after-group.value-group.ensures) in
+    rw (sym at.is, shape) (laws.other_puts k entry.args.width entry.args.lines.now entry.args.operands.now c.refuse2.ensures)
 
 pub push-value-spec : {M : Type 1} → statement M
 push-value-spec =

@@ -73,7 +73,7 @@ returns c =
     let after-operation = after-put2.before in
     let after-put = after-operation.before.before.before.before.before.before.before in
     let entry = after-put.before.before.before.before.before in
-    laws.bit-puts entry.args.to after-operation.operation.ensures after-mask.mask-to-width.ensures (search rules) after-operation2.operation2.ensures
+    laws.bit_puts entry.args.to after-operation.operation.ensures after-mask.mask-to-width.ensures (search rules) after-operation2.operation2.ensures
     after-put.put.ensures after-put2.put2.ensures after-put3.put3.ensures after-put4.put4.ensures
 
 pub sext-bit-spec : {M : Type 1} → statement M

@@ -17,7 +17,7 @@ returns : tie.Need-returns
 returns c = λ m k below maps.
     let no_name = c.before in
     let entry = no_name.before.before.before.before in
-    laws.nameless-puts k m entry.args.dest entry.args.work.now below maps entry.args.lines.now entry.args.operands.now no_name.if1.true c.refuse.ensures
+    laws.nameless_puts k m entry.args.dest entry.args.work.now below maps entry.args.lines.now entry.args.operands.now no_name.if1.true c.refuse.ensures
 
 -- src/lib.rt:103:27
 sub-slot : tie.Need-overflow-sub-slot
@@ -57,7 +57,7 @@ returns-2 c = λ m k below maps.
     let no_slot = c.before in
     let is-named = no_slot.before.before in
     let entry = is-named.before.before.before.before in
-    laws.slotless-puts k m entry.args.dest entry.args.work.now below maps entry.args.lines.now entry.args.operands.now is-named.if1.false refl
+    laws.slotless_puts k m entry.args.dest entry.args.work.now below maps entry.args.lines.now entry.args.operands.now is-named.if1.false refl
     no_slot.if2.true c.refuse2.ensures
 
 -- src/lib.rt:107:33
@@ -83,7 +83,7 @@ returns-3 c = λ m k below maps.
     let has-slot = after-put.before.before.before in
     let is-named = has-slot.before.before in
     let entry = is-named.before.before.before.before in
-    laws.stored-puts k m entry.args.dest entry.args.work.now below maps is-named.if1.false refl has-slot.if2.false
+    laws.stored_puts k m entry.args.dest entry.args.work.now below maps is-named.if1.false refl has-slot.if2.false
     (omega (arith, has-slot.before.shared-slice-known2.given (slot_at (entry.args.dest - 1)))) after-put.put.ensures
 
 pub store-dest-spec : {M : Type 1} → statement M

@@ -26,7 +26,7 @@ returns c = λ m k below maps.
     let after-put = c.before.before.before.before in
     let no_name = after-put.before.before.before in
     let entry = no_name.before.before.before.before in
-    laws.popped-puts k entry.args.dest no_name.if1.true after-put.put.ensures
+    laws.popped_puts k entry.args.dest no_name.if1.true after-put.put.ensures
 
 -- src/lib.rt:119:5
 store-dest-requires : tie.Need-store-dest-requires
@@ -46,7 +46,7 @@ returns-2 c = λ m k below maps.
     let after_store = c.before.before.before.before in
     let is-named = after_store.before.before.before in
     let entry = is-named.before.before.before.before in
-    laws.kept-puts k entry.args.dest is-named.if1.false (after_store.store-dest.ensures m k below maps)
+    laws.kept_puts k entry.args.dest is-named.if1.false (after_store.store-dest.ensures m k below maps)
 
 pub store-or-pop-spec : {M : Type 1} → statement M
 store-or-pop-spec =

@@ -11,7 +11,7 @@ use Rattle.gen_values.proofs.emit_trunc_to.Reads as emit-trunc-to-reads
 returns : tie.Need-returns
 returns c =
     let entry = c.before.before.before in
-    laws.whole-32-puts entry.args.width _ entry.args.s entry.args.lines.now entry.args.operands.now c.if1.true
+    laws.whole_32_puts entry.args.width _ entry.args.s entry.args.lines.now entry.args.operands.now c.if1.true
 
 -- src/lib.rt:189:9
 emit-trunc-to-requires : tie.Need-emit-trunc-to-requires
@@ -31,13 +31,13 @@ returns-2 c =
     let after-trunc = c.before.before.before.before in
     let in-64 = after-trunc.before.before.before in
     let entry = in-64.before.before.before.before in
-    laws.below-puts entry.args.width in-64.before.if1.false in-64.if2.true after-trunc.emit-trunc-to.ensures
+    laws.below_puts entry.args.width in-64.before.if1.false in-64.if2.true after-trunc.emit-trunc-to.ensures
 
 -- src/lib.rt:182:1
 returns-3 : tie.Need-returns-3
 returns-3 c =
     let entry = c.before.before.before.before in
-    laws.whole-64-puts entry.args.width _ entry.args.s entry.args.lines.now entry.args.operands.now c.if2.false
+    laws.whole_64_puts entry.args.width _ entry.args.s entry.args.lines.now entry.args.operands.now c.if2.false
 
 pub trunc-below-spec : {M : Type 1} → statement M
 trunc-below-spec =

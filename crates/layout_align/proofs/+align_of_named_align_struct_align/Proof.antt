@@ -2,14 +2,14 @@
 use Rattle.layout_memo.specs.Calls as calls
 use Rattle.layout_align.specs.LoopCalls as lc
 use Rattle.layout_memo.specs.FieldCalls as fields
-use Rattle.layout_memo.specs.Scalars.{passes-from, reach-none}
+use Rattle.layout_memo.specs.Scalars.{passes_from, reach_none}
 use borrow.Author.Rules.{rules}
 use Prim.Native.Nat.{ℕ, ◌+◌, ◌-◌, ◌*◌, ◌<◌}
 use native.Mathlib.Omega.{arith}
 use lib.ListN.{length}
 use Rattle.book.specs.Entry.{entries}
 use Rattle.layout_align.specs.Loop.{AlignLoop}
-use Rattle.layout_memo.specs.Work.{structsIn, After}
+use Rattle.layout_memo.specs.Work.{structs_in, After}
 use Prim.Native.Nat.{ℕ, ◌<◌}
 use borrow.Fn.Kinds.{In}
 use borrow.Fn.PlainCycle.{Measures, is, falls, and}
@@ -44,52 +44,52 @@ abbrev μ-named-align : Measures 3 named-align-kinds.ps ℕ
 abbrev μ-struct-align : Measures 5 struct-align-kinds.ps ℕ
 μ-struct-align κs a = 3 * a.1.1.1.1.1.1.0 + 2
 
-abbrev align-of-at : ℕ → In 5 align-of-kinds.ps
-align-of-at t = and 5 align-of-kinds.ps (is 5 align-of-kinds.ps μ-align-of t) align-of.Pre
+abbrev align_of_at : ℕ → In 5 align-of-kinds.ps
+align_of_at t = and 5 align-of-kinds.ps (is 5 align-of-kinds.ps μ-align-of t) align-of.Pre
 
-abbrev align-of-below : ℕ → In 5 align-of-kinds.ps
-align-of-below t =
+abbrev align_of_below : ℕ → In 5 align-of-kinds.ps
+align_of_below t =
     and 5 align-of-kinds.ps (falls 5 align-of-kinds.ps ◌<◌ μ-align-of t) align-of.Pre
 
-abbrev named-align-at : ℕ → In 3 named-align-kinds.ps
-named-align-at t =
+abbrev named_align_at : ℕ → In 3 named-align-kinds.ps
+named_align_at t =
     and 3 named-align-kinds.ps (is 3 named-align-kinds.ps μ-named-align t) named-align.Pre
 
-abbrev named-align-below : ℕ → In 3 named-align-kinds.ps
-named-align-below t =
+abbrev named_align_below : ℕ → In 3 named-align-kinds.ps
+named_align_below t =
     and 3 named-align-kinds.ps (falls 3 named-align-kinds.ps ◌<◌ μ-named-align t) named-align.Pre
 
-abbrev struct-align-at : ℕ → In 5 struct-align-kinds.ps
-struct-align-at t =
+abbrev struct_align_at : ℕ → In 5 struct-align-kinds.ps
+struct_align_at t =
     and 5 struct-align-kinds.ps (is 5 struct-align-kinds.ps μ-struct-align t) struct-align.Pre
 
-abbrev struct-align-below : ℕ → In 5 struct-align-kinds.ps
-struct-align-below t =
+abbrev struct_align_below : ℕ → In 5 struct-align-kinds.ps
+struct_align_below t =
     and
     5
     struct-align-kinds.ps
     (falls 5 struct-align-kinds.ps ◌<◌ μ-struct-align t)
     struct-align.Pre
 
-abbrev align-of-claims : ℕ → align-of-lts.Claims
-align-of-claims t = (
+abbrev align_of_claims : ℕ → align-of-lts.Claims
+align_of_claims t = (
   type-group-reads.Asked,
   type-group-reads.Learnt,
-  align-of-below t,
+  align_of_below t,
   align-of.Post,
   one-more-reads.Asked,
   one-more-reads.Learnt,
-  named-align-below t,
+  named_align_below t,
   named-align.Post,
-  struct-align-below t,
+  struct_align_below t,
   struct-align.Post,
 )
 
-abbrev named-align-claims : ℕ → named-align-lts.Claims
-named-align-claims t = (
+abbrev named_align_claims : ℕ → named-align-lts.Claims
+named_align_claims t = (
   recalled-reads.Asked,
   recalled-reads.Learnt,
-  align-of-below t,
+  align_of_below t,
   align-of.Post,
   one-more-reads.Asked,
   one-more-reads.Learnt,
@@ -97,15 +97,15 @@ named-align-claims t = (
   with-align-reads.Learnt,
 )
 
-abbrev struct-align-claims : ℕ → struct-align-lts.Claims
-struct-align-claims t = (
+abbrev struct_align_claims : ℕ → struct-align-lts.Claims
+struct_align_claims t = (
   reach-reads.Asked,
   reach-reads.Learnt,
   run-from-reads.Asked,
   run-from-reads.Learnt,
   pass-scalars-reads.Asked,
   pass-scalars-reads.Learnt,
-  align-of-below t,
+  align_of_below t,
   align-of.Post,
   type-end-reads.Asked,
   type-end-reads.Learnt,
@@ -115,450 +115,450 @@ struct-align-claims t = (
   deeper-reads.Learnt,
 )
 
-align-of-returns : (t : ℕ) → align-of-lts.Need-returns (align-of-claims t) (align-of-at t) align-of.Post
-align-of-returns t c = calls.align-none _ _ _ _ _ _ c.before.before.before.before.before.before.requires.1 c.if1.true
+align_of_returns : (t : ℕ) → align-of-lts.Need-returns (align_of_claims t) (align_of_at t) align-of.Post
+align_of_returns t c = calls.align_none _ _ _ _ _ _ c.before.before.before.before.before.before.requires.1 c.if1.true
 
-align-of-shared-slice-read-word : (t : ℕ) → align-of-lts.Need-shared-slice-read-word (align-of-claims t) (align-of-at t) align-of.Post
-align-of-shared-slice-read-word t c = let h = calls.words-there _ _ _ _ _ _ c.before.before.before.before.before.before.before.requires.1 in search rules
+align_of_shared_slice_read_word : (t : ℕ) → align-of-lts.Need-shared-slice-read-word (align_of_claims t) (align_of_at t) align-of.Post
+align_of_shared_slice_read_word t c = let h = calls.words_there _ _ _ _ _ _ c.before.before.before.before.before.before.before.requires.1 in search rules
 
-align-of-shared-slice-read-type-group : (t : ℕ) → align-of-lts.Need-shared-slice-read-type-group (align-of-claims t) (align-of-at t) align-of.Post
-align-of-shared-slice-read-type-group t c = let h = calls.kinds-there _ _ _ _ _ _ c.before.before.before.before.before.before.before.before.requires.1 in search rules
+align_of_shared_slice_read_type_group : (t : ℕ) → align-of-lts.Need-shared-slice-read-type-group (align_of_claims t) (align_of_at t) align-of.Post
+align_of_shared_slice_read_type_group t c = let h = calls.kinds_there _ _ _ _ _ _ c.before.before.before.before.before.before.before.before.requires.1 in search rules
 
-align-of-type-group-requires : (t : ℕ) → align-of-lts.Need-type-group-requires (align-of-claims t) (align-of-at t) align-of.Post
-align-of-type-group-requires t c κs = search rules
+align_of_type_group_requires : (t : ℕ) → align-of-lts.Need-type-group-requires (align_of_claims t) (align_of_at t) align-of.Post
+align_of_type_group_requires t c κs = search rules
 
-align-of-enum-told : (t : ℕ) → align-of-lts.Need-enum-told (align-of-claims t) (align-of-at t) align-of.Post
-align-of-enum-told t c = search rules
+align_of_enum_told : (t : ℕ) → align-of-lts.Need-enum-told (align_of_claims t) (align_of_at t) align-of.Post
+align_of_enum_told t c = search rules
 
-align-of-enum-told-2 : (t : ℕ) → align-of-lts.Need-enum-told-2 (align-of-claims t) (align-of-at t) align-of.Post
-align-of-enum-told-2 t c = search rules
+align_of_enum_told_2 : (t : ℕ) → align-of-lts.Need-enum-told-2 (align_of_claims t) (align_of_at t) align-of.Post
+align_of_enum_told_2 t c = search rules
 
-align-of-add-t16 : (t : ℕ) → align-of-lts.Need-overflow-add-t16 (align-of-claims t) (align-of-at t) align-of.Post
-align-of-add-t16 t c =
+align_of_add_t16 : (t : ℕ) → align-of-lts.Need-overflow-add-t16 (align_of_claims t) (align_of_at t) align-of.Post
+align_of_add_t16 t c =
     let entry = c.before.before.before.before.before.before.before.before.before.before.before in
-    omega (arith, calls.int-width _ _ _ _ _ _ entry.requires.1 _ c.before.before.type-group.ensures c.enum-told2.given.1)
+    omega (arith, calls.int_width_lem _ _ _ _ _ _ entry.requires.1 _ c.before.before.type-group.ensures c.enum-told2.given.1)
 
-align-of-enum-told-3 : (t : ℕ) → align-of-lts.Need-enum-told-3 (align-of-claims t) (align-of-at t) align-of.Post
-align-of-enum-told-3 t c = search rules
+align_of_enum_told_3 : (t : ℕ) → align-of-lts.Need-enum-told-3 (align_of_claims t) (align_of_at t) align-of.Post
+align_of_enum_told_3 t c = search rules
 
-align-of-enum-told-4 : (t : ℕ) → align-of-lts.Need-enum-told-4 (align-of-claims t) (align-of-at t) align-of.Post
-align-of-enum-told-4 t c = search rules
+align_of_enum_told_4 : (t : ℕ) → align-of-lts.Need-enum-told-4 (align_of_claims t) (align_of_at t) align-of.Post
+align_of_enum_told_4 t c = search rules
 
-align-of-sub-align-of : (t : ℕ) → align-of-lts.Need-overflow-sub-align-of (align-of-claims t) (align-of-at t) align-of.Post
-align-of-sub-align-of t c = let h = calls.kinds-there _ _ _ _ _ _ c.before.before.before.before.before.before.before.before.before.before.before.requires.1 in search rules
+align_of_sub_align_of : (t : ℕ) → align-of-lts.Need-overflow-sub-align-of (align_of_claims t) (align_of_at t) align-of.Post
+align_of_sub_align_of t c = let h = calls.kinds_there _ _ _ _ _ _ c.before.before.before.before.before.before.before.before.before.before.before.requires.1 in search rules
 
-align-of-part-align-of-start : (t : ℕ) → align-of-lts.Need-slice-bounds-align-of-start (align-of-claims t) (align-of-at t) align-of.Post
-align-of-part-align-of-start t c = let h = calls.kinds-there _ _ _ _ _ _ c.before.before.before.before.before.before.before.before.before.before.before.requires.1 in search rules
+align_of_part_align_of_start : (t : ℕ) → align-of-lts.Need-slice-bounds-align-of-start (align_of_claims t) (align_of_at t) align-of.Post
+align_of_part_align_of_start t c = let h = calls.kinds_there _ _ _ _ _ _ c.before.before.before.before.before.before.before.before.before.before.before.requires.1 in search rules
 
-align-of-part-align-of-end : (t : ℕ) → align-of-lts.Need-slice-bounds-align-of-end (align-of-claims t) (align-of-at t) align-of.Post
-align-of-part-align-of-end t c = search rules
+align_of_part_align_of_end : (t : ℕ) → align-of-lts.Need-slice-bounds-align-of-end (align_of_claims t) (align_of_at t) align-of.Post
+align_of_part_align_of_end t c = search rules
 
-align-of-sub-align-of-2 : (t : ℕ) → align-of-lts.Need-overflow-sub-align-of-2 (align-of-claims t) (align-of-at t) align-of.Post
-align-of-sub-align-of-2 t c = let h = calls.words-there _ _ _ _ _ _ c.before.before.before.before.before.before.before.before.before.before.before.before.requires.1 in search rules
+align_of_sub_align_of_2 : (t : ℕ) → align-of-lts.Need-overflow-sub-align-of-2 (align_of_claims t) (align_of_at t) align-of.Post
+align_of_sub_align_of_2 t c = let h = calls.words_there _ _ _ _ _ _ c.before.before.before.before.before.before.before.before.before.before.before.before.requires.1 in search rules
 
-align-of-part-align-of-start-2 : (t : ℕ) → align-of-lts.Need-slice-bounds-align-of-start-2 (align-of-claims t) (align-of-at t) align-of.Post
-align-of-part-align-of-start-2 t c = let h = calls.words-there _ _ _ _ _ _ c.before.before.before.before.before.before.before.before.before.before.before.before.requires.1 in search rules
+align_of_part_align_of_start_2 : (t : ℕ) → align-of-lts.Need-slice-bounds-align-of-start-2 (align_of_claims t) (align_of_at t) align-of.Post
+align_of_part_align_of_start_2 t c = let h = calls.words_there _ _ _ _ _ _ c.before.before.before.before.before.before.before.before.before.before.before.before.requires.1 in search rules
 
-align-of-part-align-of-end-2 : (t : ℕ) → align-of-lts.Need-slice-bounds-align-of-end-2 (align-of-claims t) (align-of-at t) align-of.Post
-align-of-part-align-of-end-2 t c = search rules
+align_of_part_align_of_end_2 : (t : ℕ) → align-of-lts.Need-slice-bounds-align-of-end-2 (align_of_claims t) (align_of_at t) align-of.Post
+align_of_part_align_of_end_2 t c = search rules
 
-align-of-sub-align-of-3 : (t : ℕ) → align-of-lts.Need-overflow-sub-align-of-3 (align-of-claims t) (align-of-at t) align-of.Post
-align-of-sub-align-of-3 t c = search rules
+align_of_sub_align_of_3 : (t : ℕ) → align-of-lts.Need-overflow-sub-align-of-3 (align_of_claims t) (align_of_at t) align-of.Post
+align_of_sub_align_of_3 t c = search rules
 
-align-of-align-of-requires : (t : ℕ) → align-of-lts.Need-align-of-requires (align-of-claims t) (align-of-at t) align-of.Post
-align-of-align-of-requires t c κs =
+align_of_align_of_requires : (t : ℕ) → align-of-lts.Need-align-of-requires (align_of_claims t) (align_of_at t) align-of.Post
+align_of_align_of_requires t c κs =
     let after-enum-told4 = c.before.before.before in
     let after-type-group = after-enum-told4.before.before in
     let entry = after-type-group.before.before.before.before.before.before.before.before.before in
-    (omega arith, calls.array-ask _ _ _ _ _ _ entry.requires.1 _ after-type-group.type-group.ensures _ after-enum-told4.enum-told4.given.1)
+    (omega arith, calls.array_ask _ _ _ _ _ _ entry.requires.1 _ after-type-group.type-group.ensures _ after-enum-told4.enum-told4.given.1)
 
-align-of-one-more-requires : (t : ℕ) → align-of-lts.Need-one-more-requires (align-of-claims t) (align-of-at t) align-of.Post
-align-of-one-more-requires t c κs =
+align_of_one_more_requires : (t : ℕ) → align-of-lts.Need-one-more-requires (align_of_claims t) (align_of_at t) align-of.Post
+align_of_one_more_requires t c κs =
     let entry = c.before.before.before.before.before.before.before.before.before.before.before.before.before.before.before.before.before in
-    calls.outcome-few (omega (arith, entry.requires.1.levels)) c.before.before.align-of.ensures
+    calls.outcome_few (omega (arith, entry.requires.1.levels)) c.before.before.align-of.ensures
 
-align-of-enum-told-5 : (t : ℕ) → align-of-lts.Need-enum-told-5 (align-of-claims t) (align-of-at t) align-of.Post
-align-of-enum-told-5 t c = search rules
+align_of_enum_told_5 : (t : ℕ) → align-of-lts.Need-enum-told-5 (align_of_claims t) (align_of_at t) align-of.Post
+align_of_enum_told_5 t c = search rules
 
-align-of-named-align-requires : (t : ℕ) → align-of-lts.Need-named-align-requires (align-of-claims t) (align-of-at t) align-of.Post
-align-of-named-align-requires t c κs =
+align_of_named_align_requires : (t : ℕ) → align-of-lts.Need-named-align-requires (align_of_claims t) (align_of_at t) align-of.Post
+align_of_named_align_requires t c κs =
     let after-type-group = c.before.before.before in
     let else1 = after-type-group.before.before.before in
     let entry = else1.before.before.before.before.before.before in (
       omega arith,
-      calls.named-ask _ _ _ _ _ _ entry.requires.1 _ after-type-group.type-group.ensures else1.if1.false
+      calls.named_ask _ _ _ _ _ _ entry.requires.1 _ after-type-group.type-group.ensures else1.if1.false
           c.before.enum-told5.given.1,
     )
 
-align-of-enum-known-packed : (t : ℕ) → align-of-lts.Need-enum-known-packed (align-of-claims t) (align-of-at t) align-of.Post
-align-of-enum-known-packed t c = search rules
+align_of_enum_known_packed : (t : ℕ) → align-of-lts.Need-enum-known-packed (align_of_claims t) (align_of_at t) align-of.Post
+align_of_enum_known_packed t c = search rules
 
-align-of-sub-struct-align : (t : ℕ) → align-of-lts.Need-overflow-sub-struct-align (align-of-claims t) (align-of-at t) align-of.Post
-align-of-sub-struct-align t c = let h = calls.kinds-there _ _ _ _ _ _ c.before.before.before.before.before.before.before.before.before.before.before.before.requires.1 in search rules
+align_of_sub_struct_align : (t : ℕ) → align-of-lts.Need-overflow-sub-struct-align (align_of_claims t) (align_of_at t) align-of.Post
+align_of_sub_struct_align t c = let h = calls.kinds_there _ _ _ _ _ _ c.before.before.before.before.before.before.before.before.before.before.before.before.requires.1 in search rules
 
-align-of-part-struct-align-start : (t : ℕ) → align-of-lts.Need-slice-bounds-struct-align-start (align-of-claims t) (align-of-at t) align-of.Post
-align-of-part-struct-align-start t c = let h = calls.kinds-there _ _ _ _ _ _ c.before.before.before.before.before.before.before.before.before.before.before.before.requires.1 in search rules
+align_of_part_struct_align_start : (t : ℕ) → align-of-lts.Need-slice-bounds-struct-align-start (align_of_claims t) (align_of_at t) align-of.Post
+align_of_part_struct_align_start t c = let h = calls.kinds_there _ _ _ _ _ _ c.before.before.before.before.before.before.before.before.before.before.before.before.requires.1 in search rules
 
-align-of-part-struct-align-end : (t : ℕ) → align-of-lts.Need-slice-bounds-struct-align-end (align-of-claims t) (align-of-at t) align-of.Post
-align-of-part-struct-align-end t c = search rules
+align_of_part_struct_align_end : (t : ℕ) → align-of-lts.Need-slice-bounds-struct-align-end (align_of_claims t) (align_of_at t) align-of.Post
+align_of_part_struct_align_end t c = search rules
 
-align-of-sub-struct-align-2 : (t : ℕ) → align-of-lts.Need-overflow-sub-struct-align-2 (align-of-claims t) (align-of-at t) align-of.Post
-align-of-sub-struct-align-2 t c =
+align_of_sub_struct_align_2 : (t : ℕ) → align-of-lts.Need-overflow-sub-struct-align-2 (align_of_claims t) (align_of_at t) align-of.Post
+align_of_sub_struct_align_2 t c =
     let entry = c.before.before.before.before.before.before.before.before.before.before.before.before.before in
-    let h = calls.words-there _ _ _ _ _ _ entry.requires.1 in
+    let h = calls.words_there _ _ _ _ _ _ entry.requires.1 in
     search rules
 
-align-of-part-struct-align-start-2 : (t : ℕ) → align-of-lts.Need-slice-bounds-struct-align-start-2 (align-of-claims t) (align-of-at t) align-of.Post
-align-of-part-struct-align-start-2 t c =
+align_of_part_struct_align_start_2 : (t : ℕ) → align-of-lts.Need-slice-bounds-struct-align-start-2 (align_of_claims t) (align_of_at t) align-of.Post
+align_of_part_struct_align_start_2 t c =
     let entry = c.before.before.before.before.before.before.before.before.before.before.before.before.before in
-    let h = calls.words-there _ _ _ _ _ _ entry.requires.1 in
+    let h = calls.words_there _ _ _ _ _ _ entry.requires.1 in
     search rules
 
-align-of-part-struct-align-end-2 : (t : ℕ) → align-of-lts.Need-slice-bounds-struct-align-end-2 (align-of-claims t) (align-of-at t) align-of.Post
-align-of-part-struct-align-end-2 t c = search rules
+align_of_part_struct_align_end_2 : (t : ℕ) → align-of-lts.Need-slice-bounds-struct-align-end-2 (align_of_claims t) (align_of_at t) align-of.Post
+align_of_part_struct_align_end_2 t c = search rules
 
-align-of-sub-struct-align-3 : (t : ℕ) → align-of-lts.Need-overflow-sub-struct-align-3 (align-of-claims t) (align-of-at t) align-of.Post
-align-of-sub-struct-align-3 t c = search rules
+align_of_sub_struct_align_3 : (t : ℕ) → align-of-lts.Need-overflow-sub-struct-align-3 (align_of_claims t) (align_of_at t) align-of.Post
+align_of_sub_struct_align_3 t c = search rules
 
-align-of-struct-align-requires : (t : ℕ) → align-of-lts.Need-struct-align-requires (align-of-claims t) (align-of-at t) align-of.Post
-align-of-struct-align-requires t c κs =
+align_of_struct_align_requires : (t : ℕ) → align-of-lts.Need-struct-align-requires (align_of_claims t) (align_of_at t) align-of.Post
+align_of_struct_align_requires t c κs =
     let after-packed = c.before.before.before.before in
     let after-type-group = after-packed.before.before in
     let entry = after-type-group.before.before.before.before.before.before.before.before.before in
-    (omega arith, calls.struct-ask _ _ _ _ _ _ entry.requires.1 _ after-type-group.type-group.ensures _ after-packed.packed.given.1)
+    (omega arith, calls.struct_ask _ _ _ _ _ _ entry.requires.1 _ after-type-group.type-group.ensures _ after-packed.packed.given.1)
 
-align-of-one-more-requires-2 : (t : ℕ) → align-of-lts.Need-one-more-requires-2 (align-of-claims t) (align-of-at t) align-of.Post
-align-of-one-more-requires-2 t c κs =
+align_of_one_more_requires_2 : (t : ℕ) → align-of-lts.Need-one-more-requires-2 (align_of_claims t) (align_of_at t) align-of.Post
+align_of_one_more_requires_2 t c κs =
     let entry = c.before.before.before.before.before.before.before.before.before.before.before.before.before.before.before.before.before.before in
-    calls.outcome-few (omega (arith, entry.requires.1.levels)) c.before.before.struct-align.ensures
+    calls.outcome_few (omega (arith, entry.requires.1.levels)) c.before.before.struct-align.ensures
 
-align-of-enum-told-6 : (t : ℕ) → align-of-lts.Need-enum-told-6 (align-of-claims t) (align-of-at t) align-of.Post
-align-of-enum-told-6 t c = search rules
+align_of_enum_told_6 : (t : ℕ) → align-of-lts.Need-enum-told-6 (align_of_claims t) (align_of_at t) align-of.Post
+align_of_enum_told_6 t c = search rules
 
-align-of-enum-told-7 : (t : ℕ) → align-of-lts.Need-enum-told-7 (align-of-claims t) (align-of-at t) align-of.Post
-align-of-enum-told-7 t c = search rules
+align_of_enum_told_7 : (t : ℕ) → align-of-lts.Need-enum-told-7 (align_of_claims t) (align_of_at t) align-of.Post
+align_of_enum_told_7 t c = search rules
 
-align-of-returns-2 : (t : ℕ) → align-of-lts.Need-returns-2 (align-of-claims t) (align-of-at t) align-of.Post
-align-of-returns-2 t c =
+align_of_returns_2 : (t : ℕ) → align-of-lts.Need-returns-2 (align_of_claims t) (align_of_at t) align-of.Post
+align_of_returns_2 t c =
     let else1 = c.before.before.before.before.before in
     let entry = else1.before.before.before.before.before.before in
-    calls.align-void _ _ _ _ _ _ entry.requires.1 _ c.before.before.type-group.ensures else1.if1.false c.enum_told.given.1
+    calls.align_void _ _ _ _ _ _ entry.requires.1 _ c.before.before.type-group.ensures else1.if1.false c.enum_told.given.1
 
-align-of-returns-3 : (t : ℕ) → align-of-lts.Need-returns-3 (align-of-claims t) (align-of-at t) align-of.Post
-align-of-returns-3 t c =
+align_of_returns_3 : (t : ℕ) → align-of-lts.Need-returns-3 (align_of_claims t) (align_of_at t) align-of.Post
+align_of_returns_3 t c =
     let else1 = c.before.before.before.before.before in
     let entry = else1.before.before.before.before.before.before in
-    calls.align-int _ _ _ _ _ _ entry.requires.1 _ c.before.before.type-group.ensures else1.if1.false c.enum-told2.given.1
+    calls.align_int _ _ _ _ _ _ entry.requires.1 _ c.before.before.type-group.ensures else1.if1.false c.enum-told2.given.1
 
-align-of-returns-4 : (t : ℕ) → align-of-lts.Need-returns-4 (align-of-claims t) (align-of-at t) align-of.Post
-align-of-returns-4 t c =
+align_of_returns_4 : (t : ℕ) → align-of-lts.Need-returns-4 (align_of_claims t) (align_of_at t) align-of.Post
+align_of_returns_4 t c =
     let else1 = c.before.before.before.before.before in
     let entry = else1.before.before.before.before.before.before in
-    calls.align-ptr _ _ _ _ _ _ entry.requires.1 _ c.before.before.type-group.ensures else1.if1.false c.enum-told3.given.1
+    calls.align_ptr _ _ _ _ _ _ entry.requires.1 _ c.before.before.type-group.ensures else1.if1.false c.enum-told3.given.1
 
-align-of-same-length : (t : ℕ) → align-of-lts.Need-same-length (align-of-claims t) (align-of-at t) align-of.Post
-align-of-same-length t c = search rules
+align_of_same_length : (t : ℕ) → align-of-lts.Need-same-length (align_of_claims t) (align_of_at t) align-of.Post
+align_of_same_length t c = search rules
 
-align-of-returns-5 : (t : ℕ) → align-of-lts.Need-returns-5 (align-of-claims t) (align-of-at t) align-of.Post
-align-of-returns-5 t c =
+align_of_returns_5 : (t : ℕ) → align-of-lts.Need-returns-5 (align_of_claims t) (align_of_at t) align-of.Post
+align_of_returns_5 t c =
     let after-align-of = c.before.before.before in
     let after-enum-told4 = after-align-of.before.before.before.before in
     let after-type-group = after-enum-told4.before.before in
     let else1 = after-type-group.before.before.before in
     let entry = else1.before.before.before.before.before.before in
-    calls.align-array _ _ _ _ _ _ entry.requires.1 _ after-type-group.type-group.ensures else1.if1.false _
-    after-enum-told4.enum-told4.given.1 after-align-of.align-of.ensures _ c.one_more.ensures
+    calls.align_array _ _ _ _ _ _ entry.requires.1 _ after-type-group.type-group.ensures else1.if1.false _
+    after-enum-told4.enum-told4.given.1 after-align-of.align-of.ensures _ c.one_more_lem.ensures
 
-align-of-same-length-2 : (t : ℕ) → align-of-lts.Need-same-length-2 (align-of-claims t) (align-of-at t) align-of.Post
-align-of-same-length-2 t c = search rules
+align_of_same_length_2 : (t : ℕ) → align-of-lts.Need-same-length-2 (align_of_claims t) (align_of_at t) align-of.Post
+align_of_same_length_2 t c = search rules
 
-align-of-returns-6 : (t : ℕ) → align-of-lts.Need-returns-6 (align-of-claims t) (align-of-at t) align-of.Post
-align-of-returns-6 t c =
+align_of_returns_6 : (t : ℕ) → align-of-lts.Need-returns-6 (align_of_claims t) (align_of_at t) align-of.Post
+align_of_returns_6 t c =
     let after-enum-told5 = c.before.before.before.before in
     let after-type-group = after-enum-told5.before.before in
     let else1 = after-type-group.before.before.before in
     let entry = else1.before.before.before.before.before.before in
-    calls.align-named _ _ _ _ _ _ entry.requires.1 _ after-type-group.type-group.ensures else1.if1.false
+    calls.align_named _ _ _ _ _ _ entry.requires.1 _ after-type-group.type-group.ensures else1.if1.false
     after-enum-told5.enum-told5.given.1 c.before.before.named-align.ensures
 
-align-of-same-length-3 : (t : ℕ) → align-of-lts.Need-same-length-3 (align-of-claims t) (align-of-at t) align-of.Post
-align-of-same-length-3 t c = search rules
+align_of_same_length_3 : (t : ℕ) → align-of-lts.Need-same-length-3 (align_of_claims t) (align_of_at t) align-of.Post
+align_of_same_length_3 t c = search rules
 
-align-of-returns-7 : (t : ℕ) → align-of-lts.Need-returns-7 (align-of-claims t) (align-of-at t) align-of.Post
-align-of-returns-7 t c =
+align_of_returns_7 : (t : ℕ) → align-of-lts.Need-returns-7 (align_of_claims t) (align_of_at t) align-of.Post
+align_of_returns_7 t c =
     let after-struct-align = c.before.before.before in
     let after-packed = after-struct-align.before.before.before.before.before in
     let after-type-group = after-packed.before.before in
     let else1 = after-type-group.before.before.before in
     let entry = else1.before.before.before.before.before.before in
-    calls.align-struct _ _ _ _ _ _ entry.requires.1 _ after-type-group.type-group.ensures else1.if1.false _ after-packed.packed.given.1
+    calls.align_struct _ _ _ _ _ _ entry.requires.1 _ after-type-group.type-group.ensures else1.if1.false _ after-packed.packed.given.1
     after-struct-align.struct-align.ensures _ c.one-more2.ensures
 
-align-of-returns-8 : (t : ℕ) → align-of-lts.Need-returns-8 (align-of-claims t) (align-of-at t) align-of.Post
-align-of-returns-8 t c =
+align_of_returns_8 : (t : ℕ) → align-of-lts.Need-returns-8 (align_of_claims t) (align_of_at t) align-of.Post
+align_of_returns_8 t c =
     let else1 = c.before.before.before.before.before in
     let entry = else1.before.before.before.before.before.before in
-    calls.align-sizeless _ _ _ _ _ _ entry.requires.1 _ c.before.before.type-group.ensures else1.if1.false c.enum-told6.given.1
+    calls.align_sizeless _ _ _ _ _ _ entry.requires.1 _ c.before.before.type-group.ensures else1.if1.false c.enum-told6.given.1
 
-align-of-returns-9 : (t : ℕ) → align-of-lts.Need-returns-9 (align-of-claims t) (align-of-at t) align-of.Post
-align-of-returns-9 t c =
+align_of_returns_9 : (t : ℕ) → align-of-lts.Need-returns-9 (align_of_claims t) (align_of_at t) align-of.Post
+align_of_returns_9 t c =
     let else1 = c.before.before.before.before.before in
     let entry = else1.before.before.before.before.before.before in
     calls.other _ _ _ _ _ _ entry.requires.1 _ c.before.before.type-group.ensures else1.if1.false c.enum-told7.given.1
 
-named-align-mul-at : (t : ℕ) → named-align-lts.Need-overflow-mul-at (named-align-claims t) (named-align-at t) named-align.Post
-named-align-mul-at t c = search rules
+named_align_mul_at : (t : ℕ) → named-align-lts.Need-overflow-mul-at (named_align_claims t) (named_align_at t) named-align.Post
+named_align_mul_at t c = search rules
 
-named-align-add-part : (t : ℕ) → named-align-lts.Need-overflow-add-part (named-align-claims t) (named-align-at t) named-align.Post
-named-align-add-part t c = search rules
+named_align_add_part : (t : ℕ) → named-align-lts.Need-overflow-add-part (named_align_claims t) (named_align_at t) named-align.Post
+named_align_add_part t c = search rules
 
-named-align-mul-part : (t : ℕ) → named-align-lts.Need-overflow-mul-part (named-align-claims t) (named-align-at t) named-align.Post
-named-align-mul-part t c = search rules
+named_align_mul_part : (t : ℕ) → named-align-lts.Need-overflow-mul-part (named_align_claims t) (named_align_at t) named-align.Post
+named_align_mul_part t c = search rules
 
-named-align-slice-read-part : (t : ℕ) → named-align-lts.Need-slice-read-part (named-align-claims t) (named-align-at t) named-align.Post
-named-align-slice-read-part t c = search rules
+named_align_slice_read_part : (t : ℕ) → named-align-lts.Need-slice-read-part (named_align_claims t) (named_align_at t) named-align.Post
+named_align_slice_read_part t c = search rules
 
-named-align-recalled-requires : (t : ℕ) → named-align-lts.Need-recalled-requires (named-align-claims t) (named-align-at t) named-align.Post
-named-align-recalled-requires t c κs = search rules
+named_align_recalled_requires : (t : ℕ) → named-align-lts.Need-recalled-requires (named_align_claims t) (named_align_at t) named-align.Post
+named_align_recalled_requires t c κs = search rules
 
-named-align-returns : (t : ℕ) → named-align-lts.Need-returns (named-align-claims t) (named-align-at t) named-align.Post
-named-align-returns t c = calls.align-recalled _ _ _ _ _ _ c.before.before.before.before.before.before.requires.1 c.before.if1.true _ c.recalled.ensures
+named_align_returns : (t : ℕ) → named-align-lts.Need-returns (named_align_claims t) (named_align_at t) named-align.Post
+named_align_returns t c = calls.align_recalled _ _ _ _ _ _ c.before.before.before.before.before.before.requires.1 c.before.if1.true _ c.recalled.ensures
 
-named-align-add-body : (t : ℕ) → named-align-lts.Need-overflow-add-body (named-align-claims t) (named-align-at t) named-align.Post
-named-align-add-body t c = search rules
+named_align_add_body : (t : ℕ) → named-align-lts.Need-overflow-add-body (named_align_claims t) (named_align_at t) named-align.Post
+named_align_add_body t c = search rules
 
-named-align-mul-body : (t : ℕ) → named-align-lts.Need-overflow-mul-body (named-align-claims t) (named-align-at t) named-align.Post
-named-align-mul-body t c = search rules
+named_align_mul_body : (t : ℕ) → named-align-lts.Need-overflow-mul-body (named_align_claims t) (named_align_at t) named-align.Post
+named_align_mul_body t c = search rules
 
-named-align-slice-read-body : (t : ℕ) → named-align-lts.Need-slice-read-body (named-align-claims t) (named-align-at t) named-align.Post
-named-align-slice-read-body t c = search rules
+named_align_slice_read_body : (t : ℕ) → named-align-lts.Need-slice-read-body (named_align_claims t) (named_align_at t) named-align.Post
+named_align_slice_read_body t c = search rules
 
-named-align-returns-2 : (t : ℕ) → named-align-lts.Need-returns-2 (named-align-claims t) (named-align-at t) named-align.Post
-named-align-returns-2 t c = calls.align-absent _ _ _ _ _ _ c.before.before.before.before.before.before.before.requires.1 c.if2.true
+named_align_returns_2 : (t : ℕ) → named-align-lts.Need-returns-2 (named_align_claims t) (named_align_at t) named-align.Post
+named_align_returns_2 t c = calls.align_absent _ _ _ _ _ _ c.before.before.before.before.before.before.before.requires.1 c.if2.true
 
-named-align-sub-from : (t : ℕ) → named-align-lts.Need-overflow-sub-from (named-align-claims t) (named-align-at t) named-align.Post
-named-align-sub-from t c = search rules
+named_align_sub_from : (t : ℕ) → named-align-lts.Need-overflow-sub-from (named_align_claims t) (named_align_at t) named-align.Post
+named_align_sub_from t c = search rules
 
-named-align-mul-align-of : (t : ℕ) → named-align-lts.Need-overflow-mul-align-of (named-align-claims t) (named-align-at t) named-align.Post
-named-align-mul-align-of t c = let h = calls.body-kinds _ _ _ _ _ _ c.before.before.before.before.before.before.before.requires.1 c.if2.false in search rules
+named_align_mul_align_of : (t : ℕ) → named-align-lts.Need-overflow-mul-align-of (named_align_claims t) (named_align_at t) named-align.Post
+named_align_mul_align_of t c = let h = calls.body_kinds _ _ _ _ _ _ c.before.before.before.before.before.before.before.requires.1 c.if2.false in search rules
 
-named-align-sub-align-of : (t : ℕ) → named-align-lts.Need-overflow-sub-align-of (named-align-claims t) (named-align-at t) named-align.Post
-named-align-sub-align-of t c = let h = calls.body-kinds _ _ _ _ _ _ c.before.before.before.before.before.before.before.requires.1 c.if2.false in search rules
+named_align_sub_align_of : (t : ℕ) → named-align-lts.Need-overflow-sub-align-of (named_align_claims t) (named_align_at t) named-align.Post
+named_align_sub_align_of t c = let h = calls.body_kinds _ _ _ _ _ _ c.before.before.before.before.before.before.before.requires.1 c.if2.false in search rules
 
-named-align-part-align-of-start : (t : ℕ) → named-align-lts.Need-slice-bounds-align-of-start (named-align-claims t) (named-align-at t) named-align.Post
-named-align-part-align-of-start t c = let h = calls.body-kinds _ _ _ _ _ _ c.before.before.before.before.before.before.before.requires.1 c.if2.false in search rules
+named_align_part_align_of_start : (t : ℕ) → named-align-lts.Need-slice-bounds-align-of-start (named_align_claims t) (named_align_at t) named-align.Post
+named_align_part_align_of_start t c = let h = calls.body_kinds _ _ _ _ _ _ c.before.before.before.before.before.before.before.requires.1 c.if2.false in search rules
 
-named-align-part-align-of-end : (t : ℕ) → named-align-lts.Need-slice-bounds-align-of-end (named-align-claims t) (named-align-at t) named-align.Post
-named-align-part-align-of-end t c = search rules
+named_align_part_align_of_end : (t : ℕ) → named-align-lts.Need-slice-bounds-align-of-end (named_align_claims t) (named_align_at t) named-align.Post
+named_align_part_align_of_end t c = search rules
 
-named-align-mul-align-of-2 : (t : ℕ) → named-align-lts.Need-overflow-mul-align-of-2 (named-align-claims t) (named-align-at t) named-align.Post
-named-align-mul-align-of-2 t c = let h = calls.body-words _ _ _ _ _ _ c.before.before.before.before.before.before.before.before.requires.1 c.before.if2.false in search rules
+named_align_mul_align_of_2 : (t : ℕ) → named-align-lts.Need-overflow-mul-align-of-2 (named_align_claims t) (named_align_at t) named-align.Post
+named_align_mul_align_of_2 t c = let h = calls.body_words _ _ _ _ _ _ c.before.before.before.before.before.before.before.before.requires.1 c.before.if2.false in search rules
 
-named-align-sub-align-of-2 : (t : ℕ) → named-align-lts.Need-overflow-sub-align-of-2 (named-align-claims t) (named-align-at t) named-align.Post
-named-align-sub-align-of-2 t c = let h = calls.body-words _ _ _ _ _ _ c.before.before.before.before.before.before.before.before.requires.1 c.before.if2.false in search rules
+named_align_sub_align_of_2 : (t : ℕ) → named-align-lts.Need-overflow-sub-align-of-2 (named_align_claims t) (named_align_at t) named-align.Post
+named_align_sub_align_of_2 t c = let h = calls.body_words _ _ _ _ _ _ c.before.before.before.before.before.before.before.before.requires.1 c.before.if2.false in search rules
 
-named-align-part-align-of-start-2 : (t : ℕ) → named-align-lts.Need-slice-bounds-align-of-start-2 (named-align-claims t) (named-align-at t) named-align.Post
-named-align-part-align-of-start-2 t c = let h = calls.body-words _ _ _ _ _ _ c.before.before.before.before.before.before.before.before.requires.1 c.before.if2.false in search rules
+named_align_part_align_of_start_2 : (t : ℕ) → named-align-lts.Need-slice-bounds-align-of-start-2 (named_align_claims t) (named_align_at t) named-align.Post
+named_align_part_align_of_start_2 t c = let h = calls.body_words _ _ _ _ _ _ c.before.before.before.before.before.before.before.before.requires.1 c.before.if2.false in search rules
 
-named-align-part-align-of-end-2 : (t : ℕ) → named-align-lts.Need-slice-bounds-align-of-end-2 (named-align-claims t) (named-align-at t) named-align.Post
-named-align-part-align-of-end-2 t c = search rules
+named_align_part_align_of_end_2 : (t : ℕ) → named-align-lts.Need-slice-bounds-align-of-end-2 (named_align_claims t) (named_align_at t) named-align.Post
+named_align_part_align_of_end_2 t c = search rules
 
-named-align-sub-align-of-3 : (t : ℕ) → named-align-lts.Need-overflow-sub-align-of-3 (named-align-claims t) (named-align-at t) named-align.Post
-named-align-sub-align-of-3 t c = search rules
+named_align_sub_align_of_3 : (t : ℕ) → named-align-lts.Need-overflow-sub-align-of-3 (named_align_claims t) (named_align_at t) named-align.Post
+named_align_sub_align_of_3 t c = search rules
 
-named-align-align-of-requires : (t : ℕ) → named-align-lts.Need-align-of-requires (named-align-claims t) (named-align-at t) named-align.Post
-named-align-align-of-requires t c κs =
+named_align_align_of_requires : (t : ℕ) → named-align-lts.Need-align-of-requires (named_align_claims t) (named_align_at t) named-align.Post
+named_align_align_of_requires t c κs =
     let else2 = c.before.before.before in
     let entry = else2.before.before.before.before.before.before.before in
-    (omega arith, calls.body-ask _ _ _ _ _ _ entry.requires.1 else2.if2.false)
+    (omega arith, calls.body_ask _ _ _ _ _ _ entry.requires.1 else2.if2.false)
 
-named-align-one-more-requires : (t : ℕ) → named-align-lts.Need-one-more-requires (named-align-claims t) (named-align-at t) named-align.Post
-named-align-one-more-requires t c κs =
+named_align_one_more_requires : (t : ℕ) → named-align-lts.Need-one-more-requires (named_align_claims t) (named_align_at t) named-align.Post
+named_align_one_more_requires t c κs =
     let entry = c.before.before.before.before.before.before.before.before.before.before.before.before.before in
-    calls.outcome-few (omega (arith, entry.requires.1.levels)) c.before.before.align-of.ensures
+    calls.outcome_few (omega (arith, entry.requires.1.levels)) c.before.before.align-of.ensures
 
-named-align-add-with-align : (t : ℕ) → named-align-lts.Need-overflow-add-with-align (named-align-claims t) (named-align-at t) named-align.Post
-named-align-add-with-align t c = search rules
+named_align_add_with_align : (t : ℕ) → named-align-lts.Need-overflow-add-with-align (named_align_claims t) (named_align_at t) named-align.Post
+named_align_add_with_align t c = search rules
 
-named-align-mul-with-align : (t : ℕ) → named-align-lts.Need-overflow-mul-with-align (named-align-claims t) (named-align-at t) named-align.Post
-named-align-mul-with-align t c = search rules
+named_align_mul_with_align : (t : ℕ) → named-align-lts.Need-overflow-mul-with-align (named_align_claims t) (named_align_at t) named-align.Post
+named_align_mul_with_align t c = search rules
 
-named-align-slice-read-with-align : (t : ℕ) → named-align-lts.Need-slice-read-with-align (named-align-claims t) (named-align-at t) named-align.Post
-named-align-slice-read-with-align t c = search rules
+named_align_slice_read_with_align : (t : ℕ) → named-align-lts.Need-slice-read-with-align (named_align_claims t) (named_align_at t) named-align.Post
+named_align_slice_read_with_align t c = search rules
 
-named-align-with-align-requires : (t : ℕ) → named-align-lts.Need-with-align-requires (named-align-claims t) (named-align-at t) named-align.Post
-named-align-with-align-requires t c κs =
+named_align_with_align_requires : (t : ℕ) → named-align-lts.Need-with-align-requires (named_align_claims t) (named_align_at t) named-align.Post
+named_align_with_align_requires t c κs =
     let after-align-of = c.before.before.before.before in
     let else2 = after-align-of.before.before.before.before in
     let entry = else2.before.before.before.before.before.before.before in
-    calls.align-body-small _ _ _ _ _ _ entry.requires.1 else2.if2.false _ c.before.one_more.ensures after-align-of.align-of.ensures
+    calls.align_body_small _ _ _ _ _ _ entry.requires.1 else2.if2.false _ c.before.one_more_lem.ensures after-align-of.align-of.ensures
 
-named-align-add-work : (t : ℕ) → named-align-lts.Need-overflow-add-work (named-align-claims t) (named-align-at t) named-align.Post
-named-align-add-work t c = search rules
+named_align_add_work : (t : ℕ) → named-align-lts.Need-overflow-add-work (named_align_claims t) (named_align_at t) named-align.Post
+named_align_add_work t c = search rules
 
-named-align-mul-work : (t : ℕ) → named-align-lts.Need-overflow-mul-work (named-align-claims t) (named-align-at t) named-align.Post
-named-align-mul-work t c = search rules
+named_align_mul_work : (t : ℕ) → named-align-lts.Need-overflow-mul-work (named_align_claims t) (named_align_at t) named-align.Post
+named_align_mul_work t c = search rules
 
-named-align-slice-write-work : (t : ℕ) → named-align-lts.Need-slice-write-work (named-align-claims t) (named-align-at t) named-align.Post
-named-align-slice-write-work t c = search rules
+named_align_slice_write_work : (t : ℕ) → named-align-lts.Need-slice-write-work (named_align_claims t) (named_align_at t) named-align.Post
+named_align_slice_write_work t c = search rules
 
-named-align-same-length : (t : ℕ) → named-align-lts.Need-same-length (named-align-claims t) (named-align-at t) named-align.Post
-named-align-same-length t c = search rules
+named_align_same_length : (t : ℕ) → named-align-lts.Need-same-length (named_align_claims t) (named_align_at t) named-align.Post
+named_align_same_length t c = search rules
 
-named-align-returns-3 : (t : ℕ) → named-align-lts.Need-returns-3 (named-align-claims t) (named-align-at t) named-align.Post
-named-align-returns-3 t c =
+named_align_returns_3 : (t : ℕ) → named-align-lts.Need-returns-3 (named_align_claims t) (named_align_at t) named-align.Post
+named_align_returns_3 t c =
     let after-align-of = c.before.before.before.before.before in
     let else2 = after-align-of.before.before.before.before in
     let entry = else2.before.before.before.before.before.before.before in
-    calls.align-stored _ _ _ _ _ _ entry.requires.1 else2.if2.false _ c.before.before.one_more.ensures after-align-of.align-of.ensures _
+    calls.align_stored _ _ _ _ _ _ entry.requires.1 else2.if2.false _ c.before.before.one_more_lem.ensures after-align-of.align-of.ensures _
     c.with-align.ensures
 
-abbrev struct-align-Inv-loop : struct-align-lts.invariant-loop
-struct-align-Inv-loop kinds words book-kinds book-words work₀ names level packed stop at₀ align₀ levels₀ work at align levels =
-    AlignLoop (structsIn names (entries book-kinds book-words)) names kinds words level at align levels × After names (entries book-kinds book-words) work₀ work
+abbrev struct_align_Inv_loop : struct-align-lts.invariant-loop
+struct_align_Inv_loop kinds words book-kinds book-words work₀ names level packed stop at₀ align₀ levels₀ work at align levels =
+    AlignLoop (structs_in names (entries book-kinds book-words)) names kinds words level at align levels × After names (entries book-kinds book-words) work₀ work
 
 abbrev struct-align-μ-loop : struct-align-lts.decreases-loop
 struct-align-μ-loop kinds words book-kinds book-words work₀ names level packed stop at₀ align₀ levels₀ work at align levels = length kinds - at
 
-struct-align-returns : (t : ℕ) → struct-align-lts.Need-returns (struct-align-claims t) (struct-align-at t) struct-align.Post struct-align-Inv-loop struct-align-μ-loop
-struct-align-returns t c =
+struct_align_returns : (t : ℕ) → struct-align-lts.Need-returns (struct_align_claims t) (struct_align_at t) struct-align.Post struct_align_Inv_loop struct-align-μ-loop
+struct_align_returns t c =
     let entry = c.before.before.before.before.before.before in
-    lc.align-packed entry.args.names entry.args.kinds.now entry.args.words.now
+    lc.align_packed entry.args.names entry.args.kinds.now entry.args.words.now
     (entries entry.args.book-kinds.now entry.args.book-words.now) entry.args.work.now entry.args.level entry.args.packed
     entry.requires.1 c.if1.true
 
-struct-align-reach-requires : (t : ℕ) → struct-align-lts.Need-reach-requires (struct-align-claims t) (struct-align-at t) struct-align.Post struct-align-Inv-loop struct-align-μ-loop
-struct-align-reach-requires t c κs = search rules
+struct_align_reach_requires : (t : ℕ) → struct-align-lts.Need-reach-requires (struct_align_claims t) (struct_align_at t) struct-align.Post struct_align_Inv_loop struct-align-μ-loop
+struct_align_reach_requires t c κs = search rules
 
-struct-align-run-from-requires : (t : ℕ) → struct-align-lts.Need-run-from-requires (struct-align-claims t) (struct-align-at t) struct-align.Post struct-align-Inv-loop struct-align-μ-loop
-struct-align-run-from-requires t c κs = search rules
+struct_align_run_from_requires : (t : ℕ) → struct-align-lts.Need-run-from-requires (struct_align_claims t) (struct_align_at t) struct-align.Post struct_align_Inv_loop struct-align-μ-loop
+struct_align_run_from_requires t c κs = search rules
 
-struct-align-pass-scalars-requires : (t : ℕ) → struct-align-lts.Need-pass-scalars-requires (struct-align-claims t) (struct-align-at t) struct-align.Post struct-align-Inv-loop struct-align-μ-loop
-struct-align-pass-scalars-requires t c κs =
+struct_align_pass_scalars_requires : (t : ℕ) → struct-align-lts.Need-pass-scalars-requires (struct_align_claims t) (struct_align_at t) struct-align.Post struct_align_Inv_loop struct-align-μ-loop
+struct_align_pass_scalars_requires t c κs =
     let entry = c.before.before.before.before.before.before.before.before in
-    let start = lc.align-start entry.args.names entry.args.kinds.now entry.args.words.now
+    let start = lc.align_start entry.args.names entry.args.kinds.now entry.args.words.now
     (entries entry.args.book-kinds.now entry.args.book-words.now) entry.args.work.now entry.args.level entry.args.packed
     entry.requires.1 in
-    lc.align-from entry.args.names entry.args.kinds.now entry.args.words.now
+    lc.align_from entry.args.names entry.args.kinds.now entry.args.words.now
     (entries entry.args.book-kinds.now entry.args.book-words.now) entry.args.work.now entry.args.level entry.args.packed
-    start _ c.run-from.ensures
+    start _ c.run_from.ensures
 
-struct-align-loop-holds : (t : ℕ) → struct-align-lts.Need-loop-init (struct-align-claims t) (struct-align-at t) struct-align.Post struct-align-Inv-loop struct-align-μ-loop
-struct-align-loop-holds t c =
+struct_align_loop_holds : (t : ℕ) → struct-align-lts.Need-loop-init (struct_align_claims t) (struct_align_at t) struct-align.Post struct_align_Inv_loop struct-align-μ-loop
+struct_align_loop_holds t c =
     let after-reach = c.before.before in
     let entry = after-reach.before.before.before.before.before.before.before in
-    let start = lc.align-start entry.args.names entry.args.kinds.now entry.args.words.now
+    let start = lc.align_start entry.args.names entry.args.kinds.now entry.args.words.now
     (entries entry.args.book-kinds.now entry.args.book-words.now) entry.args.work.now entry.args.level entry.args.packed
     entry.requires.1 in
-    lc.align-again entry.args.names entry.args.kinds.now entry.args.words.now
+    lc.align_again entry.args.names entry.args.kinds.now entry.args.words.now
     (entries entry.args.book-kinds.now entry.args.book-words.now) entry.args.work.now entry.args.level entry.args.packed
-    start _ _ c.before.run-from.ensures (reach-none _ _ _ after-reach.reach.ensures) c.pass-scalars.ensures
+    start _ _ c.before.run_from.ensures (reach_none _ _ _ after-reach.reach.ensures) c.pass-scalars.ensures
 
-struct-align-mul-if2 : (t : ℕ) → struct-align-lts.Need-overflow-mul-if2 (struct-align-claims t) (struct-align-at t) struct-align.Post struct-align-Inv-loop struct-align-μ-loop
-struct-align-mul-if2 t c = search rules
+struct_align_mul_if2 : (t : ℕ) → struct-align-lts.Need-overflow-mul-if2 (struct_align_claims t) (struct_align_at t) struct-align.Post struct_align_Inv_loop struct-align-μ-loop
+struct_align_mul_if2 t c = search rules
 
-struct-align-shared-slice-read-if2 : (t : ℕ) → struct-align-lts.Need-shared-slice-read-if2 (struct-align-claims t) (struct-align-at t) struct-align.Post struct-align-Inv-loop struct-align-μ-loop
-struct-align-shared-slice-read-if2 t c =
+struct_align_shared_slice_read_if2 : (t : ℕ) → struct-align-lts.Need-shared-slice-read-if2 (struct_align_claims t) (struct_align_at t) struct-align.Post struct_align_Inv_loop struct-align-μ-loop
+struct_align_shared_slice_read_if2 t c =
     let entry = c.before.before.before.before.before.before.before.before.before.before.before in
-    let h = fields.place-kinds entry.args.names entry.args.kinds.now entry.args.words.now _ c.before.loop.invariant.0.place in
+    let h = fields.place_kinds entry.args.names entry.args.kinds.now entry.args.words.now _ c.before.loop.invariant.0.place in
     search rules
 
-struct-align-mul-ks : (t : ℕ) → struct-align-lts.Need-overflow-mul-ks (struct-align-claims t) (struct-align-at t) struct-align.Post struct-align-Inv-loop struct-align-μ-loop
-struct-align-mul-ks t c = search rules
+struct_align_mul_ks : (t : ℕ) → struct-align-lts.Need-overflow-mul-ks (struct_align_claims t) (struct_align_at t) struct-align.Post struct_align_Inv_loop struct-align-μ-loop
+struct_align_mul_ks t c = search rules
 
-struct-align-sub-ks : (t : ℕ) → struct-align-lts.Need-overflow-sub-ks (struct-align-claims t) (struct-align-at t) struct-align.Post struct-align-Inv-loop struct-align-μ-loop
-struct-align-sub-ks t c =
+struct_align_sub_ks : (t : ℕ) → struct-align-lts.Need-overflow-sub-ks (struct_align_claims t) (struct_align_at t) struct-align.Post struct_align_Inv_loop struct-align-μ-loop
+struct_align_sub_ks t c =
     let entry = c.before.before.before.before.before.before.before.before.before.before.before.before in
-    let h = fields.place-kinds entry.args.names entry.args.kinds.now entry.args.words.now _ c.before.before.loop.invariant.0.place in
+    let h = fields.place_kinds entry.args.names entry.args.kinds.now entry.args.words.now _ c.before.before.loop.invariant.0.place in
     search rules
 
-struct-align-part-ks-start : (t : ℕ) → struct-align-lts.Need-slice-bounds-ks-start (struct-align-claims t) (struct-align-at t) struct-align.Post struct-align-Inv-loop struct-align-μ-loop
-struct-align-part-ks-start t c =
+struct_align_part_ks_start : (t : ℕ) → struct-align-lts.Need-slice-bounds-ks-start (struct_align_claims t) (struct_align_at t) struct-align.Post struct_align_Inv_loop struct-align-μ-loop
+struct_align_part_ks_start t c =
     let entry = c.before.before.before.before.before.before.before.before.before.before.before.before in
-    let h = fields.place-kinds entry.args.names entry.args.kinds.now entry.args.words.now _ c.before.before.loop.invariant.0.place in
+    let h = fields.place_kinds entry.args.names entry.args.kinds.now entry.args.words.now _ c.before.before.loop.invariant.0.place in
     search rules
 
-struct-align-part-ks-end : (t : ℕ) → struct-align-lts.Need-slice-bounds-ks-end (struct-align-claims t) (struct-align-at t) struct-align.Post struct-align-Inv-loop struct-align-μ-loop
-struct-align-part-ks-end t c = search rules
+struct_align_part_ks_end : (t : ℕ) → struct-align-lts.Need-slice-bounds-ks-end (struct_align_claims t) (struct_align_at t) struct-align.Post struct_align_Inv_loop struct-align-μ-loop
+struct_align_part_ks_end t c = search rules
 
-struct-align-mul-ws : (t : ℕ) → struct-align-lts.Need-overflow-mul-ws (struct-align-claims t) (struct-align-at t) struct-align.Post struct-align-Inv-loop struct-align-μ-loop
-struct-align-mul-ws t c = search rules
+struct_align_mul_ws : (t : ℕ) → struct-align-lts.Need-overflow-mul-ws (struct_align_claims t) (struct_align_at t) struct-align.Post struct_align_Inv_loop struct-align-μ-loop
+struct_align_mul_ws t c = search rules
 
-struct-align-sub-ws : (t : ℕ) → struct-align-lts.Need-overflow-sub-ws (struct-align-claims t) (struct-align-at t) struct-align.Post struct-align-Inv-loop struct-align-μ-loop
-struct-align-sub-ws t c =
+struct_align_sub_ws : (t : ℕ) → struct-align-lts.Need-overflow-sub-ws (struct_align_claims t) (struct_align_at t) struct-align.Post struct_align_Inv_loop struct-align-μ-loop
+struct_align_sub_ws t c =
     let at-loop = c.before.before.before in
     let entry = at-loop.before.before.before.before.before.before.before.before.before.before in
-    let h = fields.place-words entry.args.names entry.args.kinds.now entry.args.words.now _ at-loop.loop.invariant.0.place in
+    let h = fields.place_words entry.args.names entry.args.kinds.now entry.args.words.now _ at-loop.loop.invariant.0.place in
     search rules
 
-struct-align-part-ws-start : (t : ℕ) → struct-align-lts.Need-slice-bounds-ws-start (struct-align-claims t) (struct-align-at t) struct-align.Post struct-align-Inv-loop struct-align-μ-loop
-struct-align-part-ws-start t c =
+struct_align_part_ws_start : (t : ℕ) → struct-align-lts.Need-slice-bounds-ws-start (struct_align_claims t) (struct_align_at t) struct-align.Post struct_align_Inv_loop struct-align-μ-loop
+struct_align_part_ws_start t c =
     let at-loop = c.before.before.before in
     let entry = at-loop.before.before.before.before.before.before.before.before.before.before in
-    let h = fields.place-words entry.args.names entry.args.kinds.now entry.args.words.now _ at-loop.loop.invariant.0.place in
+    let h = fields.place_words entry.args.names entry.args.kinds.now entry.args.words.now _ at-loop.loop.invariant.0.place in
     search rules
 
-struct-align-part-ws-end : (t : ℕ) → struct-align-lts.Need-slice-bounds-ws-end (struct-align-claims t) (struct-align-at t) struct-align.Post struct-align-Inv-loop struct-align-μ-loop
-struct-align-part-ws-end t c = search rules
+struct_align_part_ws_end : (t : ℕ) → struct-align-lts.Need-slice-bounds-ws-end (struct_align_claims t) (struct_align_at t) struct-align.Post struct_align_Inv_loop struct-align-μ-loop
+struct_align_part_ws_end t c = search rules
 
-struct-align-align-of-requires : (t : ℕ) → struct-align-lts.Need-align-of-requires (struct-align-claims t) (struct-align-at t) struct-align.Post struct-align-Inv-loop struct-align-μ-loop
-struct-align-align-of-requires t c κs =
+struct_align_align_of_requires : (t : ℕ) → struct-align-lts.Need-align-of-requires (struct_align_claims t) (struct_align_at t) struct-align.Post struct_align_Inv_loop struct-align-μ-loop
+struct_align_align_of_requires t c κs =
     let then2 = c.before.before.before in
     let at-loop = then2.before.before in
     let entry = at-loop.before.before.before.before.before.before.before.before.before.before in (
       omega arith,
-      lc.align-ask entry.args.names entry.args.kinds.now entry.args.words.now
+      lc.align_ask entry.args.names entry.args.kinds.now entry.args.words.now
           (entries entry.args.book-kinds.now entry.args.book-words.now) entry.args.work.now entry.args.level
           entry.args.packed at-loop.loop.invariant then2.if2.true entry.requires.1.levels,
     )
 
-struct-align-enum-known-e : (t : ℕ) → struct-align-lts.Need-enum-known-e (struct-align-claims t) (struct-align-at t) struct-align.Post struct-align-Inv-loop struct-align-μ-loop
-struct-align-enum-known-e t c = search rules
+struct_align_enum_known_e : (t : ℕ) → struct-align-lts.Need-enum-known-e (struct_align_claims t) (struct_align_at t) struct-align.Post struct_align_Inv_loop struct-align-μ-loop
+struct_align_enum_known_e t c = search rules
 
-struct-align-same-length : (t : ℕ) → struct-align-lts.Need-same-length (struct-align-claims t) (struct-align-at t) struct-align.Post struct-align-Inv-loop struct-align-μ-loop
-struct-align-same-length t c = search rules
+struct_align_same_length : (t : ℕ) → struct-align-lts.Need-same-length (struct_align_claims t) (struct_align_at t) struct-align.Post struct_align_Inv_loop struct-align-μ-loop
+struct_align_same_length t c = search rules
 
-struct-align-returns-2 : (t : ℕ) → struct-align-lts.Need-returns-2 (struct-align-claims t) (struct-align-at t) struct-align.Post struct-align-Inv-loop struct-align-μ-loop
-struct-align-returns-2 t c =
+struct_align_returns_2 : (t : ℕ) → struct-align-lts.Need-returns-2 (struct_align_claims t) (struct_align_at t) struct-align.Post struct_align_Inv_loop struct-align-μ-loop
+struct_align_returns_2 t c =
     let after-align-of = c.before.before.before.before.before in
     let then2 = after-align-of.before.before.before.before in
     let at-loop = then2.before.before in
     let else1 = at-loop.before.before.before.before in
     let entry = else1.before.before.before.before.before.before in
-    lc.align-refused entry.args.names entry.args.kinds.now entry.args.words.now
+    lc.align_refused entry.args.names entry.args.kinds.now entry.args.words.now
     (entries entry.args.book-kinds.now entry.args.book-words.now) entry.args.work.now entry.args.level entry.args.packed
     at-loop.loop.invariant then2.if2.true after-align-of.align-of.ensures else1.if1.false _ c.before.e.given.1
 
-struct-align-enum-known-a : (t : ℕ) → struct-align-lts.Need-enum-known-a (struct-align-claims t) (struct-align-at t) struct-align.Post struct-align-Inv-loop struct-align-μ-loop
-struct-align-enum-known-a t c = search rules
+struct_align_enum_known_a : (t : ℕ) → struct-align-lts.Need-enum-known-a (struct_align_claims t) (struct_align_at t) struct-align.Post struct_align_Inv_loop struct-align-μ-loop
+struct_align_enum_known_a t c = search rules
 
-struct-align-type-end-requires : (t : ℕ) → struct-align-lts.Need-type-end-requires (struct-align-claims t) (struct-align-at t) struct-align.Post struct-align-Inv-loop struct-align-μ-loop
-struct-align-type-end-requires t c κs =
+struct_align_type_end_requires : (t : ℕ) → struct-align-lts.Need-type-end-requires (struct_align_claims t) (struct_align_at t) struct-align.Post struct_align_Inv_loop struct-align-μ-loop
+struct_align_type_end_requires t c κs =
     let then2 = c.before.before.before.before.before.before.before.before.before in
     let at-loop = then2.before.before in
     let entry = at-loop.before.before.before.before.before.before.before.before.before.before in
-    fields.place-starts entry.args.names entry.args.kinds.now entry.args.words.now _ at-loop.loop.invariant.0.place then2.if2.true
+    fields.place_starts entry.args.names entry.args.kinds.now entry.args.words.now _ at-loop.loop.invariant.0.place then2.if2.true
 
-struct-align-add-behind : (t : ℕ) → struct-align-lts.Need-overflow-add-behind (struct-align-claims t) (struct-align-at t) struct-align.Post struct-align-Inv-loop struct-align-μ-loop
-struct-align-add-behind t c =
+struct_align_add_behind : (t : ℕ) → struct-align-lts.Need-overflow-add-behind (struct_align_claims t) (struct_align_at t) struct-align.Post struct_align_Inv_loop struct-align-μ-loop
+struct_align_add_behind t c =
     let then2 = c.before.before.before.before.before.before.before.before.before.before in
     let at-loop = then2.before.before in
     let entry = at-loop.before.before.before.before.before.before.before.before.before.before in
-    let h = fields.place-next entry.args.names entry.args.kinds.now entry.args.words.now _ at-loop.loop.invariant.0.place
+    let h = fields.place_next entry.args.names entry.args.kinds.now entry.args.words.now _ at-loop.loop.invariant.0.place
     then2.if2.true _ c.type-end.ensures in
     search rules
 
-struct-align-larger-requires : (t : ℕ) → struct-align-lts.Need-larger-requires (struct-align-claims t) (struct-align-at t) struct-align.Post struct-align-Inv-loop struct-align-μ-loop
-struct-align-larger-requires t c κs = search rules
+struct_align_larger_requires : (t : ℕ) → struct-align-lts.Need-larger-requires (struct_align_claims t) (struct_align_at t) struct-align.Post struct_align_Inv_loop struct-align-μ-loop
+struct_align_larger_requires t c κs = search rules
 
-struct-align-deeper-requires : (t : ℕ) → struct-align-lts.Need-deeper-requires (struct-align-claims t) (struct-align-at t) struct-align.Post struct-align-Inv-loop struct-align-μ-loop
-struct-align-deeper-requires t c κs = search rules
+struct_align_deeper_requires : (t : ℕ) → struct-align-lts.Need-deeper-requires (struct_align_claims t) (struct_align_at t) struct-align.Post struct_align_Inv_loop struct-align-μ-loop
+struct_align_deeper_requires t c κs = search rules
 
-struct-align-run-from-requires-2 : (t : ℕ) → struct-align-lts.Need-run-from-requires-2 (struct-align-claims t) (struct-align-at t) struct-align.Post struct-align-Inv-loop struct-align-μ-loop
-struct-align-run-from-requires-2 t c κs = search rules
+struct_align_run_from_requires_2 : (t : ℕ) → struct-align-lts.Need-run-from-requires-2 (struct_align_claims t) (struct_align_at t) struct-align.Post struct_align_Inv_loop struct-align-μ-loop
+struct_align_run_from_requires_2 t c κs = search rules
 
-struct-align-pass-scalars-requires-2 : (t : ℕ) → struct-align-lts.Need-pass-scalars-requires-2 (struct-align-claims t) (struct-align-at t) struct-align.Post struct-align-Inv-loop struct-align-μ-loop
-struct-align-pass-scalars-requires-2 t c κs =
+struct_align_pass_scalars_requires_2 : (t : ℕ) → struct-align-lts.Need-pass-scalars-requires-2 (struct_align_claims t) (struct_align_at t) struct-align.Post struct_align_Inv_loop struct-align-μ-loop
+struct_align_pass_scalars_requires_2 t c κs =
     let after-deeper = c.before in
     let after-larger = after-deeper.before in
     let after-type-end = after-larger.before in
@@ -567,27 +567,27 @@ struct-align-pass-scalars-requires-2 t c κs =
     let then2 = after-align-of.before.before.before.before in
     let at-loop = then2.before.before in
     let entry = at-loop.before.before.before.before.before.before.before.before.before.before in
-    let next = lc.align-next entry.args.names entry.args.kinds.now entry.args.words.now
+    let next = lc.align_next entry.args.names entry.args.kinds.now entry.args.words.now
     (entries entry.args.book-kinds.now entry.args.book-words.now) entry.args.work.now entry.args.level entry.args.packed
     at-loop.loop.invariant then2.if2.true after-align-of.align-of.ensures _ _ after-a.a.given.1 _ after-type-end.type-end.ensures _ _
     after-larger.larger.ensures after-deeper.deeper.ensures in
-    lc.align-from entry.args.names entry.args.kinds.now entry.args.words.now
+    lc.align_from entry.args.names entry.args.kinds.now entry.args.words.now
     (entries entry.args.book-kinds.now entry.args.book-words.now) entry.args.work.now entry.args.level entry.args.packed
     next _ c.run-from2.ensures
 
-struct-align-loop-less : (t : ℕ) → struct-align-lts.Need-loop-smaller (struct-align-claims t) (struct-align-at t) struct-align.Post struct-align-Inv-loop struct-align-μ-loop
-struct-align-loop-less t c =
+struct_align_loop_less : (t : ℕ) → struct-align-lts.Need-loop-smaller (struct_align_claims t) (struct_align_at t) struct-align.Post struct_align_Inv_loop struct-align-μ-loop
+struct_align_loop_less t c =
     let after-type-end = c.before.before.before.before in
     let then2 = after-type-end.before.before.before.before.before.before.before.before.before.before in
     let at-loop = then2.before.before in
     let entry = at-loop.before.before.before.before.before.before.before.before.before.before in
-    let h = fields.place-kinds entry.args.names entry.args.kinds.now entry.args.words.now _ at-loop.loop.invariant.0.place in
-    let g = fields.place-moves entry.args.names entry.args.kinds.now entry.args.words.now _ at-loop.loop.invariant.0.place
+    let h = fields.place_kinds entry.args.names entry.args.kinds.now entry.args.words.now _ at-loop.loop.invariant.0.place in
+    let g = fields.place_moves entry.args.names entry.args.kinds.now entry.args.words.now _ at-loop.loop.invariant.0.place
     then2.if2.true _ after-type-end.type-end.ensures in
-    omega (arith, passes-from _ _ c.before.run-from2.ensures c.pass-scalars2.ensures)
+    omega (arith, passes_from _ _ c.before.run-from2.ensures c.pass-scalars2.ensures)
 
-struct-align-loop-again : (t : ℕ) → struct-align-lts.Need-loop-preserved (struct-align-claims t) (struct-align-at t) struct-align.Post struct-align-Inv-loop struct-align-μ-loop
-struct-align-loop-again t c =
+struct_align_loop_again : (t : ℕ) → struct-align-lts.Need-loop-preserved (struct_align_claims t) (struct_align_at t) struct-align.Post struct_align_Inv_loop struct-align-μ-loop
+struct_align_loop_again t c =
     let after-deeper = c.before.before in
     let after-larger = after-deeper.before in
     let after-type-end = after-larger.before in
@@ -596,139 +596,139 @@ struct-align-loop-again t c =
     let then2 = after-align-of.before.before.before.before in
     let at-loop = then2.before.before in
     let entry = at-loop.before.before.before.before.before.before.before.before.before.before in
-    let next = lc.align-next entry.args.names entry.args.kinds.now entry.args.words.now
+    let next = lc.align_next entry.args.names entry.args.kinds.now entry.args.words.now
     (entries entry.args.book-kinds.now entry.args.book-words.now) entry.args.work.now entry.args.level entry.args.packed
     at-loop.loop.invariant then2.if2.true after-align-of.align-of.ensures _ _ after-a.a.given.1 _ after-type-end.type-end.ensures _ _
     after-larger.larger.ensures after-deeper.deeper.ensures in
-    lc.align-again entry.args.names entry.args.kinds.now entry.args.words.now
+    lc.align_again entry.args.names entry.args.kinds.now entry.args.words.now
     (entries entry.args.book-kinds.now entry.args.book-words.now) entry.args.work.now entry.args.level entry.args.packed
-    next _ _ c.before.run-from2.ensures (reach-none _ _ _ at-loop.before.before.before.reach.ensures) c.pass-scalars2.ensures
+    next _ _ c.before.run-from2.ensures (reach_none _ _ _ at-loop.before.before.before.reach.ensures) c.pass-scalars2.ensures
 
-struct-align-same-length-2 : (t : ℕ) → struct-align-lts.Need-same-length-2 (struct-align-claims t) (struct-align-at t) struct-align.Post struct-align-Inv-loop struct-align-μ-loop
-struct-align-same-length-2 t c = search rules
+struct_align_same_length_2 : (t : ℕ) → struct-align-lts.Need-same-length-2 (struct_align_claims t) (struct_align_at t) struct-align.Post struct_align_Inv_loop struct-align-μ-loop
+struct_align_same_length_2 t c = search rules
 
-struct-align-returns-3 : (t : ℕ) → struct-align-lts.Need-returns-3 (struct-align-claims t) (struct-align-at t) struct-align.Post struct-align-Inv-loop struct-align-μ-loop
-struct-align-returns-3 t c =
+struct_align_returns_3 : (t : ℕ) → struct-align-lts.Need-returns-3 (struct_align_claims t) (struct_align_at t) struct-align.Post struct_align_Inv_loop struct-align-μ-loop
+struct_align_returns_3 t c =
     let else1 = c.before.before.before.before.before.before in
     let entry = else1.before.before.before.before.before.before in
-    lc.align-done entry.args.names entry.args.kinds.now entry.args.words.now
+    lc.align_done entry.args.names entry.args.kinds.now entry.args.words.now
     (entries entry.args.book-kinds.now entry.args.book-words.now) entry.args.work.now entry.args.level entry.args.packed
     c.before.before.loop.invariant else1.if1.false c.if2.false
 
 pub +align-of-named-align-struct-align-spec : {M : Type 1} → statement M
 +align-of-named-align-struct-align-spec =
-    close μ-align-of μ-named-align μ-struct-align (λ t. align-of-lts.spec (align-of-claims t)
-    (align-of-at t)
+    close μ-align-of μ-named-align μ-struct-align (λ t. align-of-lts.spec (align_of_claims t)
+    (align_of_at t)
     align-of.Post
-    (align-of-returns t)
-    (align-of-shared-slice-read-word t)
-    (align-of-shared-slice-read-type-group t)
-    (align-of-type-group-requires t)
-    (align-of-enum-told t)
-    (align-of-enum-told-2 t)
-    (align-of-add-t16 t)
-    (align-of-enum-told-3 t)
-    (align-of-enum-told-4 t)
-    (align-of-sub-align-of t)
-    (align-of-part-align-of-start t)
-    (align-of-part-align-of-end t)
-    (align-of-sub-align-of-2 t)
-    (align-of-part-align-of-start-2 t)
-    (align-of-part-align-of-end-2 t)
-    (align-of-sub-align-of-3 t)
-    (align-of-align-of-requires t)
-    (align-of-one-more-requires t)
-    (align-of-enum-told-5 t)
-    (align-of-named-align-requires t)
-    (align-of-enum-known-packed t)
-    (align-of-sub-struct-align t)
-    (align-of-part-struct-align-start t)
-    (align-of-part-struct-align-end t)
-    (align-of-sub-struct-align-2 t)
-    (align-of-part-struct-align-start-2 t)
-    (align-of-part-struct-align-end-2 t)
-    (align-of-sub-struct-align-3 t)
-    (align-of-struct-align-requires t)
-    (align-of-one-more-requires-2 t)
-    (align-of-enum-told-6 t)
-    (align-of-enum-told-7 t)
-    (align-of-returns-2 t)
-    (align-of-returns-3 t)
-    (align-of-returns-4 t)
-    (align-of-same-length t)
-    (align-of-returns-5 t)
-    (align-of-same-length-2 t)
-    (align-of-returns-6 t)
-    (align-of-same-length-3 t)
-    (align-of-returns-7 t)
-    (align-of-returns-8 t)
-    (align-of-returns-9 t))
-    (λ t. named-align-lts.spec (named-align-claims t)
-    (named-align-at t)
+    (align_of_returns t)
+    (align_of_shared_slice_read_word t)
+    (align_of_shared_slice_read_type_group t)
+    (align_of_type_group_requires t)
+    (align_of_enum_told t)
+    (align_of_enum_told_2 t)
+    (align_of_add_t16 t)
+    (align_of_enum_told_3 t)
+    (align_of_enum_told_4 t)
+    (align_of_sub_align_of t)
+    (align_of_part_align_of_start t)
+    (align_of_part_align_of_end t)
+    (align_of_sub_align_of_2 t)
+    (align_of_part_align_of_start_2 t)
+    (align_of_part_align_of_end_2 t)
+    (align_of_sub_align_of_3 t)
+    (align_of_align_of_requires t)
+    (align_of_one_more_requires t)
+    (align_of_enum_told_5 t)
+    (align_of_named_align_requires t)
+    (align_of_enum_known_packed t)
+    (align_of_sub_struct_align t)
+    (align_of_part_struct_align_start t)
+    (align_of_part_struct_align_end t)
+    (align_of_sub_struct_align_2 t)
+    (align_of_part_struct_align_start_2 t)
+    (align_of_part_struct_align_end_2 t)
+    (align_of_sub_struct_align_3 t)
+    (align_of_struct_align_requires t)
+    (align_of_one_more_requires_2 t)
+    (align_of_enum_told_6 t)
+    (align_of_enum_told_7 t)
+    (align_of_returns_2 t)
+    (align_of_returns_3 t)
+    (align_of_returns_4 t)
+    (align_of_same_length t)
+    (align_of_returns_5 t)
+    (align_of_same_length_2 t)
+    (align_of_returns_6 t)
+    (align_of_same_length_3 t)
+    (align_of_returns_7 t)
+    (align_of_returns_8 t)
+    (align_of_returns_9 t))
+    (λ t. named-align-lts.spec (named_align_claims t)
+    (named_align_at t)
     named-align.Post
-    (named-align-mul-at t)
-    (named-align-add-part t)
-    (named-align-mul-part t)
-    (named-align-slice-read-part t)
-    (named-align-recalled-requires t)
-    (named-align-returns t)
-    (named-align-add-body t)
-    (named-align-mul-body t)
-    (named-align-slice-read-body t)
-    (named-align-returns-2 t)
-    (named-align-sub-from t)
-    (named-align-mul-align-of t)
-    (named-align-sub-align-of t)
-    (named-align-part-align-of-start t)
-    (named-align-part-align-of-end t)
-    (named-align-mul-align-of-2 t)
-    (named-align-sub-align-of-2 t)
-    (named-align-part-align-of-start-2 t)
-    (named-align-part-align-of-end-2 t)
-    (named-align-sub-align-of-3 t)
-    (named-align-align-of-requires t)
-    (named-align-one-more-requires t)
-    (named-align-add-with-align t)
-    (named-align-mul-with-align t)
-    (named-align-slice-read-with-align t)
-    (named-align-with-align-requires t)
-    (named-align-add-work t)
-    (named-align-mul-work t)
-    (named-align-slice-write-work t)
-    (named-align-same-length t)
-    (named-align-returns-3 t))
-    λ t. struct-align-lts.spec (struct-align-claims t)
-    (struct-align-at t)
+    (named_align_mul_at t)
+    (named_align_add_part t)
+    (named_align_mul_part t)
+    (named_align_slice_read_part t)
+    (named_align_recalled_requires t)
+    (named_align_returns t)
+    (named_align_add_body t)
+    (named_align_mul_body t)
+    (named_align_slice_read_body t)
+    (named_align_returns_2 t)
+    (named_align_sub_from t)
+    (named_align_mul_align_of t)
+    (named_align_sub_align_of t)
+    (named_align_part_align_of_start t)
+    (named_align_part_align_of_end t)
+    (named_align_mul_align_of_2 t)
+    (named_align_sub_align_of_2 t)
+    (named_align_part_align_of_start_2 t)
+    (named_align_part_align_of_end_2 t)
+    (named_align_sub_align_of_3 t)
+    (named_align_align_of_requires t)
+    (named_align_one_more_requires t)
+    (named_align_add_with_align t)
+    (named_align_mul_with_align t)
+    (named_align_slice_read_with_align t)
+    (named_align_with_align_requires t)
+    (named_align_add_work t)
+    (named_align_mul_work t)
+    (named_align_slice_write_work t)
+    (named_align_same_length t)
+    (named_align_returns_3 t))
+    λ t. struct-align-lts.spec (struct_align_claims t)
+    (struct_align_at t)
     struct-align.Post
-    struct-align-Inv-loop
+    struct_align_Inv_loop
     struct-align-μ-loop
-    (struct-align-returns t)
-    (struct-align-reach-requires t)
-    (struct-align-run-from-requires t)
-    (struct-align-pass-scalars-requires t)
-    (struct-align-loop-holds t)
-    (struct-align-mul-if2 t)
-    (struct-align-shared-slice-read-if2 t)
-    (struct-align-mul-ks t)
-    (struct-align-sub-ks t)
-    (struct-align-part-ks-start t)
-    (struct-align-part-ks-end t)
-    (struct-align-mul-ws t)
-    (struct-align-sub-ws t)
-    (struct-align-part-ws-start t)
-    (struct-align-part-ws-end t)
-    (struct-align-align-of-requires t)
-    (struct-align-enum-known-e t)
-    (struct-align-same-length t)
-    (struct-align-returns-2 t)
-    (struct-align-enum-known-a t)
-    (struct-align-type-end-requires t)
-    (struct-align-add-behind t)
-    (struct-align-larger-requires t)
-    (struct-align-deeper-requires t)
-    (struct-align-run-from-requires-2 t)
-    (struct-align-pass-scalars-requires-2 t)
-    (struct-align-loop-less t)
-    (struct-align-loop-again t)
-    (struct-align-same-length-2 t)
-    (struct-align-returns-3 t)
+    (struct_align_returns t)
+    (struct_align_reach_requires t)
+    (struct_align_run_from_requires t)
+    (struct_align_pass_scalars_requires t)
+    (struct_align_loop_holds t)
+    (struct_align_mul_if2 t)
+    (struct_align_shared_slice_read_if2 t)
+    (struct_align_mul_ks t)
+    (struct_align_sub_ks t)
+    (struct_align_part_ks_start t)
+    (struct_align_part_ks_end t)
+    (struct_align_mul_ws t)
+    (struct_align_sub_ws t)
+    (struct_align_part_ws_start t)
+    (struct_align_part_ws_end t)
+    (struct_align_align_of_requires t)
+    (struct_align_enum_known_e t)
+    (struct_align_same_length t)
+    (struct_align_returns_2 t)
+    (struct_align_enum_known_a t)
+    (struct_align_type_end_requires t)
+    (struct_align_add_behind t)
+    (struct_align_larger_requires t)
+    (struct_align_deeper_requires t)
+    (struct_align_run_from_requires_2 t)
+    (struct_align_pass_scalars_requires_2 t)
+    (struct_align_loop_less t)
+    (struct_align_loop_again t)
+    (struct_align_same_length_2 t)
+    (struct_align_returns_3 t)

@@ -20,7 +20,7 @@ abbrev decreases-loop : tie.decreases-loop
 decreases-loop kinds words names index at₀ left₀ at left = length kinds - at
 
 loop-holds : tie.Need-loop-init invariant-loop decreases-loop
-loop-holds c = laws.find-start c.before.before.args.names c.before.before.args.kinds.now c.before.before.args.words.now c.before.before.args.index c.before.before.requires
+loop-holds c = laws.find_start c.before.before.args.names c.before.before.args.kinds.now c.before.before.args.words.now c.before.before.args.index c.before.before.requires
 
 mul-if1 : tie.Need-overflow-mul-if1 invariant-loop decreases-loop
 mul-if1 c = search rules
@@ -28,14 +28,14 @@ mul-if1 c = search rules
 shared-slice-read-if1 : tie.Need-shared-slice-read-if1 invariant-loop decreases-loop
 shared-slice-read-if1 c =
     let entry = c.before.before.before.before in
-    let h = fields.place-kinds entry.args.names entry.args.kinds.now entry.args.words.now _ c.before.loop.invariant.place in
+    let h = fields.place_kinds entry.args.names entry.args.kinds.now entry.args.words.now _ c.before.loop.invariant.place in
     search rules
 
 returns : tie.Need-returns invariant-loop decreases-loop
 returns c =
     let at-loop = c.before.before.before in
     let entry = at-loop.before.before.before in
-    laws.find-here entry.args.names entry.args.kinds.now entry.args.words.now entry.args.index at-loop.loop.invariant
+    laws.find_here entry.args.names entry.args.kinds.now entry.args.words.now entry.args.index at-loop.loop.invariant
     c.before.if1.true c.if2.true
 
 mul-type-end : tie.Need-overflow-mul-type-end invariant-loop decreases-loop
@@ -45,14 +45,14 @@ sub-type-end : tie.Need-overflow-sub-type-end invariant-loop decreases-loop
 sub-type-end c =
     let at-loop = c.before.before.before in
     let entry = at-loop.before.before.before in
-    let h = fields.place-kinds entry.args.names entry.args.kinds.now entry.args.words.now _ at-loop.loop.invariant.place in
+    let h = fields.place_kinds entry.args.names entry.args.kinds.now entry.args.words.now _ at-loop.loop.invariant.place in
     search rules
 
 part-type-end-start : tie.Need-slice-bounds-type-end-start invariant-loop decreases-loop
 part-type-end-start c =
     let at-loop = c.before.before.before in
     let entry = at-loop.before.before.before in
-    let h = fields.place-kinds entry.args.names entry.args.kinds.now entry.args.words.now _ at-loop.loop.invariant.place in
+    let h = fields.place_kinds entry.args.names entry.args.kinds.now entry.args.words.now _ at-loop.loop.invariant.place in
     search rules
 
 part-type-end-end : tie.Need-slice-bounds-type-end-end invariant-loop decreases-loop
@@ -65,14 +65,14 @@ sub-type-end-2 : tie.Need-overflow-sub-type-end-2 invariant-loop decreases-loop
 sub-type-end-2 c =
     let at-loop = c.before.before.before.before in
     let entry = at-loop.before.before.before in
-    let h = fields.place-words entry.args.names entry.args.kinds.now entry.args.words.now _ at-loop.loop.invariant.place in
+    let h = fields.place_words entry.args.names entry.args.kinds.now entry.args.words.now _ at-loop.loop.invariant.place in
     search rules
 
 part-type-end-start-2 : tie.Need-slice-bounds-type-end-start-2 invariant-loop decreases-loop
 part-type-end-start-2 c =
     let at-loop = c.before.before.before.before in
     let entry = at-loop.before.before.before in
-    let h = fields.place-words entry.args.names entry.args.kinds.now entry.args.words.now _ at-loop.loop.invariant.place in
+    let h = fields.place_words entry.args.names entry.args.kinds.now entry.args.words.now _ at-loop.loop.invariant.place in
     search rules
 
 part-type-end-end-2 : tie.Need-slice-bounds-type-end-end-2 invariant-loop decreases-loop
@@ -83,7 +83,7 @@ type-end-requires c κs =
     let then1 = c.before.before.before in
     let at-loop = then1.before.before in
     let entry = at-loop.before.before.before in
-    fields.place-starts entry.args.names entry.args.kinds.now entry.args.words.now _ at-loop.loop.invariant.place then1.if1.true
+    fields.place_starts entry.args.names entry.args.kinds.now entry.args.words.now _ at-loop.loop.invariant.place then1.if1.true
 
 add-behind : tie.Need-overflow-add-behind invariant-loop decreases-loop
 add-behind c =
@@ -92,7 +92,7 @@ add-behind c =
     let entry = at-loop.before.before.before in
     omega (
       arith,
-      fields.next-few entry.args.names entry.args.kinds.now entry.args.words.now _ at-loop.loop.invariant.place
+      fields.next_few entry.args.names entry.args.kinds.now entry.args.words.now _ at-loop.loop.invariant.place
           then1.if1.true _ c.type-end.ensures,
     )
 
@@ -109,9 +109,9 @@ pass-scalars-requires c κs =
     let then1 = else2.before in
     let at-loop = then1.before.before in
     let entry = at-loop.before.before.before in
-    let next = laws.find-next entry.args.names entry.args.kinds.now entry.args.words.now entry.args.index at-loop.loop.invariant
+    let next = laws.find_next entry.args.names entry.args.kinds.now entry.args.words.now entry.args.index at-loop.loop.invariant
     then1.if1.true else2.if2.false _ after-type-end.type-end.ensures in
-    laws.find-from entry.args.names entry.args.kinds.now entry.args.words.now entry.args.index next _ c.fields-left.ensures
+    laws.find_from entry.args.names entry.args.kinds.now entry.args.words.now entry.args.index next _ c.fields-left.ensures
 
 loop-less : tie.Need-loop-smaller invariant-loop decreases-loop
 loop-less c =
@@ -120,10 +120,10 @@ loop-less c =
     let then1 = else2.before in
     let at-loop = then1.before.before in
     let entry = at-loop.before.before.before in
-    let h = fields.place-kinds entry.args.names entry.args.kinds.now entry.args.words.now _ at-loop.loop.invariant.place in
-    let g = fields.place-moves entry.args.names entry.args.kinds.now entry.args.words.now _ at-loop.loop.invariant.place
+    let h = fields.place_kinds entry.args.names entry.args.kinds.now entry.args.words.now _ at-loop.loop.invariant.place in
+    let g = fields.place_moves entry.args.names entry.args.kinds.now entry.args.words.now _ at-loop.loop.invariant.place
     then1.if1.true _ after-type-end.type-end.ensures in
-    omega (arith, laws.left-on _ _ c.before.fields-left.ensures c.pass-scalars.ensures)
+    omega (arith, laws.left_on _ _ c.before.fields-left.ensures c.pass-scalars.ensures)
 
 loop-again : tie.Need-loop-preserved invariant-loop decreases-loop
 loop-again c =
@@ -132,9 +132,9 @@ loop-again c =
     let then1 = else2.before in
     let at-loop = then1.before.before in
     let entry = at-loop.before.before.before in
-    let next = laws.find-next entry.args.names entry.args.kinds.now entry.args.words.now entry.args.index at-loop.loop.invariant
+    let next = laws.find_next entry.args.names entry.args.kinds.now entry.args.words.now entry.args.index at-loop.loop.invariant
     then1.if1.true else2.if2.false _ after-type-end.type-end.ensures in
-    laws.find-again entry.args.names entry.args.kinds.now entry.args.words.now entry.args.index next _ c.before.fields-left.ensures _
+    laws.find_again entry.args.names entry.args.kinds.now entry.args.words.now entry.args.index next _ c.before.fields-left.ensures _
     c.pass-scalars.ensures
 
 returns-2 : tie.Need-returns-2 invariant-loop decreases-loop

@@ -26,7 +26,7 @@ decreases-loop kinds words book-kinds book-words work₀ names packed index offs
 loop-holds : tie.Need-loop-init invariant-loop decreases-loop
 loop-holds c =
     let entry = c.before.before.before.before.before in
-    laws.offset-start entry.args.names entry.args.kinds.now entry.args.words.now
+    laws.offset_start entry.args.names entry.args.kinds.now entry.args.words.now
     (entries entry.args.book-kinds.now entry.args.book-words.now) entry.args.work.now entry.args.packed entry.args.index entry.args.offset
     entry.requires
 
@@ -36,24 +36,24 @@ mul-if1 c = search rules
 shared-slice-read-if1 : tie.Need-shared-slice-read-if1 invariant-loop decreases-loop
 shared-slice-read-if1 c =
     let entry = c.before.before.before.before.before.before.before in
-    let h = fields.place-kinds entry.args.names entry.args.kinds.now entry.args.words.now _ c.before.loop.invariant.place in
+    let h = fields.place_kinds entry.args.names entry.args.kinds.now entry.args.words.now _ c.before.loop.invariant.place in
     search rules
 
 mul-ks : tie.Need-overflow-mul-ks invariant-loop decreases-loop
 mul-ks c =
     let entry = c.before.before.before.before.before.before.before.before in
-    omega (arith, fields.place-few entry.args.names entry.args.kinds.now entry.args.words.now _ c.before.before.loop.invariant.place)
+    omega (arith, fields.place_few entry.args.names entry.args.kinds.now entry.args.words.now _ c.before.before.loop.invariant.place)
 
 sub-ks : tie.Need-overflow-sub-ks invariant-loop decreases-loop
 sub-ks c =
     let entry = c.before.before.before.before.before.before.before.before in
-    let h = fields.place-kinds entry.args.names entry.args.kinds.now entry.args.words.now _ c.before.before.loop.invariant.place in
+    let h = fields.place_kinds entry.args.names entry.args.kinds.now entry.args.words.now _ c.before.before.loop.invariant.place in
     search rules
 
 part-ks-start : tie.Need-slice-bounds-ks-start invariant-loop decreases-loop
 part-ks-start c =
     let entry = c.before.before.before.before.before.before.before.before in
-    let h = fields.place-kinds entry.args.names entry.args.kinds.now entry.args.words.now _ c.before.before.loop.invariant.place in
+    let h = fields.place_kinds entry.args.names entry.args.kinds.now entry.args.words.now _ c.before.before.loop.invariant.place in
     search rules
 
 part-ks-end : tie.Need-slice-bounds-ks-end invariant-loop decreases-loop
@@ -63,20 +63,20 @@ mul-ws : tie.Need-overflow-mul-ws invariant-loop decreases-loop
 mul-ws c =
     let at-loop = c.before.before.before in
     let entry = at-loop.before.before.before.before.before.before in
-    omega (arith, fields.place-few entry.args.names entry.args.kinds.now entry.args.words.now _ at-loop.loop.invariant.place)
+    omega (arith, fields.place_few entry.args.names entry.args.kinds.now entry.args.words.now _ at-loop.loop.invariant.place)
 
 sub-ws : tie.Need-overflow-sub-ws invariant-loop decreases-loop
 sub-ws c =
     let at-loop = c.before.before.before in
     let entry = at-loop.before.before.before.before.before.before in
-    let h = fields.place-words entry.args.names entry.args.kinds.now entry.args.words.now _ at-loop.loop.invariant.place in
+    let h = fields.place_words entry.args.names entry.args.kinds.now entry.args.words.now _ at-loop.loop.invariant.place in
     search rules
 
 part-ws-start : tie.Need-slice-bounds-ws-start invariant-loop decreases-loop
 part-ws-start c =
     let at-loop = c.before.before.before in
     let entry = at-loop.before.before.before.before.before.before in
-    let h = fields.place-words entry.args.names entry.args.kinds.now entry.args.words.now _ at-loop.loop.invariant.place in
+    let h = fields.place_words entry.args.names entry.args.kinds.now entry.args.words.now _ at-loop.loop.invariant.place in
     search rules
 
 part-ws-end : tie.Need-slice-bounds-ws-end invariant-loop decreases-loop
@@ -87,7 +87,7 @@ field-start-requires c κs =
     let then1 = c.before.before.before in
     let at-loop = then1.before.before in
     let entry = at-loop.before.before.before.before.before.before in
-    laws.offset-ask entry.args.names entry.args.kinds.now entry.args.words.now
+    laws.offset_ask entry.args.names entry.args.kinds.now entry.args.words.now
     (entries entry.args.book-kinds.now entry.args.book-words.now) entry.args.work.now entry.args.packed entry.args.index entry.args.offset
     at-loop.loop.invariant then1.if1.true
 
@@ -103,7 +103,7 @@ returns c =
     let then1 = after-field-start.before.before.before.before in
     let at-loop = then1.before.before in
     let entry = at-loop.before.before.before.before.before.before in
-    laws.offset-refused entry.args.names entry.args.kinds.now entry.args.words.now
+    laws.offset_refused entry.args.names entry.args.kinds.now entry.args.words.now
     (entries entry.args.book-kinds.now entry.args.book-words.now) entry.args.work.now entry.args.packed entry.args.index entry.args.offset
     at-loop.loop.invariant then1.if1.true after-field-start.field-start.ensures _ c.before.e.given.1
 
@@ -119,7 +119,7 @@ returns-2 c =
     let then1 = after-field-start.before.before.before.before in
     let at-loop = then1.before.before in
     let entry = at-loop.before.before.before.before.before.before in
-    laws.offset-here entry.args.names entry.args.kinds.now entry.args.words.now
+    laws.offset_here entry.args.names entry.args.kinds.now entry.args.words.now
     (entries entry.args.book-kinds.now entry.args.book-words.now) entry.args.work.now entry.args.packed entry.args.index entry.args.offset
     at-loop.loop.invariant then1.if1.true after-field-start.field-start.ensures _ c.before.before.start.given.1 c.if2.true
 
@@ -130,7 +130,7 @@ size-of-requires c κs =
     let then1 = after-field-start.before.before.before.before in
     let at-loop = then1.before.before in
     let entry = at-loop.before.before.before.before.before.before in
-    laws.size-ask entry.args.names entry.args.kinds.now entry.args.words.now
+    laws.size_ask entry.args.names entry.args.kinds.now entry.args.words.now
     (entries entry.args.book-kinds.now entry.args.book-words.now) entry.args.work.now entry.args.packed entry.args.index entry.args.offset
     at-loop.loop.invariant then1.if1.true after-field-start.field-start.ensures _ after-start.start.given.1
 
@@ -149,10 +149,10 @@ returns-3 c =
     let then1 = after-field-start.before.before.before.before in
     let at-loop = then1.before.before in
     let entry = at-loop.before.before.before.before.before.before in
-    laws.offset-size-refused entry.args.names entry.args.kinds.now entry.args.words.now
+    laws.offset_size_refused entry.args.names entry.args.kinds.now entry.args.words.now
     (entries entry.args.book-kinds.now entry.args.book-words.now) entry.args.work.now entry.args.packed entry.args.index entry.args.offset
     at-loop.loop.invariant then1.if1.true after-field-start.field-start.ensures _ after-start.start.given.1 else2.if2.false
-    after-size-of.size-of.ensures _ c.before.e2.given.1
+    after-size-of.size_of_lem.ensures _ c.before.e2.given.1
 
 enum-known-size : tie.Need-enum-known-size invariant-loop decreases-loop
 enum-known-size c = search rules
@@ -168,10 +168,10 @@ add-taken c =
     let entry = at-loop.before.before.before.before.before.before in
     omega (
       arith,
-      laws.offset-fits entry.args.names entry.args.kinds.now entry.args.words.now
+      laws.offset_fits entry.args.names entry.args.kinds.now entry.args.words.now
           (entries entry.args.book-kinds.now entry.args.book-words.now) entry.args.work.now entry.args.packed
           entry.args.index entry.args.offset at-loop.loop.invariant then1.if1.true after-field-start.field-start.ensures _ after-start.start.given.1
-          else2.if2.false after-size-of.size-of.ensures _ _ c.before.size.given.1,
+          else2.if2.false after-size-of.size_of_lem.ensures _ _ c.before.size.given.1,
     )
 
 type-end-requires : tie.Need-type-end-requires invariant-loop decreases-loop
@@ -179,7 +179,7 @@ type-end-requires c κs =
     let then1 = c.before.before.before.before.before.before.before.before.before.before.before.before.before.before.before.before.before in
     let at-loop = then1.before.before in
     let entry = at-loop.before.before.before.before.before.before in
-    fields.place-starts entry.args.names entry.args.kinds.now entry.args.words.now _ at-loop.loop.invariant.place then1.if1.true
+    fields.place_starts entry.args.names entry.args.kinds.now entry.args.words.now _ at-loop.loop.invariant.place then1.if1.true
 
 add-behind : tie.Need-overflow-add-behind invariant-loop decreases-loop
 add-behind c =
@@ -188,7 +188,7 @@ add-behind c =
     let entry = at-loop.before.before.before.before.before.before in
     omega (
       arith,
-      fields.next-few entry.args.names entry.args.kinds.now entry.args.words.now _ at-loop.loop.invariant.place
+      fields.next_few entry.args.names entry.args.kinds.now entry.args.words.now _ at-loop.loop.invariant.place
           then1.if1.true _ c.type-end.ensures,
     )
 
@@ -209,11 +209,11 @@ pass-scalars-requires c κs =
     let then1 = after-field-start.before.before.before.before in
     let at-loop = then1.before.before in
     let entry = at-loop.before.before.before.before.before.before in
-    let next = laws.offset-next entry.args.names entry.args.kinds.now entry.args.words.now
+    let next = laws.offset_next entry.args.names entry.args.kinds.now entry.args.words.now
     (entries entry.args.book-kinds.now entry.args.book-words.now) entry.args.work.now entry.args.packed entry.args.index entry.args.offset
     at-loop.loop.invariant then1.if1.true after-field-start.field-start.ensures _ after-start.start.given.1 else2.if2.false
-    after-size-of.size-of.ensures _ _ after-size.size.given.1 _ after-type-end.type-end.ensures in
-    laws.offset-from entry.args.names entry.args.kinds.now entry.args.words.now
+    after-size-of.size_of_lem.ensures _ _ after-size.size.given.1 _ after-type-end.type-end.ensures in
+    laws.offset_from_lem entry.args.names entry.args.kinds.now entry.args.words.now
     (entries entry.args.book-kinds.now entry.args.book-words.now) entry.args.work.now entry.args.packed entry.args.index entry.args.offset
     next _ c.fields-left.ensures
 
@@ -228,10 +228,10 @@ loop-less c =
     let then1 = after-field-start.before.before.before.before in
     let at-loop = then1.before.before in
     let entry = at-loop.before.before.before.before.before.before in
-    let h = fields.place-kinds entry.args.names entry.args.kinds.now entry.args.words.now _ at-loop.loop.invariant.place in
-    let g = fields.place-moves entry.args.names entry.args.kinds.now entry.args.words.now _ at-loop.loop.invariant.place
+    let h = fields.place_kinds entry.args.names entry.args.kinds.now entry.args.words.now _ at-loop.loop.invariant.place in
+    let g = fields.place_moves entry.args.names entry.args.kinds.now entry.args.words.now _ at-loop.loop.invariant.place
     then1.if1.true _ after-type-end.type-end.ensures in
-    omega (arith, laws.left-on _ _ c.before.fields-left.ensures c.pass-scalars.ensures)
+    omega (arith, laws.left_on _ _ c.before.fields-left.ensures c.pass-scalars.ensures)
 
 loop-again : tie.Need-loop-preserved invariant-loop decreases-loop
 loop-again c =
@@ -244,11 +244,11 @@ loop-again c =
     let then1 = after-field-start.before.before.before.before in
     let at-loop = then1.before.before in
     let entry = at-loop.before.before.before.before.before.before in
-    let next = laws.offset-next entry.args.names entry.args.kinds.now entry.args.words.now
+    let next = laws.offset_next entry.args.names entry.args.kinds.now entry.args.words.now
     (entries entry.args.book-kinds.now entry.args.book-words.now) entry.args.work.now entry.args.packed entry.args.index entry.args.offset
     at-loop.loop.invariant then1.if1.true after-field-start.field-start.ensures _ after-start.start.given.1 else2.if2.false
-    after-size-of.size-of.ensures _ _ after-size.size.given.1 _ after-type-end.type-end.ensures in
-    laws.offset-again entry.args.names entry.args.kinds.now entry.args.words.now
+    after-size-of.size_of_lem.ensures _ _ after-size.size.given.1 _ after-type-end.type-end.ensures in
+    laws.offset_again entry.args.names entry.args.kinds.now entry.args.words.now
     (entries entry.args.book-kinds.now entry.args.book-words.now) entry.args.work.now entry.args.packed entry.args.index entry.args.offset
     next _ c.before.fields-left.ensures _ c.pass-scalars.ensures
 
@@ -258,7 +258,7 @@ same-length-4 c = search rules
 returns-4 : tie.Need-returns-4 invariant-loop decreases-loop
 returns-4 c =
     let entry = c.before.before.before.before.before.before.before.before in
-    laws.offset-none entry.args.names entry.args.kinds.now entry.args.words.now
+    laws.offset_none entry.args.names entry.args.kinds.now entry.args.words.now
     (entries entry.args.book-kinds.now entry.args.book-words.now) entry.args.work.now entry.args.packed entry.args.index entry.args.offset
     c.before.before.loop.invariant c.if1.false
 

@@ -14,7 +14,7 @@ use Rattle.layout_size.proofs.placed.Reads as placed-reads
 returns : tie.Need-returns
 returns c =
     let entry = c.before.before.before.before.before.before in
-    laws.start-packed entry.args.names (entries entry.args.kinds.now entry.args.words.now)
+    laws.start_packed entry.args.names (entries entry.args.kinds.now entry.args.words.now)
     (entries entry.args.book-kinds.now entry.args.book-words.now) entry.args.work.now entry.args.packed entry.args.offset
     entry.requires c.if1.true
 
@@ -44,7 +44,7 @@ returns-2 c =
     let after-align-of = c.before.before.before.before.before in
     let else1 = after-align-of.before.before in
     let entry = else1.before.before.before.before.before.before in
-    laws.start-refused entry.args.names (entries entry.args.kinds.now entry.args.words.now)
+    laws.start_refused entry.args.names (entries entry.args.kinds.now entry.args.words.now)
     (entries entry.args.book-kinds.now entry.args.book-words.now) entry.args.work.now entry.args.packed entry.args.offset
     entry.requires else1.if1.false _ after-align-of.align-of.ensures _ c.before.e.given.1
 
@@ -56,7 +56,7 @@ returns-3 c =
     let after-align-of = c.before.before.before.before.before.before in
     let else1 = after-align-of.before.before in
     let entry = else1.before.before.before.before.before.before in
-    laws.start-at entry.args.names (entries entry.args.kinds.now entry.args.words.now)
+    laws.start_at entry.args.names (entries entry.args.kinds.now entry.args.words.now)
     (entries entry.args.book-kinds.now entry.args.book-words.now) entry.args.work.now entry.args.packed entry.args.offset
     entry.requires else1.if1.false _ after-align-of.align-of.ensures _ _ c.before.before.a.given.1 _ c.placed.ensures
 

@@ -2,7 +2,7 @@
 use mathlib.Core.Path.{sym, ap}
 use native.Mathlib.Omega.{arith}
 use Rattle.layout_memo.specs.Helpers as laws
-use Rattle.layout_memo.specs.Arms.{timesOf}
+use Rattle.layout_memo.specs.Arms.{times_of}
 use borrow.Author.Rules.{rules}
 use Rattle.layout_memo.proofs.array_bytes.Statement.{statement}
 use Rattle.layout_memo.proofs.array_bytes.Tie as tie
@@ -20,16 +20,16 @@ returns-2 : tie.Need-returns-2
 returns-2 c = laws.times_long _ _ _ _ c.before.before.before.elem2.given.1 c.before.if1.false c.if2.true
 
 mul-n : tie.Need-overflow-mul-n
-mul-n c = omega (arith, laws.product-fits _ _ c.if2.false (laws.small_at _ c.before.before.before.elem2.given.1 c.before.before.before.before.before.requires))
+mul-n c = omega (arith, laws.product_fits _ _ c.if2.false (laws.small_at _ c.before.before.before.elem2.given.1 c.before.before.before.before.before.requires))
 
 returns-3 : tie.Need-returns-3
-returns-3 c = ap (timesOf _) (sym c.before.elem.given.1)
+returns-3 c = ap (times_of _) (sym c.before.elem.given.1)
 
 returns-4 : tie.Need-returns-4
-returns-4 c = laws.times-fits _ _ _ _ c.before.before.before.before.elem2.given.1 c.if3.true
+returns-4 c = laws.times_fits _ _ _ _ c.before.before.before.before.elem2.given.1 c.if3.true
 
 returns-5 : tie.Need-returns-5
-returns-5 c = laws.times-over _ _ _ _ c.before.before.before.before.elem2.given.1 c.if3.false
+returns-5 c = laws.times_over _ _ _ _ c.before.before.before.before.elem2.given.1 c.if3.false
 
 pub array-bytes-spec : {M : Type 1} → statement M
 array-bytes-spec =

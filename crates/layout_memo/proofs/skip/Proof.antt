@@ -15,10 +15,10 @@ enum_told : tie.Need-enum-told
 enum_told c = search rules
 
 returns : tie.Need-returns
-returns c = laws.skip-entries _ _ _ c.before.before.before.type-len.ensures _ c.before.n.given.1
+returns c = laws.skip_entries _ _ _ c.before.before.before.type_len_lem.ensures _ c.before.n.given.1
 
 returns-2 : tie.Need-returns-2
-returns-2 c = laws.skip-bad _ _ _ c.before.before.type-len.ensures c.enum_told.given.1
+returns-2 c = laws.skip_bad _ _ _ c.before.before.type_len_lem.ensures c.enum_told.given.1
 
 pub skip-spec : {M : Type 1} → statement M
 skip-spec = tie.close (tie.spec type-len-requires enum-known-n enum_told returns returns-2)

@@ -2,7 +2,7 @@
 use Rattle.layout_memo.specs.Calls as calls
 use Rattle.layout_size.specs.LoopCalls as lc
 use Rattle.layout_memo.specs.FieldCalls as fields
-use Rattle.layout_memo.specs.Scalars.{passes-from, reach-none}
+use Rattle.layout_memo.specs.Scalars.{passes_from, reach_none}
 use borrow.Author.Rules.{rules}
 use Rattle.layout_size.specs.LoopCalls.{SizeInv}
 use Prim.Native.Nat.{ℕ, ◌+◌, ◌-◌, ◌*◌, ◌<◌, ◌≤◌}
@@ -45,58 +45,58 @@ abbrev μ-size-of : Measures 5 size-of-kinds.ps ℕ
 abbrev μ-struct-size : Measures 5 struct-size-kinds.ps ℕ
 μ-struct-size κs a = 3 * a.1.1.1.1.1.1.0 + 2
 
-abbrev named-size-at : ℕ → In 3 named-size-kinds.ps
-named-size-at t =
+abbrev named_size_at : ℕ → In 3 named-size-kinds.ps
+named_size_at t =
     and 3 named-size-kinds.ps (is 3 named-size-kinds.ps μ-named-size t) named-size.Pre
 
-abbrev named-size-below : ℕ → In 3 named-size-kinds.ps
-named-size-below t =
+abbrev named_size_below : ℕ → In 3 named-size-kinds.ps
+named_size_below t =
     and 3 named-size-kinds.ps (falls 3 named-size-kinds.ps ◌<◌ μ-named-size t) named-size.Pre
 
-abbrev size-of-at : ℕ → In 5 size-of-kinds.ps
-size-of-at t = and 5 size-of-kinds.ps (is 5 size-of-kinds.ps μ-size-of t) size-of.Pre
+abbrev size_of_at : ℕ → In 5 size-of-kinds.ps
+size_of_at t = and 5 size-of-kinds.ps (is 5 size-of-kinds.ps μ-size-of t) size_of_lem.Pre
 
-abbrev size-of-below : ℕ → In 5 size-of-kinds.ps
-size-of-below t = and 5 size-of-kinds.ps (falls 5 size-of-kinds.ps ◌<◌ μ-size-of t) size-of.Pre
+abbrev size_of_below : ℕ → In 5 size-of-kinds.ps
+size_of_below t = and 5 size-of-kinds.ps (falls 5 size-of-kinds.ps ◌<◌ μ-size-of t) size_of_lem.Pre
 
-abbrev struct-size-at : ℕ → In 5 struct-size-kinds.ps
-struct-size-at t =
+abbrev struct_size_at : ℕ → In 5 struct-size-kinds.ps
+struct_size_at t =
     and 5 struct-size-kinds.ps (is 5 struct-size-kinds.ps μ-struct-size t) struct-size.Pre
 
-abbrev struct-size-below : ℕ → In 5 struct-size-kinds.ps
-struct-size-below t =
+abbrev struct_size_below : ℕ → In 5 struct-size-kinds.ps
+struct_size_below t =
     and 5 struct-size-kinds.ps (falls 5 struct-size-kinds.ps ◌<◌ μ-struct-size t) struct-size.Pre
 
-abbrev named-size-claims : ℕ → named-size-lts.Claims
-named-size-claims t = (
+abbrev named_size_claims : ℕ → named-size-lts.Claims
+named_size_claims t = (
   recalled-reads.Asked,
   recalled-reads.Learnt,
-  size-of-below t,
-  size-of.Post,
+  size_of_below t,
+  size_of_lem.Post,
   one-more-reads.Asked,
   one-more-reads.Learnt,
   with-size-reads.Asked,
   with-size-reads.Learnt,
 )
 
-abbrev size-of-claims : ℕ → size-of-lts.Claims
-size-of-claims t = (
+abbrev size_of_claims : ℕ → size-of-lts.Claims
+size_of_claims t = (
   type-group-reads.Asked,
   type-group-reads.Learnt,
-  size-of-below t,
-  size-of.Post,
+  size_of_below t,
+  size_of_lem.Post,
   array-bytes-reads.Asked,
   array-bytes-reads.Learnt,
   one-more-reads.Asked,
   one-more-reads.Learnt,
-  named-size-below t,
+  named_size_below t,
   named-size.Post,
-  struct-size-below t,
+  struct_size_below t,
   struct-size.Post,
 )
 
-abbrev struct-size-claims : ℕ → struct-size-lts.Claims
-struct-size-claims t = (
+abbrev struct_size_claims : ℕ → struct-size-lts.Claims
+struct_size_claims t = (
   reach-reads.Asked,
   reach-reads.Learnt,
   run-from-reads.Asked,
@@ -105,8 +105,8 @@ struct-size-claims t = (
   pass-scalars-reads.Learnt,
   align-of-reads.Asked,
   align-of-reads.Learnt,
-  size-of-below t,
-  size-of.Post,
+  size_of_below t,
+  size_of_lem.Post,
   add-field-reads.Asked,
   add-field-reads.Learnt,
   type-end-reads.Asked,
@@ -115,499 +115,499 @@ struct-size-claims t = (
   closed-reads.Learnt,
 )
 
-named-size-mul-at : (t : ℕ) → named-size-lts.Need-overflow-mul-at (named-size-claims t) (named-size-at t) named-size.Post
-named-size-mul-at t c = search rules
+named_size_mul_at : (t : ℕ) → named-size-lts.Need-overflow-mul-at (named_size_claims t) (named_size_at t) named-size.Post
+named_size_mul_at t c = search rules
 
-named-size-add-part : (t : ℕ) → named-size-lts.Need-overflow-add-part (named-size-claims t) (named-size-at t) named-size.Post
-named-size-add-part t c = search rules
+named_size_add_part : (t : ℕ) → named-size-lts.Need-overflow-add-part (named_size_claims t) (named_size_at t) named-size.Post
+named_size_add_part t c = search rules
 
-named-size-mul-part : (t : ℕ) → named-size-lts.Need-overflow-mul-part (named-size-claims t) (named-size-at t) named-size.Post
-named-size-mul-part t c = search rules
+named_size_mul_part : (t : ℕ) → named-size-lts.Need-overflow-mul-part (named_size_claims t) (named_size_at t) named-size.Post
+named_size_mul_part t c = search rules
 
-named-size-slice-read-part : (t : ℕ) → named-size-lts.Need-slice-read-part (named-size-claims t) (named-size-at t) named-size.Post
-named-size-slice-read-part t c = search rules
+named_size_slice_read_part : (t : ℕ) → named-size-lts.Need-slice-read-part (named_size_claims t) (named_size_at t) named-size.Post
+named_size_slice_read_part t c = search rules
 
-named-size-recalled-requires : (t : ℕ) → named-size-lts.Need-recalled-requires (named-size-claims t) (named-size-at t) named-size.Post
-named-size-recalled-requires t c κs = search rules
+named_size_recalled_requires : (t : ℕ) → named-size-lts.Need-recalled-requires (named_size_claims t) (named_size_at t) named-size.Post
+named_size_recalled_requires t c κs = search rules
 
-named-size-returns : (t : ℕ) → named-size-lts.Need-returns (named-size-claims t) (named-size-at t) named-size.Post
-named-size-returns t c = calls.size-recalled _ _ _ _ _ _ c.before.before.before.before.before.before.requires.1 c.before.if1.true _ c.recalled.ensures
+named_size_returns : (t : ℕ) → named-size-lts.Need-returns (named_size_claims t) (named_size_at t) named-size.Post
+named_size_returns t c = calls.size_recalled _ _ _ _ _ _ c.before.before.before.before.before.before.requires.1 c.before.if1.true _ c.recalled.ensures
 
-named-size-add-body : (t : ℕ) → named-size-lts.Need-overflow-add-body (named-size-claims t) (named-size-at t) named-size.Post
-named-size-add-body t c = search rules
+named_size_add_body : (t : ℕ) → named-size-lts.Need-overflow-add-body (named_size_claims t) (named_size_at t) named-size.Post
+named_size_add_body t c = search rules
 
-named-size-mul-body : (t : ℕ) → named-size-lts.Need-overflow-mul-body (named-size-claims t) (named-size-at t) named-size.Post
-named-size-mul-body t c = search rules
+named_size_mul_body : (t : ℕ) → named-size-lts.Need-overflow-mul-body (named_size_claims t) (named_size_at t) named-size.Post
+named_size_mul_body t c = search rules
 
-named-size-slice-read-body : (t : ℕ) → named-size-lts.Need-slice-read-body (named-size-claims t) (named-size-at t) named-size.Post
-named-size-slice-read-body t c = search rules
+named_size_slice_read_body : (t : ℕ) → named-size-lts.Need-slice-read-body (named_size_claims t) (named_size_at t) named-size.Post
+named_size_slice_read_body t c = search rules
 
-named-size-returns-2 : (t : ℕ) → named-size-lts.Need-returns-2 (named-size-claims t) (named-size-at t) named-size.Post
-named-size-returns-2 t c = calls.size-absent _ _ _ _ _ _ c.before.before.before.before.before.before.before.requires.1 c.if2.true
+named_size_returns_2 : (t : ℕ) → named-size-lts.Need-returns-2 (named_size_claims t) (named_size_at t) named-size.Post
+named_size_returns_2 t c = calls.size_absent _ _ _ _ _ _ c.before.before.before.before.before.before.before.requires.1 c.if2.true
 
-named-size-sub-from : (t : ℕ) → named-size-lts.Need-overflow-sub-from (named-size-claims t) (named-size-at t) named-size.Post
-named-size-sub-from t c = search rules
+named_size_sub_from : (t : ℕ) → named-size-lts.Need-overflow-sub-from (named_size_claims t) (named_size_at t) named-size.Post
+named_size_sub_from t c = search rules
 
-named-size-mul-size-of : (t : ℕ) → named-size-lts.Need-overflow-mul-size-of (named-size-claims t) (named-size-at t) named-size.Post
-named-size-mul-size-of t c = let h = calls.body-kinds _ _ _ _ _ _ c.before.before.before.before.before.before.before.requires.1 c.if2.false in search rules
+named_size_mul_size_of : (t : ℕ) → named-size-lts.Need-overflow-mul-size-of (named_size_claims t) (named_size_at t) named-size.Post
+named_size_mul_size_of t c = let h = calls.body_kinds _ _ _ _ _ _ c.before.before.before.before.before.before.before.requires.1 c.if2.false in search rules
 
-named-size-sub-size-of : (t : ℕ) → named-size-lts.Need-overflow-sub-size-of (named-size-claims t) (named-size-at t) named-size.Post
-named-size-sub-size-of t c = let h = calls.body-kinds _ _ _ _ _ _ c.before.before.before.before.before.before.before.requires.1 c.if2.false in search rules
+named_size_sub_size_of : (t : ℕ) → named-size-lts.Need-overflow-sub-size-of (named_size_claims t) (named_size_at t) named-size.Post
+named_size_sub_size_of t c = let h = calls.body_kinds _ _ _ _ _ _ c.before.before.before.before.before.before.before.requires.1 c.if2.false in search rules
 
-named-size-part-size-of-start : (t : ℕ) → named-size-lts.Need-slice-bounds-size-of-start (named-size-claims t) (named-size-at t) named-size.Post
-named-size-part-size-of-start t c = let h = calls.body-kinds _ _ _ _ _ _ c.before.before.before.before.before.before.before.requires.1 c.if2.false in search rules
+named_size_part_size_of_start : (t : ℕ) → named-size-lts.Need-slice-bounds-size-of-start (named_size_claims t) (named_size_at t) named-size.Post
+named_size_part_size_of_start t c = let h = calls.body_kinds _ _ _ _ _ _ c.before.before.before.before.before.before.before.requires.1 c.if2.false in search rules
 
-named-size-part-size-of-end : (t : ℕ) → named-size-lts.Need-slice-bounds-size-of-end (named-size-claims t) (named-size-at t) named-size.Post
-named-size-part-size-of-end t c = search rules
+named_size_part_size_of_end : (t : ℕ) → named-size-lts.Need-slice-bounds-size-of-end (named_size_claims t) (named_size_at t) named-size.Post
+named_size_part_size_of_end t c = search rules
 
-named-size-mul-size-of-2 : (t : ℕ) → named-size-lts.Need-overflow-mul-size-of-2 (named-size-claims t) (named-size-at t) named-size.Post
-named-size-mul-size-of-2 t c = let h = calls.body-words _ _ _ _ _ _ c.before.before.before.before.before.before.before.before.requires.1 c.before.if2.false in search rules
+named_size_mul_size_of_2 : (t : ℕ) → named-size-lts.Need-overflow-mul-size-of-2 (named_size_claims t) (named_size_at t) named-size.Post
+named_size_mul_size_of_2 t c = let h = calls.body_words _ _ _ _ _ _ c.before.before.before.before.before.before.before.before.requires.1 c.before.if2.false in search rules
 
-named-size-sub-size-of-2 : (t : ℕ) → named-size-lts.Need-overflow-sub-size-of-2 (named-size-claims t) (named-size-at t) named-size.Post
-named-size-sub-size-of-2 t c = let h = calls.body-words _ _ _ _ _ _ c.before.before.before.before.before.before.before.before.requires.1 c.before.if2.false in search rules
+named_size_sub_size_of_2 : (t : ℕ) → named-size-lts.Need-overflow-sub-size-of-2 (named_size_claims t) (named_size_at t) named-size.Post
+named_size_sub_size_of_2 t c = let h = calls.body_words _ _ _ _ _ _ c.before.before.before.before.before.before.before.before.requires.1 c.before.if2.false in search rules
 
-named-size-part-size-of-start-2 : (t : ℕ) → named-size-lts.Need-slice-bounds-size-of-start-2 (named-size-claims t) (named-size-at t) named-size.Post
-named-size-part-size-of-start-2 t c = let h = calls.body-words _ _ _ _ _ _ c.before.before.before.before.before.before.before.before.requires.1 c.before.if2.false in search rules
+named_size_part_size_of_start_2 : (t : ℕ) → named-size-lts.Need-slice-bounds-size-of-start-2 (named_size_claims t) (named_size_at t) named-size.Post
+named_size_part_size_of_start_2 t c = let h = calls.body_words _ _ _ _ _ _ c.before.before.before.before.before.before.before.before.requires.1 c.before.if2.false in search rules
 
-named-size-part-size-of-end-2 : (t : ℕ) → named-size-lts.Need-slice-bounds-size-of-end-2 (named-size-claims t) (named-size-at t) named-size.Post
-named-size-part-size-of-end-2 t c = search rules
+named_size_part_size_of_end_2 : (t : ℕ) → named-size-lts.Need-slice-bounds-size-of-end-2 (named_size_claims t) (named_size_at t) named-size.Post
+named_size_part_size_of_end_2 t c = search rules
 
-named-size-sub-size-of-3 : (t : ℕ) → named-size-lts.Need-overflow-sub-size-of-3 (named-size-claims t) (named-size-at t) named-size.Post
-named-size-sub-size-of-3 t c = search rules
+named_size_sub_size_of_3 : (t : ℕ) → named-size-lts.Need-overflow-sub-size-of-3 (named_size_claims t) (named_size_at t) named-size.Post
+named_size_sub_size_of_3 t c = search rules
 
-named-size-size-of-requires : (t : ℕ) → named-size-lts.Need-size-of-requires (named-size-claims t) (named-size-at t) named-size.Post
-named-size-size-of-requires t c κs =
+named_size_size_of_requires : (t : ℕ) → named-size-lts.Need-size-of-requires (named_size_claims t) (named_size_at t) named-size.Post
+named_size_size_of_requires t c κs =
     let else2 = c.before.before.before in
     let entry = else2.before.before.before.before.before.before.before in
-    (omega arith, calls.body-ask _ _ _ _ _ _ entry.requires.1 else2.if2.false)
+    (omega arith, calls.body_ask _ _ _ _ _ _ entry.requires.1 else2.if2.false)
 
-named-size-one-more-requires : (t : ℕ) → named-size-lts.Need-one-more-requires (named-size-claims t) (named-size-at t) named-size.Post
-named-size-one-more-requires t c κs =
+named_size_one_more_requires : (t : ℕ) → named-size-lts.Need-one-more-requires (named_size_claims t) (named_size_at t) named-size.Post
+named_size_one_more_requires t c κs =
     let entry = c.before.before.before.before.before.before.before.before.before.before.before.before.before in
-    calls.outcome-few (omega (arith, entry.requires.1.levels)) c.before.before.size-of.ensures
+    calls.outcome_few (omega (arith, entry.requires.1.levels)) c.before.before.size_of_lem.ensures
 
-named-size-add-with-size : (t : ℕ) → named-size-lts.Need-overflow-add-with-size (named-size-claims t) (named-size-at t) named-size.Post
-named-size-add-with-size t c = search rules
+named_size_add_with_size : (t : ℕ) → named-size-lts.Need-overflow-add-with-size (named_size_claims t) (named_size_at t) named-size.Post
+named_size_add_with_size t c = search rules
 
-named-size-mul-with-size : (t : ℕ) → named-size-lts.Need-overflow-mul-with-size (named-size-claims t) (named-size-at t) named-size.Post
-named-size-mul-with-size t c = search rules
+named_size_mul_with_size : (t : ℕ) → named-size-lts.Need-overflow-mul-with-size (named_size_claims t) (named_size_at t) named-size.Post
+named_size_mul_with_size t c = search rules
 
-named-size-slice-read-with-size : (t : ℕ) → named-size-lts.Need-slice-read-with-size (named-size-claims t) (named-size-at t) named-size.Post
-named-size-slice-read-with-size t c = search rules
+named_size_slice_read_with_size : (t : ℕ) → named-size-lts.Need-slice-read-with-size (named_size_claims t) (named_size_at t) named-size.Post
+named_size_slice_read_with_size t c = search rules
 
-named-size-with-size-requires : (t : ℕ) → named-size-lts.Need-with-size-requires (named-size-claims t) (named-size-at t) named-size.Post
-named-size-with-size-requires t c κs =
+named_size_with_size_requires : (t : ℕ) → named-size-lts.Need-with-size-requires (named_size_claims t) (named_size_at t) named-size.Post
+named_size_with_size_requires t c κs =
     let after-size-of = c.before.before.before.before in
     let else2 = after-size-of.before.before.before.before in
     let entry = else2.before.before.before.before.before.before.before in
-    calls.size-body-small _ _ _ _ _ _ entry.requires.1 else2.if2.false _ c.before.one_more.ensures after-size-of.size-of.ensures
+    calls.size_body_small _ _ _ _ _ _ entry.requires.1 else2.if2.false _ c.before.one_more_lem.ensures after-size-of.size_of_lem.ensures
 
-named-size-add-work : (t : ℕ) → named-size-lts.Need-overflow-add-work (named-size-claims t) (named-size-at t) named-size.Post
-named-size-add-work t c = search rules
+named_size_add_work : (t : ℕ) → named-size-lts.Need-overflow-add-work (named_size_claims t) (named_size_at t) named-size.Post
+named_size_add_work t c = search rules
 
-named-size-mul-work : (t : ℕ) → named-size-lts.Need-overflow-mul-work (named-size-claims t) (named-size-at t) named-size.Post
-named-size-mul-work t c = search rules
+named_size_mul_work : (t : ℕ) → named-size-lts.Need-overflow-mul-work (named_size_claims t) (named_size_at t) named-size.Post
+named_size_mul_work t c = search rules
 
-named-size-slice-write-work : (t : ℕ) → named-size-lts.Need-slice-write-work (named-size-claims t) (named-size-at t) named-size.Post
-named-size-slice-write-work t c = search rules
+named_size_slice_write_work : (t : ℕ) → named-size-lts.Need-slice-write-work (named_size_claims t) (named_size_at t) named-size.Post
+named_size_slice_write_work t c = search rules
 
-named-size-same-length : (t : ℕ) → named-size-lts.Need-same-length (named-size-claims t) (named-size-at t) named-size.Post
-named-size-same-length t c = search rules
+named_size_same_length : (t : ℕ) → named-size-lts.Need-same-length (named_size_claims t) (named_size_at t) named-size.Post
+named_size_same_length t c = search rules
 
-named-size-returns-3 : (t : ℕ) → named-size-lts.Need-returns-3 (named-size-claims t) (named-size-at t) named-size.Post
-named-size-returns-3 t c =
+named_size_returns_3 : (t : ℕ) → named-size-lts.Need-returns-3 (named_size_claims t) (named_size_at t) named-size.Post
+named_size_returns_3 t c =
     let after-size-of = c.before.before.before.before.before in
     let else2 = after-size-of.before.before.before.before in
     let entry = else2.before.before.before.before.before.before.before in
-    calls.size-stored _ _ _ _ _ _ entry.requires.1 else2.if2.false _ c.before.before.one_more.ensures after-size-of.size-of.ensures _
+    calls.size_stored _ _ _ _ _ _ entry.requires.1 else2.if2.false _ c.before.before.one_more_lem.ensures after-size-of.size_of_lem.ensures _
     c.with_size.ensures
 
-size-of-returns : (t : ℕ) → size-of-lts.Need-returns (size-of-claims t) (size-of-at t) size-of.Post
-size-of-returns t c = calls.size_none _ _ _ _ _ _ c.before.before.before.before.before.before.requires.1 c.if1.true
+size_of_returns : (t : ℕ) → size-of-lts.Need-returns (size_of_claims t) (size_of_at t) size_of_lem.Post
+size_of_returns t c = calls.size_none _ _ _ _ _ _ c.before.before.before.before.before.before.requires.1 c.if1.true
 
-size-of-shared-slice-read-word : (t : ℕ) → size-of-lts.Need-shared-slice-read-word (size-of-claims t) (size-of-at t) size-of.Post
-size-of-shared-slice-read-word t c = let h = calls.words-there _ _ _ _ _ _ c.before.before.before.before.before.before.before.requires.1 in search rules
+size_of_shared_slice_read_word : (t : ℕ) → size-of-lts.Need-shared-slice-read-word (size_of_claims t) (size_of_at t) size_of_lem.Post
+size_of_shared_slice_read_word t c = let h = calls.words_there _ _ _ _ _ _ c.before.before.before.before.before.before.before.requires.1 in search rules
 
-size-of-shared-slice-read-type-group : (t : ℕ) → size-of-lts.Need-shared-slice-read-type-group (size-of-claims t) (size-of-at t) size-of.Post
-size-of-shared-slice-read-type-group t c = let h = calls.kinds-there _ _ _ _ _ _ c.before.before.before.before.before.before.before.before.requires.1 in search rules
+size_of_shared_slice_read_type_group : (t : ℕ) → size-of-lts.Need-shared-slice-read-type-group (size_of_claims t) (size_of_at t) size_of_lem.Post
+size_of_shared_slice_read_type_group t c = let h = calls.kinds_there _ _ _ _ _ _ c.before.before.before.before.before.before.before.before.requires.1 in search rules
 
-size-of-type-group-requires : (t : ℕ) → size-of-lts.Need-type-group-requires (size-of-claims t) (size-of-at t) size-of.Post
-size-of-type-group-requires t c κs = search rules
+size_of_type_group_requires : (t : ℕ) → size-of-lts.Need-type-group-requires (size_of_claims t) (size_of_at t) size_of_lem.Post
+size_of_type_group_requires t c κs = search rules
 
-size-of-enum-told : (t : ℕ) → size-of-lts.Need-enum-told (size-of-claims t) (size-of-at t) size-of.Post
-size-of-enum-told t c = search rules
+size_of_enum_told : (t : ℕ) → size-of-lts.Need-enum-told (size_of_claims t) (size_of_at t) size_of_lem.Post
+size_of_enum_told t c = search rules
 
-size-of-enum-told-2 : (t : ℕ) → size-of-lts.Need-enum-told-2 (size-of-claims t) (size-of-at t) size-of.Post
-size-of-enum-told-2 t c = search rules
+size_of_enum_told_2 : (t : ℕ) → size-of-lts.Need-enum-told-2 (size_of_claims t) (size_of_at t) size_of_lem.Post
+size_of_enum_told_2 t c = search rules
 
-size-of-add-t16 : (t : ℕ) → size-of-lts.Need-overflow-add-t16 (size-of-claims t) (size-of-at t) size-of.Post
-size-of-add-t16 t c =
+size_of_add_t16 : (t : ℕ) → size-of-lts.Need-overflow-add-t16 (size_of_claims t) (size_of_at t) size_of_lem.Post
+size_of_add_t16 t c =
     let entry = c.before.before.before.before.before.before.before.before.before.before.before in
-    omega (arith, calls.int-width _ _ _ _ _ _ entry.requires.1 _ c.before.before.type-group.ensures c.enum-told2.given.1)
+    omega (arith, calls.int_width_lem _ _ _ _ _ _ entry.requires.1 _ c.before.before.type-group.ensures c.enum-told2.given.1)
 
-size-of-enum-told-3 : (t : ℕ) → size-of-lts.Need-enum-told-3 (size-of-claims t) (size-of-at t) size-of.Post
-size-of-enum-told-3 t c = search rules
+size_of_enum_told_3 : (t : ℕ) → size-of-lts.Need-enum-told-3 (size_of_claims t) (size_of_at t) size_of_lem.Post
+size_of_enum_told_3 t c = search rules
 
-size-of-enum-told-4 : (t : ℕ) → size-of-lts.Need-enum-told-4 (size-of-claims t) (size-of-at t) size-of.Post
-size-of-enum-told-4 t c = search rules
+size_of_enum_told_4 : (t : ℕ) → size-of-lts.Need-enum-told-4 (size_of_claims t) (size_of_at t) size_of_lem.Post
+size_of_enum_told_4 t c = search rules
 
-size-of-sub-size-of : (t : ℕ) → size-of-lts.Need-overflow-sub-size-of (size-of-claims t) (size-of-at t) size-of.Post
-size-of-sub-size-of t c = let h = calls.kinds-there _ _ _ _ _ _ c.before.before.before.before.before.before.before.before.before.before.before.requires.1 in search rules
+size_of_sub_size_of : (t : ℕ) → size-of-lts.Need-overflow-sub-size-of (size_of_claims t) (size_of_at t) size_of_lem.Post
+size_of_sub_size_of t c = let h = calls.kinds_there _ _ _ _ _ _ c.before.before.before.before.before.before.before.before.before.before.before.requires.1 in search rules
 
-size-of-part-size-of-start : (t : ℕ) → size-of-lts.Need-slice-bounds-size-of-start (size-of-claims t) (size-of-at t) size-of.Post
-size-of-part-size-of-start t c = let h = calls.kinds-there _ _ _ _ _ _ c.before.before.before.before.before.before.before.before.before.before.before.requires.1 in search rules
+size_of_part_size_of_start : (t : ℕ) → size-of-lts.Need-slice-bounds-size-of-start (size_of_claims t) (size_of_at t) size_of_lem.Post
+size_of_part_size_of_start t c = let h = calls.kinds_there _ _ _ _ _ _ c.before.before.before.before.before.before.before.before.before.before.before.requires.1 in search rules
 
-size-of-part-size-of-end : (t : ℕ) → size-of-lts.Need-slice-bounds-size-of-end (size-of-claims t) (size-of-at t) size-of.Post
-size-of-part-size-of-end t c = search rules
+size_of_part_size_of_end : (t : ℕ) → size-of-lts.Need-slice-bounds-size-of-end (size_of_claims t) (size_of_at t) size_of_lem.Post
+size_of_part_size_of_end t c = search rules
 
-size-of-sub-size-of-2 : (t : ℕ) → size-of-lts.Need-overflow-sub-size-of-2 (size-of-claims t) (size-of-at t) size-of.Post
-size-of-sub-size-of-2 t c = let h = calls.words-there _ _ _ _ _ _ c.before.before.before.before.before.before.before.before.before.before.before.before.requires.1 in search rules
+size_of_sub_size_of_2 : (t : ℕ) → size-of-lts.Need-overflow-sub-size-of-2 (size_of_claims t) (size_of_at t) size_of_lem.Post
+size_of_sub_size_of_2 t c = let h = calls.words_there _ _ _ _ _ _ c.before.before.before.before.before.before.before.before.before.before.before.before.requires.1 in search rules
 
-size-of-part-size-of-start-2 : (t : ℕ) → size-of-lts.Need-slice-bounds-size-of-start-2 (size-of-claims t) (size-of-at t) size-of.Post
-size-of-part-size-of-start-2 t c = let h = calls.words-there _ _ _ _ _ _ c.before.before.before.before.before.before.before.before.before.before.before.before.requires.1 in search rules
+size_of_part_size_of_start_2 : (t : ℕ) → size-of-lts.Need-slice-bounds-size-of-start-2 (size_of_claims t) (size_of_at t) size_of_lem.Post
+size_of_part_size_of_start_2 t c = let h = calls.words_there _ _ _ _ _ _ c.before.before.before.before.before.before.before.before.before.before.before.before.requires.1 in search rules
 
-size-of-part-size-of-end-2 : (t : ℕ) → size-of-lts.Need-slice-bounds-size-of-end-2 (size-of-claims t) (size-of-at t) size-of.Post
-size-of-part-size-of-end-2 t c = search rules
+size_of_part_size_of_end_2 : (t : ℕ) → size-of-lts.Need-slice-bounds-size-of-end-2 (size_of_claims t) (size_of_at t) size_of_lem.Post
+size_of_part_size_of_end_2 t c = search rules
 
-size-of-sub-size-of-3 : (t : ℕ) → size-of-lts.Need-overflow-sub-size-of-3 (size-of-claims t) (size-of-at t) size-of.Post
-size-of-sub-size-of-3 t c = search rules
+size_of_sub_size_of_3 : (t : ℕ) → size-of-lts.Need-overflow-sub-size-of-3 (size_of_claims t) (size_of_at t) size_of_lem.Post
+size_of_sub_size_of_3 t c = search rules
 
-size-of-size-of-requires : (t : ℕ) → size-of-lts.Need-size-of-requires (size-of-claims t) (size-of-at t) size-of.Post
-size-of-size-of-requires t c κs =
+size_of_size_of_requires : (t : ℕ) → size-of-lts.Need-size-of-requires (size_of_claims t) (size_of_at t) size_of_lem.Post
+size_of_size_of_requires t c κs =
     let after-enum-told4 = c.before.before.before in
     let after-type-group = after-enum-told4.before.before in
     let entry = after-type-group.before.before.before.before.before.before.before.before.before in
-    (omega arith, calls.array-ask _ _ _ _ _ _ entry.requires.1 _ after-type-group.type-group.ensures _ after-enum-told4.enum-told4.given.1)
+    (omega arith, calls.array_ask _ _ _ _ _ _ entry.requires.1 _ after-type-group.type-group.ensures _ after-enum-told4.enum-told4.given.1)
 
-size-of-array-bytes-requires : (t : ℕ) → size-of-lts.Need-array-bytes-requires (size-of-claims t) (size-of-at t) size-of.Post
-size-of-array-bytes-requires t c κs =
+size_of_array_bytes_requires : (t : ℕ) → size-of-lts.Need-array-bytes-requires (size_of_claims t) (size_of_at t) size_of_lem.Post
+size_of_array_bytes_requires t c κs =
     let entry = c.before.before.before.before.before.before.before.before.before.before.before.before.before.before.before.before.before in
-    calls.size-outcome-small (omega (arith, entry.requires.1.levels)) _ c.before.before.size-of.ensures
+    calls.size_outcome_small (omega (arith, entry.requires.1.levels)) _ c.before.before.size_of_lem.ensures
 
-size-of-one-more-requires : (t : ℕ) → size-of-lts.Need-one-more-requires (size-of-claims t) (size-of-at t) size-of.Post
-size-of-one-more-requires t c κs =
+size_of_one_more_requires : (t : ℕ) → size-of-lts.Need-one-more-requires (size_of_claims t) (size_of_at t) size_of_lem.Post
+size_of_one_more_requires t c κs =
     let after-size-of = c.before.before.before in
     let entry = after-size-of.before.before.before.before.before.before.before.before.before.before.before.before.before.before.before in
-    calls.times-few (get_or entry.args.words.now 0 0) after-size-of.size-of.result _ c.array-bytes.ensures
-    (calls.outcome-few (omega (arith, entry.requires.1.levels)) after-size-of.size-of.ensures)
+    calls.times_few (get_or entry.args.words.now 0 0) after-size-of.size_of_lem.result _ c.array-bytes.ensures
+    (calls.outcome_few (omega (arith, entry.requires.1.levels)) after-size-of.size_of_lem.ensures)
 
-size-of-enum-told-5 : (t : ℕ) → size-of-lts.Need-enum-told-5 (size-of-claims t) (size-of-at t) size-of.Post
-size-of-enum-told-5 t c = search rules
+size_of_enum_told_5 : (t : ℕ) → size-of-lts.Need-enum-told-5 (size_of_claims t) (size_of_at t) size_of_lem.Post
+size_of_enum_told_5 t c = search rules
 
-size-of-named-size-requires : (t : ℕ) → size-of-lts.Need-named-size-requires (size-of-claims t) (size-of-at t) size-of.Post
-size-of-named-size-requires t c κs =
+size_of_named_size_requires : (t : ℕ) → size-of-lts.Need-named-size-requires (size_of_claims t) (size_of_at t) size_of_lem.Post
+size_of_named_size_requires t c κs =
     let after-type-group = c.before.before.before in
     let else1 = after-type-group.before.before.before in
     let entry = else1.before.before.before.before.before.before in (
       omega arith,
-      calls.named-ask _ _ _ _ _ _ entry.requires.1 _ after-type-group.type-group.ensures else1.if1.false
+      calls.named_ask _ _ _ _ _ _ entry.requires.1 _ after-type-group.type-group.ensures else1.if1.false
           c.before.enum-told5.given.1,
     )
 
-size-of-enum-known-packed : (t : ℕ) → size-of-lts.Need-enum-known-packed (size-of-claims t) (size-of-at t) size-of.Post
-size-of-enum-known-packed t c = search rules
+size_of_enum_known_packed : (t : ℕ) → size-of-lts.Need-enum-known-packed (size_of_claims t) (size_of_at t) size_of_lem.Post
+size_of_enum_known_packed t c = search rules
 
-size-of-sub-struct-size : (t : ℕ) → size-of-lts.Need-overflow-sub-struct-size (size-of-claims t) (size-of-at t) size-of.Post
-size-of-sub-struct-size t c = let h = calls.kinds-there _ _ _ _ _ _ c.before.before.before.before.before.before.before.before.before.before.before.before.requires.1 in search rules
+size_of_sub_struct_size : (t : ℕ) → size-of-lts.Need-overflow-sub-struct-size (size_of_claims t) (size_of_at t) size_of_lem.Post
+size_of_sub_struct_size t c = let h = calls.kinds_there _ _ _ _ _ _ c.before.before.before.before.before.before.before.before.before.before.before.before.requires.1 in search rules
 
-size-of-part-struct-size-start : (t : ℕ) → size-of-lts.Need-slice-bounds-struct-size-start (size-of-claims t) (size-of-at t) size-of.Post
-size-of-part-struct-size-start t c = let h = calls.kinds-there _ _ _ _ _ _ c.before.before.before.before.before.before.before.before.before.before.before.before.requires.1 in search rules
+size_of_part_struct_size_start : (t : ℕ) → size-of-lts.Need-slice-bounds-struct-size-start (size_of_claims t) (size_of_at t) size_of_lem.Post
+size_of_part_struct_size_start t c = let h = calls.kinds_there _ _ _ _ _ _ c.before.before.before.before.before.before.before.before.before.before.before.before.requires.1 in search rules
 
-size-of-part-struct-size-end : (t : ℕ) → size-of-lts.Need-slice-bounds-struct-size-end (size-of-claims t) (size-of-at t) size-of.Post
-size-of-part-struct-size-end t c = search rules
+size_of_part_struct_size_end : (t : ℕ) → size-of-lts.Need-slice-bounds-struct-size-end (size_of_claims t) (size_of_at t) size_of_lem.Post
+size_of_part_struct_size_end t c = search rules
 
-size-of-sub-struct-size-2 : (t : ℕ) → size-of-lts.Need-overflow-sub-struct-size-2 (size-of-claims t) (size-of-at t) size-of.Post
-size-of-sub-struct-size-2 t c =
+size_of_sub_struct_size_2 : (t : ℕ) → size-of-lts.Need-overflow-sub-struct-size-2 (size_of_claims t) (size_of_at t) size_of_lem.Post
+size_of_sub_struct_size_2 t c =
     let entry = c.before.before.before.before.before.before.before.before.before.before.before.before.before in
-    let h = calls.words-there _ _ _ _ _ _ entry.requires.1 in
+    let h = calls.words_there _ _ _ _ _ _ entry.requires.1 in
     search rules
 
-size-of-part-struct-size-start-2 : (t : ℕ) → size-of-lts.Need-slice-bounds-struct-size-start-2 (size-of-claims t) (size-of-at t) size-of.Post
-size-of-part-struct-size-start-2 t c =
+size_of_part_struct_size_start_2 : (t : ℕ) → size-of-lts.Need-slice-bounds-struct-size-start-2 (size_of_claims t) (size_of_at t) size_of_lem.Post
+size_of_part_struct_size_start_2 t c =
     let entry = c.before.before.before.before.before.before.before.before.before.before.before.before.before in
-    let h = calls.words-there _ _ _ _ _ _ entry.requires.1 in
+    let h = calls.words_there _ _ _ _ _ _ entry.requires.1 in
     search rules
 
-size-of-part-struct-size-end-2 : (t : ℕ) → size-of-lts.Need-slice-bounds-struct-size-end-2 (size-of-claims t) (size-of-at t) size-of.Post
-size-of-part-struct-size-end-2 t c = search rules
+size_of_part_struct_size_end_2 : (t : ℕ) → size-of-lts.Need-slice-bounds-struct-size-end-2 (size_of_claims t) (size_of_at t) size_of_lem.Post
+size_of_part_struct_size_end_2 t c = search rules
 
-size-of-sub-struct-size-3 : (t : ℕ) → size-of-lts.Need-overflow-sub-struct-size-3 (size-of-claims t) (size-of-at t) size-of.Post
-size-of-sub-struct-size-3 t c = search rules
+size_of_sub_struct_size_3 : (t : ℕ) → size-of-lts.Need-overflow-sub-struct-size-3 (size_of_claims t) (size_of_at t) size_of_lem.Post
+size_of_sub_struct_size_3 t c = search rules
 
-size-of-struct-size-requires : (t : ℕ) → size-of-lts.Need-struct-size-requires (size-of-claims t) (size-of-at t) size-of.Post
-size-of-struct-size-requires t c κs =
+size_of_struct_size_requires : (t : ℕ) → size-of-lts.Need-struct-size-requires (size_of_claims t) (size_of_at t) size_of_lem.Post
+size_of_struct_size_requires t c κs =
     let after-packed = c.before.before.before.before in
     let after-type-group = after-packed.before.before in
     let entry = after-type-group.before.before.before.before.before.before.before.before.before in
-    (omega arith, calls.struct-ask _ _ _ _ _ _ entry.requires.1 _ after-type-group.type-group.ensures _ after-packed.packed.given.1)
+    (omega arith, calls.struct_ask _ _ _ _ _ _ entry.requires.1 _ after-type-group.type-group.ensures _ after-packed.packed.given.1)
 
-size-of-one-more-requires-2 : (t : ℕ) → size-of-lts.Need-one-more-requires-2 (size-of-claims t) (size-of-at t) size-of.Post
-size-of-one-more-requires-2 t c κs =
+size_of_one_more_requires_2 : (t : ℕ) → size-of-lts.Need-one-more-requires-2 (size_of_claims t) (size_of_at t) size_of_lem.Post
+size_of_one_more_requires_2 t c κs =
     let entry = c.before.before.before.before.before.before.before.before.before.before.before.before.before.before.before.before.before.before in
-    calls.outcome-few (omega (arith, entry.requires.1.levels)) c.before.before.struct-size.ensures
+    calls.outcome_few (omega (arith, entry.requires.1.levels)) c.before.before.struct-size.ensures
 
-size-of-enum-told-6 : (t : ℕ) → size-of-lts.Need-enum-told-6 (size-of-claims t) (size-of-at t) size-of.Post
-size-of-enum-told-6 t c = search rules
+size_of_enum_told_6 : (t : ℕ) → size-of-lts.Need-enum-told-6 (size_of_claims t) (size_of_at t) size_of_lem.Post
+size_of_enum_told_6 t c = search rules
 
-size-of-enum-told-7 : (t : ℕ) → size-of-lts.Need-enum-told-7 (size-of-claims t) (size-of-at t) size-of.Post
-size-of-enum-told-7 t c = search rules
+size_of_enum_told_7 : (t : ℕ) → size-of-lts.Need-enum-told-7 (size_of_claims t) (size_of_at t) size_of_lem.Post
+size_of_enum_told_7 t c = search rules
 
-size-of-returns-2 : (t : ℕ) → size-of-lts.Need-returns-2 (size-of-claims t) (size-of-at t) size-of.Post
-size-of-returns-2 t c =
+size_of_returns_2 : (t : ℕ) → size-of-lts.Need-returns-2 (size_of_claims t) (size_of_at t) size_of_lem.Post
+size_of_returns_2 t c =
     let else1 = c.before.before.before.before.before in
     let entry = else1.before.before.before.before.before.before in
-    calls.size-void _ _ _ _ _ _ entry.requires.1 _ c.before.before.type-group.ensures else1.if1.false c.enum_told.given.1
+    calls.size_void _ _ _ _ _ _ entry.requires.1 _ c.before.before.type-group.ensures else1.if1.false c.enum_told.given.1
 
-size-of-returns-3 : (t : ℕ) → size-of-lts.Need-returns-3 (size-of-claims t) (size-of-at t) size-of.Post
-size-of-returns-3 t c =
+size_of_returns_3 : (t : ℕ) → size-of-lts.Need-returns-3 (size_of_claims t) (size_of_at t) size_of_lem.Post
+size_of_returns_3 t c =
     let else1 = c.before.before.before.before.before in
     let entry = else1.before.before.before.before.before.before in
-    calls.size-int _ _ _ _ _ _ entry.requires.1 _ c.before.before.type-group.ensures else1.if1.false c.enum-told2.given.1
+    calls.size_int _ _ _ _ _ _ entry.requires.1 _ c.before.before.type-group.ensures else1.if1.false c.enum-told2.given.1
 
-size-of-returns-4 : (t : ℕ) → size-of-lts.Need-returns-4 (size-of-claims t) (size-of-at t) size-of.Post
-size-of-returns-4 t c =
+size_of_returns_4 : (t : ℕ) → size-of-lts.Need-returns-4 (size_of_claims t) (size_of_at t) size_of_lem.Post
+size_of_returns_4 t c =
     let else1 = c.before.before.before.before.before in
     let entry = else1.before.before.before.before.before.before in
-    calls.size-ptr _ _ _ _ _ _ entry.requires.1 _ c.before.before.type-group.ensures else1.if1.false c.enum-told3.given.1
+    calls.size_ptr _ _ _ _ _ _ entry.requires.1 _ c.before.before.type-group.ensures else1.if1.false c.enum-told3.given.1
 
-size-of-same-length : (t : ℕ) → size-of-lts.Need-same-length (size-of-claims t) (size-of-at t) size-of.Post
-size-of-same-length t c = search rules
+size_of_same_length : (t : ℕ) → size-of-lts.Need-same-length (size_of_claims t) (size_of_at t) size_of_lem.Post
+size_of_same_length t c = search rules
 
-size-of-returns-5 : (t : ℕ) → size-of-lts.Need-returns-5 (size-of-claims t) (size-of-at t) size-of.Post
-size-of-returns-5 t c =
+size_of_returns_5 : (t : ℕ) → size-of-lts.Need-returns-5 (size_of_claims t) (size_of_at t) size_of_lem.Post
+size_of_returns_5 t c =
     let after-size-of = c.before.before.before.before in
     let after-enum-told4 = after-size-of.before.before.before.before in
     let after-type-group = after-enum-told4.before.before in
     let else1 = after-type-group.before.before.before in
     let entry = else1.before.before.before.before.before.before in
     calls.size_array _ _ _ _ _ _ entry.requires.1 _ after-type-group.type-group.ensures else1.if1.false _
-    after-enum-told4.enum-told4.given.1 after-size-of.size-of.ensures _ c.before.array-bytes.ensures _ c.one_more.ensures
+    after-enum-told4.enum-told4.given.1 after-size-of.size_of_lem.ensures _ c.before.array-bytes.ensures _ c.one_more_lem.ensures
 
-size-of-same-length-2 : (t : ℕ) → size-of-lts.Need-same-length-2 (size-of-claims t) (size-of-at t) size-of.Post
-size-of-same-length-2 t c = search rules
+size_of_same_length_2 : (t : ℕ) → size-of-lts.Need-same-length-2 (size_of_claims t) (size_of_at t) size_of_lem.Post
+size_of_same_length_2 t c = search rules
 
-size-of-returns-6 : (t : ℕ) → size-of-lts.Need-returns-6 (size-of-claims t) (size-of-at t) size-of.Post
-size-of-returns-6 t c =
+size_of_returns_6 : (t : ℕ) → size-of-lts.Need-returns-6 (size_of_claims t) (size_of_at t) size_of_lem.Post
+size_of_returns_6 t c =
     let after-enum-told5 = c.before.before.before.before in
     let after-type-group = after-enum-told5.before.before in
     let else1 = after-type-group.before.before.before in
     let entry = else1.before.before.before.before.before.before in
-    calls.size-named _ _ _ _ _ _ entry.requires.1 _ after-type-group.type-group.ensures else1.if1.false after-enum-told5.enum-told5.given.1
+    calls.size_named _ _ _ _ _ _ entry.requires.1 _ after-type-group.type-group.ensures else1.if1.false after-enum-told5.enum-told5.given.1
     c.before.before.named-size.ensures
 
-size-of-same-length-3 : (t : ℕ) → size-of-lts.Need-same-length-3 (size-of-claims t) (size-of-at t) size-of.Post
-size-of-same-length-3 t c = search rules
+size_of_same_length_3 : (t : ℕ) → size-of-lts.Need-same-length-3 (size_of_claims t) (size_of_at t) size_of_lem.Post
+size_of_same_length_3 t c = search rules
 
-size-of-returns-7 : (t : ℕ) → size-of-lts.Need-returns-7 (size-of-claims t) (size-of-at t) size-of.Post
-size-of-returns-7 t c =
+size_of_returns_7 : (t : ℕ) → size-of-lts.Need-returns-7 (size_of_claims t) (size_of_at t) size_of_lem.Post
+size_of_returns_7 t c =
     let after-struct-size = c.before.before.before in
     let after-packed = after-struct-size.before.before.before.before.before in
     let after-type-group = after-packed.before.before in
     let else1 = after-type-group.before.before.before in
     let entry = else1.before.before.before.before.before.before in
-    calls.size-struct _ _ _ _ _ _ entry.requires.1 _ after-type-group.type-group.ensures else1.if1.false _ after-packed.packed.given.1
+    calls.size_struct _ _ _ _ _ _ entry.requires.1 _ after-type-group.type-group.ensures else1.if1.false _ after-packed.packed.given.1
     after-struct-size.struct-size.ensures _ c.one-more2.ensures
 
-size-of-returns-8 : (t : ℕ) → size-of-lts.Need-returns-8 (size-of-claims t) (size-of-at t) size-of.Post
-size-of-returns-8 t c =
+size_of_returns_8 : (t : ℕ) → size-of-lts.Need-returns-8 (size_of_claims t) (size_of_at t) size_of_lem.Post
+size_of_returns_8 t c =
     let else1 = c.before.before.before.before.before in
     let entry = else1.before.before.before.before.before.before in
-    calls.size-sizeless _ _ _ _ _ _ entry.requires.1 _ c.before.before.type-group.ensures else1.if1.false c.enum-told6.given.1
+    calls.size_sizeless _ _ _ _ _ _ entry.requires.1 _ c.before.before.type-group.ensures else1.if1.false c.enum-told6.given.1
 
-size-of-returns-9 : (t : ℕ) → size-of-lts.Need-returns-9 (size-of-claims t) (size-of-at t) size-of.Post
-size-of-returns-9 t c =
+size_of_returns_9 : (t : ℕ) → size-of-lts.Need-returns-9 (size_of_claims t) (size_of_at t) size_of_lem.Post
+size_of_returns_9 t c =
     let else1 = c.before.before.before.before.before in
     let entry = else1.before.before.before.before.before.before in
     calls.other _ _ _ _ _ _ entry.requires.1 _ c.before.before.type-group.ensures else1.if1.false c.enum-told7.given.1
 
-abbrev struct-size-Inv-loop : struct-size-lts.invariant-loop
-struct-size-Inv-loop kinds words book-kinds book-words work₀ names level packed stop at₀ sum₀ work at sum =
+abbrev struct_size_Inv_loop : struct-size-lts.invariant-loop
+struct_size_Inv_loop kinds words book-kinds book-words work₀ names level packed stop at₀ sum₀ work at sum =
     (lv : level ≤ 64) × SizeInv names kinds words (entries book-kinds book-words) work₀ level packed lv work at sum
 
 abbrev struct-size-μ-loop : struct-size-lts.decreases-loop
 struct-size-μ-loop kinds words book-kinds book-words work₀ names level packed stop at₀ sum₀ work at sum = length kinds - at
 
-struct-size-reach-requires : (t : ℕ) → struct-size-lts.Need-reach-requires (struct-size-claims t) (struct-size-at t) struct-size.Post struct-size-Inv-loop struct-size-μ-loop
-struct-size-reach-requires t c κs = search rules
+struct_size_reach_requires : (t : ℕ) → struct-size-lts.Need-reach-requires (struct_size_claims t) (struct_size_at t) struct-size.Post struct_size_Inv_loop struct-size-μ-loop
+struct_size_reach_requires t c κs = search rules
 
-struct-size-run-from-requires : (t : ℕ) → struct-size-lts.Need-run-from-requires (struct-size-claims t) (struct-size-at t) struct-size.Post struct-size-Inv-loop struct-size-μ-loop
-struct-size-run-from-requires t c κs = search rules
+struct_size_run_from_requires : (t : ℕ) → struct-size-lts.Need-run-from-requires (struct_size_claims t) (struct_size_at t) struct-size.Post struct_size_Inv_loop struct-size-μ-loop
+struct_size_run_from_requires t c κs = search rules
 
-struct-size-pass-scalars-requires : (t : ℕ) → struct-size-lts.Need-pass-scalars-requires (struct-size-claims t) (struct-size-at t) struct-size.Post struct-size-Inv-loop struct-size-μ-loop
-struct-size-pass-scalars-requires t c κs =
+struct_size_pass_scalars_requires : (t : ℕ) → struct-size-lts.Need-pass-scalars-requires (struct_size_claims t) (struct_size_at t) struct-size.Post struct_size_Inv_loop struct-size-μ-loop
+struct_size_pass_scalars_requires t c κs =
     let entry = c.before.before.before.before.before.before.before in
-    let start = lc.size-start entry.args.names entry.args.kinds.now entry.args.words.now
+    let start = lc.size_start entry.args.names entry.args.kinds.now entry.args.words.now
     (entries entry.args.book-kinds.now entry.args.book-words.now) entry.args.work.now entry.args.level entry.args.packed
     entry.requires.1.levels entry.requires.1 in
-    lc.size-from entry.args.names entry.args.kinds.now entry.args.words.now
+    lc.size_from_lem entry.args.names entry.args.kinds.now entry.args.words.now
     (entries entry.args.book-kinds.now entry.args.book-words.now) entry.args.work.now entry.args.level entry.args.packed
-    entry.requires.1.levels start _ c.run-from.ensures
+    entry.requires.1.levels start _ c.run_from.ensures
 
-struct-size-loop-holds : (t : ℕ) → struct-size-lts.Need-loop-init (struct-size-claims t) (struct-size-at t) struct-size.Post struct-size-Inv-loop struct-size-μ-loop
-struct-size-loop-holds t c =
+struct_size_loop_holds : (t : ℕ) → struct-size-lts.Need-loop-init (struct_size_claims t) (struct_size_at t) struct-size.Post struct_size_Inv_loop struct-size-μ-loop
+struct_size_loop_holds t c =
     let after-reach = c.before.before in
     let entry = after-reach.before.before.before.before.before.before in
-    let start = lc.size-start entry.args.names entry.args.kinds.now entry.args.words.now
+    let start = lc.size_start entry.args.names entry.args.kinds.now entry.args.words.now
     (entries entry.args.book-kinds.now entry.args.book-words.now) entry.args.work.now entry.args.level entry.args.packed
     entry.requires.1.levels entry.requires.1 in (
       entry.requires.1.levels,
-      lc.size-again entry.args.names entry.args.kinds.now entry.args.words.now
+      lc.size_again entry.args.names entry.args.kinds.now entry.args.words.now
           (entries entry.args.book-kinds.now entry.args.book-words.now) entry.args.work.now entry.args.level
-          entry.args.packed entry.requires.1.levels start _ _ c.before.run-from.ensures (reach-none _ _ _ after-reach.reach.ensures) c.pass-scalars.ensures,
+          entry.args.packed entry.requires.1.levels start _ _ c.before.run_from.ensures (reach_none _ _ _ after-reach.reach.ensures) c.pass-scalars.ensures,
     )
 
-struct-size-mul-if1 : (t : ℕ) → struct-size-lts.Need-overflow-mul-if1 (struct-size-claims t) (struct-size-at t) struct-size.Post struct-size-Inv-loop struct-size-μ-loop
-struct-size-mul-if1 t c = search rules
+struct_size_mul_if1 : (t : ℕ) → struct-size-lts.Need-overflow-mul-if1 (struct_size_claims t) (struct_size_at t) struct-size.Post struct_size_Inv_loop struct-size-μ-loop
+struct_size_mul_if1 t c = search rules
 
-struct-size-shared-slice-read-if1 : (t : ℕ) → struct-size-lts.Need-shared-slice-read-if1 (struct-size-claims t) (struct-size-at t) struct-size.Post struct-size-Inv-loop struct-size-μ-loop
-struct-size-shared-slice-read-if1 t c =
+struct_size_shared_slice_read_if1 : (t : ℕ) → struct-size-lts.Need-shared-slice-read-if1 (struct_size_claims t) (struct_size_at t) struct-size.Post struct_size_Inv_loop struct-size-μ-loop
+struct_size_shared_slice_read_if1 t c =
     let entry = c.before.before.before.before.before.before.before.before.before.before in
-    let h = fields.place-kinds entry.args.names entry.args.kinds.now entry.args.words.now _ c.before.loop.invariant.1.0.place in
+    let h = fields.place_kinds entry.args.names entry.args.kinds.now entry.args.words.now _ c.before.loop.invariant.1.0.place in
     search rules
 
-struct-size-mul-ks : (t : ℕ) → struct-size-lts.Need-overflow-mul-ks (struct-size-claims t) (struct-size-at t) struct-size.Post struct-size-Inv-loop struct-size-μ-loop
-struct-size-mul-ks t c = search rules
+struct_size_mul_ks : (t : ℕ) → struct-size-lts.Need-overflow-mul-ks (struct_size_claims t) (struct_size_at t) struct-size.Post struct_size_Inv_loop struct-size-μ-loop
+struct_size_mul_ks t c = search rules
 
-struct-size-sub-ks : (t : ℕ) → struct-size-lts.Need-overflow-sub-ks (struct-size-claims t) (struct-size-at t) struct-size.Post struct-size-Inv-loop struct-size-μ-loop
-struct-size-sub-ks t c =
+struct_size_sub_ks : (t : ℕ) → struct-size-lts.Need-overflow-sub-ks (struct_size_claims t) (struct_size_at t) struct-size.Post struct_size_Inv_loop struct-size-μ-loop
+struct_size_sub_ks t c =
     let entry = c.before.before.before.before.before.before.before.before.before.before.before in
-    let h = fields.place-kinds entry.args.names entry.args.kinds.now entry.args.words.now _ c.before.before.loop.invariant.1.0.place in
+    let h = fields.place_kinds entry.args.names entry.args.kinds.now entry.args.words.now _ c.before.before.loop.invariant.1.0.place in
     search rules
 
-struct-size-part-ks-start : (t : ℕ) → struct-size-lts.Need-slice-bounds-ks-start (struct-size-claims t) (struct-size-at t) struct-size.Post struct-size-Inv-loop struct-size-μ-loop
-struct-size-part-ks-start t c =
+struct_size_part_ks_start : (t : ℕ) → struct-size-lts.Need-slice-bounds-ks-start (struct_size_claims t) (struct_size_at t) struct-size.Post struct_size_Inv_loop struct-size-μ-loop
+struct_size_part_ks_start t c =
     let entry = c.before.before.before.before.before.before.before.before.before.before.before in
-    let h = fields.place-kinds entry.args.names entry.args.kinds.now entry.args.words.now _ c.before.before.loop.invariant.1.0.place in
+    let h = fields.place_kinds entry.args.names entry.args.kinds.now entry.args.words.now _ c.before.before.loop.invariant.1.0.place in
     search rules
 
-struct-size-part-ks-end : (t : ℕ) → struct-size-lts.Need-slice-bounds-ks-end (struct-size-claims t) (struct-size-at t) struct-size.Post struct-size-Inv-loop struct-size-μ-loop
-struct-size-part-ks-end t c = search rules
+struct_size_part_ks_end : (t : ℕ) → struct-size-lts.Need-slice-bounds-ks-end (struct_size_claims t) (struct_size_at t) struct-size.Post struct_size_Inv_loop struct-size-μ-loop
+struct_size_part_ks_end t c = search rules
 
-struct-size-mul-ws : (t : ℕ) → struct-size-lts.Need-overflow-mul-ws (struct-size-claims t) (struct-size-at t) struct-size.Post struct-size-Inv-loop struct-size-μ-loop
-struct-size-mul-ws t c = search rules
+struct_size_mul_ws : (t : ℕ) → struct-size-lts.Need-overflow-mul-ws (struct_size_claims t) (struct_size_at t) struct-size.Post struct_size_Inv_loop struct-size-μ-loop
+struct_size_mul_ws t c = search rules
 
-struct-size-sub-ws : (t : ℕ) → struct-size-lts.Need-overflow-sub-ws (struct-size-claims t) (struct-size-at t) struct-size.Post struct-size-Inv-loop struct-size-μ-loop
-struct-size-sub-ws t c =
+struct_size_sub_ws : (t : ℕ) → struct-size-lts.Need-overflow-sub-ws (struct_size_claims t) (struct_size_at t) struct-size.Post struct_size_Inv_loop struct-size-μ-loop
+struct_size_sub_ws t c =
     let at-loop = c.before.before.before in
     let entry = at-loop.before.before.before.before.before.before.before.before.before in
-    let h = fields.place-words entry.args.names entry.args.kinds.now entry.args.words.now _ at-loop.loop.invariant.1.0.place in
+    let h = fields.place_words entry.args.names entry.args.kinds.now entry.args.words.now _ at-loop.loop.invariant.1.0.place in
     search rules
 
-struct-size-part-ws-start : (t : ℕ) → struct-size-lts.Need-slice-bounds-ws-start (struct-size-claims t) (struct-size-at t) struct-size.Post struct-size-Inv-loop struct-size-μ-loop
-struct-size-part-ws-start t c =
+struct_size_part_ws_start : (t : ℕ) → struct-size-lts.Need-slice-bounds-ws-start (struct_size_claims t) (struct_size_at t) struct-size.Post struct_size_Inv_loop struct-size-μ-loop
+struct_size_part_ws_start t c =
     let at-loop = c.before.before.before in
     let entry = at-loop.before.before.before.before.before.before.before.before.before in
-    let h = fields.place-words entry.args.names entry.args.kinds.now entry.args.words.now _ at-loop.loop.invariant.1.0.place in
+    let h = fields.place_words entry.args.names entry.args.kinds.now entry.args.words.now _ at-loop.loop.invariant.1.0.place in
     search rules
 
-struct-size-part-ws-end : (t : ℕ) → struct-size-lts.Need-slice-bounds-ws-end (struct-size-claims t) (struct-size-at t) struct-size.Post struct-size-Inv-loop struct-size-μ-loop
-struct-size-part-ws-end t c = search rules
+struct_size_part_ws_end : (t : ℕ) → struct-size-lts.Need-slice-bounds-ws-end (struct_size_claims t) (struct_size_at t) struct-size.Post struct_size_Inv_loop struct-size-μ-loop
+struct_size_part_ws_end t c = search rules
 
-struct-size-align-of-requires : (t : ℕ) → struct-size-lts.Need-align-of-requires (struct-size-claims t) (struct-size-at t) struct-size.Post struct-size-Inv-loop struct-size-μ-loop
-struct-size-align-of-requires t c κs =
+struct_size_align_of_requires : (t : ℕ) → struct-size-lts.Need-align-of-requires (struct_size_claims t) (struct_size_at t) struct-size.Post struct_size_Inv_loop struct-size-μ-loop
+struct_size_align_of_requires t c κs =
     let then1 = c.before.before.before in
     let at-loop = then1.before.before in
     let entry = at-loop.before.before.before.before.before.before.before.before.before in
-    lc.size-align-ask entry.args.names entry.args.kinds.now entry.args.words.now
+    lc.size_align_ask entry.args.names entry.args.kinds.now entry.args.words.now
     (entries entry.args.book-kinds.now entry.args.book-words.now) entry.args.work.now entry.args.level entry.args.packed
     at-loop.loop.invariant.0 at-loop.loop.invariant.1 then1.if1.true
 
-struct-size-enum-known-e : (t : ℕ) → struct-size-lts.Need-enum-known-e (struct-size-claims t) (struct-size-at t) struct-size.Post struct-size-Inv-loop struct-size-μ-loop
-struct-size-enum-known-e t c = search rules
+struct_size_enum_known_e : (t : ℕ) → struct-size-lts.Need-enum-known-e (struct_size_claims t) (struct_size_at t) struct-size.Post struct_size_Inv_loop struct-size-μ-loop
+struct_size_enum_known_e t c = search rules
 
-struct-size-same-length : (t : ℕ) → struct-size-lts.Need-same-length (struct-size-claims t) (struct-size-at t) struct-size.Post struct-size-Inv-loop struct-size-μ-loop
-struct-size-same-length t c = search rules
+struct_size_same_length : (t : ℕ) → struct-size-lts.Need-same-length (struct_size_claims t) (struct_size_at t) struct-size.Post struct_size_Inv_loop struct-size-μ-loop
+struct_size_same_length t c = search rules
 
-struct-size-returns : (t : ℕ) → struct-size-lts.Need-returns (struct-size-claims t) (struct-size-at t) struct-size.Post struct-size-Inv-loop struct-size-μ-loop
-struct-size-returns t c =
+struct_size_returns : (t : ℕ) → struct-size-lts.Need-returns (struct_size_claims t) (struct_size_at t) struct-size.Post struct_size_Inv_loop struct-size-μ-loop
+struct_size_returns t c =
     let after-align-of = c.before.before.before.before.before in
     let then1 = after-align-of.before.before.before.before in
     let at-loop = then1.before.before in
     let entry = at-loop.before.before.before.before.before.before.before.before.before in
-    lc.size-align-refused entry.args.names entry.args.kinds.now entry.args.words.now
+    lc.size_align_refused entry.args.names entry.args.kinds.now entry.args.words.now
     (entries entry.args.book-kinds.now entry.args.book-words.now) entry.args.work.now entry.args.level entry.args.packed
     at-loop.loop.invariant.0 at-loop.loop.invariant.1 then1.if1.true after-align-of.align-of.ensures _ c.before.e.given.1
 
-struct-size-enum-known-a : (t : ℕ) → struct-size-lts.Need-enum-known-a (struct-size-claims t) (struct-size-at t) struct-size.Post struct-size-Inv-loop struct-size-μ-loop
-struct-size-enum-known-a t c = search rules
+struct_size_enum_known_a : (t : ℕ) → struct-size-lts.Need-enum-known-a (struct_size_claims t) (struct_size_at t) struct-size.Post struct_size_Inv_loop struct-size-μ-loop
+struct_size_enum_known_a t c = search rules
 
-struct-size-size-of-requires : (t : ℕ) → struct-size-lts.Need-size-of-requires (struct-size-claims t) (struct-size-at t) struct-size.Post struct-size-Inv-loop struct-size-μ-loop
-struct-size-size-of-requires t c κs =
+struct_size_size_of_requires : (t : ℕ) → struct-size-lts.Need-size-of-requires (struct_size_claims t) (struct_size_at t) struct-size.Post struct_size_Inv_loop struct-size-μ-loop
+struct_size_size_of_requires t c κs =
     let after-align-of = c.before.before.before.before.before.before in
     let then1 = after-align-of.before.before.before.before in
     let at-loop = then1.before.before in
     let entry = at-loop.before.before.before.before.before.before.before.before.before in (
       omega arith,
-      lc.size-ask entry.args.names entry.args.kinds.now entry.args.words.now
+      lc.size_ask entry.args.names entry.args.kinds.now entry.args.words.now
           (entries entry.args.book-kinds.now entry.args.book-words.now) entry.args.work.now entry.args.level
           entry.args.packed at-loop.loop.invariant.0 at-loop.loop.invariant.1 then1.if1.true after-align-of.align-of.ensures,
     )
 
-struct-size-enum-known-e-2 : (t : ℕ) → struct-size-lts.Need-enum-known-e-2 (struct-size-claims t) (struct-size-at t) struct-size.Post struct-size-Inv-loop struct-size-μ-loop
-struct-size-enum-known-e-2 t c = search rules
+struct_size_enum_known_e_2 : (t : ℕ) → struct-size-lts.Need-enum-known-e-2 (struct_size_claims t) (struct_size_at t) struct-size.Post struct_size_Inv_loop struct-size-μ-loop
+struct_size_enum_known_e_2 t c = search rules
 
-struct-size-same-length-2 : (t : ℕ) → struct-size-lts.Need-same-length-2 (struct-size-claims t) (struct-size-at t) struct-size.Post struct-size-Inv-loop struct-size-μ-loop
-struct-size-same-length-2 t c =
+struct_size_same_length_2 : (t : ℕ) → struct-size-lts.Need-same-length-2 (struct_size_claims t) (struct_size_at t) struct-size.Post struct_size_Inv_loop struct-size-μ-loop
+struct_size_same_length_2 t c =
     let after-size-of = c.before.before.before.before.before in
     let after-align-of = after-size-of.before.before.before.before.before.before.before in
     let at-loop = after-align-of.before.before.before.before.before.before in
     let h = at-loop.loop.invariant.1.1.kept.long in
     let g = after-align-of.align-of.ensures.after.kept.long in
-    let f = after-size-of.size-of.ensures.after.kept.long in
+    let f = after-size-of.size_of_lem.ensures.after.kept.long in
     search rules
 
-struct-size-returns-2 : (t : ℕ) → struct-size-lts.Need-returns-2 (struct-size-claims t) (struct-size-at t) struct-size.Post struct-size-Inv-loop struct-size-μ-loop
-struct-size-returns-2 t c =
+struct_size_returns_2 : (t : ℕ) → struct-size-lts.Need-returns-2 (struct_size_claims t) (struct_size_at t) struct-size.Post struct_size_Inv_loop struct-size-μ-loop
+struct_size_returns_2 t c =
     let after-size-of = c.before.before.before.before.before in
     let after-a = after-size-of.before.before.before in
     let after-align-of = after-a.before.before.before.before in
     let then1 = after-align-of.before.before.before.before in
     let at-loop = then1.before.before in
     let entry = at-loop.before.before.before.before.before.before.before.before.before in
-    lc.size-refused entry.args.names entry.args.kinds.now entry.args.words.now
+    lc.size_refused entry.args.names entry.args.kinds.now entry.args.words.now
     (entries entry.args.book-kinds.now entry.args.book-words.now) entry.args.work.now entry.args.level entry.args.packed
     at-loop.loop.invariant.0 at-loop.loop.invariant.1 then1.if1.true after-align-of.align-of.ensures _ _ after-a.a.given.1
-    after-size-of.size-of.ensures _ c.before.e2.given.1
+    after-size-of.size_of_lem.ensures _ c.before.e2.given.1
 
-struct-size-enum-known-s : (t : ℕ) → struct-size-lts.Need-enum-known-s (struct-size-claims t) (struct-size-at t) struct-size.Post struct-size-Inv-loop struct-size-μ-loop
-struct-size-enum-known-s t c = search rules
+struct_size_enum_known_s : (t : ℕ) → struct-size-lts.Need-enum-known-s (struct_size_claims t) (struct_size_at t) struct-size.Post struct_size_Inv_loop struct-size-μ-loop
+struct_size_enum_known_s t c = search rules
 
-struct-size-add-field-requires : (t : ℕ) → struct-size-lts.Need-add-field-requires (struct-size-claims t) (struct-size-at t) struct-size.Post struct-size-Inv-loop struct-size-μ-loop
-struct-size-add-field-requires t c κs =
+struct_size_add_field_requires : (t : ℕ) → struct-size-lts.Need-add-field-requires (struct_size_claims t) (struct_size_at t) struct-size.Post struct_size_Inv_loop struct-size-μ-loop
+struct_size_add_field_requires t c κs =
     let after-size-of = c.before.before.before.before.before in
     let after-a = after-size-of.before.before.before in
     let after-align-of = after-a.before.before.before.before in
     let then1 = after-align-of.before.before.before.before in
     let at-loop = then1.before.before in
     let entry = at-loop.before.before.before.before.before.before.before.before.before in
-    lc.field-small entry.args.names entry.args.kinds.now entry.args.words.now
+    lc.field_small entry.args.names entry.args.kinds.now entry.args.words.now
     (entries entry.args.book-kinds.now entry.args.book-words.now) entry.args.work.now entry.args.level entry.args.packed
     at-loop.loop.invariant.0 at-loop.loop.invariant.1 then1.if1.true after-align-of.align-of.ensures _ _ after-a.a.given.1
-    after-size-of.size-of.ensures _ _ c.before.s.given.1
+    after-size-of.size_of_lem.ensures _ _ c.before.s.given.1
 
-struct-size-type-end-requires : (t : ℕ) → struct-size-lts.Need-type-end-requires (struct-size-claims t) (struct-size-at t) struct-size.Post struct-size-Inv-loop struct-size-μ-loop
-struct-size-type-end-requires t c κs =
+struct_size_type_end_requires : (t : ℕ) → struct-size-lts.Need-type-end-requires (struct_size_claims t) (struct_size_at t) struct-size.Post struct_size_Inv_loop struct-size-μ-loop
+struct_size_type_end_requires t c κs =
     let then1 = c.before.before.before.before.before.before.before.before.before.before.before.before.before.before.before.before.before in
     let at-loop = then1.before.before in
     let entry = at-loop.before.before.before.before.before.before.before.before.before in
-    fields.place-starts entry.args.names entry.args.kinds.now entry.args.words.now _ at-loop.loop.invariant.1.0.place then1.if1.true
+    fields.place_starts entry.args.names entry.args.kinds.now entry.args.words.now _ at-loop.loop.invariant.1.0.place then1.if1.true
 
-struct-size-add-behind : (t : ℕ) → struct-size-lts.Need-overflow-add-behind (struct-size-claims t) (struct-size-at t) struct-size.Post struct-size-Inv-loop struct-size-μ-loop
-struct-size-add-behind t c =
+struct_size_add_behind : (t : ℕ) → struct-size-lts.Need-overflow-add-behind (struct_size_claims t) (struct_size_at t) struct-size.Post struct_size_Inv_loop struct-size-μ-loop
+struct_size_add_behind t c =
     let then1 = c.before.before.before.before.before.before.before.before.before.before.before.before.before.before.before.before.before.before in
     let at-loop = then1.before.before in
     let entry = at-loop.before.before.before.before.before.before.before.before.before in
     omega (
       arith,
-      fields.next-few entry.args.names entry.args.kinds.now entry.args.words.now _ at-loop.loop.invariant.1.0.place
+      fields.next_few entry.args.names entry.args.kinds.now entry.args.words.now _ at-loop.loop.invariant.1.0.place
           then1.if1.true _ c.type-end.ensures,
     )
 
-struct-size-run-from-requires-2 : (t : ℕ) → struct-size-lts.Need-run-from-requires-2 (struct-size-claims t) (struct-size-at t) struct-size.Post struct-size-Inv-loop struct-size-μ-loop
-struct-size-run-from-requires-2 t c κs = search rules
+struct_size_run_from_requires_2 : (t : ℕ) → struct-size-lts.Need-run-from-requires-2 (struct_size_claims t) (struct_size_at t) struct-size.Post struct_size_Inv_loop struct-size-μ-loop
+struct_size_run_from_requires_2 t c κs = search rules
 
-struct-size-pass-scalars-requires-2 : (t : ℕ) → struct-size-lts.Need-pass-scalars-requires-2 (struct-size-claims t) (struct-size-at t) struct-size.Post struct-size-Inv-loop struct-size-μ-loop
-struct-size-pass-scalars-requires-2 t c κs =
+struct_size_pass_scalars_requires_2 : (t : ℕ) → struct-size-lts.Need-pass-scalars-requires-2 (struct_size_claims t) (struct_size_at t) struct-size.Post struct_size_Inv_loop struct-size-μ-loop
+struct_size_pass_scalars_requires_2 t c κs =
     let after-type-end = c.before in
     let after-s = after-type-end.before.before.before in
     let after-size-of = after-s.before.before.before.before in
@@ -616,27 +616,27 @@ struct-size-pass-scalars-requires-2 t c κs =
     let then1 = after-align-of.before.before.before.before in
     let at-loop = then1.before.before in
     let entry = at-loop.before.before.before.before.before.before.before.before.before in
-    let next = lc.size-next entry.args.names entry.args.kinds.now entry.args.words.now
+    let next = lc.size_next entry.args.names entry.args.kinds.now entry.args.words.now
     (entries entry.args.book-kinds.now entry.args.book-words.now) entry.args.work.now entry.args.level entry.args.packed
     at-loop.loop.invariant.0 at-loop.loop.invariant.1 then1.if1.true after-align-of.align-of.ensures _ _ after-a.a.given.1
-    after-size-of.size-of.ensures _ _ after-s.s.given.1 _ after-type-end.type-end.ensures _ after-type-end.before.add-field.ensures in
-    lc.size-from entry.args.names entry.args.kinds.now entry.args.words.now
+    after-size-of.size_of_lem.ensures _ _ after-s.s.given.1 _ after-type-end.type-end.ensures _ after-type-end.before.add-field.ensures in
+    lc.size_from_lem entry.args.names entry.args.kinds.now entry.args.words.now
     (entries entry.args.book-kinds.now entry.args.book-words.now) entry.args.work.now entry.args.level entry.args.packed
     at-loop.loop.invariant.0 next _ c.run-from2.ensures
 
-struct-size-loop-less : (t : ℕ) → struct-size-lts.Need-loop-smaller (struct-size-claims t) (struct-size-at t) struct-size.Post struct-size-Inv-loop struct-size-μ-loop
-struct-size-loop-less t c =
+struct_size_loop_less : (t : ℕ) → struct-size-lts.Need-loop-smaller (struct_size_claims t) (struct_size_at t) struct-size.Post struct_size_Inv_loop struct-size-μ-loop
+struct_size_loop_less t c =
     let after-type-end = c.before.before in
     let then1 = after-type-end.before.before.before.before.before.before.before.before.before.before.before.before.before.before.before.before.before.before in
     let at-loop = then1.before.before in
     let entry = at-loop.before.before.before.before.before.before.before.before.before in
-    let h = fields.place-kinds entry.args.names entry.args.kinds.now entry.args.words.now _ at-loop.loop.invariant.1.0.place in
-    let g = fields.place-moves entry.args.names entry.args.kinds.now entry.args.words.now _ at-loop.loop.invariant.1.0.place
+    let h = fields.place_kinds entry.args.names entry.args.kinds.now entry.args.words.now _ at-loop.loop.invariant.1.0.place in
+    let g = fields.place_moves entry.args.names entry.args.kinds.now entry.args.words.now _ at-loop.loop.invariant.1.0.place
     then1.if1.true _ after-type-end.type-end.ensures in
-    omega (arith, passes-from _ _ c.before.run-from2.ensures c.pass-scalars2.ensures)
+    omega (arith, passes_from _ _ c.before.run-from2.ensures c.pass-scalars2.ensures)
 
-struct-size-loop-again : (t : ℕ) → struct-size-lts.Need-loop-preserved (struct-size-claims t) (struct-size-at t) struct-size.Post struct-size-Inv-loop struct-size-μ-loop
-struct-size-loop-again t c =
+struct_size_loop_again : (t : ℕ) → struct-size-lts.Need-loop-preserved (struct_size_claims t) (struct_size_at t) struct-size.Post struct_size_Inv_loop struct-size-μ-loop
+struct_size_loop_again t c =
     let after-type-end = c.before.before in
     let after-s = after-type-end.before.before.before in
     let after-size-of = after-s.before.before.before.before in
@@ -645,150 +645,150 @@ struct-size-loop-again t c =
     let then1 = after-align-of.before.before.before.before in
     let at-loop = then1.before.before in
     let entry = at-loop.before.before.before.before.before.before.before.before.before in
-    let next = lc.size-next entry.args.names entry.args.kinds.now entry.args.words.now
+    let next = lc.size_next entry.args.names entry.args.kinds.now entry.args.words.now
     (entries entry.args.book-kinds.now entry.args.book-words.now) entry.args.work.now entry.args.level entry.args.packed
     at-loop.loop.invariant.0 at-loop.loop.invariant.1 then1.if1.true after-align-of.align-of.ensures _ _ after-a.a.given.1
-    after-size-of.size-of.ensures _ _ after-s.s.given.1 _ after-type-end.type-end.ensures _ after-type-end.before.add-field.ensures in (
+    after-size-of.size_of_lem.ensures _ _ after-s.s.given.1 _ after-type-end.type-end.ensures _ after-type-end.before.add-field.ensures in (
       at-loop.loop.invariant.0,
-      lc.size-again entry.args.names entry.args.kinds.now entry.args.words.now
+      lc.size_again entry.args.names entry.args.kinds.now entry.args.words.now
           (entries entry.args.book-kinds.now entry.args.book-words.now) entry.args.work.now entry.args.level
-          entry.args.packed at-loop.loop.invariant.0 next _ _ c.before.run-from2.ensures (reach-none _ _ _ at-loop.before.before.before.reach.ensures)
+          entry.args.packed at-loop.loop.invariant.0 next _ _ c.before.run-from2.ensures (reach_none _ _ _ at-loop.before.before.before.reach.ensures)
           c.pass-scalars2.ensures,
     )
 
-struct-size-closed-requires : (t : ℕ) → struct-size-lts.Need-closed-requires (struct-size-claims t) (struct-size-at t) struct-size.Post struct-size-Inv-loop struct-size-μ-loop
-struct-size-closed-requires t c κs = search rules
+struct_size_closed_requires : (t : ℕ) → struct-size-lts.Need-closed-requires (struct_size_claims t) (struct_size_at t) struct-size.Post struct_size_Inv_loop struct-size-μ-loop
+struct_size_closed_requires t c κs = search rules
 
-struct-size-same-length-3 : (t : ℕ) → struct-size-lts.Need-same-length-3 (struct-size-claims t) (struct-size-at t) struct-size.Post struct-size-Inv-loop struct-size-μ-loop
-struct-size-same-length-3 t c = search rules
+struct_size_same_length_3 : (t : ℕ) → struct-size-lts.Need-same-length-3 (struct_size_claims t) (struct_size_at t) struct-size.Post struct_size_Inv_loop struct-size-μ-loop
+struct_size_same_length_3 t c = search rules
 
-struct-size-returns-3 : (t : ℕ) → struct-size-lts.Need-returns-3 (struct-size-claims t) (struct-size-at t) struct-size.Post struct-size-Inv-loop struct-size-μ-loop
-struct-size-returns-3 t c =
+struct_size_returns_3 : (t : ℕ) → struct-size-lts.Need-returns-3 (struct_size_claims t) (struct_size_at t) struct-size.Post struct_size_Inv_loop struct-size-μ-loop
+struct_size_returns_3 t c =
     let at-loop = c.before.before.before in
     let entry = at-loop.before.before.before.before.before.before.before.before.before in
-    lc.size-done entry.args.names entry.args.kinds.now entry.args.words.now
+    lc.size_done entry.args.names entry.args.kinds.now entry.args.words.now
     (entries entry.args.book-kinds.now entry.args.book-words.now) entry.args.work.now entry.args.level entry.args.packed
     at-loop.loop.invariant.0 at-loop.loop.invariant.1 c.before.if1.false _ c.closed.ensures
 
 pub +named-size-size-of-struct-size-spec : {M : Type 1} → statement M
 +named-size-size-of-struct-size-spec =
-    close μ-named-size μ-size-of μ-struct-size (λ t. named-size-lts.spec (named-size-claims t)
-    (named-size-at t)
+    close μ-named-size μ-size-of μ-struct-size (λ t. named-size-lts.spec (named_size_claims t)
+    (named_size_at t)
     named-size.Post
-    (named-size-mul-at t)
-    (named-size-add-part t)
-    (named-size-mul-part t)
-    (named-size-slice-read-part t)
-    (named-size-recalled-requires t)
-    (named-size-returns t)
-    (named-size-add-body t)
-    (named-size-mul-body t)
-    (named-size-slice-read-body t)
-    (named-size-returns-2 t)
-    (named-size-sub-from t)
-    (named-size-mul-size-of t)
-    (named-size-sub-size-of t)
-    (named-size-part-size-of-start t)
-    (named-size-part-size-of-end t)
-    (named-size-mul-size-of-2 t)
-    (named-size-sub-size-of-2 t)
-    (named-size-part-size-of-start-2 t)
-    (named-size-part-size-of-end-2 t)
-    (named-size-sub-size-of-3 t)
-    (named-size-size-of-requires t)
-    (named-size-one-more-requires t)
-    (named-size-add-with-size t)
-    (named-size-mul-with-size t)
-    (named-size-slice-read-with-size t)
-    (named-size-with-size-requires t)
-    (named-size-add-work t)
-    (named-size-mul-work t)
-    (named-size-slice-write-work t)
-    (named-size-same-length t)
-    (named-size-returns-3 t))
-    (λ t. size-of-lts.spec (size-of-claims t)
-    (size-of-at t)
-    size-of.Post
-    (size-of-returns t)
-    (size-of-shared-slice-read-word t)
-    (size-of-shared-slice-read-type-group t)
-    (size-of-type-group-requires t)
-    (size-of-enum-told t)
-    (size-of-enum-told-2 t)
-    (size-of-add-t16 t)
-    (size-of-enum-told-3 t)
-    (size-of-enum-told-4 t)
-    (size-of-sub-size-of t)
-    (size-of-part-size-of-start t)
-    (size-of-part-size-of-end t)
-    (size-of-sub-size-of-2 t)
-    (size-of-part-size-of-start-2 t)
-    (size-of-part-size-of-end-2 t)
-    (size-of-sub-size-of-3 t)
-    (size-of-size-of-requires t)
-    (size-of-array-bytes-requires t)
-    (size-of-one-more-requires t)
-    (size-of-enum-told-5 t)
-    (size-of-named-size-requires t)
-    (size-of-enum-known-packed t)
-    (size-of-sub-struct-size t)
-    (size-of-part-struct-size-start t)
-    (size-of-part-struct-size-end t)
-    (size-of-sub-struct-size-2 t)
-    (size-of-part-struct-size-start-2 t)
-    (size-of-part-struct-size-end-2 t)
-    (size-of-sub-struct-size-3 t)
-    (size-of-struct-size-requires t)
-    (size-of-one-more-requires-2 t)
-    (size-of-enum-told-6 t)
-    (size-of-enum-told-7 t)
-    (size-of-returns-2 t)
-    (size-of-returns-3 t)
-    (size-of-returns-4 t)
-    (size-of-same-length t)
-    (size-of-returns-5 t)
-    (size-of-same-length-2 t)
-    (size-of-returns-6 t)
-    (size-of-same-length-3 t)
-    (size-of-returns-7 t)
-    (size-of-returns-8 t)
-    (size-of-returns-9 t))
-    λ t. struct-size-lts.spec (struct-size-claims t)
-    (struct-size-at t)
+    (named_size_mul_at t)
+    (named_size_add_part t)
+    (named_size_mul_part t)
+    (named_size_slice_read_part t)
+    (named_size_recalled_requires t)
+    (named_size_returns t)
+    (named_size_add_body t)
+    (named_size_mul_body t)
+    (named_size_slice_read_body t)
+    (named_size_returns_2 t)
+    (named_size_sub_from t)
+    (named_size_mul_size_of t)
+    (named_size_sub_size_of t)
+    (named_size_part_size_of_start t)
+    (named_size_part_size_of_end t)
+    (named_size_mul_size_of_2 t)
+    (named_size_sub_size_of_2 t)
+    (named_size_part_size_of_start_2 t)
+    (named_size_part_size_of_end_2 t)
+    (named_size_sub_size_of_3 t)
+    (named_size_size_of_requires t)
+    (named_size_one_more_requires t)
+    (named_size_add_with_size t)
+    (named_size_mul_with_size t)
+    (named_size_slice_read_with_size t)
+    (named_size_with_size_requires t)
+    (named_size_add_work t)
+    (named_size_mul_work t)
+    (named_size_slice_write_work t)
+    (named_size_same_length t)
+    (named_size_returns_3 t))
+    (λ t. size-of-lts.spec (size_of_claims t)
+    (size_of_at t)
+    size_of_lem.Post
+    (size_of_returns t)
+    (size_of_shared_slice_read_word t)
+    (size_of_shared_slice_read_type_group t)
+    (size_of_type_group_requires t)
+    (size_of_enum_told t)
+    (size_of_enum_told_2 t)
+    (size_of_add_t16 t)
+    (size_of_enum_told_3 t)
+    (size_of_enum_told_4 t)
+    (size_of_sub_size_of t)
+    (size_of_part_size_of_start t)
+    (size_of_part_size_of_end t)
+    (size_of_sub_size_of_2 t)
+    (size_of_part_size_of_start_2 t)
+    (size_of_part_size_of_end_2 t)
+    (size_of_sub_size_of_3 t)
+    (size_of_size_of_requires t)
+    (size_of_array_bytes_requires t)
+    (size_of_one_more_requires t)
+    (size_of_enum_told_5 t)
+    (size_of_named_size_requires t)
+    (size_of_enum_known_packed t)
+    (size_of_sub_struct_size t)
+    (size_of_part_struct_size_start t)
+    (size_of_part_struct_size_end t)
+    (size_of_sub_struct_size_2 t)
+    (size_of_part_struct_size_start_2 t)
+    (size_of_part_struct_size_end_2 t)
+    (size_of_sub_struct_size_3 t)
+    (size_of_struct_size_requires t)
+    (size_of_one_more_requires_2 t)
+    (size_of_enum_told_6 t)
+    (size_of_enum_told_7 t)
+    (size_of_returns_2 t)
+    (size_of_returns_3 t)
+    (size_of_returns_4 t)
+    (size_of_same_length t)
+    (size_of_returns_5 t)
+    (size_of_same_length_2 t)
+    (size_of_returns_6 t)
+    (size_of_same_length_3 t)
+    (size_of_returns_7 t)
+    (size_of_returns_8 t)
+    (size_of_returns_9 t))
+    λ t. struct-size-lts.spec (struct_size_claims t)
+    (struct_size_at t)
     struct-size.Post
-    struct-size-Inv-loop
+    struct_size_Inv_loop
     struct-size-μ-loop
-    (struct-size-reach-requires t)
-    (struct-size-run-from-requires t)
-    (struct-size-pass-scalars-requires t)
-    (struct-size-loop-holds t)
-    (struct-size-mul-if1 t)
-    (struct-size-shared-slice-read-if1 t)
-    (struct-size-mul-ks t)
-    (struct-size-sub-ks t)
-    (struct-size-part-ks-start t)
-    (struct-size-part-ks-end t)
-    (struct-size-mul-ws t)
-    (struct-size-sub-ws t)
-    (struct-size-part-ws-start t)
-    (struct-size-part-ws-end t)
-    (struct-size-align-of-requires t)
-    (struct-size-enum-known-e t)
-    (struct-size-same-length t)
-    (struct-size-returns t)
-    (struct-size-enum-known-a t)
-    (struct-size-size-of-requires t)
-    (struct-size-enum-known-e-2 t)
-    (struct-size-same-length-2 t)
-    (struct-size-returns-2 t)
-    (struct-size-enum-known-s t)
-    (struct-size-add-field-requires t)
-    (struct-size-type-end-requires t)
-    (struct-size-add-behind t)
-    (struct-size-run-from-requires-2 t)
-    (struct-size-pass-scalars-requires-2 t)
-    (struct-size-loop-less t)
-    (struct-size-loop-again t)
-    (struct-size-closed-requires t)
-    (struct-size-same-length-3 t)
-    (struct-size-returns-3 t)
+    (struct_size_reach_requires t)
+    (struct_size_run_from_requires t)
+    (struct_size_pass_scalars_requires t)
+    (struct_size_loop_holds t)
+    (struct_size_mul_if1 t)
+    (struct_size_shared_slice_read_if1 t)
+    (struct_size_mul_ks t)
+    (struct_size_sub_ks t)
+    (struct_size_part_ks_start t)
+    (struct_size_part_ks_end t)
+    (struct_size_mul_ws t)
+    (struct_size_sub_ws t)
+    (struct_size_part_ws_start t)
+    (struct_size_part_ws_end t)
+    (struct_size_align_of_requires t)
+    (struct_size_enum_known_e t)
+    (struct_size_same_length t)
+    (struct_size_returns t)
+    (struct_size_enum_known_a t)
+    (struct_size_size_of_requires t)
+    (struct_size_enum_known_e_2 t)
+    (struct_size_same_length_2 t)
+    (struct_size_returns_2 t)
+    (struct_size_enum_known_s t)
+    (struct_size_add_field_requires t)
+    (struct_size_type_end_requires t)
+    (struct_size_add_behind t)
+    (struct_size_run_from_requires_2 t)
+    (struct_size_pass_scalars_requires_2 t)
+    (struct_size_loop_less t)
+    (struct_size_loop_again t)
+    (struct_size_closed_requires t)
+    (struct_size_same_length_3 t)
+    (struct_size_returns_3 t)

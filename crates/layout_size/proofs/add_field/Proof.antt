@@ -4,7 +4,7 @@ use mathlib.Core.Path.{ap, ◌∙◌}
 use native.Mathlib.Omega.{arith}
 use Rattle.layout_memo.specs.Helpers as laws
 use Prim.Native.Nat.{max}
-use Rattle.layout_size.specs.Sums.{placed-most}
+use Rattle.layout_size.specs.Sums.{placed_most}
 use borrow.Author.Rules.{rules}
 use Rattle.layout_size.proofs.add_field.Statement.{statement}
 use Rattle.layout_size.proofs.add_field.Tie as tie
@@ -16,7 +16,7 @@ placed-requires : tie.Need-placed-requires
 placed-requires c κs = search rules
 
 add-offset : tie.Need-overflow-add-offset
-add-offset c = omega (arith, c.placed.ensures, placed-most c.before.args.packed c.before.args.sum.offset c.before.args.align c.before.requires.1.0)
+add-offset c = omega (arith, c.placed.ensures, placed_most c.before.args.packed c.before.args.sum.offset c.before.args.align c.before.requires.1.0)
 
 larger-requires : tie.Need-larger-requires
 larger-requires c κs = search rules

@@ -9,21 +9,21 @@ use Rattle.numbers.proofs.wrap.wrapping_mul.Reads as wrapping-mul-reads
 mul-size-of : tie.Need-overflow-mul-size-of
 mul-size-of c =
     let entry = c.before.before.before in
-    let h = laws.at-kinds entry.args.names entry.args.book-kinds.now entry.args.book-words.now entry.args.work.now
+    let h = laws.at_kinds entry.args.names entry.args.book-kinds.now entry.args.book-words.now entry.args.work.now
     entry.args.at entry.args.index entry.requires in
     search rules
 
 sub-size-of : tie.Need-overflow-sub-size-of
 sub-size-of c =
     let entry = c.before.before.before in
-    let h = laws.at-kinds entry.args.names entry.args.book-kinds.now entry.args.book-words.now entry.args.work.now
+    let h = laws.at_kinds entry.args.names entry.args.book-kinds.now entry.args.book-words.now entry.args.work.now
     entry.args.at entry.args.index entry.requires in
     search rules
 
 part-size-of-start : tie.Need-slice-bounds-size-of-start
 part-size-of-start c =
     let entry = c.before.before.before in
-    let h = laws.at-kinds entry.args.names entry.args.book-kinds.now entry.args.book-words.now entry.args.work.now
+    let h = laws.at_kinds entry.args.names entry.args.book-kinds.now entry.args.book-words.now entry.args.work.now
     entry.args.at entry.args.index entry.requires in
     search rules
 
@@ -57,7 +57,7 @@ part-size-of-end-2 c = search rules
 size-of-requires : tie.Need-size-of-requires
 size-of-requires c κs =
     let entry = c.before.before.before.before.before.before in
-    laws.array-ask entry.args.names entry.args.book-kinds.now entry.args.book-words.now entry.args.work.now entry.args.at
+    laws.array_ask entry.args.names entry.args.book-kinds.now entry.args.book-words.now entry.args.work.now entry.args.at
     entry.args.index entry.requires
 
 enum-known-e : tie.Need-enum-known-e
@@ -82,8 +82,8 @@ returns : tie.Need-returns
 returns c =
     let after-size-of = c.before.before.before.before.before in
     let entry = after-size-of.before.before.before.before.before.before.before in
-    laws.array-refused entry.args.names entry.args.book-kinds.now entry.args.book-words.now entry.args.work.now entry.args.at
-    entry.args.index entry.requires _ after-size-of.size-of.ensures _ c.before.e.given.1
+    laws.array_refused entry.args.names entry.args.book-kinds.now entry.args.book-words.now entry.args.work.now entry.args.at
+    entry.args.index entry.requires _ after-size-of.size_of_lem.ensures _ c.before.e.given.1
 
 same-length-2 : tie.Need-same-length-2
 same-length-2 c = search rules
@@ -93,8 +93,8 @@ returns-2 c =
     let after-size = c.before.before.before.before.before in
     let after-size-of = after-size.before.before.before.before in
     let entry = after-size-of.before.before.before.before.before.before.before in
-    laws.array-const entry.args.names entry.args.book-kinds.now entry.args.book-words.now entry.args.work.now entry.args.at
-    entry.args.index entry.requires _ after-size-of.size-of.ensures _ _ after-size.size.given.1 _ c.before.before.index.given.1
+    laws.array_const entry.args.names entry.args.book-kinds.now entry.args.book-words.now entry.args.work.now entry.args.at
+    entry.args.index entry.requires _ after-size-of.size_of_lem.ensures _ _ after-size.size.given.1 _ c.before.before.index.given.1
     _ c.wrapping-mul.ensures
 
 same-length-3 : tie.Need-same-length-3
@@ -105,8 +105,8 @@ returns-3 c =
     let after-size = c.before.before.before in
     let after-size-of = after-size.before.before.before.before in
     let entry = after-size-of.before.before.before.before.before.before.before in
-    laws.array-varying entry.args.names entry.args.book-kinds.now entry.args.book-words.now entry.args.work.now entry.args.at
-    entry.args.index entry.requires _ after-size-of.size-of.ensures _ _ after-size.size.given.1 c.enum_told.given.1
+    laws.array_varying entry.args.names entry.args.book-kinds.now entry.args.book-words.now entry.args.work.now entry.args.at
+    entry.args.index entry.requires _ after-size-of.size_of_lem.ensures _ _ after-size.size.given.1 c.enum_told.given.1
 
 pub array-step-spec : {M : Type 1} → statement M
 array-step-spec =

@@ -14,19 +14,19 @@ mul-if1 c = search rules
 shared-slice-read-if1 : tie.Need-shared-slice-read-if1
 shared-slice-read-if1 c =
     let entry = c.before.before.before.before in
-    let h = fields.place-kinds _ _ _ _ (laws.behind-place _ _ _ _ _ _ entry.requires) in
+    let h = fields.place_kinds _ _ _ _ (laws.behind_place _ _ _ _ _ _ entry.requires) in
     search rules
 
 returns : tie.Need-returns
 returns c =
     let entry = c.before.before.before.before.before in
-    laws.first-none _ _ _ _ _ _ entry.requires entry.args.packed c.if1.true
+    laws.first_none _ _ _ _ _ _ entry.requires entry.args.packed c.if1.true
 
 start-at-requires : tie.Need-start-at-requires
 start-at-requires c κs =
     let else1 = c.before in
     let entry = else1.before.before.before.before.before in
-    laws.first-ask _ _ _ _ _ _ entry.requires entry.args.packed else1.if1.false
+    laws.first_ask _ _ _ _ _ _ entry.requires entry.args.packed else1.if1.false
 
 enum-known-e : tie.Need-enum-known-e
 enum-known-e c = search rules
@@ -43,7 +43,7 @@ returns-2 c =
     let after-start-at = after-e.before.before.before.before in
     let else1 = after-start-at.before.before in
     let entry = else1.before.before.before.before.before in
-    laws.first-refused _ _ _ _ _ _ entry.requires entry.args.packed else1.if1.false _ after-start-at.start-at.ensures _ after-e.e.given.1
+    laws.first_refused _ _ _ _ _ _ entry.requires entry.args.packed else1.if1.false _ after-start-at.start_at.ensures _ after-e.e.given.1
 
 same-length-2 : tie.Need-same-length-2
 same-length-2 c = search rules
@@ -54,7 +54,7 @@ returns-3 c =
     let after-start-at = after-start.before.before.before.before in
     let else1 = after-start-at.before.before in
     let entry = else1.before.before.before.before.before in
-    laws.first-const _ _ _ _ _ _ entry.requires entry.args.packed else1.if1.false _ after-start-at.start-at.ensures _ after-start.start.given.1
+    laws.first_const _ _ _ _ _ _ entry.requires entry.args.packed else1.if1.false _ after-start-at.start_at.ensures _ after-start.start.given.1
 
 pub field-step-spec : {M : Type 1} → statement M
 field-step-spec =

@@ -25,14 +25,14 @@ shared-slice-read-word c =
 mul-type-group : tie.Need-overflow-mul-type-group
 mul-type-group c =
     let entry = c.before.before.before.before in
-    let h = laws.at-kinds entry.args.names entry.args.book-kinds.now entry.args.book-words.now entry.args.work.now
+    let h = laws.at_kinds entry.args.names entry.args.book-kinds.now entry.args.book-words.now entry.args.work.now
     entry.args.at entry.args.index entry.requires in
     search rules
 
 shared-slice-read-type-group : tie.Need-shared-slice-read-type-group
 shared-slice-read-type-group c =
     let entry = c.before.before.before.before.before in
-    let h = laws.at-kinds entry.args.names entry.args.book-kinds.now entry.args.book-words.now entry.args.work.now
+    let h = laws.at_kinds entry.args.names entry.args.book-kinds.now entry.args.book-words.now entry.args.work.now
     entry.args.at entry.args.index entry.requires in
     search rules
 
@@ -45,7 +45,7 @@ enum_told c = search rules
 add-array-step : tie.Need-overflow-add-array-step
 add-array-step c =
     let entry = c.before.before.before.before.before.before.before.before.before in
-    let h = laws.at-kinds entry.args.names entry.args.book-kinds.now entry.args.book-words.now entry.args.work.now
+    let h = laws.at_kinds entry.args.names entry.args.book-kinds.now entry.args.book-words.now entry.args.work.now
     entry.args.at entry.args.index entry.requires in
     search rules
 
@@ -53,7 +53,7 @@ array-step-requires : tie.Need-array-step-requires
 array-step-requires c κs =
     let after-type-group = c.before.before.before in
     let entry = after-type-group.before.before.before.before.before.before in
-    laws.gep-array-ask entry.args.names entry.args.book-kinds.now entry.args.book-words.now entry.args.work.now entry.args.at
+    laws.gep_array_ask entry.args.names entry.args.book-kinds.now entry.args.book-words.now entry.args.work.now entry.args.at
     entry.args.index entry.requires _ after-type-group.type-group.ensures _ c.before.enum_told.given.1
 
 enum-told-2 : tie.Need-enum-told-2
@@ -63,7 +63,7 @@ named-step-requires : tie.Need-named-step-requires
 named-step-requires c κs =
     let after-type-group = c.before.before.before in
     let entry = after-type-group.before.before.before.before.before.before in
-    laws.gep-named-ask entry.args.names entry.args.book-kinds.now entry.args.book-words.now entry.args.work.now entry.args.at
+    laws.gep_named_ask entry.args.names entry.args.book-kinds.now entry.args.book-words.now entry.args.work.now entry.args.at
     entry.args.index entry.requires _ after-type-group.type-group.ensures c.before.enum-told2.given.1
 
 enum-known-packed : tie.Need-enum-known-packed
@@ -72,7 +72,7 @@ enum-known-packed c = search rules
 add-struct-step : tie.Need-overflow-add-struct-step
 add-struct-step c =
     let entry = c.before.before.before.before.before.before.before.before.before.before in
-    let h = laws.at-kinds entry.args.names entry.args.book-kinds.now entry.args.book-words.now entry.args.work.now
+    let h = laws.at_kinds entry.args.names entry.args.book-kinds.now entry.args.book-words.now entry.args.work.now
     entry.args.at entry.args.index entry.requires in
     search rules
 
@@ -80,7 +80,7 @@ struct-step-requires : tie.Need-struct-step-requires
 struct-step-requires c κs =
     let after-type-group = c.before.before.before.before in
     let entry = after-type-group.before.before.before.before.before.before in
-    laws.gep-struct-ask entry.args.names entry.args.book-kinds.now entry.args.book-words.now entry.args.work.now entry.args.at
+    laws.gep_struct_ask entry.args.names entry.args.book-kinds.now entry.args.book-words.now entry.args.work.now entry.args.at
     entry.args.index entry.requires _ after-type-group.type-group.ensures _ c.before.before.packed.given.1
 
 enum-told-3 : tie.Need-enum-told-3
@@ -106,7 +106,7 @@ returns c =
     let after-enum-told = c.before.before.before.before in
     let after-type-group = after-enum-told.before.before in
     let entry = after-type-group.before.before.before.before.before.before in
-    laws.gep-array entry.args.names entry.args.book-kinds.now entry.args.book-words.now entry.args.work.now entry.args.at
+    laws.gep_array entry.args.names entry.args.book-kinds.now entry.args.book-words.now entry.args.work.now entry.args.at
     entry.args.index entry.requires _ after-type-group.type-group.ensures _ after-enum-told.enum_told.given.1
     c.before.before.array-step.ensures
 
@@ -118,7 +118,7 @@ returns-2 c =
     let after-enum-told2 = c.before.before.before.before in
     let after-type-group = after-enum-told2.before.before in
     let entry = after-type-group.before.before.before.before.before.before in
-    laws.gep-named entry.args.names entry.args.book-kinds.now entry.args.book-words.now entry.args.work.now entry.args.at
+    laws.gep_named entry.args.names entry.args.book-kinds.now entry.args.book-words.now entry.args.work.now entry.args.at
     entry.args.index entry.requires _ after-type-group.type-group.ensures after-enum-told2.enum-told2.given.1
     c.before.before.Named-step.ensures
 
@@ -130,38 +130,38 @@ returns-3 c =
     let after-packed = c.before.before.before.before.before in
     let after-type-group = after-packed.before.before in
     let entry = after-type-group.before.before.before.before.before.before in
-    laws.gep-struct entry.args.names entry.args.book-kinds.now entry.args.book-words.now entry.args.work.now entry.args.at
+    laws.gep_struct entry.args.names entry.args.book-kinds.now entry.args.book-words.now entry.args.work.now entry.args.at
     entry.args.index entry.requires _ after-type-group.type-group.ensures _ after-packed.packed.given.1
     c.before.before.struct-step.ensures
 
 returns-4 : tie.Need-returns-4
 returns-4 c =
     let entry = c.before.before.before.before.before.before.before.before in
-    laws.gep-void entry.args.names entry.args.book-kinds.now entry.args.book-words.now entry.args.work.now entry.args.at
+    laws.gep_void entry.args.names entry.args.book-kinds.now entry.args.book-words.now entry.args.work.now entry.args.at
     entry.args.index entry.requires _ c.before.before.type-group.ensures c.enum-told3.given.1
 
 returns-5 : tie.Need-returns-5
 returns-5 c =
     let entry = c.before.before.before.before.before.before.before.before in
-    laws.gep-int entry.args.names entry.args.book-kinds.now entry.args.book-words.now entry.args.work.now entry.args.at
+    laws.gep_int entry.args.names entry.args.book-kinds.now entry.args.book-words.now entry.args.work.now entry.args.at
     entry.args.index entry.requires _ c.before.before.type-group.ensures c.enum-told4.given.1
 
 returns-6 : tie.Need-returns-6
 returns-6 c =
     let entry = c.before.before.before.before.before.before.before.before in
-    laws.gep-ptr entry.args.names entry.args.book-kinds.now entry.args.book-words.now entry.args.work.now entry.args.at
+    laws.gep_ptr entry.args.names entry.args.book-kinds.now entry.args.book-words.now entry.args.work.now entry.args.at
     entry.args.index entry.requires _ c.before.before.type-group.ensures c.enum-told5.given.1
 
 returns-7 : tie.Need-returns-7
 returns-7 c =
     let entry = c.before.before.before.before.before.before.before.before in
-    laws.gep-sizeless entry.args.names entry.args.book-kinds.now entry.args.book-words.now entry.args.work.now entry.args.at
+    laws.gep_sizeless entry.args.names entry.args.book-kinds.now entry.args.book-words.now entry.args.work.now entry.args.at
     entry.args.index entry.requires _ c.before.before.type-group.ensures c.enum-told6.given.1
 
 returns-8 : tie.Need-returns-8
 returns-8 c =
     let entry = c.before.before.before.before.before.before.before.before in
-    laws.gep-other entry.args.names entry.args.book-kinds.now entry.args.book-words.now entry.args.work.now entry.args.at
+    laws.gep_other entry.args.names entry.args.book-kinds.now entry.args.book-words.now entry.args.work.now entry.args.at
     entry.args.index entry.requires _ c.before.before.type-group.ensures c.enum-told7.given.1
 
 pub gep-step-spec : {M : Type 1} → statement M

@@ -15,13 +15,13 @@ mul-ks c = search rules
 sub-ks : tie.Need-overflow-sub-ks
 sub-ks c =
     let entry = c.before.before.before in
-    let h = fields.place-kinds _ _ _ _ (laws.behind-place _ _ _ _ _ _ entry.requires) in
+    let h = fields.place_kinds _ _ _ _ (laws.behind_place _ _ _ _ _ _ entry.requires) in
     search rules
 
 part-ks-start : tie.Need-slice-bounds-ks-start
 part-ks-start c =
     let entry = c.before.before.before in
-    let h = fields.place-kinds _ _ _ _ (laws.behind-place _ _ _ _ _ _ entry.requires) in
+    let h = fields.place_kinds _ _ _ _ (laws.behind_place _ _ _ _ _ _ entry.requires) in
     search rules
 
 part-ks-end : tie.Need-slice-bounds-ks-end
@@ -33,13 +33,13 @@ mul-ws c = search rules
 sub-ws : tie.Need-overflow-sub-ws
 sub-ws c =
     let entry = c.before.before.before.before in
-    let h = fields.place-words _ _ _ _ (laws.behind-place _ _ _ _ _ _ entry.requires) in
+    let h = fields.place_words _ _ _ _ (laws.behind_place _ _ _ _ _ _ entry.requires) in
     search rules
 
 part-ws-start : tie.Need-slice-bounds-ws-start
 part-ws-start c =
     let entry = c.before.before.before.before in
-    let h = fields.place-words _ _ _ _ (laws.behind-place _ _ _ _ _ _ entry.requires) in
+    let h = fields.place_words _ _ _ _ (laws.behind_place _ _ _ _ _ _ entry.requires) in
     search rules
 
 part-ws-end : tie.Need-slice-bounds-ws-end
@@ -48,7 +48,7 @@ part-ws-end c = search rules
 field-at-requires : tie.Need-field-at-requires
 field-at-requires c κs =
     let entry = c.before.before.before.before.before in
-    laws.behind-front _ _ _ _ _ _ entry.requires
+    laws.behind_front_lem _ _ _ _ _ _ entry.requires
 
 enum-known-n : tie.Need-enum-known-n
 enum-known-n c = search rules
@@ -60,12 +60,12 @@ returns : tie.Need-returns
 returns c =
     let after-field-at = c.before.before in
     let entry = after-field-at.before.before.before.before.before.before in
-    laws.later-none _ _ _ _ _ _ entry.requires entry.args.packed _ _ after-field-at.field_at.ensures c.enum_told.given.1
+    laws.later_none _ _ _ _ _ _ entry.requires entry.args.packed _ _ after-field-at.field_at.ensures c.enum_told.given.1
 
 field-offset-requires : tie.Need-field-offset-requires
 field-offset-requires c κs =
     let entry = c.before.before.before.before.before.before.before.before.before.before in
-    laws.behind-ask _ _ _ _ _ _ entry.requires
+    laws.behind_ask _ _ _ _ _ _ entry.requires
 
 enum-known-e : tie.Need-enum-known-e
 enum-known-e c = search rules
@@ -78,7 +78,7 @@ add-t25 c =
     let after-n = c.before.before.before.before.before.before.before.before in
     let after-field-at = after-n.before.before in
     let entry = after-field-at.before.before.before.before.before.before in
-    let h = laws.later-fits _ _ _ _ _ _ entry.requires entry.args.packed _ _ after-field-at.field_at.ensures _ after-n.n.given.1 in
+    let h = laws.later_fits _ _ _ _ _ _ entry.requires entry.args.packed _ _ after-field-at.field_at.ensures _ after-n.n.given.1 in
     search rules
 
 same_length : tie.Need-same-length
@@ -91,7 +91,7 @@ returns-2 c =
     let after-n = after-field-offset.before.before.before in
     let after-field-at = after-n.before.before in
     let entry = after-field-at.before.before.before.before.before.before in
-    laws.later-refused _ _ _ _ _ _ entry.requires entry.args.packed _ _ after-field-at.field_at.ensures _ after-n.n.given.1 _ after-field-offset.field-offset.ensures _ after-e.e.given.1
+    laws.later_refused _ _ _ _ _ _ entry.requires entry.args.packed _ _ after-field-at.field_at.ensures _ after-n.n.given.1 _ after-field-offset.field-offset.ensures _ after-e.e.given.1
 
 same-length-2 : tie.Need-same-length-2
 same-length-2 c = search rules
@@ -103,7 +103,7 @@ returns-3 c =
     let after-n = after-field-offset.before.before.before in
     let after-field-at = after-n.before.before in
     let entry = after-field-at.before.before.before.before.before.before in
-    laws.later-const _ _ _ _ _ _ entry.requires entry.args.packed _ _ after-field-at.field_at.ensures _ after-n.n.given.1 _ after-field-offset.field-offset.ensures _ after-start.start.given.1
+    laws.later_const _ _ _ _ _ _ entry.requires entry.args.packed _ _ after-field-at.field_at.ensures _ after-n.n.given.1 _ after-field-offset.field-offset.ensures _ after-start.start.given.1
 
 pub later-step-spec : {M : Type 1} → statement M
 later-step-spec =

@@ -21,7 +21,7 @@ slice-read-body c = search rules
 returns : tie.Need-returns
 returns c =
     let entry = c.before.before.before.before.before in
-    laws.named-absent entry.args.names entry.args.book-kinds.now entry.args.book-words.now entry.args.work.now entry.args.name
+    laws.named_absent entry.args.names entry.args.book-kinds.now entry.args.book-words.now entry.args.work.now entry.args.name
     entry.args.index entry.requires c.if1.true
 
 sub_at : tie.Need-overflow-sub-at
@@ -30,14 +30,14 @@ sub_at c = search rules
 mul-type-group : tie.Need-overflow-mul-type-group
 mul-type-group c =
     let entry = c.before.before.before.before.before in
-    let h = laws.body-kinds entry.args.names entry.args.book-kinds.now entry.args.book-words.now entry.args.work.now
+    let h = laws.body_kinds entry.args.names entry.args.book-kinds.now entry.args.book-words.now entry.args.work.now
     entry.args.name entry.args.index entry.requires c.if1.false in
     search rules
 
 shared-slice-read-type-group : tie.Need-shared-slice-read-type-group
 shared-slice-read-type-group c =
     let entry = c.before.before.before.before.before.before in
-    let h = laws.body-kinds entry.args.names entry.args.book-kinds.now entry.args.book-words.now entry.args.work.now
+    let h = laws.body_kinds entry.args.names entry.args.book-kinds.now entry.args.book-words.now entry.args.work.now
     entry.args.name entry.args.index entry.requires c.before.if1.false in
     search rules
 
@@ -51,7 +51,7 @@ add-struct-step : tie.Need-overflow-add-struct-step
 add-struct-step c =
     let else1 = c.before.before.before.before.before.before in
     let entry = else1.before.before.before.before.before in
-    let h = laws.body-kinds entry.args.names entry.args.book-kinds.now entry.args.book-words.now entry.args.work.now
+    let h = laws.body_kinds entry.args.names entry.args.book-kinds.now entry.args.book-words.now entry.args.work.now
     entry.args.name entry.args.index entry.requires else1.if1.false in
     search rules
 
@@ -60,7 +60,7 @@ struct-step-requires c κs =
     let after-type-group = c.before.before.before.before in
     let else1 = after-type-group.before.before in
     let entry = else1.before.before.before.before.before in
-    laws.named-ask entry.args.names entry.args.book-kinds.now entry.args.book-words.now entry.args.work.now entry.args.name
+    laws.named_ask entry.args.names entry.args.book-kinds.now entry.args.book-words.now entry.args.work.now entry.args.name
     entry.args.index entry.requires else1.if1.false _ after-type-group.type-group.ensures _ c.before.before.packed.given.1
 
 enum_told : tie.Need-enum-told
@@ -93,7 +93,7 @@ returns-2 c =
     let after-type-group = after-packed.before.before in
     let else1 = after-type-group.before.before in
     let entry = else1.before.before.before.before.before in
-    laws.named-struct entry.args.names entry.args.book-kinds.now entry.args.book-words.now entry.args.work.now entry.args.name
+    laws.named_struct_lem entry.args.names entry.args.book-kinds.now entry.args.book-words.now entry.args.work.now entry.args.name
     entry.args.index entry.requires else1.if1.false _ after-type-group.type-group.ensures _ after-packed.packed.given.1
     c.before.before.struct-step.ensures
 
@@ -101,42 +101,42 @@ returns-3 : tie.Need-returns-3
 returns-3 c =
     let else1 = c.before.before.before.before in
     let entry = else1.before.before.before.before.before in
-    laws.named-void entry.args.names entry.args.book-kinds.now entry.args.book-words.now entry.args.work.now entry.args.name
+    laws.named_void entry.args.names entry.args.book-kinds.now entry.args.book-words.now entry.args.work.now entry.args.name
     entry.args.index entry.requires else1.if1.false _ c.before.before.type-group.ensures c.enum_told.given.1
 
 returns-4 : tie.Need-returns-4
 returns-4 c =
     let else1 = c.before.before.before.before in
     let entry = else1.before.before.before.before.before in
-    laws.named-int entry.args.names entry.args.book-kinds.now entry.args.book-words.now entry.args.work.now entry.args.name
+    laws.named_int entry.args.names entry.args.book-kinds.now entry.args.book-words.now entry.args.work.now entry.args.name
     entry.args.index entry.requires else1.if1.false _ c.before.before.type-group.ensures c.enum-told2.given.1
 
 returns-5 : tie.Need-returns-5
 returns-5 c =
     let else1 = c.before.before.before.before in
     let entry = else1.before.before.before.before.before in
-    laws.named-ptr entry.args.names entry.args.book-kinds.now entry.args.book-words.now entry.args.work.now entry.args.name
+    laws.named_ptr entry.args.names entry.args.book-kinds.now entry.args.book-words.now entry.args.work.now entry.args.name
     entry.args.index entry.requires else1.if1.false _ c.before.before.type-group.ensures c.enum-told3.given.1
 
 returns-6 : tie.Need-returns-6
 returns-6 c =
     let else1 = c.before.before.before.before in
     let entry = else1.before.before.before.before.before in
-    laws.named-array entry.args.names entry.args.book-kinds.now entry.args.book-words.now entry.args.work.now entry.args.name
+    laws.named_array entry.args.names entry.args.book-kinds.now entry.args.book-words.now entry.args.work.now entry.args.name
     entry.args.index entry.requires else1.if1.false _ c.before.before.type-group.ensures _ c.enum-told4.given.1
 
 returns-7 : tie.Need-returns-7
 returns-7 c =
     let else1 = c.before.before.before.before in
     let entry = else1.before.before.before.before.before in
-    laws.named-named entry.args.names entry.args.book-kinds.now entry.args.book-words.now entry.args.work.now entry.args.name
+    laws.named_named entry.args.names entry.args.book-kinds.now entry.args.book-words.now entry.args.work.now entry.args.name
     entry.args.index entry.requires else1.if1.false _ c.before.before.type-group.ensures c.enum-told5.given.1
 
 returns-8 : tie.Need-returns-8
 returns-8 c =
     let else1 = c.before.before.before.before in
     let entry = else1.before.before.before.before.before in
-    laws.named-sizeless entry.args.names entry.args.book-kinds.now entry.args.book-words.now entry.args.work.now
+    laws.named_sizeless entry.args.names entry.args.book-kinds.now entry.args.book-words.now entry.args.work.now
     entry.args.name entry.args.index entry.requires else1.if1.false _ c.before.before.type-group.ensures c.enum-told6.given.1
 
 returns-9 : tie.Need-returns-9

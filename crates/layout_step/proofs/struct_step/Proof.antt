@@ -19,7 +19,7 @@ enum_told c = search rules
 returns : tie.Need-returns
 returns c =
     let entry = c.before.before.before.before.before in
-    laws.struct-varying _ _ _ _ entry.args.packed _ entry.requires c.enum_told.given.1
+    laws.struct_varying _ _ _ _ entry.args.packed _ entry.requires c.enum_told.given.1
 
 known-before-requires : tie.Need-known-before-requires
 known-before-requires c κs = search rules
@@ -32,7 +32,7 @@ field-step-requires c κs =
     let after-known = c.before.before.before.before.before in
     let after-index = after-known.before.before.before in
     let entry = after-index.before.before.before.before.before in
-    laws.known-ask _ _ _ _ entry.args.packed _ _ after-index.index.given.1 _ after-known.known-before.ensures
+    laws.known_ask _ _ _ _ entry.args.packed _ _ after-index.index.given.1 _ after-known.known-before.ensures
 
 same_length : tie.Need-same-length
 same_length c = search rules
@@ -51,7 +51,7 @@ later-step-requires c κs =
     let after-known = c.before.before.before.before.before in
     let after-index = after-known.before.before.before in
     let entry = after-index.before.before.before.before.before in
-    laws.known-ask _ _ _ _ entry.args.packed _ _ after-index.index.given.1 _ after-known.known-before.ensures
+    laws.known_ask _ _ _ _ entry.args.packed _ _ after-index.index.given.1 _ after-known.known-before.ensures
 
 same-length-2 : tie.Need-same-length-2
 same-length-2 c = search rules

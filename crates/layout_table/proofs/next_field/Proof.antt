@@ -19,7 +19,7 @@ mul-if1 c = search rules
 shared-slice-read-if1 : tie.Need-shared-slice-read-if1
 shared-slice-read-if1 c =
     let entry = c.before.before.before.before in
-    let h = fields.place-kinds _ _ _ _ (laws.known-place _ _ _ _ _ _ entry.requires) in
+    let h = fields.place_kinds _ _ _ _ (laws.known_place _ _ _ _ _ _ entry.requires) in
     search rules
 
 ended-requires : tie.Need-ended-requires
@@ -28,7 +28,7 @@ ended-requires c κs = search rules
 returns : tie.Need-returns
 returns c =
     let entry = c.before.before.before.before.before.before in
-    laws.field-ended _ _ _ _ _ _ entry.requires _ c.ended.ensures (after_none entry.requires.ready)
+    laws.field_ended _ _ _ _ _ _ entry.requires _ c.ended.ensures (after_none entry.requires.ready)
 
 ended-requires-2 : tie.Need-ended-requires-2
 ended-requires-2 c κs = search rules
@@ -36,7 +36,7 @@ ended-requires-2 c κs = search rules
 returns-2 : tie.Need-returns-2
 returns-2 c =
     let entry = c.before.before.before.before.before.before.before.before.before in
-    laws.field-ended _ _ _ _ _ _ entry.requires _ c.ended2.ensures (after_none entry.requires.ready)
+    laws.field_ended _ _ _ _ _ _ entry.requires _ c.ended2.ensures (after_none entry.requires.ready)
 
 mul-ks : tie.Need-overflow-mul-ks
 mul-ks c = search rules
@@ -44,13 +44,13 @@ mul-ks c = search rules
 sub-ks : tie.Need-overflow-sub-ks
 sub-ks c =
     let entry = c.before.before.before.before.before.before.before.before in
-    let h = fields.place-kinds _ _ _ _ (laws.known-place _ _ _ _ _ _ entry.requires) in
+    let h = fields.place_kinds _ _ _ _ (laws.known_place _ _ _ _ _ _ entry.requires) in
     search rules
 
 part-ks-start : tie.Need-slice-bounds-ks-start
 part-ks-start c =
     let entry = c.before.before.before.before.before.before.before.before in
-    let h = fields.place-kinds _ _ _ _ (laws.known-place _ _ _ _ _ _ entry.requires) in
+    let h = fields.place_kinds _ _ _ _ (laws.known_place _ _ _ _ _ _ entry.requires) in
     search rules
 
 part-ks-end : tie.Need-slice-bounds-ks-end
@@ -62,13 +62,13 @@ mul-ws c = search rules
 sub-ws : tie.Need-overflow-sub-ws
 sub-ws c =
     let entry = c.before.before.before.before.before.before.before.before.before in
-    let h = fields.place-words _ _ _ _ (laws.known-place _ _ _ _ _ _ entry.requires) in
+    let h = fields.place_words _ _ _ _ (laws.known_place _ _ _ _ _ _ entry.requires) in
     search rules
 
 part-ws-start : tie.Need-slice-bounds-ws-start
 part-ws-start c =
     let entry = c.before.before.before.before.before.before.before.before.before in
-    let h = fields.place-words _ _ _ _ (laws.known-place _ _ _ _ _ _ entry.requires) in
+    let h = fields.place_words _ _ _ _ (laws.known_place _ _ _ _ _ _ entry.requires) in
     search rules
 
 part-ws-end : tie.Need-slice-bounds-ws-end
@@ -78,7 +78,7 @@ field-start-requires : tie.Need-field-start-requires
 field-start-requires c κs =
     let else1 = c.before.before.before.before.before.before in
     let entry = else1.before.before.before.before.before in
-    laws.start-ask _ _ _ _ _ _ entry.requires else1.if1.false
+    laws.start_ask _ _ _ _ _ _ entry.requires else1.if1.false
 
 enum-known-start : tie.Need-enum-known-start
 enum-known-start c = search rules
@@ -96,7 +96,7 @@ returns-3 : tie.Need-returns-3
 returns-3 c =
     let after-field-start = c.before.before.before.before.before in
     let entry = after-field-start.before.before.before.before.before.before.before.before.before.before.before.before in
-    laws.field-ended _ _ _ _ _ _ entry.requires _ c.ended3.ensures after-field-start.field-start.ensures.after
+    laws.field_ended _ _ _ _ _ _ entry.requires _ c.ended3.ensures after-field-start.field-start.ensures.after
 
 size-of-requires : tie.Need-size-of-requires
 size-of-requires c κs =
@@ -104,7 +104,7 @@ size-of-requires c κs =
     let after-field-start = after-start.before.before.before.before in
     let else1 = after-field-start.before.before.before.before.before.before.before in
     let entry = else1.before.before.before.before.before in
-    laws.size-ask _ _ _ _ _ _ entry.requires else1.if1.false _ after-field-start.field-start.ensures _ after-start.start.given.1
+    laws.size_ask _ _ _ _ _ _ entry.requires else1.if1.false _ after-field-start.field-start.ensures _ after-start.start.given.1
 
 enum-known-size : tie.Need-enum-known-size
 enum-known-size c = search rules
@@ -123,8 +123,8 @@ returns-4 c =
     let after-size-of = c.before.before.before.before.before in
     let after-field-start = after-size-of.before.before.before.before.before.before.before in
     let entry = after-field-start.before.before.before.before.before.before.before.before.before.before.before.before in
-    laws.field-ended _ _ _ _ _ _ entry.requires _ c.ended4.ensures
-    (after_then after-field-start.field-start.ensures.after after-size-of.size-of.ensures.after)
+    laws.field_ended _ _ _ _ _ _ entry.requires _ c.ended4.ensures
+    (after_then after-field-start.field-start.ensures.after after-size-of.size_of_lem.ensures.after)
 
 add-if3 : tie.Need-overflow-add-if3
 add-if3 c =
@@ -137,7 +137,7 @@ add-if3 c =
     omega (
       arith,
       laws.next_fits _ _ _ _ _ _ entry.requires else1.if1.false _ after-field-start.field-start.ensures _ after-start.start.given.1 _
-          after-size-of.size-of.ensures _ _ after-size.size.given.1,
+          after-size-of.size_of_lem.ensures _ _ after-size.size.given.1,
     )
 
 ended-requires-5 : tie.Need-ended-requires-5
@@ -151,8 +151,8 @@ returns-5 c =
     let after-size-of = c.before.before.before.before.before.before.before in
     let after-field-start = after-size-of.before.before.before.before.before.before.before in
     let entry = after-field-start.before.before.before.before.before.before.before.before.before.before.before.before in
-    laws.field-ended _ _ _ _ _ _ entry.requires _ c.ended5.ensures
-    (after_then after-field-start.field-start.ensures.after after-size-of.size-of.ensures.after)
+    laws.field_ended _ _ _ _ _ _ entry.requires _ c.ended5.ensures
+    (after_then after-field-start.field-start.ensures.after after-size-of.size_of_lem.ensures.after)
 
 add-t16 : tie.Need-overflow-add-t16
 add-t16 c =
@@ -164,13 +164,13 @@ type-end-requires : tie.Need-type-end-requires
 type-end-requires c κs =
     let else1 = c.before.before.before.before.before.before.before.before.before.before.before.before.before.before.before.before.before.before.before.before.before in
     let entry = else1.before.before.before.before.before in
-    fields.place-starts _ _ _ _ (laws.known-place _ _ _ _ _ _ entry.requires) else1.if1.false
+    fields.place_starts _ _ _ _ (laws.known_place _ _ _ _ _ _ entry.requires) else1.if1.false
 
 add-t19 : tie.Need-overflow-add-t19
 add-t19 c =
     let else1 = c.before.before.before.before.before.before.before.before.before.before.before.before.before.before.before.before.before.before.before.before.before.before in
     let entry = else1.before.before.before.before.before in
-    omega (arith, fields.next-few _ _ _ _ (laws.known-place _ _ _ _ _ _ entry.requires) else1.if1.false _ c.type-end.ensures)
+    omega (arith, fields.next_few _ _ _ _ (laws.known_place _ _ _ _ _ _ entry.requires) else1.if1.false _ c.type-end.ensures)
 
 add-t29 : tie.Need-overflow-add-t29
 add-t29 c = search rules
@@ -188,8 +188,8 @@ returns-6 c =
     let else2 = after-field-start.before.before.before.before in
     let else1 = else2.before.before.before in
     let entry = else1.before.before.before.before.before in
-    laws.field-passed _ _ _ _ _ _ entry.requires else1.if1.false _ after-field-start.field-start.ensures _ after-start.start.given.1 _
-    after-size-of.size-of.ensures _ _ after-size.size.given.1 else3.if3.false else2.if2.false _ c.type-end.ensures
+    laws.field_passed _ _ _ _ _ _ entry.requires else1.if1.false _ after-field-start.field-start.ensures _ after-start.start.given.1 _
+    after-size-of.size_of_lem.ensures _ _ after-size.size.given.1 else3.if3.false else2.if2.false _ c.type-end.ensures
 
 pub next-field-spec : {M : Type 1} → statement M
 next-field-spec =

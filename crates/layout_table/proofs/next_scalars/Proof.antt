@@ -15,7 +15,7 @@ ended-requires c κs = search rules
 returns : tie.Need-returns
 returns c =
     let entry = c.before.before.before.before in
-    laws.best-ended _ c.ended.ensures entry.requires.best
+    laws.best_ended _ c.ended.ensures entry.requires.best
 
 shl-many : tie.Need-overflow-shl-many
 shl-many c = search rules
@@ -29,7 +29,7 @@ ended-requires-2 c κs = search rules
 returns-2 : tie.Need-returns-2
 returns-2 c =
     let entry = c.before.before.before.before.before.before.before in
-    laws.best-ended _ c.ended2.ensures entry.requires.best
+    laws.best_ended _ c.ended2.ensures entry.requires.best
 
 fields-left-requires : tie.Need-fields-left-requires
 fields-left-requires c κs = search rules
@@ -38,7 +38,7 @@ pass-scalars-requires : tie.Need-pass-scalars-requires
 pass-scalars-requires c κs =
     let after-fields-left = c in
     let entry = after-fields-left.before.before.before.before.before.before.before in
-    laws.run-from _ _ _ _ _ _ entry.requires _ _ after-fields-left.fields-left.ensures
+    laws.run_from _ _ _ _ _ _ entry.requires _ _ after-fields-left.fields-left.ensures
 
 ended-requires-3 : tie.Need-ended-requires-3
 ended-requires-3 c κs = search rules
@@ -46,7 +46,7 @@ ended-requires-3 c κs = search rules
 returns-3 : tie.Need-returns-3
 returns-3 c =
     let entry = c.before.before.before.before.before.before.before.before.before.before.before in
-    laws.best-ended _ c.ended3.ensures entry.requires.best
+    laws.best_ended _ c.ended3.ensures entry.requires.best
 
 ended-requires-4 : tie.Need-ended-requires-4
 ended-requires-4 c κs = search rules
@@ -54,7 +54,7 @@ ended-requires-4 c κs = search rules
 returns-4 : tie.Need-returns-4
 returns-4 c =
     let entry = c.before.before.before.before.before.before.before.before.before.before.before.before.before in
-    laws.best-ended _ c.ended4.ensures entry.requires.best
+    laws.best_ended _ c.ended4.ensures entry.requires.best
 
 add-t12 : tie.Need-overflow-add-t12
 add-t12 c = search rules
@@ -67,7 +67,7 @@ returns-5 c =
     let after-fields-left = after-pass-scalars.before in
     let else2 = after-fields-left.before in
     let entry = else2.before.before.before.before.before.before in
-    laws.run-passed _ _ _ _ _ _ entry.requires _ _ after-fields-left.fields-left.ensures _ after-pass-scalars.pass-scalars.ensures else3.if3.false
+    laws.run_passed _ _ _ _ _ _ entry.requires _ _ after-fields-left.fields-left.ensures _ after-pass-scalars.pass-scalars.ensures else3.if3.false
     else4.if4.false else2.if2.false
 
 pub next-scalars-spec : {M : Type 1} → statement M

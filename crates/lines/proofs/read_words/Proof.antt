@@ -5,7 +5,7 @@ use native.Mathlib.Omega.{arith}
 use borrow.Author.Rules.{rules}
 use lib.ListN.{length, take, length-set, length-drop, length-take}
 use Rattle.lines.specs.Shown.{words}
-use Rattle.lines.proofs.Words.{word-put}
+use Rattle.lines.proofs.Words.{word_put}
 use Rattle.lines.proofs.read_words.Statement.{statement}
 use Rattle.lines.proofs.read_words.Tie as tie
 
@@ -49,7 +49,7 @@ loop-less c = search rules
 loop-again : tie.Need-loop-preserved invariant-loop decreases-loop
 loop-again c =
     let l = c.before.before.before.loop in
-    (omega arith, simp length-set l.invariant.1, word-put _ l.book l.i _ (omega arith) l.invariant.2 c.read_word.ensures)
+    (omega arith, simp length-set l.invariant.1, word_put _ l.book l.i _ (omega arith) l.invariant.2 c.read_word.ensures)
 
 same_length : tie.Need-same-length invariant-loop decreases-loop
 same_length c = search rules

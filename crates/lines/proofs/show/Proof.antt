@@ -2,7 +2,7 @@
 use mathlib.Core.Path.{refl}
 use borrow.Author.Rules.{rules}
 use Rattle.lines.specs.Shown.{zeros}
-use Rattle.lines.proofs.Showing.{room_for, own-shown}
+use Rattle.lines.proofs.Showing.{room_for, own_shown}
 use Rattle.lines.proofs.show.Statement.{statement}
 use Rattle.lines.proofs.show.Tie as tie
 
@@ -38,7 +38,7 @@ unfolding zeros
 returns c =
     let called = c.before.before.before.before.before.before in
     let start = called.before.before.before.before.before.before.before.before.before in
-    own-shown start.args.input.now start.args.n _ _ _ _ _ refl refl start.requires.1 called.show-input.ensures
+    own_shown start.args.input.now start.args.n _ _ _ _ _ refl refl start.requires.1 called.show-input.ensures
 
 pub show-spec : {M : Type 1} → statement M
 show-spec =

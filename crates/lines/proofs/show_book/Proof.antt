@@ -1,8 +1,8 @@
 -- `show_book` meets its contract: the printer is lent the lines that the translator made.
 use borrow.Author.Rules.{rules}
 use native.Mathlib.Omega.{arith}
-use Rattle.print.specs.Reply.{answer-prints}
-use Rattle.lines.proofs.Showing.{lines_fit, text-shown, unprinted, untranslated}
+use Rattle.print.specs.Reply.{answer_prints}
+use Rattle.lines.proofs.Showing.{lines_fit, text_shown, unprinted, untranslated}
 use Rattle.lines.proofs.show_book.Statement.{statement}
 use Rattle.lines.proofs.show_book.Tie as tie
 
@@ -69,7 +69,7 @@ returns c =
     let printed = c.before.before.before.before.before in
     let told = printed.before.before.before.before.before.before.before in
     let called = told.before.before.before.before.before.before.before.before in
-    text-shown _ _ _ _ _ _ _ _ _ called.translate.ensures.0 _ _ _ told.n.given.1 _ _ (answer-prints _ _ _ _ _ printed.print.ensures.0 printed.print.ensures.1)
+    text_shown _ _ _ _ _ _ _ _ _ called.translate.ensures.0 _ _ _ told.n.given.1 _ _ (answer_prints _ _ _ _ _ printed.print.ensures.0 printed.print.ensures.1)
     _ c.before.bytes.given.1
 
 same-length-5 : tie.Need-same-length-5
@@ -92,7 +92,7 @@ returns-2 c =
     let told = printed.before.before.before.before.before.before.before in
     let called = told.before.before.before.before.before.before.before.before in
     unprinted _ _ _ _ _ _ _ _ _ called.translate.ensures.0 _ _ _ told.n.given.1 _ _
-    (answer-prints _ _ _ _ _ printed.print.ensures.0 printed.print.ensures.1) _ refused.e.given.1 _ _
+    (answer_prints _ _ _ _ _ printed.print.ensures.0 printed.print.ensures.1) _ refused.e.given.1 _ _
     put.put-refusal.ensures
 
 same-length-9 : tie.Need-same-length-9

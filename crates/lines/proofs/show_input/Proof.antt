@@ -1,7 +1,7 @@
 -- An input that is whole is a book and its names; any other is a 1.
 use borrow.Author.Rules.{rules}
 use native.Mathlib.Omega.{arith}
-use Rattle.lines.proofs.Showing.{longer-shown, cut-shown, book-shown}
+use Rattle.lines.proofs.Showing.{longer_shown, cut_shown, book_shown}
 use Rattle.lines.proofs.show_input.Statement.{statement}
 use Rattle.lines.proofs.show_input.Tie as tie
 
@@ -12,7 +12,7 @@ same_length : tie.Need-same-length
 same_length c = search rules
 
 returns : tie.Need-returns
-returns c = longer-shown _ _ _ _ _ _ (omega arith) c.before.before.put-refusal.ensures
+returns c = longer_shown _ _ _ _ _ _ (omega arith) c.before.before.put-refusal.ensures
 
 put-refusal-requires-2 : tie.Need-put-refusal-requires-2
 put-refusal-requires-2 c κs = search rules
@@ -21,7 +21,7 @@ same-length-2 : tie.Need-same-length-2
 same-length-2 c = search rules
 
 returns-2 : tie.Need-returns-2
-returns-2 c = cut-shown _ _ _ _ _ _ (omega arith) (omega arith) c.before.before.put-refusal2.ensures
+returns-2 c = cut_shown _ _ _ _ _ _ (omega arith) (omega arith) c.before.before.put-refusal2.ensures
 
 read-word-requires : tie.Need-read-word-requires
 read-word-requires c κs = search rules
@@ -36,7 +36,7 @@ same-length-3 : tie.Need-same-length-3
 same-length-3 c = search rules
 
 returns-3 : tie.Need-returns-3
-returns-3 c = cut-shown _ _ _ _ _ _ (omega arith) (omega arith) c.before.before.put-refusal3.ensures
+returns-3 c = cut_shown _ _ _ _ _ _ (omega arith) (omega arith) c.before.before.put-refusal3.ensures
 
 mul-count : tie.Need-overflow-mul-count
 mul-count c = search rules
@@ -92,7 +92,7 @@ returns-4 c =
     let words = shown.before.before.before.before.before.before.before.before.before.before in
     let read = words.before.before.before in
     let start = read.before.before.before.before.before.before.before.before.before in
-    book-shown _ _ _ _ _ _ _ start.requires.1.0 _ _ (omega (arith, read.read_word.ensures)) (omega arith) (omega (arith, read.read_word.ensures))
+    book_shown _ _ _ _ _ _ _ start.requires.1.0 _ _ (omega (arith, read.read_word.ensures)) (omega arith) (omega (arith, read.read_word.ensures))
     words.read-words.ensures shown.show-book.ensures
 
 pub show-input-spec : {M : Type 1} → statement M

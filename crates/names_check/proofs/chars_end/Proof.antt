@@ -7,7 +7,7 @@ use borrow.Author.Rules.{rules}
 use borrow.Author.Tests.{not-true, not-false}
 use lib.ListN.{length}
 use Rattle.names_check.specs.Found.{Through}
-use Rattle.names_check.proofs.Through.{through-none, through-then, through-char, stuck-byte, stuck-char}
+use Rattle.names_check.proofs.Through.{through_none, through_then, through_char, stuck_byte, stuck_char}
 use Rattle.names_check.proofs.chars_end.Statement.{statement}
 use Rattle.names_check.proofs.chars_end.Tie as tie
 
@@ -18,7 +18,7 @@ abbrev decreases-loop : tie.decreases-loop
 decreases-loop names at i₀ i = length names - i
 
 loop-holds : tie.Need-loop-init invariant-loop decreases-loop
-loop-holds c = through-none _ _ c.before.requires
+loop-holds c = through_none _ _ c.before.requires
 
 shared-slice-read-name-byte : tie.Need-shared-slice-read-name-byte invariant-loop decreases-loop
 shared-slice-read-name-byte c = search rules
@@ -31,7 +31,7 @@ returns c =
     let after-name-byte = c.before in
     record {
       through = after-name-byte.before.before.before.loop.invariant;
-      stuck = λ l d. stuck-byte _ _ l (sym after-name-byte.name-byte.ensures ∙ not-true _ c.if1.true) d;
+      stuck = λ l d. stuck_byte _ _ l (sym after-name-byte.name-byte.ensures ∙ not-true _ c.if1.true) d;
     }
 
 char-len-requires : tie.Need-char-len-requires invariant-loop decreases-loop
@@ -42,7 +42,7 @@ returns-2 c =
     let after-char-len = c.before in
     record {
       through = after-char-len.before.before.before.before.before.loop.invariant;
-      stuck = λ l d. stuck-char _ _ l (sym after-char-len.char-len.ensures ∙ c.if2.true) d;
+      stuck = λ l d. stuck_char _ _ l (sym after-char-len.char-len.ensures ∙ c.if2.true) d;
     }
 
 -- the character at the place that is reached
@@ -56,7 +56,7 @@ passed : (c : tie.Else2 invariant-loop decreases-loop) → Through (names_of c) 
 passed c =
     let after-char-len = c.before in
     let else1 = after-char-len.before in
-    through-char _ _ else1.before.before.before.loop-test.true _ after-char-len.char-len.ensures c.if2.false
+    through_char _ _ else1.before.before.before.loop-test.true _ after-char-len.char-len.ensures c.if2.false
     (sym else1.before.name-byte.ensures ∙ not-false _ else1.if1.false)
 
 add-i : tie.Need-overflow-add-i invariant-loop decreases-loop
@@ -66,7 +66,7 @@ loop-less : tie.Need-loop-smaller invariant-loop decreases-loop
 loop-less c = omega (arith, (passed c).ends)
 
 loop-again : tie.Need-loop-preserved invariant-loop decreases-loop
-loop-again c = through-then c.before.before.before.before.before.before.loop.invariant (passed c)
+loop-again c = through_then c.before.before.before.before.before.before.loop.invariant (passed c)
 
 returns-3 : tie.Need-returns-3 invariant-loop decreases-loop
 returns-3 c = record { through = c.before.loop.invariant; stuck = λ l d. absurd (search rules) }

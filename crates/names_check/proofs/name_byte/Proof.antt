@@ -3,12 +3,12 @@ use mathlib.Core.Bool.{and-true}
 use native.Mathlib.Omega.{arith}
 use borrow.Author.Tests.{le-leb}
 use Rattle.names.specs.Text.{within}
-use Rattle.names.specs.Name.{plain_byte, nameByte}
+use Rattle.names.specs.Name.{plain_byte, name_byte}
 use Rattle.names_check.proofs.name_byte.Statement.{statement}
 use Rattle.names_check.proofs.name_byte.Tie as tie
 
 returns : tie.Need-returns
-unfolding nameByte plain_byte within
+unfolding name_byte plain_byte within
 returns c = rw (le-leb c.args.b 255 (omega (arith, c.well-formed)), and-true)
 
 pub name-byte-spec : {M : Type 1} → statement M

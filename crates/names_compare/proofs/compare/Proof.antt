@@ -5,7 +5,7 @@ use native.Mathlib.Omega.{arith}
 use borrow.Author.Rules.{rules}
 use Rattle.names.specs.Compare.{order, steps}
 use Rattle.names_compare.specs.Ordering.{ordering}
-use Rattle.names_compare.proofs.Steps.{Words, Read, words-start, words-over, words-on, words-differ}
+use Rattle.names_compare.proofs.Steps.{Words, Read, words_start, words_over, words_on, words_differ}
 use Rattle.names_compare.proofs.compare.Statement.{statement}
 use Rattle.names_compare.proofs.compare.Tie as tie
 
@@ -22,7 +22,7 @@ read : (c : tie.After-word-at2 invariant-loop decreases-loop)
     c.before.before.before.before.before.before.before.args.b.now
     c.before.before.before.before.shorter.result
     c.before.before.before.loop.i
-    c.before.word-at.result
+    c.before.word_at_lem.result
     c.word-at2.result
 read c =
     let at_test = c.before.before in
@@ -30,9 +30,9 @@ read c =
     record {
       shortest = after-shorter.shorter.ensures;
       room = omega (arith, at_test.loop-test.true);
-      octets-a = λ i. (after-shorter.before.before.shared-slice-known.given i).fits;
-      octets-b = λ i. (after-shorter.before.shared-slice-known2.given i).fits;
-      first = c.before.word-at.ensures;
+      octets_a = λ i. (after-shorter.before.before.shared-slice-known.given i).fits;
+      octets_b = λ i. (after-shorter.before.shared-slice-known2.given i).fits;
+      first = c.before.word_at_lem.ensures;
       second = c.word-at2.ensures;
     }
 
@@ -40,7 +40,7 @@ shorter-requires : tie.Need-shorter-requires invariant-loop decreases-loop
 shorter-requires c κs = search rules
 
 loop-holds : tie.Need-loop-init invariant-loop decreases-loop
-loop-holds c = (omega arith, omega arith, rw c.shorter.ensures (words-start _ _))
+loop-holds c = (omega arith, omega arith, rw c.shorter.ensures (words_start _ _))
 
 sub-loop : tie.Need-overflow-sub-loop invariant-loop decreases-loop
 sub-loop c = search rules
@@ -63,7 +63,7 @@ order-of-requires c κs = search rules
 returns : tie.Need-returns invariant-loop decreases-loop
 returns c =
     let after-words = c.before.before in
-    let told = words-differ _ after-words.before.before.before.loop.invariant.2 (read after-words) c.before.if1.true in
+    let told = words_differ _ after-words.before.before.before.loop.invariant.2 (read after-words) c.before.if1.true in
     (c.order-of.ensures ∙ ap ordering (sym told.ordered), sym told.counted)
 
 loop-less : tie.Need-loop-smaller invariant-loop decreases-loop
@@ -74,7 +74,7 @@ loop-again c =
     let after-words = c.before in
     let at_test = after-words.before.before in
     let going = at_test.before.loop.invariant in
-    (omega (arith, at_test.loop-test.true), omega (arith, going.1), words-on _ going.2 (read after-words) c.if1.false)
+    (omega (arith, at_test.loop-test.true), omega (arith, going.1), words_on _ going.2 (read after-words) c.if1.false)
 
 compare-bytes-requires : tie.Need-compare-bytes-requires invariant-loop decreases-loop
 compare-bytes-requires c κs =
@@ -85,7 +85,7 @@ compare-bytes-requires c κs =
 returns-2 : tie.Need-returns-2 invariant-loop decreases-loop
 returns-2 c =
     let after-loop = c.before in
-    let left = words-over _ after-loop.before.loop.invariant.2 (omega (arith, after-loop.loop-test.false)) in
+    let left = words_over _ after-loop.before.loop.invariant.2 (omega (arith, after-loop.loop-test.false)) in
     (c.compare-bytes.ensures.0 ∙ ap ordering (sym left.ordered), c.compare-bytes.ensures.1 ∙ sym left.counted)
 
 pub compare-spec : {M : Type 1} → statement M

@@ -5,15 +5,15 @@ use native.Mathlib.Omega.{arith}
 use mir.Facts.{Fits-widen}
 use lib.ListN.{drop}
 use borrow.Author.Rules.{rules}
-use Rattle.names.specs.Compare.{order, byteSteps}
+use Rattle.names.specs.Compare.{order, byte_steps}
 use Rattle.names_compare.specs.Ordering.{ordering}
-use Rattle.names_compare.proofs.Steps.{Bytes, bytes_on, bytes-differ, bytes-over}
+use Rattle.names_compare.proofs.Steps.{Bytes, bytes_on, bytes_differ, bytes_over}
 use Rattle.names_compare.proofs.compare_bytes.Statement.{statement}
 use Rattle.names_compare.proofs.compare_bytes.Tie as tie
 
 abbrev invariant-loop : tie.invariant-loop
 invariant-loop a b at words n i₀ steps₀ i steps =
-    (i ≤ n) × (steps ≤ i) × Bytes a b (order (drop at a) (drop at b)) (words + byteSteps (drop at a) (drop at b)) i steps
+    (i ≤ n) × (steps ≤ i) × Bytes a b (order (drop at a) (drop at b)) (words + byte_steps (drop at a) (drop at b)) i steps
 
 abbrev decreases-loop : tie.decreases-loop
 decreases-loop a b at words n i₀ steps₀ i steps = n - i
@@ -51,7 +51,7 @@ returns : tie.Need-returns invariant-loop decreases-loop
 returns c =
     let at_read = c.before.before in
     let at_test = at_read.before.before in
-    let told = bytes-differ at_test.before.loop.invariant.2 (shared-slice-read-x at_read.before) (shared-slice-read-y at_read)
+    let told = bytes_differ at_test.before.loop.invariant.2 (shared-slice-read-x at_read.before) (shared-slice-read-y at_read)
     (λ i. (at_read.before.shared-slice-known3.given i).fits) (λ i. (at_read.shared-slice-known4.given i).fits) c.before.if1.true in
     (c.order-of.ensures ∙ ap ordering (sym told.ordered), sym told.counted)
 
@@ -73,9 +73,9 @@ order-of-requires-2 c κs = search rules
 
 returns-2 : tie.Need-returns-2 invariant-loop decreases-loop
 returns-2 c =
-    let at-end = c.before in
-    let at-loop = at-end.before in
-    let told = bytes-over at-loop.loop.invariant.2 (omega (arith, at-end.loop-test.false, at-loop.loop.invariant.0, at-loop.before.shorter.ensures)) in
+    let at_end_lem = c.before in
+    let at-loop = at_end_lem.before in
+    let told = bytes_over at-loop.loop.invariant.2 (omega (arith, at_end_lem.loop-test.false, at-loop.loop.invariant.0, at-loop.before.shorter.ensures)) in
     (c.order-of2.ensures ∙ ap ordering (sym told.ordered), sym told.counted)
 
 pub compare-bytes-spec : {M : Type 1} → statement M

@@ -7,8 +7,8 @@ use borrow.Author.Tests.{not-true, not-false}
 use lib.ListN.{length, drop}
 use borrow.Author.Rules.{rules}
 use Rattle.names.specs.Spelling.{sanitize}
-use Rattle.names.specs.Labels.{sanitize-length}
-use Rattle.names.specs.Labels.{clean-over, clean-tail, clean-more}
+use Rattle.names.specs.Labels.{sanitize_length}
+use Rattle.names.specs.Labels.{clean_over, clean_tail, clean_more}
 use Rattle.names_spelling.proofs.clean_len.Statement.{statement}
 use Rattle.names_spelling.proofs.clean_len.Tie as tie
 
@@ -34,8 +34,8 @@ add-n c =
     let at-loop = in-loop.before in
     let name = at-loop.before.before.args.name.now in
     let first = sym after_IsTail.is-tail.ensures ∙ not-true _ c.if1.true in
-    let more = clean-more name at-loop.loop.i in-loop.loop-test.true first in
-    omega (arith, at-loop.loop.invariant, ap length more, sanitize-length name)
+    let more = clean_more name at-loop.loop.i in-loop.loop-test.true first in
+    omega (arith, at-loop.loop.invariant, ap length more, sanitize_length name)
 
 add-i : tie.Need-overflow-add-i invariant-loop decreases-loop
 add-i c = search rules
@@ -50,15 +50,15 @@ loop-again c =
     let at-loop = in-loop.before in
     let name = at-loop.before.before.args.name.now in
     let is = sym after_IsTail.is-tail.ensures in
-    let more = clean-more name at-loop.loop.i in-loop.loop-test.true in
-    let tail = clean-tail name at-loop.loop.i in-loop.loop-test.true in
+    let more = clean_more name at-loop.loop.i in-loop.loop-test.true in
+    let tail = clean_tail name at-loop.loop.i in-loop.loop-test.true in
     ⊎_elim (λ w. omega (arith, at-loop.loop.invariant, ap length (more (is ∙ not-true _ w.0.taken)), w.1))
     (λ w. omega (arith, at-loop.loop.invariant, ap length (tail (is ∙ not-false _ w.0.left)), w.1)) c.if1.branch
 
 returns : tie.Need-returns invariant-loop decreases-loop
 returns c =
     let at-loop = c.before in
-    omega (arith, at-loop.loop.invariant, ap length (clean-over at-loop.before.before.args.name.now at-loop.loop.i c.loop-test.false))
+    omega (arith, at-loop.loop.invariant, ap length (clean_over at-loop.before.before.args.name.now at-loop.loop.i c.loop-test.false))
 
 pub clean-len-spec : {M : Type 1} → statement M
 clean-len-spec =

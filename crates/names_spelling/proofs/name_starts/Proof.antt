@@ -4,13 +4,13 @@ use mathlib.Core.Path.{◌≡◌, sym, ◌∙◌}
 use lib.ListN.{length, drop}
 use borrow.Author.Rules.{rules}
 use Rattle.names.specs.Text.{starts}
-use Rattle.names.specs.Name.{nameFrom}
-use Rattle.names_spelling.proofs.Spell.{name-past, name-ended, name-more, starts-over, starts_none, starts_more, starts-differ}
+use Rattle.names.specs.Name.{name_from}
+use Rattle.names_spelling.proofs.Spell.{name_past, name_ended, name_more, starts_over, starts_none, starts_more, starts_differ}
 use Rattle.names_spelling.proofs.name_starts.Statement.{statement}
 use Rattle.names_spelling.proofs.name_starts.Tie as tie
 
 abbrev invariant-loop : tie.invariant-loop
-invariant-loop names at text i₀ j₀ i j = (i ≤ length text) × (starts text (nameFrom names at) ≡ starts (drop i text) (nameFrom names j))
+invariant-loop names at text i₀ j₀ i j = (i ≤ length text) × (starts text (name_from names at) ≡ starts (drop i text) (name_from names j))
 
 abbrev decreases-loop : tie.decreases-loop
 decreases-loop names at text i₀ j₀ i j = length text - i
@@ -20,7 +20,7 @@ loop-holds c = search rules
 
 returns : tie.Need-returns invariant-loop decreases-loop
 returns c =
-    sym (c.before.before.loop.invariant.1 ∙ starts_none _ _ c.before.loop-test.true _ (name-past _ _ c.if1.true))
+    sym (c.before.before.loop.invariant.1 ∙ starts_none _ _ c.before.loop-test.true _ (name_past _ _ c.if1.true))
 
 shared-slice-read-b : tie.Need-shared-slice-read-b invariant-loop decreases-loop
 shared-slice-read-b c = search rules
@@ -30,7 +30,7 @@ returns-2 c =
     let t = c.before.before in
     sym
     (t.before.before.loop.invariant.1
-    ∙ starts_none _ _ t.before.loop-test.true _ (name-ended _ _ t.if1.false c.if2.true))
+    ∙ starts_none _ _ t.before.loop-test.true _ (name_ended _ _ t.if1.false c.if2.true))
 
 shared-slice-read-if3 : tie.Need-shared-slice-read-if3 invariant-loop decreases-loop
 shared-slice-read-if3 c = search rules
@@ -41,7 +41,7 @@ returns-3 c =
     let t = e.before.before in
     sym
     (t.before.before.loop.invariant.1
-    ∙ starts-differ _ _ t.before.loop-test.true _ _ _ (name-more _ _ t.if1.false e.if2.false) c.if3.true)
+    ∙ starts_differ _ _ t.before.loop-test.true _ _ _ (name_more _ _ t.if1.false e.if2.false) c.if3.true)
 
 add-i : tie.Need-overflow-add-i invariant-loop decreases-loop
 add-i c = search rules
@@ -58,11 +58,11 @@ loop-again c =
     let t = e.before.before in (
       search rules,
       t.before.before.loop.invariant.1
-          ∙ starts_more _ _ t.before.loop-test.true _ _ _ (name-more _ _ t.if1.false e.if2.false) c.if3.false,
+          ∙ starts_more _ _ t.before.loop-test.true _ _ _ (name_more _ _ t.if1.false e.if2.false) c.if3.false,
     )
 
 returns-4 : tie.Need-returns-4 invariant-loop decreases-loop
-returns-4 c = sym (c.before.loop.invariant.1 ∙ starts-over _ _ _ c.loop-test.false)
+returns-4 c = sym (c.before.loop.invariant.1 ∙ starts_over _ _ _ c.loop-test.false)
 
 pub name-starts-spec : {M : Type 1} → statement M
 name-starts-spec =

@@ -1,6 +1,6 @@
 -- `word_byte` meets its contract: it is the definition's own test.
 use borrow.Author.Rules.{rules}
-use Rattle.names.specs.Spelling.{wordByte}
+use Rattle.names.specs.Spelling.{word_byte}
 use Rattle.names_spelling.proofs.word_byte.Statement.{statement}
 use Rattle.names_spelling.proofs.word_byte.Tie as tie
 
@@ -14,7 +14,7 @@ within-requires-3 : tie.Need-within-requires-3
 within-requires-3 c κs = search rules
 
 returns : tie.Need-returns
-unfolding wordByte
+unfolding word_byte
 returns c = cc
 
 pub word-byte-spec : {M : Type 1} → statement M

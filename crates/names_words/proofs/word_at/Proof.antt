@@ -5,7 +5,7 @@ use native.Mathlib.Omega.{arith}
 use mir.Facts.{Fits-widen}
 use lib.ListN.{length, take, drop, length-take, length-drop}
 use borrow.Author.Rules.{rules}
-use Rattle.names_words.specs.Word.{word, Octets, word-take}
+use Rattle.names_words.specs.Word.{word, Octets, word_take}
 use Rattle.names_words.proofs.Bytes.{byte_put, byte_last}
 use Rattle.names_words.proofs.word_at.Statement.{statement}
 use Rattle.names_words.proofs.word_at.Tie as tie
@@ -80,7 +80,7 @@ returns c =
     let long : 8 ≤ length (take (at + 8 - at) rest) = simp (length-take, length-drop, eight) (omega (arith, start.requires)) in
     let put = byte_put (take (at + 8 - at) rest) o long in
     put 7 0 _ refl (put 6 1 _ refl (put 5 2 _ refl (put 4 3 _ refl (put 3 4 _ refl (put 2 5 _ refl (put 1 6 _ refl (byte_last (take (at + 8 - at) rest) o long)))))))
-    ∙ ap (λ (j : ℕ). word 8 (take j rest)) eight ∙ word-take 8 rest
+    ∙ ap (λ (j : ℕ). word 8 (take j rest)) eight ∙ word_take 8 rest
 
 pub word-at-spec : {M : Type 1} → statement M
 word-at-spec =

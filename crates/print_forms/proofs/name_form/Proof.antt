@@ -1,27 +1,27 @@
 -- `name_form` meets its contract by its tests.
 use borrow.Author.Tests.{eq-eqb, ne_eqb}
-use Rattle.print_forms.specs.Forms.{nameForm}
+use Rattle.print_forms.specs.Forms.{name_form}
 use Rattle.print_forms.proofs.name_form.Statement.{statement}
 use Rattle.print_forms.proofs.name_form.Tie as tie
 
 returns : tie.Need-returns
-unfolding nameForm
+unfolding name_form
 returns c = simp (eq-eqb _ _ c.if1.true)
 
 returns-2 : tie.Need-returns-2
-unfolding nameForm
+unfolding name_form
 returns-2 c = simp (ne_eqb _ _ c.before.if1.false, eq-eqb _ _ c.if2.true)
 
 returns-3 : tie.Need-returns-3
-unfolding nameForm
+unfolding name_form
 returns-3 c = simp (ne_eqb _ _ c.before.before.if1.false, ne_eqb _ _ c.before.if2.false, eq-eqb _ _ c.if3.true)
 
 returns-4 : tie.Need-returns-4
-unfolding nameForm
+unfolding name_form
 returns-4 c = simp (ne_eqb _ _ c.before.before.before.if1.false, ne_eqb _ _ c.before.before.if2.false, ne_eqb _ _ c.before.if3.false, eq-eqb _ _ c.if4.true)
 
 returns-5 : tie.Need-returns-5
-unfolding nameForm
+unfolding name_form
 returns-5 c =
     let else2 = c.before.before.before in
     let else1 = else2.before in
@@ -34,7 +34,7 @@ returns-5 c =
     )
 
 returns-6 : tie.Need-returns-6
-unfolding nameForm
+unfolding name_form
 returns-6 c =
     let else2 = c.before.before.before in
     let else1 = else2.before in

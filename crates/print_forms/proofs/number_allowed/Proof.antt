@@ -1,5 +1,5 @@
 -- `number_allowed` meets its contract: its tests are those of the form.
-use Rattle.print_forms.specs.Kinds.{number-test}
+use Rattle.print_forms.specs.Kinds.{number_test}
 use borrow.Author.Rules.{rules}
 use Rattle.print_forms.proofs.number_allowed.Statement.{statement}
 use Rattle.print_forms.proofs.number_allowed.Tie as tie
@@ -10,7 +10,7 @@ most-requires c κs = search rules
 
 returns : tie.Need-returns
 returns c =
-    λ names function from to. rw c.most.ensures (number-test _ names function from to (search rules) _ c.before.requires)
+    λ names function from to. rw c.most.ensures (number_test _ names function from to (search rules) _ c.before.requires)
 
 pub number-allowed-spec : {M : Type 1} → statement M
 number-allowed-spec = tie.close (tie.spec most-requires returns)

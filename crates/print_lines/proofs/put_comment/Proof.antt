@@ -1,6 +1,6 @@
 -- `put_comment` meets its contract, one part after the other.
 use Rattle.names.specs.Text.{bytes}
-use Rattle.print_pen.specs.Pen.{then-put}
+use Rattle.print_pen.specs.Pen.{then_put}
 use Rattle.print_lines.specs.Lines.{comment}
 use borrow.Author.Rules.{rules}
 use Rattle.print_lines.proofs.put_comment.Statement.{statement}
@@ -40,10 +40,10 @@ returns c =
     let after-put-bytes2 = after-put-bytes3.before.before.before.before in
     let after-put-type = after-put-bytes2.before.before.before.before.before in
     let after-put-bytes = after-put-type.before.before.before.before in
-    then-put after-put-bytes.put-bytes.ensures
-    (then-put after-put-type.put-type.ensures
-    (then-put after-put-bytes2.put-bytes2.ensures
-    (then-put after-put-bytes3.put-bytes3.ensures c.before.before.put-params.ensures)))
+    then_put after-put-bytes.put-bytes.ensures
+    (then_put after-put-type.put-type.ensures
+    (then_put after-put-bytes2.put-bytes2.ensures
+    (then_put after-put-bytes3.put-bytes3.ensures c.before.before.put-params.ensures)))
 
 pub put-comment-spec : {M : Type 1} → statement M
 put-comment-spec =

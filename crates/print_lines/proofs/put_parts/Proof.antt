@@ -1,8 +1,8 @@
 -- `put_parts` meets its contract, one part after the other.
 use mathlib.Core.Path.{ap}
-use Rattle.print_pen.specs.Pen.{put_same, then-put}
+use Rattle.print_pen.specs.Pen.{put_same, then_put}
 use Rattle.names.specs.Name.{lines}
-use Rattle.print_lines.specs.Lines.{operandText, partsText}
+use Rattle.print_lines.specs.Lines.{operand_text, parts_text}
 use borrow.Author.Rules.{rules}
 use Rattle.print_lines.proofs.put_parts.Statement.{statement}
 use Rattle.print_lines.proofs.put_parts.Tie as tie
@@ -29,16 +29,16 @@ same_length : tie.Need-same-length
 same_length c = search rules
 
 returns : tie.Need-returns
-unfolding partsText
+unfolding parts_text
 returns c =
     let after-put-operand = c.before.before.before.before.before.before in
     let after-form-of = after-put-operand.before in
     let after-put-word = after-form-of.before.before.before.before in
     let entry = after-put-word.before.before.before.before.before.before.before.before in
-    then-put after-put-word.put_word.ensures
-    (then-put
+    then_put after-put-word.put_word.ensures
+    (then_put
     (put_same
-    (ap (λ f. operandText (lines entry.args.names.now) entry.args.function.now f entry.args.x)
+    (ap (λ f. operand_text (lines entry.args.names.now) entry.args.function.now f entry.args.x)
     after-form-of.form_of.ensures) after-put-operand.put-operand.ensures) c.before.before.put-end.ensures)
 
 pub put-parts-spec : {M : Type 1} → statement M

@@ -1,7 +1,7 @@
 -- `write_line` meets its contract by its test.
-use Rattle.print_pen.specs.Write.{wrote-same}
-use Rattle.print_lines.specs.Lines.{plain-printed, plain_fits}
-use Rattle.print_lines.specs.All.{pen-placed, pen-counted, pen-full}
+use Rattle.print_pen.specs.Write.{wrote_same}
+use Rattle.print_lines.specs.Lines.{plain_printed, plain_fits}
+use Rattle.print_lines.specs.All.{pen_placed, pen_counted, pen_full}
 use borrow.Author.Rules.{rules}
 use Rattle.print_lines.proofs.write_line.Statement.{statement}
 use Rattle.print_lines.proofs.write_line.Tie as tie
@@ -19,7 +19,7 @@ same_length c = search rules
 
 returns : tie.Need-returns
 returns c =
-    wrote-same (plain-printed _ _ _ _ _ _ c.before.before.before.before.if1.true) c.before.before.write-plain.ensures
+    wrote_same (plain_printed _ _ _ _ _ _ c.before.before.before.before.if1.true) c.before.before.write-plain.ensures
 
 put-line-requires : tie.Need-put-line-requires
 put-line-requires c κs =
@@ -41,7 +41,7 @@ same-length-2 c = search rules
 returns-2 : tie.Need-returns-2
 returns-2 c =
     let p = c.before.before.before.before.before.before.before.before.before.before.before.before.before.before.before.before.requires.1.1.1.1 in
-    pen-placed _ _ c.before.before.before.before.before.put-line.ensures p.1.0 p.1.1 c.before.next.given.1
+    pen_placed _ _ c.before.before.before.before.before.put-line.ensures p.1.0 p.1.1 c.before.next.given.1
 
 same-length-3 : tie.Need-same-length-3
 same-length-3 c = search rules
@@ -49,7 +49,7 @@ same-length-3 c = search rules
 returns-3 : tie.Need-returns-3
 returns-3 c =
     let p = c.before.before.before.before.before.before.before.before.before.before.before.before.before.before.before.requires.1.1.1.1 in
-    pen-counted _ _ c.before.before.before.before.put-line.ensures p.1.0 p.1.1 c.enum_told.given.1
+    pen_counted _ _ c.before.before.before.before.put-line.ensures p.1.0 p.1.1 c.enum_told.given.1
 
 same-length-4 : tie.Need-same-length-4
 same-length-4 c = search rules
@@ -57,7 +57,7 @@ same-length-4 c = search rules
 returns-4 : tie.Need-returns-4
 returns-4 c =
     let p = c.before.before.before.before.before.before.before.before.before.before.before.before.before.before.before.requires.1.1.1.1 in
-    pen-full _ 0 c.before.before.before.before.put-line.ensures p.1.0 p.1.1 c.enum-told2.given.1
+    pen_full _ 0 c.before.before.before.before.put-line.ensures p.1.0 p.1.1 c.enum-told2.given.1
 
 pub write-line-spec : {M : Type 1} → statement M
 write-line-spec =

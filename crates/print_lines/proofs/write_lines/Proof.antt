@@ -4,10 +4,10 @@ use native.Mathlib.Omega.{arith}
 use lib.ListN.{length}
 use Rattle.names.specs.Name.{lines}
 use Rattle.book.specs.Entry.{entries}
-use Rattle.book.specs.Decode.{typeTo}
+use Rattle.book.specs.Decode.{type_to}
 use Rattle.print_types.specs.Types.{type_bytes}
 use Rattle.print_lines.specs.Lines.{printed}
-use Rattle.print_lines.specs.All.{Written, written_start, written-room, written_next, written-kinds, written-operands}
+use Rattle.print_lines.specs.All.{Written, written_start, written_room, written_next, written_kinds, written_operands}
 use borrow.Author.Rules.{rules}
 use Rattle.print_lines.proofs.write_lines.Statement.{statement}
 use Rattle.print_lines.proofs.write_lines.Tie as tie
@@ -15,7 +15,7 @@ use Rattle.print_lines.proofs.write_line.Reads as write-line-reads
 
 abbrev invariant-loop : tie.invariant-loop
 invariant-loop text₀ start end letters places names starts every function kinds words params line-kinds operands at₀ i₀ text at i =
-    Written (printed (lines names) function (type_bytes (lines names) (typeTo (length (lines names)) 64 (entries kinds words))) params) line-kinds operands text₀ start end i text at
+    Written (printed (lines names) function (type_bytes (lines names) (type_to (length (lines names)) 64 (entries kinds words))) params) line-kinds operands text₀ start end i text at
 
 abbrev decreases-loop : tie.decreases-loop
 decreases-loop text₀ start end letters places names starts every function kinds words params line-kinds operands at₀ i₀ text at i =
@@ -30,7 +30,7 @@ same_length c = search rules
 
 returns : tie.Need-returns invariant-loop decreases-loop
 returns c =
-    written-operands c.before.before.loop.invariant c.if1.true
+    written_operands c.before.before.loop.invariant c.if1.true
 
 mul-write-line : tie.Need-overflow-mul-write-line invariant-loop decreases-loop
 mul-write-line c = search rules
@@ -56,7 +56,7 @@ write-line-requires c κs =
         p.1.0,
         (
           p.1.1.0,
-          (ready.names _ here there, (ready.known _ here there, (written-room inv here there, omega (arith, p.1.1.1.1.1, inv.long)))),
+          (ready.names _ here there, (ready.known _ here there, (written_room inv here there, omega (arith, p.1.1.1.1.1, inv.long)))),
         ),
       ),
     )
@@ -83,7 +83,7 @@ same-length-2 c = search rules
 
 returns-2 : tie.Need-returns-2 invariant-loop decreases-loop
 returns-2 c =
-    written-kinds c.before.loop.invariant c.loop-test.false
+    written_kinds c.before.loop.invariant c.loop-test.false
 
 pub write-lines-spec : {M : Type 1} → statement M
 write-lines-spec =

@@ -2,7 +2,7 @@
 use borrow.Author.Rules.{rules}
 use Prim.Native.Nat.{◌-◌}
 use lib.ListN.{length}
-use Rattle.print_pen.specs.Pen.{Copied, copy_start, copy_step, copy-end}
+use Rattle.print_pen.specs.Pen.{Copied, copy_start, copy_step_lem, copy_end}
 use Rattle.print_pen.proofs.copy.Statement.{statement}
 use Rattle.print_pen.proofs.copy.Tie as tie
 
@@ -31,13 +31,13 @@ loop-less : tie.Need-loop-smaller invariant-loop decreases-loop
 loop-less c = search rules
 
 loop-again : tie.Need-loop-preserved invariant-loop decreases-loop
-loop-again c = copy_step c.before.before.loop.invariant c.before.loop-test.true
+loop-again c = copy_step_lem c.before.before.loop.invariant c.before.loop-test.true
 
 same_length : tie.Need-same-length invariant-loop decreases-loop
 same_length c = search rules
 
 returns : tie.Need-returns invariant-loop decreases-loop
-returns c = copy-end c.before.loop.invariant c.loop-test.false
+returns c = copy_end c.before.loop.invariant c.loop-test.false
 
 pub copy_spec : {M : Type 1} → statement M
 copy_spec =

@@ -6,7 +6,7 @@ use mathlib.Core.Logic.{⊎_elim}
 use native.Mathlib.Omega.{arith}
 use borrow.Author.Tests.{not-true, not-false}
 use lib.ListN.{length}
-use Rattle.print_pen.specs.Pen.{Cleaned, clean-start, clean-room, clean_step, clean-skip, clean_end}
+use Rattle.print_pen.specs.Pen.{Cleaned, clean_start, clean_room, clean_step, clean_skip, clean_end}
 use Rattle.print_pen.proofs.copy_clean.Statement.{statement}
 use Rattle.print_pen.proofs.copy_clean.Tie as tie
 use Rattle.names_spelling.proofs.clean_byte.Reads as clean-byte-reads
@@ -19,7 +19,7 @@ abbrev decreases-loop : tie.decreases-loop
 decreases-loop src text₀ at i₀ to₀ text i to = length src - i
 
 loop-holds : tie.Need-loop-init invariant-loop decreases-loop
-loop-holds c = clean-start _ _ _
+loop-holds c = clean_start _ _ _
 
 shared-slice-read-b : tie.Need-shared-slice-read-b invariant-loop decreases-loop
 shared-slice-read-b c = search rules
@@ -36,7 +36,7 @@ slice-write-text c =
     let in-loop = after_IsTail.before.before in
     let at-loop = in-loop.before in
     let first = sym after_IsTail.is-tail.ensures ∙ not-true _ c.before.if1.true in
-    clean-room at-loop.loop.invariant in-loop.loop-test.true first at-loop.before.before.before.requires
+    clean_room at-loop.loop.invariant in-loop.loop-test.true first at-loop.before.before.before.requires
 
 add-to : tie.Need-overflow-add-to invariant-loop decreases-loop
 add-to c = omega (arith, slice-write-text c)
@@ -55,7 +55,7 @@ loop-again c =
     let inside = in-loop.loop-test.true in
     let is = sym after_IsTail.is-tail.ensures in
     ⊎_elim (λ w. rw (w.2, w.3) (clean_step inv inside (is ∙ not-true _ w.0.taken) w.1.ensures))
-    (λ w. rw (w.1, w.2) (clean-skip inv inside (is ∙ not-false _ w.0.left))) c.if1.branch
+    (λ w. rw (w.1, w.2) (clean_skip inv inside (is ∙ not-false _ w.0.left))) c.if1.branch
 
 same_length : tie.Need-same-length invariant-loop decreases-loop
 same_length c = search rules

@@ -1,7 +1,7 @@
 -- `put_bytes` meets its contract, by the pen that is reached.
 use mathlib.Core.Path.{refl}
 use native.Mathlib.Omega.{arith}
-use Rattle.print_pen.specs.Pen.{end_fits, put-wrote, put-none, put_full}
+use Rattle.print_pen.specs.Pen.{end_fits, put_wrote, put_none, put_full}
 use borrow.Author.Rules.{rules}
 use Rattle.print_pen.proofs.put_bytes.Statement.{statement}
 use Rattle.print_pen.proofs.put_bytes.Tie as tie
@@ -42,10 +42,10 @@ returns : tie.Need-returns
 returns c =
     let after_next = c.before.before.before.before.before in
     let after-reach = after_next.before.before in
-    put-wrote _ _ _ _ _ (refl) after-reach.reach.ensures _ _ after_next.next.given.1 c.before.before.copy.ensures
+    put_wrote _ _ _ _ _ (refl) after-reach.reach.ensures _ _ after_next.next.given.1 c.before.before.copy.ensures
 
 returns-2 : tie.Need-returns-2
-returns-2 c = put-none _ _ _ _ _ (refl) c.before.before.reach.ensures _ c.enum_told.given.1
+returns-2 c = put_none _ _ _ _ _ (refl) c.before.before.reach.ensures _ c.enum_told.given.1
 
 returns-3 : tie.Need-returns-3
 returns-3 c = put_full _ _ _ _ _ (refl) c.before.before.reach.ensures c.enum-told2.given.1

@@ -1,6 +1,6 @@
 -- `reach` meets its contract, by the pen and the test.
 use mir.Facts.{Fits-lt-pow}
-use Rattle.print_pen.specs.Pen.{sum_fits, reach-counting, stop-counting, reach-writing, stop-writing}
+use Rattle.print_pen.specs.Pen.{sum_fits, reach_counting, stop_counting, reach_writing, stop_writing}
 use borrow.Author.Rules.{rules}
 use Rattle.print_pen.proofs.reach.Statement.{statement}
 use Rattle.print_pen.proofs.reach.Tie as tie
@@ -32,16 +32,16 @@ enum_told : tie.Need-enum-told
 enum_told c = search rules
 
 returns : tie.Need-returns
-returns c = reach-counting _ _ _ _ _ c.before.fits2.ensures c.before.before.before.pen.given.1 c.if1.true
+returns c = reach_counting _ _ _ _ _ c.before.fits2.ensures c.before.before.before.pen.given.1 c.if1.true
 
 returns-2 : tie.Need-returns-2
-returns-2 c = stop-counting _ _ _ _ _ c.before.fits2.ensures c.before.before.before.pen.given.1 c.if1.false
+returns-2 c = stop_counting _ _ _ _ _ c.before.fits2.ensures c.before.before.before.pen.given.1 c.if1.false
 
 returns-3 : tie.Need-returns-3
-returns-3 c = reach-writing _ _ _ _ _ c.before.fits3.ensures c.before.before.before.pen2.given.1 c.if2.true
+returns-3 c = reach_writing _ _ _ _ _ c.before.fits3.ensures c.before.before.before.pen2.given.1 c.if2.true
 
 returns-4 : tie.Need-returns-4
-returns-4 c = stop-writing _ _ _ _ _ c.before.fits3.ensures c.before.before.before.pen2.given.1 c.if2.false
+returns-4 c = stop_writing _ _ _ _ _ c.before.fits3.ensures c.before.before.before.pen2.given.1 c.if2.false
 
 returns-5 : tie.Need-returns-5
 returns-5 c = search rules

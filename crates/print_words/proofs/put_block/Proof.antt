@@ -1,6 +1,6 @@
 -- `put_block` meets its contract, one part after the other.
 use Rattle.names.specs.Text.{bytes}
-use Rattle.print_pen.specs.Pen.{then-put}
+use Rattle.print_pen.specs.Pen.{then_put}
 use borrow.Author.Rules.{rules}
 use Rattle.print_words.proofs.put_block.Statement.{statement}
 use Rattle.print_words.proofs.put_block.Tie as tie
@@ -27,7 +27,7 @@ unfolding bytes
 returns c =
     let after-put-bytes = c.before.before.before.before.before.before in
     let after-put-clean = after-put-bytes.before.before.before.before.before in
-    then-put after-put-clean.put-clean.ensures (then-put after-put-bytes.put-bytes.ensures c.before.before.put-clean2.ensures)
+    then_put after-put-clean.put-clean.ensures (then_put after-put-bytes.put-bytes.ensures c.before.before.put-clean2.ensures)
 
 pub put-block-spec : {M : Type 1} → statement M
 put-block-spec =

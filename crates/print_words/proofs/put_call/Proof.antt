@@ -1,6 +1,6 @@
 -- `put_call` meets its contract, one part after the other.
 use Rattle.names.specs.Text.{bytes}
-use Rattle.print_pen.specs.Pen.{then-put}
+use Rattle.print_pen.specs.Pen.{then_put}
 use borrow.Author.Rules.{rules}
 use Rattle.print_words.proofs.put_call.Statement.{statement}
 use Rattle.print_words.proofs.put_call.Tie as tie
@@ -28,7 +28,7 @@ unfolding bytes
 returns c =
     let after-put-bytes = c.before.before.before.before.before.before in
     let after-put-clean = after-put-bytes.before.before.before.before.before in
-    then-put after-put-clean.put-clean.ensures (then-put after-put-bytes.put-bytes.ensures c.before.before.put-number.ensures)
+    then_put after-put-clean.put-clean.ensures (then_put after-put-bytes.put-bytes.ensures c.before.before.put-number.ensures)
 
 pub put-call-spec : {M : Type 1} → statement M
 put-call-spec =

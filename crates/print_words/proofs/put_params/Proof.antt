@@ -1,7 +1,7 @@
 -- `put_params` meets its contract, one part after the other.
 use Rattle.names.specs.Text.{bytes}
-use Rattle.print_pen.specs.Pen.{then-put}
-use Rattle.print_words.specs.Ends.{paramsText}
+use Rattle.print_pen.specs.Pen.{then_put}
+use Rattle.print_words.specs.Ends.{params_text}
 use Rattle.print_words.specs.Words.{ended}
 use borrow.Author.Rules.{rules}
 use Rattle.print_words.proofs.put_params.Statement.{statement}
@@ -28,11 +28,11 @@ same_length : tie.Need-same-length
 same_length c = search rules
 
 returns : tie.Need-returns
-unfolding bytes paramsText ended
+unfolding bytes params_text ended
 returns c =
     let after-put-number = c.before.before.before.before.before.before.before in
     let after-put-bytes = after-put-number.before.before.before.before in
-    then-put after-put-bytes.put-bytes.ensures (then-put after-put-number.put-number.ensures c.before.before.put-bytes2.ensures)
+    then_put after-put-bytes.put-bytes.ensures (then_put after-put-number.put-number.ensures c.before.before.put-bytes2.ensures)
 
 pub put-params-spec : {M : Type 1} → statement M
 put-params-spec =

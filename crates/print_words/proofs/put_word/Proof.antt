@@ -2,7 +2,7 @@
 use Prim.Native.Nat.{◌+◌, ◌-◌, ◌/◌, ◌%◌}
 use mathlib.Core.Path.{◌≡◌}
 use native.Mathlib.Omega.{arith}
-use Rattle.print_words.specs.Words.{kinds-known, word-by}
+use Rattle.print_words.specs.Words.{kinds_known, word_by}
 use Rattle.print_pen.specs.Pen.{put_same}
 use borrow.Author.Rules.{rules}
 use Rattle.print_words.proofs.put_word.Statement.{statement}
@@ -14,7 +14,7 @@ mul-place : tie.Need-overflow-mul-place
 mul-place c = search rules
 
 shared-slice-read-place : tie.Need-shared-slice-read-place
-shared-slice-read-place c = omega (arith, kinds-known c.before.before.before.before.requires.0, c.before.before.before.before.requires.1)
+shared-slice-read-place c = omega (arith, kinds_known c.before.before.before.before.requires.0, c.before.before.before.before.requires.1)
 
 place-requires : tie.Need-place-requires
 place-requires c κs = search rules
@@ -26,7 +26,7 @@ put-part-requires : tie.Need-put-part-requires
 put-part-requires c κs =
     let after-place = c.before in
     let entry = after-place.before.before.before.before.before in
-    let w = word-by entry.requires.0 _ _ entry.requires.1 after-place.place.ensures in
+    let w = word_by entry.requires.0 _ _ entry.requires.1 after-place.place.ensures in
     (omega arith, omega (arith, w.room, w.short))
 
 same_length : tie.Need-same-length
@@ -37,7 +37,7 @@ returns c =
     let after-place = c.before.before.before.before in
     let entry = after-place.before.before.before.before.before in
     let p = after-place.place.result in
-    let w = word-by entry.requires.0 _ p entry.requires.1 after-place.place.ensures in
+    let w = word_by entry.requires.0 _ p entry.requires.1 after-place.place.ensures in
     let e : p / 32 + p % 32 - p / 32 ≡ p % 32 = omega arith in
     put_same (rw e w.is) c.before.before.put-part.ensures
 

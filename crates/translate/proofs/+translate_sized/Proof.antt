@@ -19,15 +19,15 @@ use Rattle.translate.proofs.+translate_sized.Tie.{close}
 abbrev μ-translate-sized : Measures 5 translate-sized-kinds.ps ℕ
 μ-translate-sized κs a = 2049 - a.1.1.1.1.1.1.0
 
-abbrev translate-sized-at : ℕ → In 5 translate-sized-kinds.ps
-translate-sized-at t = and 5 translate-sized-kinds.ps (is 5 translate-sized-kinds.ps μ-translate-sized t) translate-sized.Pre
+abbrev translate_sized_at : ℕ → In 5 translate-sized-kinds.ps
+translate_sized_at t = and 5 translate-sized-kinds.ps (is 5 translate-sized-kinds.ps μ-translate-sized t) translate-sized.Pre
 
-abbrev translate-sized-below : ℕ → In 5 translate-sized-kinds.ps
-translate-sized-below t = and 5 translate-sized-kinds.ps (falls 5 translate-sized-kinds.ps ◌<◌ μ-translate-sized t) translate-sized.Pre
+abbrev translate_sized_below : ℕ → In 5 translate-sized-kinds.ps
+translate_sized_below t = and 5 translate-sized-kinds.ps (falls 5 translate-sized-kinds.ps ◌<◌ μ-translate-sized t) translate-sized.Pre
 
 pub +translate-sized-spec : {M : Type 1} → statement M
 +translate-sized-spec = close μ-translate-sized λ t. translate-sized-lts.spec (
-  translate-sized-below t,
+  translate_sized_below t,
   translate-sized.Post,
   translate-few-reads.Asked,
   translate-few-reads.Learnt,
@@ -40,7 +40,7 @@ pub +translate-sized-spec : {M : Type 1} → statement M
   translate-many-reads.Asked,
   translate-many-reads.Learnt,
 )
-    (translate-sized-at t)
+    (translate_sized_at t)
     translate-sized.Post
     (λ c. search rules)
     (λ c. search rules)

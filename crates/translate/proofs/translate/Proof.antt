@@ -1,8 +1,8 @@
 -- `translate::translate` meets its contract: the work words are cleared before and after.
 use native.Mathlib.Omega.{arith}
 use lib.ListN.{length}
-use Rattle.gen_slices.specs.Clear.{clear-blank}
-use Rattle.translate.specs.Reply.{reply-cleared, reply-numbered}
+use Rattle.gen_slices.specs.Clear.{clear_blank}
+use Rattle.translate.specs.Reply.{reply_cleared, reply_numbered}
 use borrow.Author.Rules.{rules}
 use Rattle.translate.proofs.translate.Statement.{statement}
 use Rattle.translate.proofs.translate.Tie as tie
@@ -16,7 +16,7 @@ translate-sized-requires : tie.Need-translate-sized-requires
 translate-sized-requires c κs =
     let after-clear = c.before.before.before.before.before in
     let entry = after-clear.before.before.before.before.before.before.before in
-    (omega arith, clear-blank (length entry.args.work.now) _ after-clear.clear.ensures)
+    (omega arith, clear_blank (length entry.args.work.now) _ after-clear.clear.ensures)
 
 clear-requires-2 : tie.Need-clear-requires-2
 clear-requires-2 c κs = search rules
@@ -40,9 +40,9 @@ returns c =
     let t = after-translate.translate-sized in
     let kept = t.auto.1.1.1.0 in
     let cleared = after-clear2.clear2.ensures in (
-      reply-cleared a.book.now a.names.now a.counter a.work.now a.kinds.now a.operands.now after-clear.clear.ensures t.result
+      reply_cleared a.book.now a.names.now a.counter a.work.now a.kinds.now a.operands.now after-clear.clear.ensures t.result
           t.new.1.1.1.0 _ _ _ t.ensures kept cleared,
-      reply-numbered a.book.now a.names.now a.counter a.work.now a.kinds.now a.operands.now after-clear.clear.ensures t.result
+      reply_numbered a.book.now a.names.now a.counter a.work.now a.kinds.now a.operands.now after-clear.clear.ensures t.result
           t.new.1.1.1.0 _ _ _ t.ensures kept cleared,
     )
 

@@ -2,7 +2,7 @@
 use mathlib.Core.Path.{sym, ap, ◌∙◌}
 use native.Mathlib.Omega.{arith}
 use Rattle.book_check.specs.Verdict.{number_of}
-use Rattle.translate.specs.Sound.{refused-answer, sound-ask}
+use Rattle.translate.specs.Sound.{refused_answer, sound_ask}
 use borrow.Author.Rules.{rules}
 use Rattle.translate.proofs.translate_blank.Statement.{statement}
 use Rattle.translate.proofs.translate_blank.Tie as tie
@@ -21,7 +21,7 @@ translate-sound-requires c κs =
     let after_check = after-told.before.before.before.before in
     let entry = after_check.before.before.before.before.before.before.before.before.before in
     let is = after-told.enum_told.given.1 in
-    (sound-ask entry.args.book.now _ _ _ (after_check.check-noting.ensures.1 is) (sym (ap number_of is) ∙ after_check.check-noting.ensures.0) entry.requires.0, entry.requires.1)
+    (sound_ask entry.args.book.now _ _ _ (after_check.check-noting.ensures.1 is) (sym (ap number_of is) ∙ after_check.check-noting.ensures.0) entry.requires.0, entry.requires.1)
 
 enum-told-2 : tie.Need-enum-told-2
 enum-told-2 c = search rules
@@ -61,7 +61,7 @@ returns-2 c =
     let after_check = c.before.before.before.before in
     let entry = after_check.before.before.before.before.before.before.before.before.before in
     let a = entry.args in
-    refused-answer a.book.now a.names.now a.counter _ 1 (sym (ap number_of c.enum-told2.given.1) ∙ after_check.check-noting.ensures.0)
+    refused_answer a.book.now a.names.now a.counter _ 1 (sym (ap number_of c.enum-told2.given.1) ∙ after_check.check-noting.ensures.0)
     (omega arith) _ a.kinds.now a.operands.now
 
 same-length-7 : tie.Need-same-length-7
@@ -72,7 +72,7 @@ returns-3 c =
     let after_check = c.before.before.before.before in
     let entry = after_check.before.before.before.before.before.before.before.before.before in
     let a = entry.args in
-    refused-answer a.book.now a.names.now a.counter _ 2 (sym (ap number_of c.enum-told3.given.1) ∙ after_check.check-noting.ensures.0)
+    refused_answer a.book.now a.names.now a.counter _ 2 (sym (ap number_of c.enum-told3.given.1) ∙ after_check.check-noting.ensures.0)
     (omega arith) _ a.kinds.now a.operands.now
 
 same-length-8 : tie.Need-same-length-8
@@ -83,7 +83,7 @@ returns-4 c =
     let after_check = c.before.before.before.before in
     let entry = after_check.before.before.before.before.before.before.before.before.before in
     let a = entry.args in
-    refused-answer a.book.now a.names.now a.counter _ 3 (sym (ap number_of c.enum-told4.given.1) ∙ after_check.check-noting.ensures.0)
+    refused_answer a.book.now a.names.now a.counter _ 3 (sym (ap number_of c.enum-told4.given.1) ∙ after_check.check-noting.ensures.0)
     (omega arith) _ a.kinds.now a.operands.now
 
 same-length-9 : tie.Need-same-length-9
@@ -94,7 +94,7 @@ returns-5 c =
     let after_check = c.before.before.before.before in
     let entry = after_check.before.before.before.before.before.before.before.before.before in
     let a = entry.args in
-    refused-answer a.book.now a.names.now a.counter _ 4 (sym (ap number_of c.enum-told5.given.1) ∙ after_check.check-noting.ensures.0)
+    refused_answer a.book.now a.names.now a.counter _ 4 (sym (ap number_of c.enum-told5.given.1) ∙ after_check.check-noting.ensures.0)
     (omega arith) _ a.kinds.now a.operands.now
 
 pub translate-blank-spec : {M : Type 1} → statement M

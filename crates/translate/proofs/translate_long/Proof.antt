@@ -1,6 +1,6 @@
 -- `translate::translate_long` meets its contract: our own words are 0, and enough for 4,096 names.
 use native.Mathlib.Omega.{arith}
-use Rattle.translate.specs.Sound.{blank-own}
+use Rattle.translate.specs.Sound.{blank_own}
 use borrow.Author.Rules.{rules}
 use Rattle.translate.proofs.translate_long.Statement.{statement}
 use Rattle.translate.proofs.translate_long.Tie as tie
@@ -18,7 +18,7 @@ slice-aggregate-translate-blank-3 : tie.Need-slice-aggregate-translate-blank-3
 slice-aggregate-translate-blank-3 c = search rules
 
 translate-blank-requires : tie.Need-translate-blank-requires
-translate-blank-requires c κs = (blank-own _ _ 34816 (omega arith), search rules)
+translate-blank-requires c κs = (blank_own _ _ 34816 (omega arith), search rules)
 
 same_length : tie.Need-same-length
 same_length c = search rules

@@ -1,6 +1,6 @@
 -- `translate::translate_sound` meets its contract: the book's parts are lent, and what is generated is the definition's.
 use native.Mathlib.Omega.{arith}
-use Rattle.translate.specs.Sound.{s, size, most, decoded, named, generate-ask, sound-answer}
+use Rattle.translate.specs.Sound.{s, size, most, decoded, named, generate_ask, sound_answer}
 use borrow.Author.Rules.{rules}
 use Rattle.translate.proofs.translate_sound.Statement.{statement}
 use Rattle.translate.proofs.translate_sound.Tie as tie
@@ -39,7 +39,7 @@ shared-slice-read-generate : tie.Need-shared-slice-read-generate
 shared-slice-read-generate c = let entry = c.before.before.before.before.before.before.before.before.before.before.before in omega (arith, size entry.requires.0)
 
 generate-requires : tie.Need-generate-requires
-generate-requires c κs = let entry = c.before.before.before.before.before.before.before.before.before.before.before.before.before.before.before.before in (generate-ask entry.requires.0, entry.requires.1)
+generate-requires c κs = let entry = c.before.before.before.before.before.before.before.before.before.before.before.before.before.before.before.before in (generate_ask entry.requires.0, entry.requires.1)
 
 same_length : tie.Need-same-length
 same_length c = search rules
@@ -60,7 +60,7 @@ returns : tie.Need-returns
 returns c =
     let after-generate = c.before.before.before.before.before.before.before.before.before.before in
     let entry = after-generate.before.before.before.before.before.before.before.before.before.before.before.before.before.before.before.before.before in
-    sound-answer entry.requires.0 _ _ _ _ _ _
+    sound_answer entry.requires.0 _ _ _ _ _ _
     (after-generate.generate.ensures (s entry.requires.0).names (s entry.requires.0).book (named entry.requires.0) (decoded entry.requires.0))
 
 pub translate-sound-spec : {M : Type 1} → statement M

@@ -3,7 +3,7 @@ use Prim.Native.Nat.{◌-◌}
 use native.Mathlib.Omega.{arith}
 use borrow.Author.Rules.{rules}
 use lib.ListN.{length, take, drop, length-drop, length-take}
-use Rattle.try_cases.proofs.Reading.{up-within}
+use Rattle.try_cases.proofs.Reading.{up_within}
 use Rattle.try_check.proofs.place.Statement.{statement}
 use Rattle.try_check.proofs.place.Tie as tie
 
@@ -24,14 +24,14 @@ add-result c =
     let a = c.before.before.before.args in
     let t = a.text.now in
     let part = take (length t - a.from) (drop a.from t) in
-    omega (arith, c.before2.ensures, up-within a.wanted part, length-take (length t - a.from) (drop a.from t), length-drop a.from t)
+    omega (arith, c.before2.ensures, up_within a.wanted part, length-take (length t - a.from) (drop a.from t), length-drop a.from t)
 
 returns : tie.Need-returns
 returns c =
     let a = c.before.before.before.args in
     let t = a.text.now in
     let part = take (length t - a.from) (drop a.from t) in
-    omega (arith, c.before2.ensures, up-within a.wanted part, length-take (length t - a.from) (drop a.from t), length-drop a.from t)
+    omega (arith, c.before2.ensures, up_within a.wanted part, length-take (length t - a.from) (drop a.from t), length-drop a.from t)
 
 pub place-spec : {M : Type 1} → statement M
 place-spec =

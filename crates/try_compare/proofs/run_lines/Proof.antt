@@ -5,8 +5,8 @@ use mathlib.Core.List.{List}
 use native.Mathlib.Omega.{arith}
 use borrow.Author.Rules.{rules}
 use lib.ListN.{length, drop, length-take, length-drop}
-use Rattle.names.specs.Name.{isEnd, line, nameFrom, until}
-use Rattle.names_spelling.proofs.Scan.{until-part}
+use Rattle.names.specs.Name.{is_end, line, name_from, until}
+use Rattle.names_spelling.proofs.Scan.{until_part}
 use Rattle.try_compare.proofs.run_lines.Statement.{statement}
 use Rattle.try_compare.proofs.run_lines.Tie as tie
 
@@ -17,15 +17,15 @@ abbrev decreases-loop : tie.decreases-loop
 decreases-loop text last₀ past₀ at₀ last past at = length text - at
 
 -- the end of a line
-end-in : (text : List ℕ) (at end : ℕ) → at < length text → end ≡ at + length (nameFrom text at) → end ≤ length text
-unfolding nameFrom line
-end-in text at end l e =
+end_in : (text : List ℕ) (at end : ℕ) → at < length text → end ≡ at + length (name_from text at) → end ≤ length text
+unfolding name_from line
+end_in text at end l e =
     let rest = drop at text in
-    omega (arith, ap length (until-part isEnd rest), length-take (length (until isEnd rest)) rest, length-drop at text)
+    omega (arith, ap length (until_part is_end rest), length-take (length (until is_end rest)) rest, length-drop at text)
 
 -- that of the line at the place that is reached
 end-here : (c : tie.After-name-end invariant-loop decreases-loop) → c.name-end.result ≤ length c.before.before.before.before.args.text.now
-end-here c = end-in _ _ _ c.before.loop-test.true c.name-end.ensures
+end-here c = end_in _ _ _ c.before.loop-test.true c.name-end.ensures
 
 loop-holds : tie.Need-loop-init invariant-loop decreases-loop
 loop-holds c = search rules

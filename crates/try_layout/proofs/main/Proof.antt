@@ -3,8 +3,8 @@ use Prim.Native.Nat.{◌+◌, ◌*◌}
 use native.Mathlib.Omega.{arith}
 use lib.ListN.{get_or-replicate}
 use Rattle.try_layout.specs.Book.{kinds, words}
-use Rattle.try_layout.specs.Decodes.{this-book}
-use Rattle.try_layout.specs.Laws.{all-zero}
+use Rattle.try_layout.specs.Decodes.{this_book}
+use Rattle.try_layout.specs.Laws.{all_zero}
 use Rattle.layout_memo.specs.Work.{table_at}
 use borrow.Author.Rules.{rules}
 use Rattle.try_layout.proofs.main.Statement.{statement}
@@ -27,11 +27,11 @@ place-structs-requires : tie.Need-place-structs-requires
 unfolding kinds words
 place-structs-requires c κs =
     record {
-      book = this-book;
+      book = this_book;
       room = omega arith;
       bodies = λ x l. get_or-replicate 576 (8 * x + 4) 0 0 (omega arith);
       known = λ x l. get_or-replicate 576 (8 * x + 7) 0 0 (omega arith);
-      table = λ k. all-zero 576 (table_at _ k);
+      table = λ k. all_zero 576 (table_at _ k);
     }
 
 slice-aggregate-measure-all : tie.Need-slice-aggregate-measure-all

@@ -85,7 +85,7 @@ size-of-requires c κs =
     let after-type-len = after-n.before.before in
     let entry = after-type-len.before.before.before.before.before.before.before.before in
     laws.ask entry.args.names entry.args.kinds.now entry.args.words.now entry.args.at entry.requires.few _
-    after-type-len.type-len.ensures _ after-n.n.given.1 entry.requires
+    after-type-len.type_len_lem.ensures _ after-n.n.given.1 entry.requires
 
 mul-align-of : tie.Need-overflow-mul-align-of
 mul-align-of c = search rules
@@ -118,7 +118,7 @@ align-of-requires c κs =
     let after-type-len = after-n.before.before in
     let entry = after-type-len.before.before.before.before.before.before.before.before in
     laws.ask entry.args.names entry.args.kinds.now entry.args.words.now entry.args.at entry.requires.few _
-    after-type-len.type-len.ensures _ after-n.n.given.1 after-size-of.size-of.ensures.after.ready
+    after-type-len.type_len_lem.ensures _ after-n.n.given.1 after-size-of.size_of_lem.ensures.after.ready
 
 show-requires : tie.Need-show-requires
 show-requires c κs = search rules
@@ -147,9 +147,9 @@ add-result c =
     let entry = else1.before.before.before.before in
     omega (
       arith,
-      laws.read-few entry.args.names entry.args.kinds.now entry.args.words.now entry.args.at entry.requires.few _
-          after-type-len.type-len.ensures _ after-n.n.given.1,
-      laws.at-few entry.args.kinds.now entry.args.words.now
+      laws.read_few entry.args.names entry.args.kinds.now entry.args.words.now entry.args.at entry.requires.few _
+          after-type-len.type_len_lem.ensures _ after-n.n.given.1,
+      laws.at_few entry.args.kinds.now entry.args.words.now
           entry.args.at entry.requires.few else1.if1.false else2.if2.false,
     )
 
@@ -161,7 +161,7 @@ returns-4 c =
     let after-align-of = c.before.before.before.before.before.before.before.before in
     let after-size-of = after-align-of.before.before.before.before.before.before in
     record
-    { ready = after-align-of.align-of.ensures.after.ready; long = after-align-of.align-of.ensures.after.kept.long ∙ after-size-of.size-of.ensures.after.kept.long; further = laws.further-by _ _ }
+    { ready = after-align-of.align-of.ensures.after.ready; long = after-align-of.align-of.ensures.after.kept.long ∙ after-size-of.size_of_lem.ensures.after.kept.long; further = laws.further_by _ _ }
 
 pub measure-one-spec : {M : Type 1} → statement M
 measure-one-spec =

@@ -2,8 +2,8 @@
 use mathlib.Core.Path.{◌∙◌, sym}
 use native.Mathlib.Omega.{arith}
 use Rattle.book.specs.Entry.{entries}
-use Rattle.book.specs.AgreeTy.{agrees-type}
-use Rattle.book_types.specs.Laws.{len-fits, within-kinds, within-words}
+use Rattle.book.specs.AgreeTy.{agrees_type}
+use Rattle.book_types.specs.Laws.{len_fits, within_kinds, within_words}
 use Rattle.numbers.specs.Bits.{bit_at}
 use Rattle.book_blocks.specs.Calls as calls
 use borrow.Author.Rules.{rules}
@@ -25,7 +25,7 @@ enum_told c = search rules
 returns : tie.Need-returns
 returns c =
     let a = c.before.before.before.before.before.before.args in
-    calls.behind-bad (bit_at a.barred.now) a.names (entries a.kinds.now a.words.now) _ c.before.before.type-len.ensures c.enum_told.given.1
+    calls.behind_bad (bit_at a.barred.now) a.names (entries a.kinds.now a.words.now) _ c.before.before.type_len_lem.ensures c.enum_told.given.1
 
 mul-first-entry : tie.Need-overflow-mul-first-entry
 mul-first-entry c =
@@ -34,9 +34,9 @@ mul-first-entry c =
     let a = entry.args in
     omega (
       arith,
-      within-kinds _ a.kinds.now a.words.now
-          (len-fits (agrees-type a.names) (entries a.kinds.now a.words.now) _
-          (sym after-type-len.type-len.ensures ∙ c.before.n.given.1)),
+      within_kinds _ a.kinds.now a.words.now
+          (len_fits (agrees_type a.names) (entries a.kinds.now a.words.now) _
+          (sym after-type-len.type_len_lem.ensures ∙ c.before.n.given.1)),
       entry.well-formed,
     )
 
@@ -45,18 +45,18 @@ sub-first-entry c =
     let after-type-len = c.before.before.before in
     let entry = after-type-len.before.before.before.before in
     let a = entry.args in
-    within-kinds _ a.kinds.now a.words.now
-    (len-fits (agrees-type a.names) (entries a.kinds.now a.words.now) _
-    (sym after-type-len.type-len.ensures ∙ c.before.n.given.1))
+    within_kinds _ a.kinds.now a.words.now
+    (len_fits (agrees_type a.names) (entries a.kinds.now a.words.now) _
+    (sym after-type-len.type_len_lem.ensures ∙ c.before.n.given.1))
 
 part-first-entry-start : tie.Need-slice-bounds-first-entry-start
 part-first-entry-start c =
     let after-type-len = c.before.before.before in
     let entry = after-type-len.before.before.before.before in
     let a = entry.args in
-    within-kinds _ a.kinds.now a.words.now
-    (len-fits (agrees-type a.names) (entries a.kinds.now a.words.now) _
-    (sym after-type-len.type-len.ensures ∙ c.before.n.given.1))
+    within_kinds _ a.kinds.now a.words.now
+    (len_fits (agrees_type a.names) (entries a.kinds.now a.words.now) _
+    (sym after-type-len.type_len_lem.ensures ∙ c.before.n.given.1))
 
 part-first-entry-end : tie.Need-slice-bounds-first-entry-end
 part-first-entry-end c = search rules
@@ -68,9 +68,9 @@ mul-first-entry-2 c =
     let a = entry.args in
     omega (
       arith,
-      within-words _ a.kinds.now a.words.now
-          (len-fits (agrees-type a.names) (entries a.kinds.now a.words.now) _
-          (sym after-type-len.type-len.ensures ∙ c.before.before.n.given.1)),
+      within_words _ a.kinds.now a.words.now
+          (len_fits (agrees_type a.names) (entries a.kinds.now a.words.now) _
+          (sym after-type-len.type_len_lem.ensures ∙ c.before.before.n.given.1)),
       entry.well-formed,
     )
 
@@ -79,18 +79,18 @@ sub-first-entry-2 c =
     let after-type-len = c.before.before.before.before in
     let entry = after-type-len.before.before.before.before in
     let a = entry.args in
-    within-words _ a.kinds.now a.words.now
-    (len-fits (agrees-type a.names) (entries a.kinds.now a.words.now) _
-    (sym after-type-len.type-len.ensures ∙ c.before.before.n.given.1))
+    within_words _ a.kinds.now a.words.now
+    (len_fits (agrees_type a.names) (entries a.kinds.now a.words.now) _
+    (sym after-type-len.type_len_lem.ensures ∙ c.before.before.n.given.1))
 
 part-first-entry-start-2 : tie.Need-slice-bounds-first-entry-start-2
 part-first-entry-start-2 c =
     let after-type-len = c.before.before.before.before in
     let entry = after-type-len.before.before.before.before in
     let a = entry.args in
-    within-words _ a.kinds.now a.words.now
-    (len-fits (agrees-type a.names) (entries a.kinds.now a.words.now) _
-    (sym after-type-len.type-len.ensures ∙ c.before.before.n.given.1))
+    within_words _ a.kinds.now a.words.now
+    (len_fits (agrees_type a.names) (entries a.kinds.now a.words.now) _
+    (sym after-type-len.type_len_lem.ensures ∙ c.before.before.n.given.1))
 
 part-first-entry-end-2 : tie.Need-slice-bounds-first-entry-end-2
 part-first-entry-end-2 c = search rules
@@ -107,7 +107,7 @@ returns-2 c =
     let after-type-len = after-n.before.before in
     let entry = after-type-len.before.before.before.before in
     let a = entry.args in
-    calls.behind-arm (bit_at a.barred.now) a.names a.kinds.now a.words.now _ _ after-type-len.type-len.ensures
+    calls.behind_arm (bit_at a.barred.now) a.names a.kinds.now a.words.now _ _ after-type-len.type_len_lem.ensures
     after-n.n.given.1 _ _ c.before.first_entry.ensures c.callee-barred.ensures
 
 pub call-barred-spec : {M : Type 1} → statement M

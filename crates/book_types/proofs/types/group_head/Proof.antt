@@ -1,6 +1,6 @@
 -- `book_types::types::group_head` meets its contract: each arm is the definition's.
 use mathlib.Core.Path.{◌∙◌, sym, ap}
-use Rattle.book_types.specs.Groups.{groupHead, leafIf}
+use Rattle.book_types.specs.Groups.{group_head, leaf_if}
 use borrow.Author.Rules.{rules}
 use Rattle.book_types.proofs.types.group_head.Statement.{statement}
 use Rattle.book_types.proofs.types.group_head.Tie as tie
@@ -54,25 +54,25 @@ enum-told-8 : tie.Need-enum-told-8
 enum-told-8 c = search rules
 
 returns : tie.Need-returns
-returns c = c.leaf-if.ensures ∙ ap (groupHead _ _) (sym c.before.enum_told.given.1)
+returns c = c.leaf_if_lem.ensures ∙ ap (group_head _ _) (sym c.before.enum_told.given.1)
 
 returns-2 : tie.Need-returns-2
-returns-2 c = c.leaf-if2.ensures ∙ ap (groupHead _ _) (sym c.before.enum-told2.given.1)
+returns-2 c = c.leaf-if2.ensures ∙ ap (group_head _ _) (sym c.before.enum-told2.given.1)
 
 returns-3 : tie.Need-returns-3
-returns-3 c = c.leaf-if3.ensures ∙ ap (groupHead _ _) (sym c.before.enum-told3.given.1)
+returns-3 c = c.leaf-if3.ensures ∙ ap (group_head _ _) (sym c.before.enum-told3.given.1)
 
 returns-4 : tie.Need-returns-4
-returns-4 c = c.leaf-if4.ensures ∙ ap leafIf c.before.width-ok.ensures ∙ ap (groupHead _ _) (sym c.before.before.enum-told4.given.1)
+returns-4 c = c.leaf-if4.ensures ∙ ap leaf_if c.before.width-ok.ensures ∙ ap (group_head _ _) (sym c.before.before.enum-told4.given.1)
 
 returns-5 : tie.Need-returns-5
-returns-5 c = c.leaf-if5.ensures ∙ ap (groupHead _ _) (sym c.before.enum-told5.given.1)
+returns-5 c = c.leaf-if5.ensures ∙ ap (group_head _ _) (sym c.before.enum-told5.given.1)
 
 returns-6 : tie.Need-returns-6
 returns-6 c = search rules
 
 returns-7 : tie.Need-returns-7
-returns-7 c = c.struct-if.ensures ∙ ap (groupHead _ _) (sym c.before.enum-told7.given.1)
+returns-7 c = c.struct_if_lem.ensures ∙ ap (group_head _ _) (sym c.before.enum-told7.given.1)
 
 returns-8 : tie.Need-returns-8
 returns-8 c = search rules

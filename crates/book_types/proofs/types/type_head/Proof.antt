@@ -1,6 +1,6 @@
 -- `book_types::types::type_head` meets its contract: the group of the kind and the word say what the entry begins.
 use mathlib.Core.Path.{◌∙◌, sym, ap}
-use Rattle.book_types.specs.Groups.{groupHead, typeHeadOf}
+use Rattle.book_types.specs.Groups.{group_head, type_head_of}
 use borrow.Author.Rules.{rules}
 use Rattle.book_types.proofs.types.type_head.Statement.{statement}
 use Rattle.book_types.proofs.types.type_head.Tie as tie
@@ -20,7 +20,7 @@ enum_told : tie.Need-enum-told
 enum_told c = search rules
 
 returns : tie.Need-returns
-returns c = c.group-head.ensures ∙ ap (groupHead _ _) c.before.type-group.ensures ∙ ap (typeHeadOf _) (sym c.before.before.before.entry.given.1)
+returns c = c.group-head.ensures ∙ ap (group_head _ _) c.before.type-group.ensures ∙ ap (type_head_of _) (sym c.before.before.before.entry.given.1)
 
 returns-2 : tie.Need-returns-2
 returns-2 c = search rules

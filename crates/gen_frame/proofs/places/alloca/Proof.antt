@@ -11,7 +11,7 @@ barred-requires c κs = search rules
 returns : tie.Need-returns
 returns c =
     let entry = c.before.before.before.before.before.before.before in
-    λ args k. laws.alloca-unnamed entry.args.names entry.args.dest entry.args.kinds.now entry.args.words.now args k
+    λ args k. laws.alloca_unnamed entry.args.names entry.args.dest entry.args.kinds.now entry.args.words.now args k
     c.before.if1.true entry.requires.ready c.barred.ensures
 
 skip-requires : tie.Need-skip-requires
@@ -22,8 +22,8 @@ mul-count-of c =
     let after-skip = c in
     let else1 = after-skip.before in
     let entry = else1.before.before.before.before.before.before in
-    let s = laws.alloca-starts entry.args.names entry.args.dest entry.args.kinds.now entry.args.words.now entry.requires.args entry.requires.fields in
-    let h = (laws.skip-fits entry.args.kinds.now entry.args.words.now s after-skip.skip.ensures).0 in
+    let s = laws.alloca_starts entry.args.names entry.args.dest entry.args.kinds.now entry.args.words.now entry.requires.args entry.requires.fields in
+    let h = (laws.skip_fits entry.args.kinds.now entry.args.words.now s after-skip.skip.ensures).0 in
     search rules
 
 sub-count-of : tie.Need-overflow-sub-count-of
@@ -31,8 +31,8 @@ sub-count-of c =
     let after-skip = c in
     let else1 = after-skip.before in
     let entry = else1.before.before.before.before.before.before in
-    let s = laws.alloca-starts entry.args.names entry.args.dest entry.args.kinds.now entry.args.words.now entry.requires.args entry.requires.fields in
-    let h = (laws.skip-fits entry.args.kinds.now entry.args.words.now s after-skip.skip.ensures).0 in
+    let s = laws.alloca_starts entry.args.names entry.args.dest entry.args.kinds.now entry.args.words.now entry.requires.args entry.requires.fields in
+    let h = (laws.skip_fits entry.args.kinds.now entry.args.words.now s after-skip.skip.ensures).0 in
     search rules
 
 part-count-of-start : tie.Need-slice-bounds-count-of-start
@@ -40,8 +40,8 @@ part-count-of-start c =
     let after-skip = c in
     let else1 = after-skip.before in
     let entry = else1.before.before.before.before.before.before in
-    let s = laws.alloca-starts entry.args.names entry.args.dest entry.args.kinds.now entry.args.words.now entry.requires.args entry.requires.fields in
-    let h = (laws.skip-fits entry.args.kinds.now entry.args.words.now s after-skip.skip.ensures).0 in
+    let s = laws.alloca_starts entry.args.names entry.args.dest entry.args.kinds.now entry.args.words.now entry.requires.args entry.requires.fields in
+    let h = (laws.skip_fits entry.args.kinds.now entry.args.words.now s after-skip.skip.ensures).0 in
     search rules
 
 part-count-of-end : tie.Need-slice-bounds-count-of-end
@@ -52,8 +52,8 @@ mul-count-of-2 c =
     let after-skip = c.before in
     let else1 = after-skip.before in
     let entry = else1.before.before.before.before.before.before in
-    let s = laws.alloca-starts entry.args.names entry.args.dest entry.args.kinds.now entry.args.words.now entry.requires.args entry.requires.fields in
-    let h = (laws.skip-fits entry.args.kinds.now entry.args.words.now s after-skip.skip.ensures).1 in
+    let s = laws.alloca_starts entry.args.names entry.args.dest entry.args.kinds.now entry.args.words.now entry.requires.args entry.requires.fields in
+    let h = (laws.skip_fits entry.args.kinds.now entry.args.words.now s after-skip.skip.ensures).1 in
     search rules
 
 sub-count-of-2 : tie.Need-overflow-sub-count-of-2
@@ -61,8 +61,8 @@ sub-count-of-2 c =
     let after-skip = c.before in
     let else1 = after-skip.before in
     let entry = else1.before.before.before.before.before.before in
-    let s = laws.alloca-starts entry.args.names entry.args.dest entry.args.kinds.now entry.args.words.now entry.requires.args entry.requires.fields in
-    let h = (laws.skip-fits entry.args.kinds.now entry.args.words.now s after-skip.skip.ensures).1 in
+    let s = laws.alloca_starts entry.args.names entry.args.dest entry.args.kinds.now entry.args.words.now entry.requires.args entry.requires.fields in
+    let h = (laws.skip_fits entry.args.kinds.now entry.args.words.now s after-skip.skip.ensures).1 in
     search rules
 
 part-count-of-start-2 : tie.Need-slice-bounds-count-of-start-2
@@ -70,8 +70,8 @@ part-count-of-start-2 c =
     let after-skip = c.before in
     let else1 = after-skip.before in
     let entry = else1.before.before.before.before.before.before in
-    let s = laws.alloca-starts entry.args.names entry.args.dest entry.args.kinds.now entry.args.words.now entry.requires.args entry.requires.fields in
-    let h = (laws.skip-fits entry.args.kinds.now entry.args.words.now s after-skip.skip.ensures).1 in
+    let s = laws.alloca_starts entry.args.names entry.args.dest entry.args.kinds.now entry.args.words.now entry.requires.args entry.requires.fields in
+    let h = (laws.skip_fits entry.args.kinds.now entry.args.words.now s after-skip.skip.ensures).1 in
     search rules
 
 part-count-of-end-2 : tie.Need-slice-bounds-count-of-end-2
@@ -98,7 +98,7 @@ place-requires c κs =
     let entry = else1.before.before.before.before.before.before in
     let ask = entry.requires in
     record {
-      front = laws.alloca-starts entry.args.names entry.args.dest entry.args.kinds.now entry.args.words.now ask.args ask.fields;
+      front = laws.alloca_starts entry.args.names entry.args.dest entry.args.kinds.now entry.args.words.now ask.args ask.fields;
       ready = ask.ready;
       named = omega (arith, ask.named, else1.if1.false);
       ends = ask.ends;
@@ -118,8 +118,8 @@ returns-2 c =
     let else1 = after-skip.before in
     let entry = else1.before.before.before.before.before.before in
     λ args k.
-    laws.alloca-fixed entry.args.names entry.args.dest entry.args.kinds.now entry.args.words.now args k else1.if1.false _
-    (after-count-of.count-of.ensures args.1.0
+    laws.alloca_fixed entry.args.names entry.args.dest entry.args.kinds.now entry.args.words.now args k else1.if1.false _
+    (after-count-of.count_of_lem.ensures args.1.0
     (laws.count_at entry.args.names entry.args.dest entry.args.kinds.now entry.args.words.now args k after-skip.skip.ensures))
     after-n.n.given.1 c.before.before.place.ensures
 
@@ -130,8 +130,8 @@ returns-3 c =
     let else1 = after-skip.before in
     let entry = else1.before.before.before.before.before.before in
     λ args k.
-    laws.alloca-varying entry.args.names entry.args.dest entry.args.kinds.now entry.args.words.now args k else1.if1.false _
-    (after-count-of.count-of.ensures args.1.0
+    laws.alloca_varying entry.args.names entry.args.dest entry.args.kinds.now entry.args.words.now args k else1.if1.false _
+    (after-count-of.count_of_lem.ensures args.1.0
     (laws.count_at entry.args.names entry.args.dest entry.args.kinds.now entry.args.words.now args k after-skip.skip.ensures))
     c.enum_told.given.1 entry.requires.ready
 

@@ -5,10 +5,10 @@ use Rattle.gen_frame.proofs.places.bytes.Statement.{statement}
 use Rattle.gen_frame.proofs.places.bytes.Tie as tie
 
 returns : tie.Need-returns
-returns c = laws.product-none _ _ c.if1.true
+returns c = laws.product_none _ _ c.if1.true
 
 returns-2 : tie.Need-returns-2
-returns-2 c = laws.product-many _ _ c.before.if1.false c.if2.true
+returns-2 c = laws.product_many _ _ c.before.if1.false c.if2.true
 
 mul-result : tie.Need-overflow-mul-result
 mul-result c =

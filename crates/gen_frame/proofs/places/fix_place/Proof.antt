@@ -25,7 +25,7 @@ returns c =
     let after-bytes = c.before.before in
     let after-align-up = after-bytes.before in
     let entry = after-align-up.before.before in
-    laws.fixed-over entry.args.align entry.args.size entry.args.count entry.args.f
+    laws.fixed_over entry.args.align entry.args.size entry.args.count entry.args.f
     entry.args.name entry.args.work.now
     after-align-up.align-up.ensures after-bytes.bytes.ensures c.before.if1.true c.barred.ensures
 
@@ -52,7 +52,7 @@ returns-2 c =
     let after-bytes = c.before in
     let after-align-up = after-bytes.before in
     let entry = after-align-up.before.before in
-    laws.fixed-at entry.args.align entry.args.size entry.args.count entry.args.f
+    laws.fixed_at entry.args.align entry.args.size entry.args.count entry.args.f
     entry.args.name entry.args.work.now
     after-align-up.align-up.ensures after-bytes.bytes.ensures c.if1.false
 

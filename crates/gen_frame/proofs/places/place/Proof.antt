@@ -20,7 +20,7 @@ place-sized-requires : tie.Need-place-sized-requires
 place-sized-requires c κs =
     let after-align-of = c.before.before.before.before.before.before in
     let entry = after-align-of.before.before.before.before.before.before.before in
-    laws.align-ask entry.args.names _ _ entry.args.name entry.args.count c.before.before.align.given.1
+    laws.align_ask entry.args.names _ _ entry.args.name entry.args.count c.before.before.align.given.1
     entry.requires after-align-of.align-of.ensures
 
 same_length : tie.Need-same-length
@@ -31,7 +31,7 @@ returns c =
     let after-e = c.before.before in
     let after-align-of = after-e.before.before.before.before in
     let entry = after-align-of.before.before.before.before.before.before.before in
-    laws.align-barred entry.args.names _ _ entry.args.name entry.args.count
+    laws.align_barred entry.args.names _ _ entry.args.name entry.args.count
     after-align-of.align-of.ensures after-e.e.given.1 c.barred.ensures
 
 same-length-2 : tie.Need-same-length-2
@@ -43,7 +43,7 @@ returns-2 c =
     let after-align = after-place-sized.before.before.before in
     let after-align-of = after-align.before.before.before.before in
     let entry = after-align-of.before.before.before.before.before.before.before in
-    laws.align-done entry.args.names _ _ entry.args.name entry.args.count after-align.align.given.1
+    laws.align_done entry.args.names _ _ entry.args.name entry.args.count after-align.align.given.1
     after-align-of.align-of.ensures after-place-sized.place-sized.ensures
 
 pub place-spec : {M : Type 1} → statement M

@@ -20,8 +20,8 @@ fix-place-requires : tie.Need-fix-place-requires
 fix-place-requires c κs =
     let after-size-of = c.before.before.before.before.before.before in
     let entry = after-size-of.before.before.before.before.before.before.before in
-    laws.size-ask entry.args.names _ _ entry.args.name entry.args.count c.before.before.size.given.1 entry.args.align
-    entry.requires after-size-of.size-of.ensures
+    laws.size_ask entry.args.names _ _ entry.args.name entry.args.count c.before.before.size.given.1 entry.args.align
+    entry.requires after-size-of.size_of_lem.ensures
 
 same_length : tie.Need-same-length
 same_length c = search rules
@@ -31,8 +31,8 @@ returns c =
     let after-e = c.before.before in
     let after-size-of = after-e.before.before.before.before in
     let entry = after-size-of.before.before.before.before.before.before.before in
-    laws.size-barred entry.args.names _ _ entry.args.name entry.args.count entry.args.align
-    after-size-of.size-of.ensures after-e.e.given.1 c.barred.ensures
+    laws.size_barred entry.args.names _ _ entry.args.name entry.args.count entry.args.align
+    after-size-of.size_of_lem.ensures after-e.e.given.1 c.barred.ensures
 
 same-length-2 : tie.Need-same-length-2
 same-length-2 c = search rules
@@ -43,8 +43,8 @@ returns-2 c =
     let after-size = after-fix-place.before.before.before in
     let after-size-of = after-size.before.before.before.before in
     let entry = after-size-of.before.before.before.before.before.before.before in
-    laws.size-done entry.args.names _ _ entry.args.name entry.args.count after-size.size.given.1 entry.args.align
-    entry.requires after-size-of.size-of.ensures after-fix-place.fix-place.ensures
+    laws.size_done entry.args.names _ _ entry.args.name entry.args.count after-size.size.given.1 entry.args.align
+    entry.requires after-size-of.size_of_lem.ensures after-fix-place.fix-place.ensures
 
 pub place-sized-spec : {M : Type 1} → statement M
 place-sized-spec =

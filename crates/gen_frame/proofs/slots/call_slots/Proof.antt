@@ -13,20 +13,20 @@ mul-if1 c =
     let after-skip = c in
     let entry = after-skip.before.before.before.before in
     let at = laws.callee_at entry.args.kinds.now entry.args.words.now entry.args.work.now entry.requires.args entry.requires.fields after-skip.skip.ensures in
-    omega (arith, at.in-kinds)
+    omega (arith, at.in_kinds)
 
 shared-slice-read-if1 : tie.Need-shared-slice-read-if1
 shared-slice-read-if1 c =
     let after-skip = c.before in
     let entry = after-skip.before.before.before.before in
     let at = laws.callee_at entry.args.kinds.now entry.args.words.now entry.args.work.now entry.requires.args entry.requires.fields after-skip.skip.ensures in
-    omega (arith, at.in-kinds)
+    omega (arith, at.in_kinds)
 
 returns : tie.Need-returns
 returns c =
     let after-skip = c.before.before in
     let entry = after-skip.before.before.before.before in
-    laws.call-other entry.args.kinds.now entry.args.words.now entry.args.work.now after-skip.skip.ensures c.if1.true
+    laws.call_other entry.args.kinds.now entry.args.words.now entry.args.work.now after-skip.skip.ensures c.if1.true
 
 mul-if2 : tie.Need-overflow-mul-if2
 mul-if2 c =
@@ -79,14 +79,14 @@ returns-2 c =
     let else1 = c.before.before.before in
     let after-skip = else1.before.before in
     let entry = after-skip.before.before.before.before in
-    laws.call-plain entry.args.kinds.now entry.args.words.now entry.args.work.now after-skip.skip.ensures else1.if1.false c.if2.true
+    laws.call_plain entry.args.kinds.now entry.args.words.now entry.args.work.now after-skip.skip.ensures else1.if1.false c.if2.true
 
 returns-3 : tie.Need-returns-3
 returns-3 c =
     let else1 = c.before.before.before in
     let after-skip = else1.before.before in
     let entry = after-skip.before.before.before.before in
-    laws.call-doubled entry.args.kinds.now entry.args.words.now entry.args.work.now after-skip.skip.ensures else1.if1.false c.if2.false
+    laws.call_doubled entry.args.kinds.now entry.args.words.now entry.args.work.now after-skip.skip.ensures else1.if1.false c.if2.false
 
 pub call-slots-spec : {M : Type 1} → statement M
 call-slots-spec =

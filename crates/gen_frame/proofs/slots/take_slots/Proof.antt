@@ -8,7 +8,7 @@ use Rattle.gen_frame.proofs.slots.take_slots.Tie as tie
 shared-slice-read-dest : tie.Need-shared-slice-read-dest
 shared-slice-read-dest c =
     let entry = c.before.before.before.before in
-    let h = (laws.inst-front entry.args.kinds.now entry.args.words.now entry.requires.at).in_words in
+    let h = (laws.inst_front entry.args.kinds.now entry.args.words.now entry.requires.at).in_words in
     search rules
 
 returns : tie.Need-returns
@@ -64,7 +64,7 @@ returns-2 c =
     let after-slots-for = c.before.before in
     let else1 = after-slots-for.before.before in
     let entry = else1.before.before.before.before.before in
-    laws.take-some entry.args.kinds.now entry.args.words.now entry.args.work.now entry.args.f entry.requires else1.if1.false after-slots-for.slots-for.ensures
+    laws.take_some entry.args.kinds.now entry.args.words.now entry.args.work.now entry.args.f entry.requires else1.if1.false after-slots-for.slots-for.ensures
 
 pub take-slots-spec : {M : Type 1} → statement M
 take-slots-spec =

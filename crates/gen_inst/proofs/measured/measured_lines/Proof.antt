@@ -1,6 +1,6 @@
 -- `gen_inst::measured::measured_lines` meets its contract: the kind tells the instruction.
-use Rattle.gen_inst.specs.Measured.{load-lent, store-lent, freeze-lent, atomic-load-lent, atomic-store-lent}
-use Rattle.gen_inst.specs.Measured.{load-arm, store-arm, freeze-arm, atomic-load-arm, atomic-store-arm, none_left}
+use Rattle.gen_inst.specs.Measured.{load_lent, store_lent, freeze_lent, atomic_load_lent, atomic_store_lent}
+use Rattle.gen_inst.specs.Measured.{load_arm, store_arm, freeze_arm, atomic_load_arm, atomic_store_arm, none_left}
 use borrow.Author.Rules.{rules}
 use Rattle.gen_inst.proofs.measured.measured_lines.Statement.{statement}
 use Rattle.gen_inst.proofs.measured.measured_lines.Tie as tie
@@ -16,31 +16,31 @@ gen-load-requires : tie.Need-gen-load-requires
 gen-load-requires c κs =
     let at-match-keys1 = c.before.before.before in
     let entry = at-match-keys1.before.before.before.before.before.before.before.before in
-    load-lent entry.requires at-match-keys1.match.keys1
+    load_lent entry.requires at-match-keys1.match.keys1
 
 gen-store-requires : tie.Need-gen-store-requires
 gen-store-requires c κs =
     let at-match-keys2 = c.before.before.before in
     let entry = at-match-keys2.before.before.before.before.before.before.before.before in
-    store-lent entry.requires at-match-keys2.match.keys2
+    store_lent entry.requires at-match-keys2.match.keys2
 
 gen-freeze-requires : tie.Need-gen-freeze-requires
 gen-freeze-requires c κs =
     let at-match-keys3 = c.before.before.before in
     let entry = at-match-keys3.before.before.before.before.before.before.before.before in
-    freeze-lent entry.requires at-match-keys3.match.keys3
+    freeze_lent entry.requires at-match-keys3.match.keys3
 
 gen-atomic-load-requires : tie.Need-gen-atomic-load-requires
 gen-atomic-load-requires c κs =
     let at-match-keys4 = c.before.before.before in
     let entry = at-match-keys4.before.before.before.before.before.before.before.before in
-    atomic-load-lent entry.requires at-match-keys4.match.keys4
+    atomic_load_lent entry.requires at-match-keys4.match.keys4
 
 gen-atomic-store-requires : tie.Need-gen-atomic-store-requires
 gen-atomic-store-requires c κs =
     let at-match-keys5 = c.before.before.before in
     let entry = at-match-keys5.before.before.before.before.before.before.before.before in
-    atomic-store-lent entry.requires at-match-keys5.match.keys5
+    atomic_store_lent entry.requires at-match-keys5.match.keys5
 
 same_length : tie.Need-same-length
 same_length c = search rules
@@ -56,7 +56,7 @@ returns c =
     let after-gen-load = c.before.before.before.before.before.before in
     let at-match-keys1 = after-gen-load.before.before.before.before in
     λ k d i e measures maps f.
-    load-arm k d i e f at-match-keys1.match.keys1 (λ p g. after-gen-load.gen-load.ensures p k g maps)
+    load_arm k d i e f at-match-keys1.match.keys1 (λ p g. after-gen-load.gen-load.ensures p k g maps)
 
 same-length-4 : tie.Need-same-length-4
 same-length-4 c = search rules
@@ -72,7 +72,7 @@ returns-2 c =
     let after-gen-store = c.before.before.before.before.before.before in
     let at-match-keys2 = after-gen-store.before.before.before.before in
     λ k d i e measures maps f.
-    store-arm k d i e f at-match-keys2.match.keys2 (λ p g. after-gen-store.gen-store.ensures p k g maps)
+    store_arm k d i e f at-match-keys2.match.keys2 (λ p g. after-gen-store.gen-store.ensures p k g maps)
 
 same-length-7 : tie.Need-same-length-7
 same-length-7 c = search rules
@@ -88,7 +88,7 @@ returns-3 c =
     let after-gen-freeze = c.before.before.before.before.before.before in
     let at-match-keys3 = after-gen-freeze.before.before.before.before in
     λ k d i e measures maps f.
-    freeze-arm k d i e f at-match-keys3.match.keys3 (λ p g. after-gen-freeze.gen-freeze.ensures p k g maps)
+    freeze_arm k d i e f at-match-keys3.match.keys3 (λ p g. after-gen-freeze.gen-freeze.ensures p k g maps)
 
 same-length-10 : tie.Need-same-length-10
 same-length-10 c = search rules
@@ -104,7 +104,7 @@ returns-4 c =
     let after-gen-atomic-load = c.before.before.before.before.before.before in
     let at-match-keys4 = after-gen-atomic-load.before.before.before.before in
     λ k d i e measures maps f.
-    atomic-load-arm k d i e f at-match-keys4.match.keys4 (λ p g. after-gen-atomic-load.gen-atomic-load.ensures p k g maps)
+    atomic_load_arm k d i e f at-match-keys4.match.keys4 (λ p g. after-gen-atomic-load.gen-atomic-load.ensures p k g maps)
 
 same-length-13 : tie.Need-same-length-13
 same-length-13 c = search rules
@@ -120,7 +120,7 @@ returns-5 c =
     let after-gen-atomic-store = c.before.before.before.before.before.before in
     let at-match-keys5 = after-gen-atomic-store.before.before.before.before in
     λ k d i e measures maps f.
-    atomic-store-arm k d i e f at-match-keys5.match.keys5 (λ p g. after-gen-atomic-store.gen-atomic-store.ensures p k g maps)
+    atomic_store_arm k d i e f at-match-keys5.match.keys5 (λ p g. after-gen-atomic-store.gen-atomic-store.ensures p k g maps)
 
 returns-6 : tie.Need-returns-6
 returns-6 c =

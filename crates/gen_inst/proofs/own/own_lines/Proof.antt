@@ -1,10 +1,10 @@
 -- `gen_inst::own::own_lines` meets its contract: the kind tells the instruction.
 use mathlib.Core.Path.{subst, sym, ◌∙◌}
 use Rattle.book.specs.Kinds.{InstTag}
-use Rattle.book.specs.Fields.{instFields}
+use Rattle.book.specs.Fields.{inst_fields}
 use Rattle.gen_values.specs.Fields.{Fields}
-use Rattle.gen_inst.specs.Values.{select-there, select-arm}
-use Rattle.gen_inst.specs.Own.{held-80, alloca-lent, gep-ask, call-given, extract-given, alloca-arm, gep-arm, call-arm, extract-arm, nothing-arm}
+use Rattle.gen_inst.specs.Values.{select_there, select_arm}
+use Rattle.gen_inst.specs.Own.{held_80, alloca_lent, gep_ask, call_given, extract_given, alloca_arm, gep_arm, call_arm, extract_arm, nothing_arm}
 use borrow.Author.Rules.{rules}
 use Rattle.gen_inst.proofs.own.own_lines.Statement.{statement}
 use Rattle.gen_inst.proofs.own.own_lines.Tie as tie
@@ -21,37 +21,37 @@ gen-select-requires : tie.Need-gen-select-requires
 gen-select-requires c κs =
     let at-match-keys1 = c.before.before.before in
     let entry = at-match-keys1.before.before.before.before.before.before.before.before in
-    select-there entry.requires.held at-match-keys1.match.keys1
+    select_there entry.requires.held at-match-keys1.match.keys1
 
 gen-alloca-requires : tie.Need-gen-alloca-requires
 gen-alloca-requires c κs =
     let at-match-keys2 = c.before.before.before in
     let entry = at-match-keys2.before.before.before.before.before.before.before.before in
-    alloca-lent entry.requires.held entry.requires.result at-match-keys2.match.keys2
+    alloca_lent entry.requires.held entry.requires.result at-match-keys2.match.keys2
 
 gen-gep-requires : tie.Need-gen-gep-requires
 gen-gep-requires c κs =
     let at-match-keys3 = c.before.before.before in
     let entry = at-match-keys3.before.before.before.before.before.before.before.before in
-    gep-ask entry.args.book-kinds.now entry.args.book-words.now entry.requires at-match-keys3.match.keys3
+    gep_ask entry.args.book-kinds.now entry.args.book-words.now entry.requires at-match-keys3.match.keys3
 
 gen-call-requires : tie.Need-gen-call-requires
 gen-call-requires c κs =
     let at-match-keys4 = c.before.before.before in
     let entry = at-match-keys4.before.before.before.before.before.before.before.before in
-    call-given entry.requires.held entry.requires.result at-match-keys4.match.keys4
+    call_given entry.requires.held entry.requires.result at-match-keys4.match.keys4
 
 swap-lines-requires : tie.Need-swap-lines-requires
 swap-lines-requires c κs =
     let at-match-keys5 = c.before.before.before in
     let entry = at-match-keys5.before.before.before.before.before.before.before.before in
-    (held-80 at-match-keys5.match.keys5 entry.requires.held, entry.requires.result)
+    (held_80 at-match-keys5.match.keys5 entry.requires.held, entry.requires.result)
 
 gen-extractvalue-requires : tie.Need-gen-extractvalue-requires
 gen-extractvalue-requires c κs =
     let at-match-keys6 = c.before.before.before in
     let entry = at-match-keys6.before.before.before.before.before.before.before.before in
-    extract-given entry.requires.held entry.requires.result at-match-keys6.match.keys6
+    extract_given entry.requires.held entry.requires.result at-match-keys6.match.keys6
 
 same_length : tie.Need-same-length
 same_length c = search rules
@@ -67,7 +67,7 @@ returns c =
     let after-gen-select = c.before.before.before.before in
     let at-match-keys1 = after-gen-select.before.before.before.before in
     λ k d i e own named base maps f.
-    select-arm k d i e f maps at-match-keys1.match.keys1 (λ p g. after-gen-select.gen-select.ensures k maps.locals p g)
+    select_arm k d i e f maps at-match-keys1.match.keys1 (λ p g. after-gen-select.gen-select.ensures k maps.locals p g)
 
 same-length-4 : tie.Need-same-length-4
 same-length-4 c = search rules
@@ -84,7 +84,7 @@ returns-2 c =
     let at-match-keys2 = after-gen-alloca.before.before.before.before in
     let entry = at-match-keys2.before.before.before.before.before.before.before.before in
     λ k d i e own named base maps f.
-    alloca-arm k d i e f at-match-keys2.match.keys2 entry.args.dest named (λ p g. after-gen-alloca.gen-alloca.ensures p k g maps base)
+    alloca_arm k d i e f at-match-keys2.match.keys2 entry.args.dest named (λ p g. after-gen-alloca.gen-alloca.ensures p k g maps base)
 
 same-length-7 : tie.Need-same-length-7
 same-length-7 c = search rules
@@ -101,8 +101,8 @@ returns-3 c =
     let at-match-keys3 = after-gen-gep.before.before.before.before in
     let entry = at-match-keys3.before.before.before.before.before.before.before.before in
     λ k d i e own named base maps f.
-    gep-arm k d i e f at-match-keys3.match.keys3
-    (λ p g. after-gen-gep.gen-gep.ensures k maps p (subst (Fields entry.args.names (instFields InstTag.getElementPtr) p) entry.requires.placed g))
+    gep_arm k d i e f at-match-keys3.match.keys3
+    (λ p g. after-gen-gep.gen-gep.ensures k maps p (subst (Fields entry.args.names (inst_fields InstTag.get_element_ptr) p) entry.requires.placed g))
 
 same-length-10 : tie.Need-same-length-10
 same-length-10 c = search rules
@@ -119,7 +119,7 @@ returns-4 c =
     let at-match-keys4 = after-gen-call.before.before.before.before in
     let entry = at-match-keys4.before.before.before.before.before.before.before.before in
     λ k d i e own named base maps f.
-    call-arm k d i e f at-match-keys4.match.keys4 entry.args.dest named maps (λ p g. after-gen-call.gen-call.ensures _ p k g maps)
+    call_arm k d i e f at-match-keys4.match.keys4 entry.args.dest named maps (λ p g. after-gen-call.gen-call.ensures _ p k g maps)
 
 same-length-13 : tie.Need-same-length-13
 same-length-13 c = search rules
@@ -152,13 +152,13 @@ returns-6 c =
     let at-match-keys6 = after-gen-extractvalue.before.before.before.before in
     let entry = at-match-keys6.before.before.before.before.before.before.before.before in
     λ k d i e own named base maps f.
-    extract-arm k d i e f at-match-keys6.match.keys6 entry.args.dest named maps (λ p g. after-gen-extractvalue.gen-extractvalue.ensures p k g maps.locals)
+    extract_arm k d i e f at-match-keys6.match.keys6 entry.args.dest named maps (λ p g. after-gen-extractvalue.gen-extractvalue.ensures p k g maps.locals)
 
 returns-7 : tie.Need-returns-7
 returns-7 c =
     let entry = c.before.before.before.before.before.before.before.before in
     λ k d i e own named base maps f.
-    nothing-arm k d entry.args.s entry.args.lines.now entry.args.operands.now i e own c.match.rest maps
+    nothing_arm k d entry.args.s entry.args.lines.now entry.args.operands.now i e own c.match.rest maps
 
 pub own-lines-spec : {M : Type 1} → statement M
 own-lines-spec =

@@ -26,7 +26,7 @@ returns c = λ k l case more maps label target.
     let gone = c.before.before.before.before in
     let labelled = gone.before.before.before.before.before.before.before in
     let entry = labelled.before.before.before.before.before.before.before.before in
-    laws.case-edge-puts k entry.args.pred l case more label target labelled.put.ensures (gone.edge.ensures k maps)
+    laws.case_edge_puts k entry.args.pred l case more label target labelled.put.ensures (gone.edge.ensures k maps)
 
 pub case-edge-spec : {M : Type 1} → statement M
 case-edge-spec = tie.close (tie.spec put-requires edge-requires same_length same-length-2 returns)

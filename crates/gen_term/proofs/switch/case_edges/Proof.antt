@@ -4,9 +4,9 @@ use Rattle.book.specs.Ast.{Case}
 use Rattle.book.specs.Entry.{entries}
 use Rattle.lowering.specs.Context.{FnCtx}
 use Rattle.gen_term.specs.Terms.{Cases}
-use Rattle.lowering.specs.Term.{caseEdges}
+use Rattle.lowering.specs.Term.{case_edges}
 use Rattle.gen_values.specs.Maps.{Maps}
-use Rattle.gen_term.specs.Switches.{CaseWalk, CasesLeft, case-in, case_at, case-left, walk_start, walk_more, walk_end, no_edges}
+use Rattle.gen_term.specs.Switches.{CaseWalk, CasesLeft, case_in, case_at, case_left, walk_start, walk_more, walk_end, no_edges}
 use Rattle.gen_term.proofs.switch.case_edges.Statement.{statement}
 use Rattle.gen_term.proofs.switch.case_edges.Tie as tie
 
@@ -15,7 +15,7 @@ invariant-loop pred first kinds words book-kinds book-words names work lines₀ 
     ((cs : List Case) → Cases names cs (entries kinds words) → CasesLeft names kinds words at)
     × (length lines ≡ length lines₀) × (length operands ≡ length operands₀)
     × ((c : FnCtx) (l : ℕ) (cs : List Case) → Maps names (entries book-kinds book-words) c work → Cases names cs (entries kinds words) → first ≡ l % 2 ^ 64
-    → CaseWalk (caseEdges c pred) names kinds words l cs at label reached₀ reached lines₀ operands₀ lines operands)
+    → CaseWalk (case_edges c pred) names kinds words l cs at label reached₀ reached lines₀ operands₀ lines operands)
 
 abbrev decreases-loop : tie.decreases-loop
 decreases-loop pred first kinds words book-kinds book-words names work lines₀ operands₀ reached₀ label₀ at₀ lines operands reached label at =
@@ -30,7 +30,7 @@ loop-holds c =
       refl,
       refl,
       λ k l cs maps front e.
-          walk_start (caseEdges k a.pred) a.names a.kinds.now a.words.now l cs front e a.s a.lines.now a.operands.now,
+          walk_start (case_edges k a.pred) a.names a.kinds.now a.words.now l cs front e a.s a.lines.now a.operands.now,
     )
 
 -- src/switch.rt:149:11
@@ -40,7 +40,7 @@ mul-if1 c =
     let entry = loop.before.before.before.before.before.before.before.before in
     let a = entry.args in
     let rest = loop.loop.invariant.0 entry.requires.cases entry.requires.front in
-    let inside = case-in a.names a.kinds.now a.words.now rest in
+    let inside = case_in a.names a.kinds.now a.words.now rest in
     omega (arith, inside.0, entry.well-formed)
 
 -- src/switch.rt:149:11
@@ -50,7 +50,7 @@ shared-slice-read-if1 c =
     let entry = loop.before.before.before.before.before.before.before.before in
     let a = entry.args in
     let rest = loop.loop.invariant.0 entry.requires.cases entry.requires.front in
-    let inside = case-in a.names a.kinds.now a.words.now rest in
+    let inside = case_in a.names a.kinds.now a.words.now rest in
     inside.0
 
 -- src/switch.rt:151:25
@@ -61,7 +61,7 @@ add-case-edge c =
     let entry = loop.before.before.before.before.before.before.before.before in
     let a = entry.args in
     let rest = loop.loop.invariant.0 entry.requires.cases entry.requires.front in
-    let inside = case-in a.names a.kinds.now a.words.now rest in
+    let inside = case_in a.names a.kinds.now a.words.now rest in
     let case = case_at a.names a.kinds.now a.words.now rest turn.if1.true in
     omega (arith, case.in_words, entry.well-formed)
 
@@ -73,7 +73,7 @@ mul-case-edge c =
     let entry = loop.before.before.before.before.before.before.before.before in
     let a = entry.args in
     let rest = loop.loop.invariant.0 entry.requires.cases entry.requires.front in
-    let inside = case-in a.names a.kinds.now a.words.now rest in
+    let inside = case_in a.names a.kinds.now a.words.now rest in
     let case = case_at a.names a.kinds.now a.words.now rest turn.if1.true in
     omega (arith, case.in_words, entry.well-formed)
 
@@ -85,7 +85,7 @@ shared-slice-read-case-edge c =
     let entry = loop.before.before.before.before.before.before.before.before in
     let a = entry.args in
     let rest = loop.loop.invariant.0 entry.requires.cases entry.requires.front in
-    let inside = case-in a.names a.kinds.now a.words.now rest in
+    let inside = case_in a.names a.kinds.now a.words.now rest in
     let case = case_at a.names a.kinds.now a.words.now rest turn.if1.true in
     case.in_words
 
@@ -97,7 +97,7 @@ case-edge-requires c κs =
     let entry = loop.before.before.before.before.before.before.before.before in
     let a = entry.args in
     let rest = loop.loop.invariant.0 entry.requires.cases entry.requires.front in
-    let inside = case-in a.names a.kinds.now a.words.now rest in
+    let inside = case_in a.names a.kinds.now a.words.now rest in
     let case = case_at a.names a.kinds.now a.words.now rest turn.if1.true in
     record { ctx = entry.requires.ctx; maps = entry.requires.maps; target = rw case.label case.below }
 
@@ -113,7 +113,7 @@ add_at c =
     let entry = loop.before.before.before.before.before.before.before.before in
     let a = entry.args in
     let rest = loop.loop.invariant.0 entry.requires.cases entry.requires.front in
-    let inside = case-in a.names a.kinds.now a.words.now rest in
+    let inside = case_in a.names a.kinds.now a.words.now rest in
     let case = case_at a.names a.kinds.now a.words.now rest turn.if1.true in
     omega (arith, case.in_words, entry.well-formed)
 
@@ -125,7 +125,7 @@ loop-less c =
     let entry = loop.before.before.before.before.before.before.before.before in
     let a = entry.args in
     let rest = loop.loop.invariant.0 entry.requires.cases entry.requires.front in
-    let inside = case-in a.names a.kinds.now a.words.now rest in
+    let inside = case_in a.names a.kinds.now a.words.now rest in
     omega (arith, inside.0)
 
 -- src/switch.rt:149:5
@@ -136,11 +136,11 @@ loop-again c =
     let loop = turn.before.before in
     let entry = loop.before.before.before.before.before.before.before.before in
     let a = entry.args in (
-      λ cs front. case-left a.names a.kinds.now a.words.now (loop.loop.invariant.0 cs front) turn.if1.true,
+      λ cs front. case_left a.names a.kinds.now a.words.now (loop.loop.invariant.0 cs front) turn.if1.true,
       after-edge.case_edge.auto.1.1.1.1.1.1.1.0 ∙ loop.loop.invariant.1,
       after-edge.case_edge.auto.1.1.1.1.1.1.1.1.0 ∙ loop.loop.invariant.2,
       λ k l cs maps front e.
-          walk_more (caseEdges k a.pred) a.names a.kinds.now a.words.now l cs (loop.loop.invariant.3 k l cs maps front e) turn.if1.true
+          walk_more (case_edges k a.pred) a.names a.kinds.now a.words.now l cs (loop.loop.invariant.3 k l cs maps front e) turn.if1.true
           c.next-label.ensures (λ n case more label value target. after-edge.case_edge.ensures k n case more maps label target),
     )
 
@@ -162,7 +162,7 @@ returns c = λ k l cs maps front e.
     let loop = c.before.before in
     let entry = loop.before.before.before.before.before.before.before.before in
     let a = entry.args in
-    walk_end (caseEdges k a.pred) a.names a.kinds.now a.words.now l cs (loop.loop.invariant.3 k l cs maps front e) (no_edges k a.pred) c.if1.false
+    walk_end (case_edges k a.pred) a.names a.kinds.now a.words.now l cs (loop.loop.invariant.3 k l cs maps front e) (no_edges k a.pred) c.if1.false
 
 pub case-edges-spec : {M : Type 1} → statement M
 case-edges-spec =

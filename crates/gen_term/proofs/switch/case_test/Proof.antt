@@ -43,7 +43,7 @@ returns c = λ m k v l case more value maps label number.
     let both = operated.before.before.before.before.before.before.before in
     let pushed = both.before.before.before.before.before.before.before in
     let entry = pushed.before.before.before.before.before.before.before.before in
-    laws.test-puts k entry.args.width v l case more label number operated.operation.ensures (pushed.push-value.ensures m k v value maps) both.push-int.ensures
+    laws.test_puts k entry.args.width v l case more label number operated.operation.ensures (pushed.push-value.ensures m k v value maps) both.push-int.ensures
     tested.put.ensures jumped.put2.ensures
 
 pub case-test-spec : {M : Type 1} → statement M

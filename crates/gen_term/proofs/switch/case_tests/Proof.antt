@@ -3,11 +3,11 @@ use Rattle.std.proofs.Common.{◌≡◌, ℕ, ◌-◌, ◌%◌, ◌^◌, List, l
 use Rattle.book.specs.Ast.{Value, Case}
 use Rattle.book.specs.Entry.{entries}
 use Rattle.lowering.specs.Context.{FnCtx}
-use Rattle.lowering.specs.Term.{caseTests}
+use Rattle.lowering.specs.Term.{case_tests}
 use Rattle.gen_values.specs.Fields.{ValueAt}
 use Rattle.gen_values.specs.Maps.{Locals}
 use Rattle.gen_term.specs.Terms.{Cases}
-use Rattle.gen_term.specs.Switches.{CaseWalk, CasesLeft, case-in, case_at, case-left, walk_start, walk_more, walk_end, no-tests}
+use Rattle.gen_term.specs.Switches.{CaseWalk, CasesLeft, case_in, case_at, case_left, walk_start, walk_more, walk_end, no_tests}
 use Rattle.gen_term.proofs.switch.case_tests.Statement.{statement}
 use Rattle.gen_term.proofs.switch.case_tests.Tie as tie
 
@@ -16,7 +16,7 @@ invariant-loop kinds words width first case-kinds case-words work lines₀ opera
     ((m : ℕ) (cs : List Case) → Cases m cs (entries case-kinds case-words) → CasesLeft m case-kinds case-words at)
     × (length lines ≡ length lines₀) × (length operands ≡ length operands₀)
     × ((m : ℕ) (c : FnCtx) (v : Value) (l : ℕ) (cs : List Case) → ValueAt m kinds words 0 v → Locals c m work → Cases m cs (entries case-kinds case-words) → first ≡ l % 2 ^ 64
-    → CaseWalk (caseTests c width v) m case-kinds case-words l cs at label reached₀ reached lines₀ operands₀ lines operands)
+    → CaseWalk (case_tests c width v) m case-kinds case-words l cs at label reached₀ reached lines₀ operands₀ lines operands)
 
 abbrev decreases-loop : tie.decreases-loop
 decreases-loop kinds words width first case-kinds case-words work lines₀ operands₀ reached₀ label₀ at₀ lines operands reached label at = length case-kinds - at
@@ -30,7 +30,7 @@ loop-holds c =
       λ m cs front. record { todo = cs; front = front },
       refl,
       refl,
-      λ m k v l cs value maps front e. walk_start (caseTests k a.width v) m cks cws l cs front e a.s a.lines.now a.operands.now,
+      λ m k v l cs value maps front e. walk_start (case_tests k a.width v) m cks cws l cs front e a.s a.lines.now a.operands.now,
     )
 
 mul-if1 : tie.Need-overflow-mul-if1 invariant-loop decreases-loop
@@ -42,7 +42,7 @@ mul-if1 c =
     let cws = a.case-words.now in
     let lent = entry.requires.lent in
     let rest = loop.loop.invariant.0 lent.names lent.cases lent.front in
-    let inside = case-in lent.names cks cws rest in
+    let inside = case_in lent.names cks cws rest in
     omega (arith, inside.0, entry.well-formed)
 
 shared-slice-read-if1 : tie.Need-shared-slice-read-if1 invariant-loop decreases-loop
@@ -54,7 +54,7 @@ shared-slice-read-if1 c =
     let cws = a.case-words.now in
     let lent = entry.requires.lent in
     let rest = loop.loop.invariant.0 lent.names lent.cases lent.front in
-    let inside = case-in lent.names cks cws rest in
+    let inside = case_in lent.names cks cws rest in
     inside.0
 
 mul-case-test : tie.Need-overflow-mul-case-test invariant-loop decreases-loop
@@ -66,7 +66,7 @@ mul-case-test c =
     let cws = a.case-words.now in
     let lent = entry.requires.lent in
     let rest = loop.loop.invariant.0 lent.names lent.cases lent.front in
-    let inside = case-in lent.names cks cws rest in
+    let inside = case_in lent.names cks cws rest in
     omega (arith, inside.1, entry.well-formed)
 
 shared-slice-read-case-test : tie.Need-shared-slice-read-case-test invariant-loop decreases-loop
@@ -78,7 +78,7 @@ shared-slice-read-case-test c =
     let cws = a.case-words.now in
     let lent = entry.requires.lent in
     let rest = loop.loop.invariant.0 lent.names lent.cases lent.front in
-    let inside = case-in lent.names cks cws rest in
+    let inside = case_in lent.names cks cws rest in
     inside.1
 
 case-test-requires : tie.Need-case-test-requires invariant-loop decreases-loop
@@ -111,7 +111,7 @@ loop-less c =
     let cws = a.case-words.now in
     let lent = entry.requires.lent in
     let rest = loop.loop.invariant.0 lent.names lent.cases lent.front in
-    let inside = case-in lent.names cks cws rest in
+    let inside = case_in lent.names cks cws rest in
     omega (arith, inside.0)
 
 loop-again : tie.Need-loop-preserved invariant-loop decreases-loop
@@ -127,11 +127,11 @@ loop-again c =
     let lent = entry.requires.lent in
     let rest = loop.loop.invariant.0 lent.names lent.cases lent.front in
     let case = case_at lent.names cks cws rest turn.if1.true in (
-      λ m cs front. case-left m cks cws (loop.loop.invariant.0 m cs front) turn.if1.true,
+      λ m cs front. case_left m cks cws (loop.loop.invariant.0 m cs front) turn.if1.true,
       after_test_lem.case-test.auto.1.1.1.1.1.1.0 ∙ loop.loop.invariant.1,
       after_test_lem.case-test.auto.1.1.1.1.1.1.1.0 ∙ loop.loop.invariant.2,
       λ m k v l cs value maps front e.
-          walk_more (caseTests k a.width v) m cks cws l cs (loop.loop.invariant.3 m k v l cs value maps front e) turn.if1.true
+          walk_more (case_tests k a.width v) m cks cws l cs (loop.loop.invariant.3 m k v l cs value maps front e) turn.if1.true
           next.next-label.ensures (λ n case more label number target. after_test_lem.case-test.ensures m k v n case more value maps label number),
     )
 
@@ -152,7 +152,7 @@ returns c = λ m k v l cs value maps front e.
     let a = entry.args in
     let cks = a.case-kinds.now in
     let cws = a.case-words.now in
-    walk_end (caseTests k a.width v) m cks cws l cs (loop.loop.invariant.3 m k v l cs value maps front e) (no-tests k a.width v) c.if1.false
+    walk_end (case_tests k a.width v) m cks cws l cs (loop.loop.invariant.3 m k v l cs value maps front e) (no_tests k a.width v) c.if1.false
 
 pub case-tests-spec : {M : Type 1} → statement M
 case-tests-spec =

@@ -3,7 +3,7 @@ use Rattle.std.proofs.Common.{ℕ, ◌-◌, ◌≤◌, List, length, arith}
 use Rattle.book.specs.Ast.{Case}
 use Rattle.book.specs.Entry.{entries}
 use Rattle.gen_term.specs.Terms.{Cases}
-use Rattle.gen_term.specs.Switches.{Counted, count-in, count_next, count-end}
+use Rattle.gen_term.specs.Switches.{Counted, count_in_lem, count_next, count_end}
 use Rattle.gen_term.proofs.switch.count_cases.Statement.{statement}
 use Rattle.gen_term.proofs.switch.count_cases.Tie as tie
 
@@ -27,7 +27,7 @@ mul-if1 c =
     let a = entry.args in
     let lent = entry.requires in
     let walk = loop.loop.invariant.1 lent.names lent.cases lent.front in
-    let inside = count-in lent.names a.kinds.now a.words.now lent.cases walk in
+    let inside = count_in_lem lent.names a.kinds.now a.words.now lent.cases walk in
     omega (arith, inside.0, entry.well-formed)
 
 -- src/switch.rt:40:11
@@ -38,7 +38,7 @@ shared-slice-read-if1 c =
     let a = entry.args in
     let lent = entry.requires in
     let walk = loop.loop.invariant.1 lent.names lent.cases lent.front in
-    let inside = count-in lent.names a.kinds.now a.words.now lent.cases walk in
+    let inside = count_in_lem lent.names a.kinds.now a.words.now lent.cases walk in
     inside.0
 
 -- src/switch.rt:41:9
@@ -49,7 +49,7 @@ add_at c =
     let a = entry.args in
     let lent = entry.requires in
     let walk = loop.loop.invariant.1 lent.names lent.cases lent.front in
-    let inside = count-in lent.names a.kinds.now a.words.now lent.cases walk in
+    let inside = count_in_lem lent.names a.kinds.now a.words.now lent.cases walk in
     let next = count_next lent.names a.kinds.now a.words.now lent.cases walk c.if1.true in
     omega (arith, next.0, entry.well-formed)
 
@@ -61,7 +61,7 @@ add-cases c =
     let a = entry.args in
     let lent = entry.requires in
     let walk = loop.loop.invariant.1 lent.names lent.cases lent.front in
-    let inside = count-in lent.names a.kinds.now a.words.now lent.cases walk in
+    let inside = count_in_lem lent.names a.kinds.now a.words.now lent.cases walk in
     let next = count_next lent.names a.kinds.now a.words.now lent.cases walk c.if1.true in
     omega (arith, next.0, loop.loop.invariant.0, entry.well-formed)
 
@@ -73,7 +73,7 @@ loop-less c =
     let a = entry.args in
     let lent = entry.requires in
     let walk = loop.loop.invariant.1 lent.names lent.cases lent.front in
-    let inside = count-in lent.names a.kinds.now a.words.now lent.cases walk in
+    let inside = count_in_lem lent.names a.kinds.now a.words.now lent.cases walk in
     omega (arith, inside.0)
 
 -- src/switch.rt:40:5
@@ -90,7 +90,7 @@ returns c = λ m cs front.
     let loop = c.before.before in
     let entry = loop.before in
     let a = entry.args in
-    count-end m a.kinds.now a.words.now cs (loop.loop.invariant.1 m cs front) c.if1.false
+    count_end m a.kinds.now a.words.now cs (loop.loop.invariant.1 m cs front) c.if1.false
 
 pub count-cases-spec : {M : Type 1} → statement M
 count-cases-spec =

@@ -1,9 +1,9 @@
 -- `gen_term::switch::gen_switch` meets its contract.
 use Rattle.std.proofs.Common.{arith, rules}
-use Rattle.gen_values.specs.Fields.{partFrom, part-there, fields-part, type-in, width_is}
-use Rattle.gen_edge.specs.Walks.{value-reaches}
+use Rattle.gen_values.specs.Fields.{part_from, part_there, fields_part, type_in, width_is}
+use Rattle.gen_edge.specs.Walks.{value_reaches}
 use Rattle.gen_values.specs.Fields.{part_length}
-use Rattle.gen_term.specs.Switches.{behind, switch-puts}
+use Rattle.gen_term.specs.Switches.{behind, switch_puts}
 use Rattle.gen_term.proofs.switch.gen_switch.Statement.{statement}
 use Rattle.gen_term.proofs.switch.gen_switch.Tie as tie
 
@@ -14,7 +14,7 @@ sub-type-kinds c =
     let ks = a.kinds.now in
     let ws = a.words.now in
     let p = entry.requires in
-    let inside = type-in ks ws 1 p.fields in
+    let inside = type_in ks ws 1 p.fields in
     omega (arith, inside.0, inside.1)
 
 part-type-kinds-start : tie.Need-slice-bounds-type-kinds-start
@@ -24,7 +24,7 @@ part-type-kinds-start c =
     let ks = a.kinds.now in
     let ws = a.words.now in
     let p = entry.requires in
-    let inside = type-in ks ws 1 p.fields in
+    let inside = type_in ks ws 1 p.fields in
     omega (arith, inside.0, inside.1)
 
 part-type-kinds-end : tie.Need-slice-bounds-type-kinds-end
@@ -34,7 +34,7 @@ part-type-kinds-end c =
     let ks = a.kinds.now in
     let ws = a.words.now in
     let p = entry.requires in
-    let inside = type-in ks ws 1 p.fields in
+    let inside = type_in ks ws 1 p.fields in
     omega (arith, inside.0, inside.1)
 
 sub-type-words : tie.Need-overflow-sub-type-words
@@ -44,7 +44,7 @@ sub-type-words c =
     let ks = a.kinds.now in
     let ws = a.words.now in
     let p = entry.requires in
-    let inside = type-in ks ws 1 p.fields in
+    let inside = type_in ks ws 1 p.fields in
     omega (arith, inside.0, inside.1)
 
 part-type-words-start : tie.Need-slice-bounds-type-words-start
@@ -54,7 +54,7 @@ part-type-words-start c =
     let ks = a.kinds.now in
     let ws = a.words.now in
     let p = entry.requires in
-    let inside = type-in ks ws 1 p.fields in
+    let inside = type_in ks ws 1 p.fields in
     omega (arith, inside.0, inside.1)
 
 part-type-words-end : tie.Need-slice-bounds-type-words-end
@@ -64,7 +64,7 @@ part-type-words-end c =
     let ks = a.kinds.now in
     let ws = a.words.now in
     let p = entry.requires in
-    let inside = type-in ks ws 1 p.fields in
+    let inside = type_in ks ws 1 p.fields in
     omega (arith, inside.0, inside.1)
 
 skip-requires : tie.Need-skip-requires
@@ -77,8 +77,8 @@ need-width-requires c κs =
     let ks = a.kinds.now in
     let ws = a.words.now in
     let p = entry.requires in
-    let inside = type-in ks ws 1 p.fields in
-    (part-there ks 1 inside.0, part-there ws 1 inside.1)
+    let inside = type_in ks ws 1 p.fields in
+    (part_there ks 1 inside.0, part_there ws 1 inside.1)
 
 mul-value-kinds : tie.Need-overflow-mul-value-kinds
 mul-value-kinds c =
@@ -88,8 +88,8 @@ mul-value-kinds c =
     let ks = a.kinds.now in
     let ws = a.words.now in
     let p = entry.requires in
-    let sw = behind (partFrom ks 1) (partFrom ws 1) p.ty p.val p.default p.cases (fields-part ks ws 1 p.fields) after-skip.skip.ensures in
-    omega (arith, sw.in-kinds, sw.in_words, part_length ks 1, part_length ws 1, entry.well-formed)
+    let sw = behind (part_from ks 1) (part_from ws 1) p.ty p.val p.default p.cases (fields_part ks ws 1 p.fields) after-skip.skip.ensures in
+    omega (arith, sw.in_kinds, sw.in_words, part_length ks 1, part_length ws 1, entry.well-formed)
 
 sub-value-kinds : tie.Need-overflow-sub-value-kinds
 sub-value-kinds c =
@@ -99,8 +99,8 @@ sub-value-kinds c =
     let ks = a.kinds.now in
     let ws = a.words.now in
     let p = entry.requires in
-    let sw = behind (partFrom ks 1) (partFrom ws 1) p.ty p.val p.default p.cases (fields-part ks ws 1 p.fields) after-skip.skip.ensures in
-    omega (arith, sw.in-kinds, sw.in_words, part_length ks 1, part_length ws 1, entry.well-formed)
+    let sw = behind (part_from ks 1) (part_from ws 1) p.ty p.val p.default p.cases (fields_part ks ws 1 p.fields) after-skip.skip.ensures in
+    omega (arith, sw.in_kinds, sw.in_words, part_length ks 1, part_length ws 1, entry.well-formed)
 
 part-value-kinds-start : tie.Need-slice-bounds-value-kinds-start
 part-value-kinds-start c =
@@ -110,8 +110,8 @@ part-value-kinds-start c =
     let ks = a.kinds.now in
     let ws = a.words.now in
     let p = entry.requires in
-    let sw = behind (partFrom ks 1) (partFrom ws 1) p.ty p.val p.default p.cases (fields-part ks ws 1 p.fields) after-skip.skip.ensures in
-    omega (arith, sw.in-kinds, sw.in_words, part_length ks 1, part_length ws 1, entry.well-formed)
+    let sw = behind (part_from ks 1) (part_from ws 1) p.ty p.val p.default p.cases (fields_part ks ws 1 p.fields) after-skip.skip.ensures in
+    omega (arith, sw.in_kinds, sw.in_words, part_length ks 1, part_length ws 1, entry.well-formed)
 
 part-value-kinds-end : tie.Need-slice-bounds-value-kinds-end
 part-value-kinds-end c =
@@ -121,8 +121,8 @@ part-value-kinds-end c =
     let ks = a.kinds.now in
     let ws = a.words.now in
     let p = entry.requires in
-    let sw = behind (partFrom ks 1) (partFrom ws 1) p.ty p.val p.default p.cases (fields-part ks ws 1 p.fields) after-skip.skip.ensures in
-    omega (arith, sw.in-kinds, sw.in_words, part_length ks 1, part_length ws 1, entry.well-formed)
+    let sw = behind (part_from ks 1) (part_from ws 1) p.ty p.val p.default p.cases (fields_part ks ws 1 p.fields) after-skip.skip.ensures in
+    omega (arith, sw.in_kinds, sw.in_words, part_length ks 1, part_length ws 1, entry.well-formed)
 
 mul-value-words : tie.Need-overflow-mul-value-words
 mul-value-words c =
@@ -132,8 +132,8 @@ mul-value-words c =
     let ks = a.kinds.now in
     let ws = a.words.now in
     let p = entry.requires in
-    let sw = behind (partFrom ks 1) (partFrom ws 1) p.ty p.val p.default p.cases (fields-part ks ws 1 p.fields) after-skip.skip.ensures in
-    omega (arith, sw.in-kinds, sw.in_words, part_length ks 1, part_length ws 1, entry.well-formed)
+    let sw = behind (part_from ks 1) (part_from ws 1) p.ty p.val p.default p.cases (fields_part ks ws 1 p.fields) after-skip.skip.ensures in
+    omega (arith, sw.in_kinds, sw.in_words, part_length ks 1, part_length ws 1, entry.well-formed)
 
 sub-value-words : tie.Need-overflow-sub-value-words
 sub-value-words c =
@@ -143,8 +143,8 @@ sub-value-words c =
     let ks = a.kinds.now in
     let ws = a.words.now in
     let p = entry.requires in
-    let sw = behind (partFrom ks 1) (partFrom ws 1) p.ty p.val p.default p.cases (fields-part ks ws 1 p.fields) after-skip.skip.ensures in
-    omega (arith, sw.in-kinds, sw.in_words, part_length ks 1, part_length ws 1, entry.well-formed)
+    let sw = behind (part_from ks 1) (part_from ws 1) p.ty p.val p.default p.cases (fields_part ks ws 1 p.fields) after-skip.skip.ensures in
+    omega (arith, sw.in_kinds, sw.in_words, part_length ks 1, part_length ws 1, entry.well-formed)
 
 part-value-words-start : tie.Need-slice-bounds-value-words-start
 part-value-words-start c =
@@ -154,8 +154,8 @@ part-value-words-start c =
     let ks = a.kinds.now in
     let ws = a.words.now in
     let p = entry.requires in
-    let sw = behind (partFrom ks 1) (partFrom ws 1) p.ty p.val p.default p.cases (fields-part ks ws 1 p.fields) after-skip.skip.ensures in
-    omega (arith, sw.in-kinds, sw.in_words, part_length ks 1, part_length ws 1, entry.well-formed)
+    let sw = behind (part_from ks 1) (part_from ws 1) p.ty p.val p.default p.cases (fields_part ks ws 1 p.fields) after-skip.skip.ensures in
+    omega (arith, sw.in_kinds, sw.in_words, part_length ks 1, part_length ws 1, entry.well-formed)
 
 part-value-words-end : tie.Need-slice-bounds-value-words-end
 part-value-words-end c =
@@ -165,8 +165,8 @@ part-value-words-end c =
     let ks = a.kinds.now in
     let ws = a.words.now in
     let p = entry.requires in
-    let sw = behind (partFrom ks 1) (partFrom ws 1) p.ty p.val p.default p.cases (fields-part ks ws 1 p.fields) after-skip.skip.ensures in
-    omega (arith, sw.in-kinds, sw.in_words, part_length ks 1, part_length ws 1, entry.well-formed)
+    let sw = behind (part_from ks 1) (part_from ws 1) p.ty p.val p.default p.cases (fields_part ks ws 1 p.fields) after-skip.skip.ensures in
+    omega (arith, sw.in_kinds, sw.in_words, part_length ks 1, part_length ws 1, entry.well-formed)
 
 sub-case-kinds : tie.Need-overflow-sub-case-kinds
 sub-case-kinds c =
@@ -176,8 +176,8 @@ sub-case-kinds c =
     let ks = a.kinds.now in
     let ws = a.words.now in
     let p = entry.requires in
-    let sw = behind (partFrom ks 1) (partFrom ws 1) p.ty p.val p.default p.cases (fields-part ks ws 1 p.fields) after-skip.skip.ensures in
-    omega (arith, sw.at.in-kinds, sw.at.in_words)
+    let sw = behind (part_from ks 1) (part_from ws 1) p.ty p.val p.default p.cases (fields_part ks ws 1 p.fields) after-skip.skip.ensures in
+    omega (arith, sw.at.in_kinds, sw.at.in_words)
 
 part-case-kinds-start : tie.Need-slice-bounds-case-kinds-start
 part-case-kinds-start c =
@@ -187,8 +187,8 @@ part-case-kinds-start c =
     let ks = a.kinds.now in
     let ws = a.words.now in
     let p = entry.requires in
-    let sw = behind (partFrom ks 1) (partFrom ws 1) p.ty p.val p.default p.cases (fields-part ks ws 1 p.fields) after-skip.skip.ensures in
-    omega (arith, sw.at.in-kinds, sw.at.in_words)
+    let sw = behind (part_from ks 1) (part_from ws 1) p.ty p.val p.default p.cases (fields_part ks ws 1 p.fields) after-skip.skip.ensures in
+    omega (arith, sw.at.in_kinds, sw.at.in_words)
 
 part-case-kinds-end : tie.Need-slice-bounds-case-kinds-end
 part-case-kinds-end c =
@@ -198,8 +198,8 @@ part-case-kinds-end c =
     let ks = a.kinds.now in
     let ws = a.words.now in
     let p = entry.requires in
-    let sw = behind (partFrom ks 1) (partFrom ws 1) p.ty p.val p.default p.cases (fields-part ks ws 1 p.fields) after-skip.skip.ensures in
-    omega (arith, sw.at.in-kinds, sw.at.in_words)
+    let sw = behind (part_from ks 1) (part_from ws 1) p.ty p.val p.default p.cases (fields_part ks ws 1 p.fields) after-skip.skip.ensures in
+    omega (arith, sw.at.in_kinds, sw.at.in_words)
 
 sub-case-words : tie.Need-overflow-sub-case-words
 sub-case-words c =
@@ -209,8 +209,8 @@ sub-case-words c =
     let ks = a.kinds.now in
     let ws = a.words.now in
     let p = entry.requires in
-    let sw = behind (partFrom ks 1) (partFrom ws 1) p.ty p.val p.default p.cases (fields-part ks ws 1 p.fields) after-skip.skip.ensures in
-    omega (arith, sw.at.in-kinds, sw.at.in_words)
+    let sw = behind (part_from ks 1) (part_from ws 1) p.ty p.val p.default p.cases (fields_part ks ws 1 p.fields) after-skip.skip.ensures in
+    omega (arith, sw.at.in_kinds, sw.at.in_words)
 
 part-case-words-start : tie.Need-slice-bounds-case-words-start
 part-case-words-start c =
@@ -220,8 +220,8 @@ part-case-words-start c =
     let ks = a.kinds.now in
     let ws = a.words.now in
     let p = entry.requires in
-    let sw = behind (partFrom ks 1) (partFrom ws 1) p.ty p.val p.default p.cases (fields-part ks ws 1 p.fields) after-skip.skip.ensures in
-    omega (arith, sw.at.in-kinds, sw.at.in_words)
+    let sw = behind (part_from ks 1) (part_from ws 1) p.ty p.val p.default p.cases (fields_part ks ws 1 p.fields) after-skip.skip.ensures in
+    omega (arith, sw.at.in_kinds, sw.at.in_words)
 
 part-case-words-end : tie.Need-slice-bounds-case-words-end
 part-case-words-end c =
@@ -231,8 +231,8 @@ part-case-words-end c =
     let ks = a.kinds.now in
     let ws = a.words.now in
     let p = entry.requires in
-    let sw = behind (partFrom ks 1) (partFrom ws 1) p.ty p.val p.default p.cases (fields-part ks ws 1 p.fields) after-skip.skip.ensures in
-    omega (arith, sw.at.in-kinds, sw.at.in_words)
+    let sw = behind (part_from ks 1) (part_from ws 1) p.ty p.val p.default p.cases (fields_part ks ws 1 p.fields) after-skip.skip.ensures in
+    omega (arith, sw.at.in_kinds, sw.at.in_words)
 
 word-requires : tie.Need-word-requires
 word-requires c κs = search rules
@@ -246,7 +246,7 @@ count-cases-requires c κs =
     let ws = a.words.now in
     let m = a.names in
     let p = entry.requires in
-    let sw = behind (partFrom ks 1) (partFrom ws 1) p.ty p.val p.default p.cases (fields-part ks ws 1 p.fields) after-skip.skip.ensures in
+    let sw = behind (part_from ks 1) (part_from ws 1) p.ty p.val p.default p.cases (fields_part ks ws 1 p.fields) after-skip.skip.ensures in
     record { names = m; cases = p.cases; front = sw.at.cases }
 
 fresh-requires : tie.Need-fresh-requires
@@ -261,8 +261,8 @@ case-tests-requires c κs =
     let ws = a.words.now in
     let m = a.names in
     let p = entry.requires in
-    let sw = behind (partFrom ks 1) (partFrom ws 1) p.ty p.val p.default p.cases (fields-part ks ws 1 p.fields) after-skip.skip.ensures in
-    record { lent = record { names = m; cases = p.cases; front = sw.at.cases }; value = value-reaches m sw.at.value p.maps.room }
+    let sw = behind (part_from ks 1) (part_from ws 1) p.ty p.val p.default p.cases (fields_part ks ws 1 p.fields) after-skip.skip.ensures in
+    record { lent = record { names = m; cases = p.cases; front = sw.at.cases }; value = value_reaches m sw.at.value p.maps.room }
 
 shared-slice-read-edge : tie.Need-shared-slice-read-edge
 shared-slice-read-edge c =
@@ -272,7 +272,7 @@ shared-slice-read-edge c =
     let ks = a.kinds.now in
     let ws = a.words.now in
     let p = entry.requires in
-    let sw = behind (partFrom ks 1) (partFrom ws 1) p.ty p.val p.default p.cases (fields-part ks ws 1 p.fields) after-skip.skip.ensures in
+    let sw = behind (part_from ks 1) (part_from ws 1) p.ty p.val p.default p.cases (fields_part ks ws 1 p.fields) after-skip.skip.ensures in
     omega (arith, sw.at.in_words)
 
 edge-requires : tie.Need-edge-requires
@@ -283,8 +283,8 @@ edge-requires c κs =
     let ks = a.kinds.now in
     let ws = a.words.now in
     let p = entry.requires in
-    let sw = behind (partFrom ks 1) (partFrom ws 1) p.ty p.val p.default p.cases (fields-part ks ws 1 p.fields) after-skip.skip.ensures in
-    record { ctx = p.ctx; maps = p.maps; target = rw sw.at.default-is sw.at.default_below }
+    let sw = behind (part_from ks 1) (part_from ws 1) p.ty p.val p.default p.cases (fields_part ks ws 1 p.fields) after-skip.skip.ensures in
+    record { ctx = p.ctx; maps = p.maps; target = rw sw.at.default_is sw.at.default_below }
 
 case-edges-requires : tie.Need-case-edges-requires
 case-edges-requires c κs =
@@ -294,7 +294,7 @@ case-edges-requires c κs =
     let ks = a.kinds.now in
     let ws = a.words.now in
     let p = entry.requires in
-    let sw = behind (partFrom ks 1) (partFrom ws 1) p.ty p.val p.default p.cases (fields-part ks ws 1 p.fields) after-skip.skip.ensures in
+    let sw = behind (part_from ks 1) (part_from ws 1) p.ty p.val p.default p.cases (fields_part ks ws 1 p.fields) after-skip.skip.ensures in
     record { ctx = p.ctx; maps = p.maps; cases = p.cases; front = sw.at.cases }
 
 same_length : tie.Need-same-length
@@ -318,13 +318,13 @@ returns c = λ k ty val default cs fields maps.
     let ks = a.kinds.now in
     let ws = a.words.now in
     let m = a.names in
-    let typed = fields-part ks ws 1 fields in
-    let at = (behind (partFrom ks 1) (partFrom ws 1) ty val default cs typed after-skip.skip.ensures).at in
-    switch-puts k a.pred ty val default cs wide.need-width.result.width counted.count-cases.result named.word.result
-    (wide.need-width.ensures ty (width_is (partFrom ks 1) (partFrom ws 1) 0 typed))
+    let typed = fields_part ks ws 1 fields in
+    let at = (behind (part_from ks 1) (part_from ws 1) ty val default cs typed after-skip.skip.ensures).at in
+    switch_puts k a.pred ty val default cs wide.need-width.result.width counted.count-cases.result named.word.result
+    (wide.need-width.ensures ty (width_is (part_from ks 1) (part_from ws 1) 0 typed))
     (counted.count-cases.ensures m cs at.cases) made.fresh.ensures named.word.ensures.0 named.word.ensures.1
     (λ l e. tests.case-tests.ensures m k val l cs at.value maps.locals at.cases e)
-    (rw at.default-is at (gone.edge.ensures k maps)) (λ l e. edges.case-edges.ensures k l cs maps at.cases e)
+    (rw at.default_is at (gone.edge.ensures k maps)) (λ l e. edges.case-edges.ensures k l cs maps at.cases e)
 
 pub gen-switch-spec : {M : Type 1} → statement M
 gen-switch-spec =

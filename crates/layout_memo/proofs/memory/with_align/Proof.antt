@@ -2,7 +2,7 @@
 use mathlib.Core.Path.{sym, ap}
 use native.Mathlib.Omega.{arith}
 use Rattle.layout_memo.specs.Helpers as laws
-use Rattle.layout_memo.specs.Work.{withAlign}
+use Rattle.layout_memo.specs.Work.{with_align}
 use borrow.Author.Rules.{rules}
 use Rattle.layout_memo.proofs.memory.with_align.Statement.{statement}
 use Rattle.layout_memo.proofs.memory.with_align.Tie as tie
@@ -14,22 +14,22 @@ mul-result : tie.Need-overflow-mul-result
 mul-result c = search rules
 
 mul-result-2 : tie.Need-overflow-mul-result-2
-mul-result-2 c = omega (arith, laws.small_at _ c.before.m.given.1 c.before.before.before.requires.0, laws.few-at _ c.before.m.given.1 c.before.before.before.requires.1)
+mul-result-2 c = omega (arith, laws.small_at _ c.before.m.given.1 c.before.before.before.requires.0, laws.few_at _ c.before.m.given.1 c.before.before.before.requires.1)
 
 cast-result : tie.Need-overflow-cast-result
 cast-result c = search rules
 
 add-result : tie.Need-overflow-add-result
-add-result c = omega (arith, laws.small_at _ c.before.m.given.1 c.before.before.before.requires.0, laws.few-at _ c.before.m.given.1 c.before.before.before.requires.1)
+add-result c = omega (arith, laws.small_at _ c.before.m.given.1 c.before.before.before.requires.0, laws.few_at _ c.before.m.given.1 c.before.before.before.requires.1)
 
 add-result-2 : tie.Need-overflow-add-result-2
-add-result-2 c = omega (arith, laws.small_at _ c.before.m.given.1 c.before.before.before.requires.0, laws.few-at _ c.before.m.given.1 c.before.before.before.requires.1)
+add-result-2 c = omega (arith, laws.small_at _ c.before.m.given.1 c.before.before.before.requires.0, laws.few_at _ c.before.m.given.1 c.before.before.before.requires.1)
 
 enum_told : tie.Need-enum-told
 enum_told c = search rules
 
 returns : tie.Need-returns
-returns c = ap (withAlign _) (sym c.before.m.given.1)
+returns c = ap (with_align _) (sym c.before.m.given.1)
 
 returns-2 : tie.Need-returns-2
 returns-2 c = search rules

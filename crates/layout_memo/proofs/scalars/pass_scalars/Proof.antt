@@ -30,7 +30,7 @@ shared-slice-read-scalar-bytes : tie.Need-shared-slice-read-scalar-bytes invaria
 shared-slice-read-scalar-bytes c =
     let at-loop = c.before.before.before in
     let entry = at-loop.before.before.before in
-    let h = fields.place-kinds entry.args.names entry.args.kinds.now entry.args.words.now _ at-loop.loop.invariant.1.place in
+    let h = fields.place_kinds entry.args.names entry.args.kinds.now entry.args.words.now _ at-loop.loop.invariant.1.place in
     search rules
 
 mul-scalar-bytes-2 : tie.Need-overflow-mul-scalar-bytes-2 invariant-loop decreases-loop
@@ -40,13 +40,13 @@ shared-slice-read-scalar-bytes-2 : tie.Need-shared-slice-read-scalar-bytes-2 inv
 shared-slice-read-scalar-bytes-2 c =
     let at-loop = c.before.before.before.before in
     let entry = at-loop.before.before.before in
-    let h = fields.place-words entry.args.names entry.args.kinds.now entry.args.words.now _ at-loop.loop.invariant.1.place in
+    let h = fields.place_words entry.args.names entry.args.kinds.now entry.args.words.now _ at-loop.loop.invariant.1.place in
     search rules
 
 scalar-bytes-requires : tie.Need-scalar-bytes-requires invariant-loop decreases-loop
 scalar-bytes-requires c κs =
     let at-loop = c.before.before.before.before in
-    laws.run-word at-loop.loop.invariant.0 at-loop.loop.invariant.1
+    laws.run_word at-loop.loop.invariant.0 at-loop.loop.invariant.1
 
 returns : tie.Need-returns invariant-loop decreases-loop
 returns c = c.before.before.before.before.before.before.loop.invariant.0
@@ -58,7 +58,7 @@ add-t11 : tie.Need-overflow-add-t11 invariant-loop decreases-loop
 add-t11 c =
     let at-loop = c.before.before.before.before.before.before.before.before in
     let entry = at-loop.before.before.before in
-    omega (arith, fields.place-few entry.args.names entry.args.kinds.now entry.args.words.now _ at-loop.loop.invariant.1.place)
+    omega (arith, fields.place_few entry.args.names entry.args.kinds.now entry.args.words.now _ at-loop.loop.invariant.1.place)
 
 sub-t16 : tie.Need-overflow-sub-t16 invariant-loop decreases-loop
 sub-t16 c = search rules
@@ -68,7 +68,7 @@ scalar-start-requires c κs =
     let else2 = c.before.before.before in
     let after-bytes = else2.before in
     let at-loop = after-bytes.before.before.before.before.before in
-    laws.run-start at-loop.loop.invariant.0 at-loop.loop.invariant.1 after-bytes.scalar-bytes.ensures else2.if2.false
+    laws.run_start at-loop.loop.invariant.0 at-loop.loop.invariant.1 after-bytes.scalar_bytes.ensures else2.if2.false
 
 add-t17 : tie.Need-overflow-add-t17 invariant-loop decreases-loop
 add-t17 c =
@@ -77,7 +77,7 @@ add-t17 c =
     let at-loop = after-bytes.before.before.before.before.before in
     omega (
       arith,
-      laws.run_fits at-loop.loop.invariant.0 at-loop.loop.invariant.1 after-bytes.scalar-bytes.ensures else2.if2.false _ c.scalar-start.ensures,
+      laws.run_fits at-loop.loop.invariant.0 at-loop.loop.invariant.1 after-bytes.scalar_bytes.ensures else2.if2.false _ c.scalar-start.ensures,
     )
 
 larger-requires : tie.Need-larger-requires invariant-loop decreases-loop
@@ -99,7 +99,7 @@ loop-again c =
     let after-bytes = else2.before in
     let then1 = after-bytes.before.before.before in
     let at-loop = then1.before.before in
-    laws.run-next at-loop.loop.invariant.0 at-loop.loop.invariant.1 after-bytes.scalar-bytes.ensures else2.if2.false
+    laws.run_next at-loop.loop.invariant.0 at-loop.loop.invariant.1 after-bytes.scalar_bytes.ensures else2.if2.false
     then1.if1.true else3.if3.false _ _ _ after-start.scalar-start.ensures c.before.larger.ensures c.deeper.ensures
 
 returns-3 : tie.Need-returns-3 invariant-loop decreases-loop

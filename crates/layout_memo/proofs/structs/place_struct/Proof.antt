@@ -12,55 +12,55 @@ use Rattle.layout_memo.proofs.skip.Reads as skip-reads
 mul-name : tie.Need-overflow-mul-name
 mul-name c =
     let entry = c.before.before.before in
-    let h = laws.placing-words entry.args.names entry.args.kinds.now entry.args.words.now entry.args.work.now entry.args.at
+    let h = laws.placing_words entry.args.names entry.args.kinds.now entry.args.words.now entry.args.work.now entry.args.at
     entry.requires.placing in
     search rules
 
 shared-slice-read-name : tie.Need-shared-slice-read-name
 shared-slice-read-name c =
     let entry = c.before.before.before.before in
-    let h = laws.placing-words entry.args.names entry.args.kinds.now entry.args.words.now entry.args.work.now entry.args.at
+    let h = laws.placing_words entry.args.names entry.args.kinds.now entry.args.words.now entry.args.work.now entry.args.at
     entry.requires.placing in
     search rules
 
 add_body : tie.Need-overflow-add-body
 add_body c =
     let entry = c.before.before.before.before in
-    let h = laws.body-in-kinds entry.args.names entry.args.kinds.now entry.args.words.now entry.args.work.now entry.args.at
+    let h = laws.body_in_kinds entry.args.names entry.args.kinds.now entry.args.words.now entry.args.work.now entry.args.at
     entry.requires.placing entry.requires.kind in
     search rules
 
 mul-if1 : tie.Need-overflow-mul-if1
 mul-if1 c =
     let entry = c.before.before.before.before in
-    let h = laws.body-in-kinds entry.args.names entry.args.kinds.now entry.args.words.now entry.args.work.now entry.args.at
+    let h = laws.body_in_kinds entry.args.names entry.args.kinds.now entry.args.words.now entry.args.work.now entry.args.at
     entry.requires.placing entry.requires.kind in
     search rules
 
 shared-slice-read-if1 : tie.Need-shared-slice-read-if1
 shared-slice-read-if1 c =
     let entry = c.before.before.before.before.before in
-    let h = laws.body-in-kinds entry.args.names entry.args.kinds.now entry.args.words.now entry.args.work.now entry.args.at
+    let h = laws.body_in_kinds entry.args.names entry.args.kinds.now entry.args.words.now entry.args.work.now entry.args.at
     entry.requires.placing entry.requires.kind in
     search rules
 
 add-result : tie.Need-overflow-add-result
 add-result c =
     let entry = c.before.before.before.before.before.before in
-    let h = laws.body-in-kinds entry.args.names entry.args.kinds.now entry.args.words.now entry.args.work.now entry.args.at
+    let h = laws.body_in_kinds entry.args.names entry.args.kinds.now entry.args.words.now entry.args.work.now entry.args.at
     entry.requires.placing entry.requires.kind in
     search rules
 
 returns : tie.Need-returns
 returns c =
     let entry = c.before.before.before.before.before.before in
-    laws.next-opaque entry.args.names entry.args.kinds.now entry.args.words.now entry.args.work.now entry.args.at
+    laws.next_opaque entry.args.names entry.args.kinds.now entry.args.words.now entry.args.work.now entry.args.at
     entry.requires.placing entry.requires.kind c.if1.true
 
 add-work : tie.Need-overflow-add-work
 add-work c =
     let entry = c.before.before.before.before.before.before in
-    let h = laws.body-in-kinds entry.args.names entry.args.kinds.now entry.args.words.now entry.args.work.now entry.args.at
+    let h = laws.body_in_kinds entry.args.names entry.args.kinds.now entry.args.words.now entry.args.work.now entry.args.at
     entry.requires.placing entry.requires.kind in
     search rules
 
@@ -69,7 +69,7 @@ mul-work c =
     let entry = c.before.before.before.before.before.before in
     let g = laws.name_below entry.args.names entry.args.kinds.now entry.args.words.now entry.args.work.now entry.args.at
     entry.requires.placing entry.requires.kind in
-    let h = laws.body-in-kinds entry.args.names entry.args.kinds.now entry.args.words.now entry.args.work.now entry.args.at
+    let h = laws.body_in_kinds entry.args.names entry.args.kinds.now entry.args.words.now entry.args.work.now entry.args.at
     entry.requires.placing entry.requires.kind in
     let r = entry.requires.placing.room in
     search rules
@@ -79,7 +79,7 @@ add-work-2 c =
     let entry = c.before.before.before.before.before.before in
     let g = laws.name_below entry.args.names entry.args.kinds.now entry.args.words.now entry.args.work.now entry.args.at
     entry.requires.placing entry.requires.kind in
-    let h = laws.body-in-kinds entry.args.names entry.args.kinds.now entry.args.words.now entry.args.work.now entry.args.at
+    let h = laws.body_in_kinds entry.args.names entry.args.kinds.now entry.args.words.now entry.args.work.now entry.args.at
     entry.requires.placing entry.requires.kind in
     let r = entry.requires.placing.room in
     search rules
@@ -89,7 +89,7 @@ mul-work-2 c =
     let entry = c.before.before.before.before.before.before in
     let g = laws.name_below entry.args.names entry.args.kinds.now entry.args.words.now entry.args.work.now entry.args.at
     entry.requires.placing entry.requires.kind in
-    let h = laws.body-in-kinds entry.args.names entry.args.kinds.now entry.args.words.now entry.args.work.now entry.args.at
+    let h = laws.body_in_kinds entry.args.names entry.args.kinds.now entry.args.words.now entry.args.work.now entry.args.at
     entry.requires.placing entry.requires.kind in
     let r = entry.requires.placing.room in
     search rules
@@ -99,7 +99,7 @@ slice-write-work c =
     let entry = c.before.before.before.before.before.before in
     let g = laws.name_below entry.args.names entry.args.kinds.now entry.args.words.now entry.args.work.now entry.args.at
     entry.requires.placing entry.requires.kind in
-    let h = laws.body-in-kinds entry.args.names entry.args.kinds.now entry.args.words.now entry.args.work.now entry.args.at
+    let h = laws.body_in_kinds entry.args.names entry.args.kinds.now entry.args.words.now entry.args.work.now entry.args.at
     entry.requires.placing entry.requires.kind in
     let r = entry.requires.placing.room in
     search rules
@@ -107,21 +107,21 @@ slice-write-work c =
 mul-skip : tie.Need-overflow-mul-skip
 mul-skip c =
     let entry = c.before.before.before.before.before.before in
-    let h = laws.body-in-kinds entry.args.names entry.args.kinds.now entry.args.words.now entry.args.work.now entry.args.at
+    let h = laws.body_in_kinds entry.args.names entry.args.kinds.now entry.args.words.now entry.args.work.now entry.args.at
     entry.requires.placing entry.requires.kind in
     search rules
 
 sub-skip : tie.Need-overflow-sub-skip
 sub-skip c =
     let entry = c.before.before.before.before.before.before in
-    let h = laws.body-in-kinds entry.args.names entry.args.kinds.now entry.args.words.now entry.args.work.now entry.args.at
+    let h = laws.body_in_kinds entry.args.names entry.args.kinds.now entry.args.words.now entry.args.work.now entry.args.at
     entry.requires.placing entry.requires.kind in
     search rules
 
 part-skip-start : tie.Need-slice-bounds-skip-start
 part-skip-start c =
     let entry = c.before.before.before.before.before.before in
-    let h = laws.body-in-kinds entry.args.names entry.args.kinds.now entry.args.words.now entry.args.work.now entry.args.at
+    let h = laws.body_in_kinds entry.args.names entry.args.kinds.now entry.args.words.now entry.args.work.now entry.args.at
     entry.requires.placing entry.requires.kind in
     search rules
 
@@ -131,21 +131,21 @@ part-skip-end c = search rules
 mul-skip-2 : tie.Need-overflow-mul-skip-2
 mul-skip-2 c =
     let entry = c.before.before.before.before.before.before.before in
-    let h = laws.body-in-words entry.args.names entry.args.kinds.now entry.args.words.now entry.args.work.now entry.args.at
+    let h = laws.body_in_words entry.args.names entry.args.kinds.now entry.args.words.now entry.args.work.now entry.args.at
     entry.requires.placing entry.requires.kind in
     search rules
 
 sub-skip-2 : tie.Need-overflow-sub-skip-2
 sub-skip-2 c =
     let entry = c.before.before.before.before.before.before.before in
-    let h = laws.body-in-words entry.args.names entry.args.kinds.now entry.args.words.now entry.args.work.now entry.args.at
+    let h = laws.body_in_words entry.args.names entry.args.kinds.now entry.args.words.now entry.args.work.now entry.args.at
     entry.requires.placing entry.requires.kind in
     search rules
 
 part-skip-start-2 : tie.Need-slice-bounds-skip-start-2
 part-skip-start-2 c =
     let entry = c.before.before.before.before.before.before.before in
-    let h = laws.body-in-words entry.args.names entry.args.kinds.now entry.args.words.now entry.args.work.now entry.args.at
+    let h = laws.body_in_words entry.args.names entry.args.kinds.now entry.args.words.now entry.args.work.now entry.args.at
     entry.requires.placing entry.requires.kind in
     search rules
 
@@ -161,7 +161,7 @@ add-result-2 c =
     let entry = else1.before.before.before.before.before.before in
     omega (
       arith,
-      laws.body-fits entry.args.names entry.args.kinds.now entry.args.words.now entry.args.work.now entry.args.at
+      laws.body_fits entry.args.names entry.args.kinds.now entry.args.words.now entry.args.work.now entry.args.at
           entry.requires.placing entry.requires.kind else1.if1.false _ c.skip.ensures,
     )
 
@@ -172,7 +172,7 @@ returns-2 : tie.Need-returns-2
 returns-2 c =
     let else1 = c.before.before.before in
     let entry = else1.before.before.before.before.before.before in
-    laws.next-body entry.args.names entry.args.kinds.now entry.args.words.now entry.args.work.now entry.args.at
+    laws.next_body entry.args.names entry.args.kinds.now entry.args.words.now entry.args.work.now entry.args.at
     entry.requires.placing entry.requires.kind else1.if1.false _ c.skip.ensures
 
 pub place-struct-spec : {M : Type 1} → statement M

@@ -22,18 +22,18 @@ first-struct-requires : tie.Need-first-struct-requires invariant-loop decreases-
 first-struct-requires c κs = c.before.before.before.requires.book
 
 loop-holds : tie.Need-loop-init invariant-loop decreases-loop
-loop-holds c = (laws.placing-start _ _ _ _ c.before.before.before.before.requires c.first-struct.ensures, laws.kept-none)
+loop-holds c = (laws.placing_start _ _ _ _ c.before.before.before.before.requires c.first-struct.ensures, laws.kept_none)
 
 mul-if1 : tie.Need-overflow-mul-if1 invariant-loop decreases-loop
 mul-if1 c =
     let entry = c.before.before.before.before.before in
-    let h = laws.placing-kinds entry.args.names entry.args.kinds.now entry.args.words.now _ _ c.loop.invariant.0 in
+    let h = laws.placing_kinds entry.args.names entry.args.kinds.now entry.args.words.now _ _ c.loop.invariant.0 in
     search rules
 
 shared-slice-read-if1 : tie.Need-shared-slice-read-if1 invariant-loop decreases-loop
 shared-slice-read-if1 c =
     let entry = c.before.before.before.before.before.before in
-    let h = laws.placing-kinds entry.args.names entry.args.kinds.now entry.args.words.now _ _ c.before.loop.invariant.0 in
+    let h = laws.placing_kinds entry.args.names entry.args.kinds.now entry.args.words.now _ _ c.before.loop.invariant.0 in
     search rules
 
 place-struct-requires : tie.Need-place-struct-requires invariant-loop decreases-loop
@@ -43,7 +43,7 @@ loop-less : tie.Need-loop-smaller invariant-loop decreases-loop
 loop-less c =
     let after-place-struct = c.before.before in
     let entry = after-place-struct.before.before.before.before.before.before.before.before.before in
-    let h = laws.placing-kinds entry.args.names entry.args.kinds.now entry.args.words.now _ _
+    let h = laws.placing_kinds entry.args.names entry.args.kinds.now entry.args.words.now _ _
     after-place-struct.place-struct.ensures.next in
     let g = after-place-struct.place-struct.ensures.more in
     omega arith
@@ -59,7 +59,7 @@ returns c =
     let at-loop = c.before.before in
     let entry = at-loop.before.before.before.before.before in
     record
-    { ready = laws.placing-done entry.args.names entry.args.kinds.now entry.args.words.now _ _ at-loop.loop.invariant.0 c.if1.false; kept = at-loop.loop.invariant.1 }
+    { ready = laws.placing_done entry.args.names entry.args.kinds.now entry.args.words.now _ _ at-loop.loop.invariant.0 c.if1.false; kept = at-loop.loop.invariant.1 }
 
 pub place-structs-spec : {M : Type 1} → statement M
 place-structs-spec =

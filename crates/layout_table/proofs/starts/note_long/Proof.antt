@@ -11,19 +11,19 @@ use Rattle.layout_table.proofs.table.note_align.Reads as note-align-reads
 mul-type-end : tie.Need-overflow-mul-type-end
 mul-type-end c =
     let entry = c.before.before.before in
-    let h = laws.type-kinds _ _ entry.requires.ask in
+    let h = laws.type_kinds _ _ entry.requires.ask in
     search rules
 
 sub-type-end : tie.Need-overflow-sub-type-end
 sub-type-end c =
     let entry = c.before.before.before in
-    let h = laws.type-kinds _ _ entry.requires.ask in
+    let h = laws.type_kinds _ _ entry.requires.ask in
     search rules
 
 part-type-end-start : tie.Need-slice-bounds-type-end-start
 part-type-end-start c =
     let entry = c.before.before.before in
-    let h = laws.type-kinds _ _ entry.requires.ask in
+    let h = laws.type_kinds _ _ entry.requires.ask in
     search rules
 
 part-type-end-end : tie.Need-slice-bounds-type-end-end
@@ -32,26 +32,26 @@ part-type-end-end c = search rules
 mul-type-end-2 : tie.Need-overflow-mul-type-end-2
 mul-type-end-2 c =
     let entry = c.before.before.before.before in
-    let h = laws.type-words _ _ entry.requires.ask in
+    let h = laws.type_words _ _ entry.requires.ask in
     search rules
 
 sub-type-end-2 : tie.Need-overflow-sub-type-end-2
 sub-type-end-2 c =
     let entry = c.before.before.before.before in
-    let h = laws.type-words _ _ entry.requires.ask in
+    let h = laws.type_words _ _ entry.requires.ask in
     search rules
 
 part-type-end-start-2 : tie.Need-slice-bounds-type-end-start-2
 part-type-end-start-2 c =
     let entry = c.before.before.before.before in
-    let h = laws.type-words _ _ entry.requires.ask in
+    let h = laws.type_words _ _ entry.requires.ask in
     search rules
 
 part-type-end-end-2 : tie.Need-slice-bounds-type-end-end-2
 part-type-end-end-2 c = search rules
 
 type-end-requires : tie.Need-type-end-requires
-type-end-requires c κs = laws.type-starts _ _ c.before.before.before.before.before.requires.ask
+type-end-requires c κs = laws.type_starts _ _ c.before.before.before.before.before.requires.ask
 
 returns : tie.Need-returns
 returns c = search rules

@@ -1,6 +1,6 @@
 -- `layout_table::starts::start_at` meets its contract.
 use Rattle.layout_table.specs.Starts as laws
-use Rattle.layout_field.specs.Offsets.{start-packed}
+use Rattle.layout_field.specs.Offsets.{start_packed}
 use borrow.Author.Rules.{rules}
 use Rattle.layout_table.proofs.starts.start_at.Statement.{statement}
 use Rattle.layout_table.proofs.starts.start_at.Tie as tie
@@ -14,24 +14,24 @@ use Rattle.layout_table.proofs.starts.note_long.Reads as note-long-reads
 use Rattle.layout_table.proofs.table.noted_align.Reads as noted-align-reads
 
 returns : tie.Need-returns
-returns c = start-packed _ _ _ _ _ _ c.before.before.before.before.requires c.if1.true
+returns c = start_packed _ _ _ _ _ _ c.before.before.before.before.requires c.if1.true
 
 mul-ks : tie.Need-overflow-mul-ks
 mul-ks c =
     let entry = c.before.before.before.before in
-    let h = laws.type-kinds _ _ (laws.type-ask _ _ entry.args.place entry.requires) in
+    let h = laws.type_kinds _ _ (laws.type_ask _ _ entry.args.place entry.requires) in
     search rules
 
 sub-ks : tie.Need-overflow-sub-ks
 sub-ks c =
     let entry = c.before.before.before.before in
-    let h = laws.type-kinds _ _ (laws.type-ask _ _ entry.args.place entry.requires) in
+    let h = laws.type_kinds _ _ (laws.type_ask _ _ entry.args.place entry.requires) in
     search rules
 
 part-ks-start : tie.Need-slice-bounds-ks-start
 part-ks-start c =
     let entry = c.before.before.before.before in
-    let h = laws.type-kinds _ _ (laws.type-ask _ _ entry.args.place entry.requires) in
+    let h = laws.type_kinds _ _ (laws.type_ask _ _ entry.args.place entry.requires) in
     search rules
 
 part-ks-end : tie.Need-slice-bounds-ks-end
@@ -40,19 +40,19 @@ part-ks-end c = search rules
 mul-ws : tie.Need-overflow-mul-ws
 mul-ws c =
     let entry = c.before.before.before.before.before in
-    let h = laws.type-words _ _ (laws.type-ask _ _ entry.args.place entry.requires) in
+    let h = laws.type_words _ _ (laws.type_ask _ _ entry.args.place entry.requires) in
     search rules
 
 sub-ws : tie.Need-overflow-sub-ws
 sub-ws c =
     let entry = c.before.before.before.before.before in
-    let h = laws.type-words _ _ (laws.type-ask _ _ entry.args.place entry.requires) in
+    let h = laws.type_words _ _ (laws.type_ask _ _ entry.args.place entry.requires) in
     search rules
 
 part-ws-start : tie.Need-slice-bounds-ws-start
 part-ws-start c =
     let entry = c.before.before.before.before.before in
-    let h = laws.type-words _ _ (laws.type-ask _ _ entry.args.place entry.requires) in
+    let h = laws.type_words _ _ (laws.type_ask _ _ entry.args.place entry.requires) in
     search rules
 
 part-ws-end : tie.Need-slice-bounds-ws-end
@@ -64,7 +64,7 @@ may-be-long-requires c κs = search rules
 field-start-requires : tie.Need-field-start-requires
 field-start-requires c κs =
     let entry = c.before.before.before.before.before.before.before.before.before in
-    laws.start-ask _ _ entry.args.place entry.requires
+    laws.start_ask _ _ entry.args.place entry.requires
 
 same_length : tie.Need-same-length
 same_length c = search rules
@@ -73,7 +73,7 @@ returns-2 : tie.Need-returns-2
 returns-2 c =
     let after-field-start = c.before.before in
     let entry = after-field-start.before.before.before.before.before.before.before.before.before.before in
-    laws.start-part _ _ _ _ _ _ _ entry.requires after-field-start.field-start.ensures
+    laws.start_part _ _ _ _ _ _ _ entry.requires after-field-start.field-start.ensures
 
 noted-align-requires : tie.Need-noted-align-requires
 noted-align-requires c κs = search rules
@@ -94,13 +94,13 @@ returns-3 c =
     let after-noted-align = then3.before in
     let else1 = after-noted-align.before.before.before.before.before.before in
     let entry = else1.before.before.before.before in
-    laws.start-noted _ _ _ _ _ _ _ entry.requires else1.if1.false _ (after-noted-align.noted-align.ensures then3.if3.true) _ c.placed.ensures
+    laws.start_noted _ _ _ _ _ _ _ entry.requires else1.if1.false _ (after-noted-align.noted-align.ensures then3.if3.true) _ c.placed.ensures
 
 align-of-requires : tie.Need-align-of-requires
 align-of-requires c κs =
     let else1 = c.before.before.before.before.before.before.before.before in
     let entry = else1.before.before.before.before in
-    (laws.start-ask _ _ entry.args.place entry.requires).ask
+    (laws.start_ask _ _ entry.args.place entry.requires).ask
 
 enum-known-e : tie.Need-enum-known-e
 enum-known-e c = search rules
@@ -114,7 +114,7 @@ note-long-requires c κs =
     let after-align-of = after-a.before.before.before.before in
     let else1 = after-align-of.before.before.before.before.before.before.before.before.before in
     let entry = else1.before.before.before.before in
-    laws.measured-note _ _ _ _ _ _ _ entry.requires else1.if1.false _ after-align-of.align-of.ensures _ _ after-a.a.given.1
+    laws.measured_note _ _ _ _ _ _ _ entry.requires else1.if1.false _ after-align-of.align-of.ensures _ _ after-a.a.given.1
 
 placed-requires-2 : tie.Need-placed-requires-2
 placed-requires-2 c κs =
@@ -122,7 +122,7 @@ placed-requires-2 c κs =
     let after-align-of = after-a.before.before.before.before in
     let else1 = after-align-of.before.before.before.before.before.before.before.before.before in
     let entry = else1.before.before.before.before in
-    laws.measured-small _ _ _ _ _ _ _ entry.requires else1.if1.false _ after-align-of.align-of.ensures _ _ after-a.a.given.1
+    laws.measured_small _ _ _ _ _ _ _ entry.requires else1.if1.false _ after-align-of.align-of.ensures _ _ after-a.a.given.1
 
 same-length-3 : tie.Need-same-length-3
 same-length-3 c = search rules
@@ -133,7 +133,7 @@ returns-4 c =
     let after-align-of = after-e.before.before.before.before in
     let else1 = after-align-of.before.before.before.before.before.before.before.before.before in
     let entry = else1.before.before.before.before in
-    laws.measured-refused _ _ _ _ _ _ _ entry.requires else1.if1.false _ after-align-of.align-of.ensures _ after-e.e.given.1
+    laws.measured_refused _ _ _ _ _ _ _ entry.requires else1.if1.false _ after-align-of.align-of.ensures _ after-e.e.given.1
 
 same-length-4 : tie.Need-same-length-4
 same-length-4 c = search rules
@@ -145,7 +145,7 @@ returns-5 c =
     let after-align-of = after-a.before.before.before.before in
     let else1 = after-align-of.before.before.before.before.before.before.before.before.before in
     let entry = else1.before.before.before.before in
-    laws.measured-start _ _ _ _ _ _ _ entry.requires else1.if1.false _ after-align-of.align-of.ensures _ _ after-a.a.given.1 after-note-long.note-long.ensures _ c.placed2.ensures
+    laws.measured_start _ _ _ _ _ _ _ entry.requires else1.if1.false _ after-align-of.align-of.ensures _ _ after-a.a.given.1 after-note-long.note-long.ensures _ c.placed2.ensures
 
 pub start-at-spec : {M : Type 1} → statement M
 start-at-spec =

@@ -36,10 +36,10 @@ key-of-requires : tie.Need-key-of-requires invariant-loop decreases-loop
 key-of-requires c κs =
     let at-loop = c.before in
     let entry = at-loop.before.before.before.before.before.before in
-    (laws.find-place entry.requires entry.args.packed, omega (arith, entry.requires.few, at-loop.loop.invariant))
+    (laws.find_place entry.requires entry.args.packed, omega (arith, entry.requires.few, at-loop.loop.invariant))
 
 probe-requires : tie.Need-probe-requires invariant-loop decreases-loop
-probe-requires c κs = laws.room-few _ _ _ c.before.before.before.before.room_for.ensures (omega arith)
+probe-requires c κs = laws.room_few _ _ _ c.before.before.before.before.room_for.ensures (omega arith)
 
 returns-2 : tie.Need-returns-2 invariant-loop decreases-loop
 returns-2 c =
@@ -47,7 +47,7 @@ returns-2 c =
     let after-key-of = after-probe.before in
     let at-loop = after-key-of.before.before in
     let entry = at-loop.before.before.before.before.before.before in
-    laws.find-here entry.requires entry.args.packed _ _ _ after-key-of.key_of.ensures after-probe.probe.ensures c.if2.true at-loop.loop.invariant
+    laws.find_here entry.requires entry.args.packed _ _ _ after-key-of.key_of.ensures after-probe.probe.ensures c.if2.true at-loop.loop.invariant
 
 sub-before : tie.Need-overflow-sub-before invariant-loop decreases-loop
 sub-before c = search rules
@@ -55,13 +55,13 @@ sub-before c = search rules
 loop-less : tie.Need-loop-smaller invariant-loop decreases-loop
 loop-less c =
     let in-loop = c.before.before.before in
-    laws.bit-less _ in-loop.loop-test.true
+    laws.bit_less _ in-loop.loop-test.true
 
 loop-again : tie.Need-loop-preserved invariant-loop decreases-loop
 loop-again c =
     let in-loop = c.before.before.before in
     let at-loop = in-loop.before in
-    omega (arith, laws.bit-less at-loop.loop.before in-loop.loop-test.true, at-loop.loop.invariant)
+    omega (arith, laws.bit_less at-loop.loop.before in-loop.loop-test.true, at-loop.loop.invariant)
 
 no-fields-requires-2 : tie.Need-no-fields-requires-2 invariant-loop decreases-loop
 no-fields-requires-2 c κs = search rules

@@ -10,7 +10,7 @@ mul-mixed : tie.Need-overflow-mul-mixed
 mul-mixed c = search rules
 
 mul-result : tie.Need-overflow-mul-result
-mul-result c = record { fits = laws.slot-product _ _ (search rules) c.requires }
+mul-result c = record { fits = laws.slot_product _ _ (search rules) c.requires }
 
 returns : tie.Need-returns
 returns c = laws.slot_small _ _ (search rules) c.requires

@@ -19,13 +19,13 @@ add-result : tie.Need-overflow-add-result
 add-result c = search rules
 
 returns : tie.Need-returns
-returns c = laws.key-packed _ _ c.before.requires.0 c.before.requires.1 _ c.if1.true
+returns c = laws.key_packed _ _ c.before.requires.0 c.before.requires.1 _ c.if1.true
 
 add-result-2 : tie.Need-overflow-add-result-2
 add-result-2 c = search rules
 
 returns-2 : tie.Need-returns-2
-returns-2 c = laws.key-free _ _ c.before.requires.0 c.before.requires.1 _ c.if1.false
+returns-2 c = laws.key_free _ _ c.before.requires.0 c.before.requires.1 _ c.if1.false
 
 pub key-of-spec : {M : Type 1} → statement M
 key-of-spec =

@@ -18,16 +18,16 @@ returns : tie.Need-returns
 returns c = λ z. absurd (z refl)
 
 align-key-requires : tie.Need-align-key-requires
-align-key-requires c κs = laws.type-place c.before.before.before.before.before.requires
+align-key-requires c κs = laws.type_place c.before.before.before.before.before.requires
 
 probe-requires : tie.Need-probe-requires
-probe-requires c κs = laws.room-few _ _ _ c.before.before.room_for.ensures (omega arith)
+probe-requires c κs = laws.room_few _ _ _ c.before.before.room_for.ensures (omega arith)
 
 returns-2 : tie.Need-returns-2
 returns-2 c =
     let after-align-key = c.before in
     let entry = after-align-key.before.before.before.before.before.before in
-    laws.align-probed entry.requires _ _ after-align-key.align-key.ensures c.probe.ensures
+    laws.align_probed entry.requires _ _ after-align-key.align-key.ensures c.probe.ensures
 
 pub noted-align-spec : {M : Type 1} → statement M
 noted-align-spec =

@@ -63,7 +63,7 @@ returns-3 c =
     let after-at = after-behind.before in
     let at-loop = after-at.before.before in
     let entry = at-loop.before.before.before in
-    laws.probed-at entry.args.names entry.args.work.now entry.args.key at-loop.loop.slot _ _
+    laws.probed_at entry.args.names entry.args.work.now entry.args.key at-loop.loop.slot _ _
     after-at.table_at.ensures after-behind.table-at2.ensures c.before.if3.true
 
 mul-if4 : tie.Need-overflow-mul-if4 invariant-loop decreases-loop

@@ -19,11 +19,11 @@ returns : tie.Need-returns
 returns c = inl refl
 
 free-slot-requires : tie.Need-free-slot-requires
-free-slot-requires c κs = laws.room-few _ _ _ c.before.before.room_for.ensures (omega arith)
+free-slot-requires c κs = laws.room_few _ _ _ c.before.before.room_for.ensures (omega arith)
 
 store-requires : tie.Need-store-requires
 store-requires c κs =
-    let few = laws.room-few _ _ _ c.before.before.before.before.room_for.ensures (omega arith) in search rules
+    let few = laws.room_few _ _ _ c.before.before.before.before.room_for.ensures (omega arith) in search rules
 
 same_length : tie.Need-same-length
 same_length c = search rules

@@ -14,7 +14,7 @@ add-result : tie.Need-overflow-add-result
 add-result c = search rules
 
 returns : tie.Need-returns
-returns c = laws.table-name _ _ c.if1.true
+returns c = laws.table_name _ _ c.if1.true
 
 mul-result-2 : tie.Need-overflow-mul-result-2
 mul-result-2 c = search rules
@@ -26,7 +26,7 @@ add-result-3 : tie.Need-overflow-add-result-3
 add-result-3 c = search rules
 
 returns-2 : tie.Need-returns-2
-returns-2 c = laws.table-behind _ _ c.if1.false
+returns-2 c = laws.table_behind _ _ c.if1.false
 
 pub table-at-spec : {M : Type 1} → statement M
 table-at-spec =

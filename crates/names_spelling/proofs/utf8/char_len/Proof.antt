@@ -6,7 +6,7 @@ use borrow.Author.Rules.{rules}
 use borrow.Author.Tests.{not-true, not-false}
 use lib.ListN.{length, get_or}
 use Rattle.names.specs.Utf8.{to, has}
-use Rattle.names_spelling.proofs.Chars.{second, Filling, char-none, char-ascii, char-unled, char-cut, char-second, filling-start, char-tail, filling-next, char-filled}
+use Rattle.names_spelling.proofs.Chars.{second, Filling, char_none, char_ascii, char_unled, char_cut, char_second, filling_start, char_tail, filling_next, char_filled}
 use Rattle.names_spelling.proofs.utf8.char_len.Statement.{statement}
 use Rattle.names_spelling.proofs.utf8.char_len.Tie as tie
 
@@ -17,7 +17,7 @@ abbrev decreases-loop : tie.decreases-loop
 decreases-loop text at first n i₀ i = n + 1 - i
 
 returns : tie.Need-returns invariant-loop decreases-loop
-returns c = sym (char-none _ _ c.if1.true)
+returns c = sym (char_none _ _ c.if1.true)
 
 shared-slice-read-first : tie.Need-shared-slice-read-first invariant-loop decreases-loop
 shared-slice-read-first c = search rules
@@ -25,7 +25,7 @@ shared-slice-read-first c = search rules
 returns-2 : tie.Need-returns-2 invariant-loop decreases-loop
 returns-2 c =
     let else1 = c.before.before in
-    sym (char-ascii _ _ else1.if1.false (else1.before.shared-slice-known.given _).fits c.if2.true)
+    sym (char_ascii _ _ else1.if1.false (else1.before.shared-slice-known.given _).fits c.if2.true)
 
 -- the first byte, where it is no ASCII character: it is there, and a byte
 abbrev text_of : tie.After-tails invariant-loop decreases-loop → List ℕ
@@ -46,7 +46,7 @@ tails-requires c κs = search rules
 returns-3 : tie.Need-returns-3 invariant-loop decreases-loop
 returns-3 c =
     let after-tails = c.before in
-    sym (char-unled _ _ (inside after-tails) (octet after-tails) _ after-tails.tails.ensures after-tails.before.if2.false c.if3.true)
+    sym (char_unled _ _ (inside after-tails) (octet after-tails) _ after-tails.tails.ensures after-tails.before.if2.false c.if3.true)
 
 sub-if4 : tie.Need-overflow-sub-if4 invariant-loop decreases-loop
 sub-if4 c = search rules
@@ -54,7 +54,7 @@ sub-if4 c = search rules
 returns-4 : tie.Need-returns-4 invariant-loop decreases-loop
 returns-4 c =
     let after-tails = c.before.before in
-    sym (char-cut _ _ (inside after-tails) (octet after-tails) _ after-tails.tails.ensures after-tails.before.if2.false c.if4.true)
+    sym (char_cut _ _ (inside after-tails) (octet after-tails) _ after-tails.tails.ensures after-tails.before.if2.false c.if4.true)
 
 lowest-requires : tie.Need-lowest-requires invariant-loop decreases-loop
 lowest-requires c κs = search rules
@@ -85,14 +85,14 @@ returns-5 c =
     let after-within = c.before in
     let after-tails = behindTails after-within in
     sym
-    (char-second _ _ (inside after-tails) (octet after-tails) _ after-tails.tails.ensures after-tails.before.if2.left
+    (char_second _ _ (inside after-tails) (octet after-tails) _ after-tails.tails.ensures after-tails.before.if2.left
     (search rules) (search rules) (sym (told after-within) ∙ not-true _ c.if5.true))
 
 loop-holds : tie.Need-loop-init invariant-loop decreases-loop
 loop-holds c =
     let after-within = c.before in
     let after-tails = behindTails after-within in
-    filling-start _ _ (inside after-tails) (octet after-tails) _ after-tails.tails.ensures after-tails.before.if2.left
+    filling_start _ _ (inside after-tails) (octet after-tails) _ after-tails.tails.ensures after-tails.before.if2.left
     (search rules) (search rules) (sym (told after-within) ∙ not-false _ c.if5.false)
 
 add-is-tail : tie.Need-overflow-add-is-tail invariant-loop decreases-loop
@@ -109,7 +109,7 @@ returns-6 c =
     let at-loop = c.before.before.before.before in
     let after-tails = behindTails at-loop.before.before in
     sym
-    (char-tail _ _ (inside after-tails) (octet after-tails) _ after-tails.tails.ensures after-tails.before.if2.left _ at-loop.loop.invariant
+    (char_tail _ _ (inside after-tails) (octet after-tails) _ after-tails.tails.ensures after-tails.before.if2.left _ at-loop.loop.invariant
     c.before.before.before.loop-test.true (search rules) (sym c.before.is-tail.ensures ∙ not-true _ c.if6.true))
 
 add-i : tie.Need-overflow-add-i invariant-loop decreases-loop
@@ -122,7 +122,7 @@ loop-again : tie.Need-loop-preserved invariant-loop decreases-loop
 loop-again c =
     let at-loop = c.before.before.before.before in
     let after-tails = behindTails at-loop.before.before in
-    filling-next _ _ (inside after-tails) (octet after-tails) _ after-tails.tails.ensures after-tails.before.if2.left _ at-loop.loop.invariant
+    filling_next _ _ (inside after-tails) (octet after-tails) _ after-tails.tails.ensures after-tails.before.if2.left _ at-loop.loop.invariant
     c.before.before.before.loop-test.true (search rules) (sym c.before.is-tail.ensures ∙ not-false _ c.if6.false)
 
 add-result : tie.Need-overflow-add-result invariant-loop decreases-loop
@@ -133,7 +133,7 @@ returns-7 c =
     let at-loop = c.before in
     let after-tails = behindTails at-loop.before.before in
     sym
-    (char-filled _ _ (inside after-tails) (octet after-tails) _ after-tails.tails.ensures after-tails.before.if2.left _ at-loop.loop.invariant c.loop-test.false)
+    (char_filled _ _ (inside after-tails) (octet after-tails) _ after-tails.tails.ensures after-tails.before.if2.left _ at-loop.loop.invariant c.loop-test.false)
 
 pub char-len-spec : {M : Type 1} → statement M
 char-len-spec =

@@ -1,30 +1,30 @@
 -- `is_align` meets its contract: a number has one digit set exactly where it is a power of two. Assumes nothing.
 use Rattle.std.proofs.Common.{◌≡◌, ℕ, ◌≤◌, true, eqb, ap, ◌∙◌, arith, rules, eq-eqb, eqb-true}
 use lib.Count.{ones, count_trailing_zeros}
-use Rattle.numbers.specs.Tests.{same_test, fails}
-use Rattle.numbers.specs.Power.{ones_power, power-ones, power_below}
-use Rattle.numbers.specs.Align.{isAlign, align-power, align-bounds, power-align}
+use Rattle.numbers.specs.Tests.{same_test_lem, fails}
+use Rattle.numbers.specs.Power.{ones_power, power_ones, power_below_lem}
+use Rattle.numbers.specs.Align.{is_align, align_power, align_bounds, power_align}
 use Rattle.numbers.proofs.align.is_align.Statement.{statement}
 use Rattle.numbers.proofs.align.is_align.Tie as tie
 
-one-digit : (a : ℕ) → a ≤ 4096 → ones a ≡ 1 → isAlign a ≡ true
-one-digit a h e =
-    let p = power-ones 13 a (omega arith) e in
-    let l = power_below (count_trailing_zeros 13 a) 13 (omega arith) in
-    rw p (power-align (count_trailing_zeros 13 a) (omega arith))
+one_digit : (a : ℕ) → a ≤ 4096 → ones a ≡ 1 → is_align a ≡ true
+one_digit a h e =
+    let p = power_ones 13 a (omega arith) e in
+    let l = power_below_lem (count_trailing_zeros 13 a) 13 (omega arith) in
+    rw p (power_align (count_trailing_zeros 13 a) (omega arith))
 
-digit-one : (a : ℕ) → isAlign a ≡ true → ones a ≡ 1
-digit-one a e = let r = align-power a e in ap ones r.2 ∙ ones_power r.0
+digit_one : (a : ℕ) → is_align a ≡ true → ones a ≡ 1
+digit_one a e = let r = align_power a e in ap ones r.2 ∙ ones_power r.0
 
-counted : (a : ℕ) → a ≤ 4096 → eqb (ones a) 1 ≡ isAlign a
+counted : (a : ℕ) → a ≤ 4096 → eqb (ones a) 1 ≡ is_align a
 counted a h =
-    same_test (eqb (ones a) 1) (isAlign a) (λ e. one-digit a h (eqb-true (ones a) 1 e)) (λ e. eq-eqb (ones a) 1 (digit-one a e))
+    same_test_lem (eqb (ones a) 1) (is_align a) (λ e. one_digit a h (eqb-true (ones a) 1 e)) (λ e. eq-eqb (ones a) 1 (digit_one a e))
 
 returns : tie.Need-returns
 returns c = counted c.before.args.a (search rules)
 
 returns-2 : tie.Need-returns-2
-returns-2 c = fails (isAlign c.before.args.a) (λ e. omega (arith, align-bounds c.before.args.a e))
+returns-2 c = fails (is_align c.before.args.a) (λ e. omega (arith, align_bounds c.before.args.a e))
 
 pub is-align-spec : {M : Type 1} → statement M
 is-align-spec = tie.close (tie.spec returns returns-2)

@@ -1,6 +1,6 @@
 -- `bit` meets its contract. Assumes nothing.
 use Rattle.std.proofs.Common.{sym, refl, rules}
-use Rattle.numbers.specs.Bits.{bit_at, digitAt, bit_past}
+use Rattle.numbers.specs.Bits.{bit_at, digit_at, bit_past}
 use Rattle.numbers.proofs.bits.bit.Statement.{statement}
 use Rattle.numbers.proofs.bits.bit.Tie as tie
 
@@ -14,7 +14,7 @@ shr-result : tie.Need-overflow-shr-result
 shr-result c = search rules
 
 returns : tie.Need-returns
-unfolding bit_at digitAt
+unfolding bit_at digit_at
 returns c = refl
 
 returns-2 : tie.Need-returns-2

@@ -2,7 +2,7 @@
 -- Assumes nothing.
 use Rattle.std.proofs.Common.{◌≡◌, ◌+◌, length, arith, rules}
 use mir.Facts.{Fits-lt-pow}
-use Rattle.numbers.specs.Digits.{decimal, length-more-four, length-word}
+use Rattle.numbers.specs.Digits.{decimal, length_more_four, length_word}
 use Rattle.numbers.proofs.digits.decimal_len.Statement.{statement}
 use Rattle.numbers.proofs.digits.decimal_len.Tie as tie
 
@@ -25,13 +25,13 @@ add-len : tie.Need-overflow-add-len invariant-loop decreases-loop
 add-len c =
     let at-loop = c.before in
     let entry = at-loop.before.before in
-    omega (arith, length-more-four at-loop.loop.rest c.loop-test.true, length-word entry.args.n (Fits-lt-pow entry.ranges.n))
+    omega (arith, length_more_four at-loop.loop.rest c.loop-test.true, length_word entry.args.n (Fits-lt-pow entry.ranges.n))
 
 loop-less : tie.Need-loop-smaller invariant-loop decreases-loop
 loop-less c = omega arith
 
 loop-again : tie.Need-loop-preserved invariant-loop decreases-loop
-loop-again c = omega (arith, length-more-four c.before.loop.rest c.loop-test.true)
+loop-again c = omega (arith, length_more_four c.before.loop.rest c.loop-test.true)
 
 few-digits-requires-2 : tie.Need-few-digits-requires-2 invariant-loop decreases-loop
 few-digits-requires-2 c κs = search rules
@@ -39,7 +39,7 @@ few-digits-requires-2 c κs = search rules
 add-result : tie.Need-overflow-add-result invariant-loop decreases-loop
 add-result c =
     let entry = c.before.before.before.before in
-    omega (arith, length-word entry.args.n (Fits-lt-pow entry.ranges.n))
+    omega (arith, length_word entry.args.n (Fits-lt-pow entry.ranges.n))
 
 returns-2 : tie.Need-returns-2 invariant-loop decreases-loop
 returns-2 c = search rules

@@ -2,7 +2,7 @@
 -- their place. The measure is the rest. Assumes nothing.
 use Rattle.std.proofs.Common.{◌≡◌, ℕ, suc, ◌+◌, ◌-◌, ◌/◌, ◌%◌, ◌<◌, ◌≤◌, List, [], ◌∷◌, ◌++◌, length, set, sym, refl, ◌∙◌, add-zero, add-suc, suc-add, arith, length-set, rules}
 use lib.Seq.{sets, set_comm}
-use Rattle.numbers.specs.Digits.{decimal, decimal-small, decimal-more, length_more, length-pos}
+use Rattle.numbers.specs.Digits.{decimal, decimal_small, decimal_more, length_more, length_pos}
 use Rattle.numbers.proofs.digits.put_decimal.Statement.{statement}
 use Rattle.numbers.proofs.digits.put_decimal.Tie as tie
 
@@ -28,11 +28,11 @@ module _ {n : ℕ} {start : List ℕ} {at : ℕ} {text : List ℕ} {rest i : ℕ
         place = place;
         room = omega (arith, w.room);
         long = length-set text (i - 1) (48 + rest % 10) ∙ w.long;
-        same = rw place (sym (sets_last text at (decimal (rest / 10)) (48 + rest % 10)) ∙ rw (← decimal-more rest h) w.same);
+        same = rw place (sym (sets_last text at (decimal (rest / 10)) (48 + rest % 10)) ∙ rw (← decimal_more rest h) w.same);
       }
 
   last : rest < 10 → set text at (48 + rest) ≡ sets start at (decimal n)
-  last h = rw (decimal-small rest h) at w.same
+  last h = rw (decimal_small rest h) at w.same
 
 abbrev invariant-loop : tie.invariant-loop
 invariant-loop n text₀ at end rest₀ i₀ text rest i = Writing n text₀ at text rest i
@@ -59,7 +59,7 @@ loop-holds : tie.Need-loop-init invariant-loop decreases-loop
 loop-holds c = record { place = omega arith; room = omega arith; long = refl; same = refl }
 
 sub-i : tie.Need-overflow-sub-i invariant-loop decreases-loop
-sub-i c = omega (arith, length-pos c.before.loop.rest)
+sub-i c = omega (arith, length_pos c.before.loop.rest)
 
 cast-text : tie.Need-overflow-cast-text invariant-loop decreases-loop
 cast-text c = search rules
@@ -68,7 +68,7 @@ add-text : tie.Need-overflow-add-text invariant-loop decreases-loop
 add-text c = search rules
 
 slice-write-text : tie.Need-slice-write-text invariant-loop decreases-loop
-slice-write-text c = omega (arith, length-pos c.before.loop.rest)
+slice-write-text c = omega (arith, length_pos c.before.loop.rest)
 
 loop-less : tie.Need-loop-smaller invariant-loop decreases-loop
 loop-less c = search rules
@@ -83,7 +83,7 @@ add-text-2 : tie.Need-overflow-add-text-2 invariant-loop decreases-loop
 add-text-2 c = search rules
 
 slice-write-text-2 : tie.Need-slice-write-text-2 invariant-loop decreases-loop
-slice-write-text-2 c = omega (arith, length-pos c.before.loop.rest)
+slice-write-text-2 c = omega (arith, length_pos c.before.loop.rest)
 
 same-length-2 : tie.Need-same-length-2 invariant-loop decreases-loop
 same-length-2 c = simp length-set c.before.loop.invariant.long

@@ -1,6 +1,6 @@
 -- `put_short` meets its contract by the number of digits.
 use Rattle.std.proofs.Common.{⊎_elim, arith, length-set, rules}
-use Rattle.numbers.specs.Digits.{length-pos, length-small, length_two, short-one, short-two}
+use Rattle.numbers.specs.Digits.{length_pos, length_small, length_two, short_one, short_two}
 use Rattle.numbers.proofs.digits.put_short.Statement.{statement}
 use Rattle.numbers.proofs.digits.put_short.Tie as tie
 
@@ -14,7 +14,7 @@ add-text : tie.Need-overflow-add-text
 add-text c = search rules
 
 slice-write-text : tie.Need-slice-write-text
-slice-write-text c = omega (arith, length-pos c.before.before.args.n)
+slice-write-text c = omega (arith, length_pos c.before.before.args.n)
 
 cast-text-2 : tie.Need-overflow-cast-text-2
 cast-text-2 c = search rules
@@ -25,7 +25,7 @@ add-text-2 c = search rules
 slice-write-text-2 : tie.Need-slice-write-text-2
 slice-write-text-2 c =
     let entry = c.before.before in
-    ⊎_elim (λ w. simp length-set (omega (arith, length-small entry.args.n w.0.taken))) (λ w. simp length-set (omega (arith, length_two entry.args.n w.0.left entry.requires.0)))
+    ⊎_elim (λ w. simp length-set (omega (arith, length_small entry.args.n w.0.taken))) (λ w. simp length-set (omega (arith, length_two entry.args.n w.0.left entry.requires.0)))
     c.before.if1.branch
 
 add-result : tie.Need-overflow-add-result
@@ -37,7 +37,7 @@ same_length c = search rules
 returns : tie.Need-returns
 returns c =
     let entry = c.before.before in
-    ⊎_elim (λ w. short-one _ _ _ _ w.0.taken w.1) (λ w. short-two _ _ _ _ w.0.left entry.requires.0 w.1) c.before.if1.branch
+    ⊎_elim (λ w. short_one _ _ _ _ w.0.taken w.1) (λ w. short_two _ _ _ _ w.0.left entry.requires.0 w.1) c.before.if1.branch
 
 pub put-short-spec : {M : Type 1} → statement M
 put-short-spec =

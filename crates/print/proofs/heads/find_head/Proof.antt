@@ -1,6 +1,6 @@
 -- `find_head` meets its contract: what stands at the first entry of kind 5 with the name is the function.
 use native.Mathlib.Omega.{arith}
-use Rattle.print.specs.Heads.{fn-beyond, no-head, head-there, head-stands}
+use Rattle.print.specs.Heads.{fn_beyond, no_head_lem, head_there, head_stands}
 use borrow.Author.Rules.{rules}
 use Rattle.print.proofs.heads.find_head.Statement.{statement}
 use Rattle.print.proofs.heads.find_head.Tie as tie
@@ -11,7 +11,7 @@ returns : tie.Need-returns
 returns c =
     let entry = c.before.before.before.before in
     let d = entry.requires.book in
-    fn-beyond entry.args.count entry.args.kinds.now entry.args.words.now d entry.args.own c.if1.true
+    fn_beyond entry.args.count entry.args.kinds.now entry.args.words.now d entry.args.own c.if1.true
 
 place-of-requires : tie.Need-place-of-requires
 place-of-requires c κs =
@@ -22,7 +22,7 @@ returns-2 : tie.Need-returns-2
 returns-2 c =
     let entry = c.before.before.before.before.before.before in
     let d = entry.requires.book in
-    no-head entry.args.count entry.args.kinds.now entry.args.words.now d entry.args.own (omega (arith, c.if2.true, c.before.place_of.ensures))
+    no_head_lem entry.args.count entry.args.kinds.now entry.args.words.now d entry.args.own (omega (arith, c.if2.true, c.before.place_of.ensures))
 
 mul-function-params : tie.Need-overflow-mul-function-params
 mul-function-params c = search rules
@@ -52,7 +52,7 @@ function-params-requires : tie.Need-function-params-requires
 function-params-requires c κs =
     let entry = c.before.before.before.before.before.before.before.before in
     let d = entry.requires.book in
-    head-there entry.args.count entry.args.kinds.now entry.args.words.now d entry.args.own _ c.before.before.before.place_of.ensures (omega (arith, c.before.before.if2.false))
+    head_there entry.args.count entry.args.kinds.now entry.args.words.now d entry.args.own _ c.before.before.before.place_of.ensures (omega (arith, c.before.before.if2.false))
 
 returns-3 : tie.Need-returns-3
 returns-3 c =
@@ -60,7 +60,7 @@ returns-3 c =
     let after-place = else2.before in
     let entry = after-place.before.before.before.before.before in
     let d = entry.requires.book in
-    head-stands entry.args.count entry.args.kinds.now entry.args.words.now d entry.args.own _ after-place.place_of.ensures (omega (arith, else2.if2.false)) _
+    head_stands entry.args.count entry.args.kinds.now entry.args.words.now d entry.args.own _ after-place.place_of.ensures (omega (arith, else2.if2.false)) _
     c.function-params.ensures
 
 pub find-head-spec : {M : Type 1} → statement M

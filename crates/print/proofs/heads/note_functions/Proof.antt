@@ -3,7 +3,7 @@ use Prim.Native.Nat.{◌-◌, ◌≤◌}
 use mathlib.Core.Path.{◌≡◌, refl, ◌∙◌}
 use native.Mathlib.Omega.{arith}
 use lib.ListN.{length}
-use Rattle.print.specs.Heads.{Noted, noted-start}
+use Rattle.print.specs.Heads.{Noted, noted_start}
 use Rattle.print.proofs.heads.note_functions.Statement.{statement}
 use Rattle.print.proofs.heads.note_functions.Tie as tie
 use Rattle.print.proofs.heads.note_head.Reads as note-head-reads
@@ -16,7 +16,7 @@ abbrev decreases-loop : tie.decreases-loop
 decreases-loop kinds words index₀ i₀ index i = length kinds - i
 
 loop-holds : tie.Need-loop-init invariant-loop decreases-loop
-loop-holds c = (refl, (omega arith, noted-start _ _ _ c.before.before.before.requires.1.1))
+loop-holds c = (refl, (omega arith, noted_start _ _ _ c.before.before.before.requires.1.1))
 
 mul-note-head : tie.Need-overflow-mul-note-head invariant-loop decreases-loop
 mul-note-head c = search rules

@@ -3,9 +3,9 @@ use Prim.Native.Nat.{◌-◌, ◌≤◌}
 use mathlib.Core.Path.{sym, ◌∙◌}
 use native.Mathlib.Omega.{arith}
 use lib.ListN.{length}
-use Rattle.book_types.specs.Laws.{length-entries}
+use Rattle.book_types.specs.Laws.{length_entries}
 use Rattle.book.specs.Entry.{entries}
-use Rattle.print.specs.Heads.{head_of, head-inside, head-hit, head-next}
+use Rattle.print.specs.Heads.{head_of, head_inside, head_hit, head_next}
 use Rattle.print.proofs.heads.place_of.Statement.{statement}
 use Rattle.print.proofs.heads.place_of.Tie as tie
 use Rattle.print.proofs.heads.is_head.Reads as is-head-reads
@@ -30,7 +30,7 @@ returns c =
     let pre = entry.requires in
     let ks = entry.args.kinds.now in
     let ws = entry.args.words.now in
-    omega (arith, pre.1.0.none _ pre.1.1 c.if1.true, head-inside entry.args.x (entries ks ws), length-entries ks ws)
+    omega (arith, pre.1.0.none _ pre.1.1 c.if1.true, head_inside entry.args.x (entries ks ws), length_entries ks ws)
 
 window-start-requires : tie.Need-window-start-requires invariant-loop decreases-loop
 window-start-requires c κs = search rules
@@ -60,7 +60,7 @@ returns-2 c =
     let in-loop = c.before.before.before.before in
     let entry = in-loop.before.before.before.before.before.before.before.before in
     let test = in-loop.loop-test.true in
-    let hit = head-hit entry.args.x entry.args.kinds.now entry.args.words.now _ test (omega (arith, test, entry.requires.0)) (sym c.before.is-head.ensures ∙ c.if2.true) in
+    let hit = head_hit entry.args.x entry.args.kinds.now entry.args.words.now _ test (omega (arith, test, entry.requires.0)) (sym c.before.is-head.ensures ∙ c.if2.true) in
     omega (arith, in-loop.before.loop.invariant, hit)
 
 add-i : tie.Need-overflow-add-i invariant-loop decreases-loop
@@ -74,14 +74,14 @@ loop-again c =
     let in-loop = c.before.before.before.before in
     let entry = in-loop.before.before.before.before.before.before.before.before in
     let test = in-loop.loop-test.true in
-    head-next entry.args.x entry.args.kinds.now entry.args.words.now _ test (omega (arith, test, entry.requires.0)) in-loop.before.loop.invariant (sym c.before.is-head.ensures ∙ c.if2.false)
+    head_next entry.args.x entry.args.kinds.now entry.args.words.now _ test (omega (arith, test, entry.requires.0)) in-loop.before.loop.invariant (sym c.before.is-head.ensures ∙ c.if2.false)
 
 returns-3 : tie.Need-returns-3 invariant-loop decreases-loop
 returns-3 c =
     let entry = c.before.before.before.before.before.before.before.before in
     let ks = entry.args.kinds.now in
     let ws = entry.args.words.now in
-    omega (arith, c.before.loop.invariant, c.loop-test.false, head-inside entry.args.x (entries ks ws), length-entries ks ws)
+    omega (arith, c.before.loop.invariant, c.loop-test.false, head_inside entry.args.x (entries ks ws), length_entries ks ws)
 
 pub place-of-spec : {M : Type 1} → statement M
 place-of-spec =

@@ -2,7 +2,7 @@
 use Prim.Native.Nat.{◌-◌}
 use mathlib.Core.Logic.{⊎_elim}
 use lib.ListN.{length}
-use Rattle.print.specs.Function.{Counting6, counting-start, counting-six, counting-other, counting-end}
+use Rattle.print.specs.Function.{Counting6, counting_start, counting_six, counting_other, counting_end}
 use borrow.Author.Rules.{rules}
 use Rattle.print.proofs.params.count_params.Statement.{statement}
 use Rattle.print.proofs.params.count_params.Tie as tie
@@ -14,7 +14,7 @@ abbrev decreases-loop : tie.decreases-loop
 decreases-loop kinds n₀ i₀ n i = length kinds - i
 
 loop-holds : tie.Need-loop-init invariant-loop decreases-loop
-loop-holds c = counting-start _
+loop-holds c = counting_start _
 
 mul-if1 : tie.Need-overflow-mul-if1 invariant-loop decreases-loop
 mul-if1 c = search rules
@@ -35,11 +35,11 @@ loop-again : tie.Need-loop-preserved invariant-loop decreases-loop
 loop-again c =
     let in-loop = c.before.before in
     let at-loop = in-loop.before in
-    ⊎_elim (λ w. rw w.1 (counting-six at-loop.loop.invariant in-loop.loop-test.true w.0.taken))
-    (λ w. rw w.1 (counting-other at-loop.loop.invariant in-loop.loop-test.true w.0.left)) c.if1.branch
+    ⊎_elim (λ w. rw w.1 (counting_six at-loop.loop.invariant in-loop.loop-test.true w.0.taken))
+    (λ w. rw w.1 (counting_other at-loop.loop.invariant in-loop.loop-test.true w.0.left)) c.if1.branch
 
 returns : tie.Need-returns invariant-loop decreases-loop
-returns c = counting-end c.before.loop.invariant c.loop-test.false
+returns c = counting_end c.before.loop.invariant c.loop-test.false
 
 pub count-params-spec : {M : Type 1} → statement M
 count-params-spec =

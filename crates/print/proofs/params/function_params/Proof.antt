@@ -1,7 +1,7 @@
 -- `function_params` meets its contract: the parameters stand behind the return type.
 use mathlib.Core.Path.{sym, ◌∙◌}
 use native.Mathlib.Omega.{arith}
-use Rattle.print.specs.Function.{fn-kinds, fn-words, fn-no-type, fn-kinds-at, fn-words-at, fn-params-there, fn-params}
+use Rattle.print.specs.Function.{fn_kinds, fn_words, fn_no_type, fn_kinds_at, fn_words_at, fn_params_there, fn_params}
 use borrow.Author.Rules.{rules}
 use Rattle.print.proofs.params.function_params.Statement.{statement}
 use Rattle.print.proofs.params.function_params.Tie as tie
@@ -9,19 +9,19 @@ use Rattle.print.proofs.params.list_params.Reads as list-params-reads
 use Rattle.book_types.proofs.types.type_len.Reads as type-len-reads
 
 sub-type-len : tie.Need-overflow-sub-type-len
-sub-type-len c = fn-kinds c.before.before.args.names c.before.before.args.kinds.now c.before.before.args.words.now c.before.before.requires
+sub-type-len c = fn_kinds c.before.before.args.names c.before.before.args.kinds.now c.before.before.args.words.now c.before.before.requires
 
 part-type-len-start : tie.Need-slice-bounds-type-len-start
-part-type-len-start c = fn-kinds c.before.before.args.names c.before.before.args.kinds.now c.before.before.args.words.now c.before.before.requires
+part-type-len-start c = fn_kinds c.before.before.args.names c.before.before.args.kinds.now c.before.before.args.words.now c.before.before.requires
 
 part-type-len-end : tie.Need-slice-bounds-type-len-end
 part-type-len-end c = search rules
 
 sub-type-len-2 : tie.Need-overflow-sub-type-len-2
-sub-type-len-2 c = fn-words c.before.before.before.args.names c.before.before.before.args.kinds.now c.before.before.before.args.words.now c.before.before.before.requires
+sub-type-len-2 c = fn_words c.before.before.before.args.names c.before.before.before.args.kinds.now c.before.before.before.args.words.now c.before.before.before.requires
 
 part-type-len-start-2 : tie.Need-slice-bounds-type-len-start-2
-part-type-len-start-2 c = fn-words c.before.before.before.args.names c.before.before.before.args.kinds.now c.before.before.before.args.words.now c.before.before.before.requires
+part-type-len-start-2 c = fn_words c.before.before.before.args.names c.before.before.before.args.kinds.now c.before.before.before.args.words.now c.before.before.before.requires
 
 part-type-len-end-2 : tie.Need-slice-bounds-type-len-end-2
 part-type-len-end-2 c = search rules
@@ -38,8 +38,8 @@ enum_told c = search rules
 returns : tie.Need-returns
 returns c =
     let entry = c.before.before.before.before.before.before.before in
-    fn-no-type entry.args.names entry.args.kinds.now entry.args.words.now entry.requires
-    (sym c.enum_told.given.1 ∙ c.before.before.type-len.ensures)
+    fn_no_type entry.args.names entry.args.kinds.now entry.args.words.now entry.requires
+    (sym c.enum_told.given.1 ∙ c.before.before.type_len_lem.ensures)
 
 add_at : tie.Need-overflow-add-at
 add_at c =
@@ -47,8 +47,8 @@ add_at c =
     let entry = after-type-len.before.before.before.before.before in
     omega (
       arith,
-      fn-kinds-at entry.args.names entry.args.kinds.now entry.args.words.now entry.requires _
-          (sym c.before.n.given.1 ∙ after-type-len.type-len.ensures),
+      fn_kinds_at entry.args.names entry.args.kinds.now entry.args.words.now entry.requires _
+          (sym c.before.n.given.1 ∙ after-type-len.type_len_lem.ensures),
       entry.well-formed,
     )
 
@@ -58,8 +58,8 @@ mul-list-params c =
     let entry = after-type-len.before.before.before.before.before in
     omega (
       arith,
-      fn-kinds-at entry.args.names entry.args.kinds.now entry.args.words.now entry.requires _
-          (sym c.before.n.given.1 ∙ after-type-len.type-len.ensures),
+      fn_kinds_at entry.args.names entry.args.kinds.now entry.args.words.now entry.requires _
+          (sym c.before.n.given.1 ∙ after-type-len.type_len_lem.ensures),
       entry.well-formed,
     )
 
@@ -67,15 +67,15 @@ sub-list-params : tie.Need-overflow-sub-list-params
 sub-list-params c =
     let after-type-len = c.before.before.before in
     let entry = after-type-len.before.before.before.before.before in
-    fn-kinds-at entry.args.names entry.args.kinds.now entry.args.words.now entry.requires _
-    (sym c.before.n.given.1 ∙ after-type-len.type-len.ensures)
+    fn_kinds_at entry.args.names entry.args.kinds.now entry.args.words.now entry.requires _
+    (sym c.before.n.given.1 ∙ after-type-len.type_len_lem.ensures)
 
 part-list-params-start : tie.Need-slice-bounds-list-params-start
 part-list-params-start c =
     let after-type-len = c.before.before.before in
     let entry = after-type-len.before.before.before.before.before in
-    fn-kinds-at entry.args.names entry.args.kinds.now entry.args.words.now entry.requires _
-    (sym c.before.n.given.1 ∙ after-type-len.type-len.ensures)
+    fn_kinds_at entry.args.names entry.args.kinds.now entry.args.words.now entry.requires _
+    (sym c.before.n.given.1 ∙ after-type-len.type_len_lem.ensures)
 
 part-list-params-end : tie.Need-slice-bounds-list-params-end
 part-list-params-end c = search rules
@@ -86,8 +86,8 @@ mul-list-params-2 c =
     let entry = after-type-len.before.before.before.before.before in
     omega (
       arith,
-      fn-words-at entry.args.names entry.args.kinds.now entry.args.words.now entry.requires _
-          (sym c.before.before.n.given.1 ∙ after-type-len.type-len.ensures),
+      fn_words_at entry.args.names entry.args.kinds.now entry.args.words.now entry.requires _
+          (sym c.before.before.n.given.1 ∙ after-type-len.type_len_lem.ensures),
       entry.well-formed,
     )
 
@@ -95,15 +95,15 @@ sub-list-params-2 : tie.Need-overflow-sub-list-params-2
 sub-list-params-2 c =
     let after-type-len = c.before.before.before.before in
     let entry = after-type-len.before.before.before.before.before in
-    fn-words-at entry.args.names entry.args.kinds.now entry.args.words.now entry.requires _
-    (sym c.before.before.n.given.1 ∙ after-type-len.type-len.ensures)
+    fn_words_at entry.args.names entry.args.kinds.now entry.args.words.now entry.requires _
+    (sym c.before.before.n.given.1 ∙ after-type-len.type_len_lem.ensures)
 
 part-list-params-start-2 : tie.Need-slice-bounds-list-params-start-2
 part-list-params-start-2 c =
     let after-type-len = c.before.before.before.before in
     let entry = after-type-len.before.before.before.before.before in
-    fn-words-at entry.args.names entry.args.kinds.now entry.args.words.now entry.requires _
-    (sym c.before.before.n.given.1 ∙ after-type-len.type-len.ensures)
+    fn_words_at entry.args.names entry.args.kinds.now entry.args.words.now entry.requires _
+    (sym c.before.before.n.given.1 ∙ after-type-len.type_len_lem.ensures)
 
 part-list-params-end-2 : tie.Need-slice-bounds-list-params-end-2
 part-list-params-end-2 c = search rules
@@ -113,16 +113,16 @@ list-params-requires c κs =
     let after-n = c.before.before.before in
     let after-type-len = after-n.before.before in
     let entry = after-type-len.before.before.before.before.before in
-    fn-params-there entry.args.names entry.args.kinds.now entry.args.words.now entry.requires _
-    (sym after-n.n.given.1 ∙ after-type-len.type-len.ensures)
+    fn_params_there entry.args.names entry.args.kinds.now entry.args.words.now entry.requires _
+    (sym after-n.n.given.1 ∙ after-type-len.type_len_lem.ensures)
 
 returns-2 : tie.Need-returns-2
 returns-2 c =
     let after-n = c.before.before.before.before in
     let after-type-len = after-n.before.before in
     let entry = after-type-len.before.before.before.before.before in
-    fn-params entry.args.names entry.args.kinds.now entry.args.words.now entry.requires _
-    (sym after-n.n.given.1 ∙ after-type-len.type-len.ensures) _ c.list-params.ensures
+    fn_params entry.args.names entry.args.kinds.now entry.args.words.now entry.requires _
+    (sym after-n.n.given.1 ∙ after-type-len.type_len_lem.ensures) _ c.list-params.ensures
 
 pub function-params-spec : {M : Type 1} → statement M
 function-params-spec =

@@ -5,9 +5,9 @@ use Rattle.book.specs.Fields.{Item as BookItem}
 use Rattle.book.specs.Decode.{item}
 use Rattle.book.specs.Entry.{entries}
 use Rattle.book.specs.Read.{many}
-use Rattle.book.specs.Forbidden.{any, otherItem}
+use Rattle.book.specs.Forbidden.{any, other_item}
 use Rattle.book_types.specs.Passes.{listed}
-use Rattle.print.specs.Function.{found-len, none-len, no-params, list-fits, list_count}
+use Rattle.print.specs.Function.{found_len, none_len, no_params, list_fits, list_count}
 use borrow.Author.Rules.{rules}
 use Rattle.print.proofs.params.list_params.Statement.{statement}
 use Rattle.print.proofs.params.list_params.Tie as tie
@@ -32,9 +32,9 @@ returns c =
     let after-shorter = c.before.before.before in
     let entry = after-shorter.before.before.before in
     let a = entry.args in
-    no-params a.names a.kinds.now a.words.now entry.requires
-    (none-len (any (otherItem BookItem.param)) (many (item a.names BookItem.param) (entries a.kinds.now a.words.now)) _
-    (listed (otherItem BookItem.param) (item a.names BookItem.param) (entries a.kinds.now a.words.now) _ _
+    no_params a.names a.kinds.now a.words.now entry.requires
+    (none_len (any (other_item BookItem.param)) (many (item a.names BookItem.param) (entries a.kinds.now a.words.now)) _
+    (listed (other_item BookItem.param) (item a.names BookItem.param) (entries a.kinds.now a.words.now) _ _
     c.before.before.list-len.ensures after-shorter.shorter.ensures) c.enum_told.given.1)
 
 slice-aggregate-count-params : tie.Need-slice-aggregate-count-params
@@ -45,9 +45,9 @@ slice-aggregate-count-params c =
     let a = entry.args in
     sym
     (length-take-le _ _
-    (list-fits a.names a.kinds.now a.words.now entry.requires _
-    (found-len (any (otherItem BookItem.param)) (many (item a.names BookItem.param) (entries a.kinds.now a.words.now)) _ _ _
-    (listed (otherItem BookItem.param) (item a.names BookItem.param) (entries a.kinds.now a.words.now) _ _
+    (list_fits a.names a.kinds.now a.words.now entry.requires _
+    (found_len (any (other_item BookItem.param)) (many (item a.names BookItem.param) (entries a.kinds.now a.words.now)) _ _ _
+    (listed (other_item BookItem.param) (item a.names BookItem.param) (entries a.kinds.now a.words.now) _ _
     after-list-len.list-len.ensures after-shorter.shorter.ensures) c.before.before.n.given.1)))
 
 count-params-requires : tie.Need-count-params-requires
@@ -61,8 +61,8 @@ returns-2 c =
     let entry = after-shorter.before.before.before in
     let a = entry.args in
     list_count a.names a.kinds.now a.words.now entry.requires _
-    (found-len (any (otherItem BookItem.param)) (many (item a.names BookItem.param) (entries a.kinds.now a.words.now)) _ _ _
-    (listed (otherItem BookItem.param) (item a.names BookItem.param) (entries a.kinds.now a.words.now) _ _
+    (found_len (any (other_item BookItem.param)) (many (item a.names BookItem.param) (entries a.kinds.now a.words.now)) _ _ _
+    (listed (other_item BookItem.param) (item a.names BookItem.param) (entries a.kinds.now a.words.now) _ _
     after-list-len.list-len.ensures after-shorter.shorter.ensures) after-n.n.given.1) _ c.count-params.ensures
 
 pub list-params-spec : {M : Type 1} → statement M

@@ -1,7 +1,7 @@
 -- `print_known` meets its contract: the passes give the definition.
 use native.Mathlib.Omega.{arith}
 use lib.ListN.{length-take}
-use Rattle.print.specs.Passes.{known-printed}
+use Rattle.print.specs.Passes.{known_printed}
 use borrow.Author.Rules.{rules}
 use Rattle.print.proofs.passes.print_known.Statement.{statement}
 use Rattle.print.proofs.passes.print_known.Tie as tie
@@ -39,7 +39,7 @@ returns c =
     let after-count = c.before.before.before.before.before.before in
     let entry = after-count.before.before.before.before.before.before.before.before.before in
     let p = entry.requires in
-    known-printed p.1.0 entry.args.kinds.now entry.args.words.now p.1.1.0.book _ p.1.1.1 entry.args.line-kinds.now entry.args.operands.now _ _ after-count.line-count.ensures
+    known_printed p.1.0 entry.args.kinds.now entry.args.words.now p.1.1.0.book _ p.1.1.1 entry.args.line-kinds.now entry.args.operands.now _ _ after-count.line-count.ensures
     c.before.before.put-twice.ensures
 
 pub print-known-spec : {M : Type 1} → statement M

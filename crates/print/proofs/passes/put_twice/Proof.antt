@@ -2,7 +2,7 @@
 use mathlib.Core.Path.{sym, ◌∙◌}
 use borrow.Author.Tests.{not-true, not-false}
 use Rattle.print_words.specs.Words.{Tables}
-use Rattle.print.specs.Passes.{passes_count, passes-done, passes-short, passes-barred, passes-unheaded}
+use Rattle.print.specs.Passes.{passes_count, passes_done, passes_short, passes_barred, passes_unheaded}
 use borrow.Author.Rules.{rules}
 use Rattle.print.proofs.passes.put_twice.Statement.{statement}
 use Rattle.print.proofs.passes.put_twice.Tie as tie
@@ -16,7 +16,7 @@ headed-requires : tie.Need-headed-requires
 headed-requires c κs = search rules
 
 returns : tie.Need-returns
-returns c = passes-unheaded _ _ _ _ (sym c.before.headed.ensures ∙ not-true _ c.if1.true)
+returns c = passes_unheaded _ _ _ _ (sym c.before.headed.ensures ∙ not-true _ c.if1.true)
 
 word-letters-requires : tie.Need-word-letters-requires
 word-letters-requires c κs = search rules
@@ -49,7 +49,7 @@ write-segments-requires c κs =
     let n = passes_count after-weigh.weigh-segments.ensures _ c.before.before.before.before.weighed.given.1 in
     let after_letters = after-places.before in
     let tables : Tables after_letters.word-letters.result after-places.word-places.result =
-    record { letters-are = after_letters.word-letters.ensures; places-are = after-places.word-places.ensures } in
+    record { letters_are = after_letters.word-letters.ensures; places_are = after-places.word-places.ensures } in
     (tables, (p.0, (p.1.0, (p.1.1.0, (p.1.1.1, (n.0, (n.1.0, n.1.1)))))))
 
 enum_told : tie.Need-enum-told
@@ -65,7 +65,7 @@ returns-2 : tie.Need-returns-2
 returns-2 c =
     let after-weigh = c.before.before.before.before.before.before.before.before.before.before.before in
     let stands = sym after-weigh.before.before.before.before.before.before.headed.ensures ∙ not-false _ after-weigh.before.before.before.before.before.if1.false in
-    rw stands (passes-done _ after-weigh.weigh-segments.ensures _ _ c.before.before.before.before.before.before.before.weighed.given.1 c.before.before.write-segments.ensures)
+    rw stands (passes_done _ after-weigh.weigh-segments.ensures _ _ c.before.before.before.before.before.before.before.weighed.given.1 c.before.before.write-segments.ensures)
 
 same-length-2 : tie.Need-same-length-2
 same-length-2 c = search rules
@@ -74,7 +74,7 @@ returns-3 : tie.Need-returns-3
 returns-3 c =
     let after-weigh = c.before.before.before.before in
     let stands = sym after-weigh.before.before.before.before.before.before.headed.ensures ∙ not-false _ after-weigh.before.before.before.before.before.if1.false in
-    rw stands (passes-short _ after-weigh.weigh-segments.ensures c.enum_told.given.1)
+    rw stands (passes_short _ after-weigh.weigh-segments.ensures c.enum_told.given.1)
 
 same-length-3 : tie.Need-same-length-3
 same-length-3 c = search rules
@@ -83,7 +83,7 @@ returns-4 : tie.Need-returns-4
 returns-4 c =
     let after-weigh = c.before.before.before.before in
     let stands = sym after-weigh.before.before.before.before.before.before.headed.ensures ∙ not-false _ after-weigh.before.before.before.before.before.if1.false in
-    rw stands (passes-barred _ after-weigh.weigh-segments.ensures c.enum-told2.given.1)
+    rw stands (passes_barred _ after-weigh.weigh-segments.ensures c.enum-told2.given.1)
 
 pub put-twice-spec : {M : Type 1} → statement M
 put-twice-spec =

@@ -16,211 +16,211 @@ use Rattle.print.proofs.rooms.+print_sound.Tie.{close}
 abbrev μ-print-sound : Measures 6 print-sound-kinds.ps ℕ
 μ-print-sound κs a = 16384 - a.1.1.1.1.1.1.1.0
 
-abbrev print-sound-at : ℕ → In 6 print-sound-kinds.ps
-print-sound-at t =
+abbrev print_sound_at : ℕ → In 6 print-sound-kinds.ps
+print_sound_at t =
     and 6 print-sound-kinds.ps (is 6 print-sound-kinds.ps μ-print-sound t) print-sound.Pre
 
-abbrev print-sound-below : ℕ → In 6 print-sound-kinds.ps
-print-sound-below t =
+abbrev print_sound_below : ℕ → In 6 print-sound-kinds.ps
+print_sound_below t =
     and 6 print-sound-kinds.ps (falls 6 print-sound-kinds.ps ◌<◌ μ-print-sound t) print-sound.Pre
 
-print-sound-many-print-requires : (t : ℕ) → print-sound-lts.Need-many-print-requires (
+print_sound_many_print_requires : (t : ℕ) → print-sound-lts.Need-many-print-requires (
   many-print-reads.Asked,
   many-print-reads.Learnt,
-  print-sound-below t,
+  print_sound_below t,
   print-sound.Post,
   some-print-reads.Asked,
   some-print-reads.Learnt,
   few-print-reads.Asked,
   few-print-reads.Learnt,
-) (print-sound-at t) print-sound.Post
-print-sound-many-print-requires t c κs =
+) (print_sound_at t) print-sound.Post
+print_sound_many_print_requires t c κs =
     let entry = c.before.before.before.before.before.before.before.before in
     (entry.requires.1.0, (entry.requires.1.1.0, entry.requires.1.1.1.0))
 
-print-sound-same-length : (t : ℕ) → print-sound-lts.Need-same-length (
+print_sound_same_length : (t : ℕ) → print-sound-lts.Need-same-length (
   many-print-reads.Asked,
   many-print-reads.Learnt,
-  print-sound-below t,
+  print_sound_below t,
   print-sound.Post,
   some-print-reads.Asked,
   some-print-reads.Learnt,
   few-print-reads.Asked,
   few-print-reads.Learnt,
-) (print-sound-at t) print-sound.Post
-print-sound-same-length t c = search rules
+) (print_sound_at t) print-sound.Post
+print_sound_same_length t c = search rules
 
-print-sound-returns : (t : ℕ) → print-sound-lts.Need-returns (
+print_sound_returns : (t : ℕ) → print-sound-lts.Need-returns (
   many-print-reads.Asked,
   many-print-reads.Learnt,
-  print-sound-below t,
+  print_sound_below t,
   print-sound.Post,
   some-print-reads.Asked,
   some-print-reads.Learnt,
   few-print-reads.Asked,
   few-print-reads.Learnt,
-) (print-sound-at t) print-sound.Post
-print-sound-returns t c = search rules
+) (print_sound_at t) print-sound.Post
+print_sound_returns t c = search rules
 
-print-sound-mul-print-sound : (t : ℕ) → print-sound-lts.Need-overflow-mul-print-sound (
+print_sound_mul_print_sound : (t : ℕ) → print-sound-lts.Need-overflow-mul-print-sound (
   many-print-reads.Asked,
   many-print-reads.Learnt,
-  print-sound-below t,
+  print_sound_below t,
   print-sound.Post,
   some-print-reads.Asked,
   some-print-reads.Learnt,
   few-print-reads.Asked,
   few-print-reads.Learnt,
-) (print-sound-at t) print-sound.Post
-print-sound-mul-print-sound t c =
+) (print_sound_at t) print-sound.Post
+print_sound_mul_print_sound t c =
     let then2 = c.before in
     let else1 = then2.before in
     omega (arith, else1.if1.false)
 
-print-sound-print-sound-requires : (t : ℕ) → print-sound-lts.Need-print-sound-requires (
+print_sound_print_sound_requires : (t : ℕ) → print-sound-lts.Need-print-sound-requires (
   many-print-reads.Asked,
   many-print-reads.Learnt,
-  print-sound-below t,
+  print_sound_below t,
   print-sound.Post,
   some-print-reads.Asked,
   some-print-reads.Learnt,
   few-print-reads.Asked,
   few-print-reads.Learnt,
-) (print-sound-at t) print-sound.Post
-print-sound-print-sound-requires t c κs =
+) (print_sound_at t) print-sound.Post
+print_sound_print_sound_requires t c κs =
     let then2 = c.before in
     let else1 = then2.before in
     let entry = else1.before.before.before.before.before.before.before in
     let p = entry.requires.1 in
     (omega (arith, entry.requires.0, else1.if1.false, p.1.1.1), (p.0, (p.1.0, (p.1.1.0, omega (arith, p.1.1.1)))))
 
-print-sound-same-length-2 : (t : ℕ) → print-sound-lts.Need-same-length-2 (
+print_sound_same_length_2 : (t : ℕ) → print-sound-lts.Need-same-length-2 (
   many-print-reads.Asked,
   many-print-reads.Learnt,
-  print-sound-below t,
+  print_sound_below t,
   print-sound.Post,
   some-print-reads.Asked,
   some-print-reads.Learnt,
   few-print-reads.Asked,
   few-print-reads.Learnt,
-) (print-sound-at t) print-sound.Post
-print-sound-same-length-2 t c = search rules
+) (print_sound_at t) print-sound.Post
+print_sound_same_length_2 t c = search rules
 
-print-sound-returns-2 : (t : ℕ) → print-sound-lts.Need-returns-2 (
+print_sound_returns_2 : (t : ℕ) → print-sound-lts.Need-returns-2 (
   many-print-reads.Asked,
   many-print-reads.Learnt,
-  print-sound-below t,
+  print_sound_below t,
   print-sound.Post,
   some-print-reads.Asked,
   some-print-reads.Learnt,
   few-print-reads.Asked,
   few-print-reads.Learnt,
-) (print-sound-at t) print-sound.Post
-print-sound-returns-2 t c = search rules
+) (print_sound_at t) print-sound.Post
+print_sound_returns_2 t c = search rules
 
-print-sound-some-print-requires : (t : ℕ) → print-sound-lts.Need-some-print-requires (
+print_sound_some_print_requires : (t : ℕ) → print-sound-lts.Need-some-print-requires (
   many-print-reads.Asked,
   many-print-reads.Learnt,
-  print-sound-below t,
+  print_sound_below t,
   print-sound.Post,
   some-print-reads.Asked,
   some-print-reads.Learnt,
   few-print-reads.Asked,
   few-print-reads.Learnt,
-) (print-sound-at t) print-sound.Post
-print-sound-some-print-requires t c κs =
+) (print_sound_at t) print-sound.Post
+print_sound_some_print_requires t c κs =
     let else2 = c.before.before in
     let else1 = else2.before in
     let entry = else1.before.before.before.before.before.before.before in
     (entry.requires.1.0, (entry.requires.1.1.0, omega (arith, else1.if1.false, else2.if2.false)))
 
-print-sound-same-length-3 : (t : ℕ) → print-sound-lts.Need-same-length-3 (
+print_sound_same_length_3 : (t : ℕ) → print-sound-lts.Need-same-length-3 (
   many-print-reads.Asked,
   many-print-reads.Learnt,
-  print-sound-below t,
+  print_sound_below t,
   print-sound.Post,
   some-print-reads.Asked,
   some-print-reads.Learnt,
   few-print-reads.Asked,
   few-print-reads.Learnt,
-) (print-sound-at t) print-sound.Post
-print-sound-same-length-3 t c = search rules
+) (print_sound_at t) print-sound.Post
+print_sound_same_length_3 t c = search rules
 
-print-sound-returns-3 : (t : ℕ) → print-sound-lts.Need-returns-3 (
+print_sound_returns_3 : (t : ℕ) → print-sound-lts.Need-returns-3 (
   many-print-reads.Asked,
   many-print-reads.Learnt,
-  print-sound-below t,
+  print_sound_below t,
   print-sound.Post,
   some-print-reads.Asked,
   some-print-reads.Learnt,
   few-print-reads.Asked,
   few-print-reads.Learnt,
-) (print-sound-at t) print-sound.Post
-print-sound-returns-3 t c = search rules
+) (print_sound_at t) print-sound.Post
+print_sound_returns_3 t c = search rules
 
-print-sound-few-print-requires : (t : ℕ) → print-sound-lts.Need-few-print-requires (
+print_sound_few_print_requires : (t : ℕ) → print-sound-lts.Need-few-print-requires (
   many-print-reads.Asked,
   many-print-reads.Learnt,
-  print-sound-below t,
+  print_sound_below t,
   print-sound.Post,
   some-print-reads.Asked,
   some-print-reads.Learnt,
   few-print-reads.Asked,
   few-print-reads.Learnt,
-) (print-sound-at t) print-sound.Post
-print-sound-few-print-requires t c κs =
+) (print_sound_at t) print-sound.Post
+print_sound_few_print_requires t c κs =
     let else3 = c.before in
     let else2 = else3.before in
     let entry = else2.before.before.before.before.before.before.before.before in
     (entry.requires.1.0, (entry.requires.1.1.0, omega (arith, else3.if3.false, else2.if2.false)))
 
-print-sound-same-length-4 : (t : ℕ) → print-sound-lts.Need-same-length-4 (
+print_sound_same_length_4 : (t : ℕ) → print-sound-lts.Need-same-length-4 (
   many-print-reads.Asked,
   many-print-reads.Learnt,
-  print-sound-below t,
+  print_sound_below t,
   print-sound.Post,
   some-print-reads.Asked,
   some-print-reads.Learnt,
   few-print-reads.Asked,
   few-print-reads.Learnt,
-) (print-sound-at t) print-sound.Post
-print-sound-same-length-4 t c = search rules
+) (print_sound_at t) print-sound.Post
+print_sound_same_length_4 t c = search rules
 
-print-sound-returns-4 : (t : ℕ) → print-sound-lts.Need-returns-4 (
+print_sound_returns_4 : (t : ℕ) → print-sound-lts.Need-returns-4 (
   many-print-reads.Asked,
   many-print-reads.Learnt,
-  print-sound-below t,
+  print_sound_below t,
   print-sound.Post,
   some-print-reads.Asked,
   some-print-reads.Learnt,
   few-print-reads.Asked,
   few-print-reads.Learnt,
-) (print-sound-at t) print-sound.Post
-print-sound-returns-4 t c = search rules
+) (print_sound_at t) print-sound.Post
+print_sound_returns_4 t c = search rules
 
 pub +print-sound-spec : {M : Type 1} → statement M
 +print-sound-spec = close μ-print-sound λ t. print-sound-lts.spec (
   many-print-reads.Asked,
   many-print-reads.Learnt,
-  print-sound-below t,
+  print_sound_below t,
   print-sound.Post,
   some-print-reads.Asked,
   some-print-reads.Learnt,
   few-print-reads.Asked,
   few-print-reads.Learnt,
 )
-    (print-sound-at t)
+    (print_sound_at t)
     print-sound.Post
-    (print-sound-many-print-requires t)
-    (print-sound-same-length t)
-    (print-sound-returns t)
-    (print-sound-mul-print-sound t)
-    (print-sound-print-sound-requires t)
-    (print-sound-same-length-2 t)
-    (print-sound-returns-2 t)
-    (print-sound-some-print-requires t)
-    (print-sound-same-length-3 t)
-    (print-sound-returns-3 t)
-    (print-sound-few-print-requires t)
-    (print-sound-same-length-4 t)
-    (print-sound-returns-4 t)
+    (print_sound_many_print_requires t)
+    (print_sound_same_length t)
+    (print_sound_returns t)
+    (print_sound_mul_print_sound t)
+    (print_sound_print_sound_requires t)
+    (print_sound_same_length_2 t)
+    (print_sound_returns_2 t)
+    (print_sound_some_print_requires t)
+    (print_sound_same_length_3 t)
+    (print_sound_returns_3 t)
+    (print_sound_few_print_requires t)
+    (print_sound_same_length_4 t)
+    (print_sound_returns_4 t)

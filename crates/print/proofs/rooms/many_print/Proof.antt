@@ -1,7 +1,7 @@
 -- `many_print` meets its contract: names that the check accepts are noted by a pass of their own.
 use Rattle.names.specs.Text.{bytes}
 use Rattle.print.specs.Heads.{zeroed}
-use Rattle.print.specs.Names.{names-barred, names-named, names-printed}
+use Rattle.print.specs.Names.{names_barred, names_named, names_printed}
 use borrow.Author.Rules.{rules}
 use Rattle.print.proofs.rooms.many_print.Statement.{statement}
 use Rattle.print.proofs.rooms.many_print.Tie as tie
@@ -26,7 +26,7 @@ enum_told c = search rules
 
 returns : tie.Need-returns
 unfolding bytes
-returns c = names-barred _ _ _ c.before.before.before.read_names.ensures.0 c.enum_told.given.1 _ _ _ _
+returns c = names_barred _ _ _ c.before.before.before.read_names.ensures.0 c.enum_told.given.1 _ _ _ _
 
 slice-aggregate-note-eighths : tie.Need-slice-aggregate-note-eighths
 slice-aggregate-note-eighths c = search rules
@@ -37,7 +37,7 @@ note-eighths-requires c κs =
     let after-from = c.before.before in
     let after-read-names = after-from.before.before.before in
     let entry = after-read-names.before.before.before.before.before.before.before.before.before in
-    let named = names-named _ _ _ after-read-names.read_names.ensures.0 _ _ after-from.from.given.1 entry.requires.1.1 in
+    let named = names_named _ _ _ after-read-names.read_names.ensures.0 _ _ after-from.from.given.1 entry.requires.1.1 in
     let few = named.sound.few in
     (named.sound, search rules)
 
@@ -53,7 +53,7 @@ print-noted-requires c κs =
     let after-from = c.before.before.before.before.before.before.before in
     let after-read-names = after-from.before.before.before in
     let entry = after-read-names.before.before.before.before.before.before.before.before.before in
-    let named = names-named _ _ _ after-read-names.read_names.ensures.0 _ _ after-from.from.given.1 entry.requires.1.1 in
+    let named = names_named _ _ _ after-read-names.read_names.ensures.0 _ _ after-from.from.given.1 entry.requires.1.1 in
     let p = entry.requires in
     let few = p.1.1 in
     (p.0, (p.1.0, (named, (c.before.before.before.before.note-eighths.ensures, (zeroed 131072, search rules)))))
@@ -66,7 +66,7 @@ unfolding bytes
 returns-2 c =
     let after-from = c.before.before.before.before.before.before.before.before.before.before.before in
     let after-read-names = after-from.before.before.before in
-    names-printed _ _ _ after-read-names.read_names.ensures.0 _ _ after-from.from.given.1 _ _ _ _ c.before.before.before.print-noted.ensures
+    names_printed _ _ _ after-read-names.read_names.ensures.0 _ _ after-from.from.given.1 _ _ _ _ c.before.before.before.print-noted.ensures
 
 pub many-print-spec : {M : Type 1} → statement M
 many-print-spec =

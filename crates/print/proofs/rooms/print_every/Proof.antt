@@ -2,7 +2,7 @@
 use mathlib.Core.Path.{◌∙◌}
 use lib.ListN.{length-set}
 use Rattle.names.specs.Text.{bytes}
-use Rattle.print.specs.Names.{names-barred, names-named, names-starts, names-printed}
+use Rattle.print.specs.Names.{names_barred, names_named, names_starts, names_printed}
 use borrow.Author.Rules.{rules}
 use Rattle.print.proofs.rooms.print_every.Statement.{statement}
 use Rattle.print.proofs.rooms.print_every.Tie as tie
@@ -32,7 +32,7 @@ same_length c =
 
 returns : tie.Need-returns
 unfolding bytes
-returns c = names-barred _ _ _ c.before.before.before.before.read_names.ensures.0 c.enum_told.given.1 _ _ _ _
+returns c = names_barred _ _ _ c.before.before.before.before.read_names.ensures.0 c.enum_told.given.1 _ _ _ _
 
 print-noted-requires : tie.Need-print-noted-requires
 unfolding bytes
@@ -43,8 +43,8 @@ print-noted-requires c κs =
     let sorted = c.before.before.before.before.from.given.1 in
     let p = entry.requires in
     let few = p.1.1.0 in
-    let named = names-named _ _ _ read.0 _ _ sorted few in
-    let starts = names-starts _ _ _ read.0 _ _ sorted few entry.args.starts.now p.1.1.1.0 read.1 in
+    let named = names_named _ _ _ read.0 _ _ sorted few in
+    let starts = names_starts _ _ _ read.0 _ _ sorted few entry.args.starts.now p.1.1.1.0 read.1 in
     (p.0, (p.1.0, (named, (starts, p.1.1.1.1))))
 
 same-length-2 : tie.Need-same-length-2
@@ -65,7 +65,7 @@ returns-2 c =
     let after-print-noted = c.before.before.before.before in
     let after-from = after-print-noted.before.before.before.before.before in
     let after-read-names = after-from.before.before.before.before in
-    names-printed _ _ _ after-read-names.read_names.ensures.0 _ _ after-from.from.given.1 _ _ _ _ after-print-noted.print-noted.ensures
+    names_printed _ _ _ after-read-names.read_names.ensures.0 _ _ after-from.from.given.1 _ _ _ _ after-print-noted.print-noted.ensures
 
 pub print-every-spec : {M : Type 1} → statement M
 print-every-spec =

@@ -1,6 +1,6 @@
 -- `print_noted` meets its contract: the functions are noted, and the first one is known.
 use native.Mathlib.Omega.{arith}
-use Rattle.print.specs.Heads.{first-place}
+use Rattle.print.specs.Heads.{first_place}
 use borrow.Author.Rules.{rules}
 use Rattle.print.proofs.rooms.print_noted.Statement.{statement}
 use Rattle.print.proofs.rooms.print_noted.Tie as tie
@@ -20,21 +20,21 @@ mul-first : tie.Need-overflow-mul-first
 mul-first c =
     let after-place = c in
     let entry = after-place.before.before.before.before.before.before.before.before.before.before.before.before.before in
-    let first = first-place entry.args.count entry.args.kinds.now entry.args.words.now entry.requires.0 _ after-place.function-place.ensures in
+    let first = first_place entry.args.count entry.args.kinds.now entry.args.words.now entry.requires.0 _ after-place.function-place.ensures in
     omega (arith, first.1.1, entry.well-formed)
 
 shared-slice-read-first : tie.Need-shared-slice-read-first
 shared-slice-read-first c =
     let after-place = c.before in
     let entry = after-place.before.before.before.before.before.before.before.before.before.before.before.before.before in
-    let first = first-place entry.args.count entry.args.kinds.now entry.args.words.now entry.requires.0 _ after-place.function-place.ensures in
+    let first = first_place entry.args.count entry.args.kinds.now entry.args.words.now entry.requires.0 _ after-place.function-place.ensures in
     first.1.1
 
 print-known-requires : tie.Need-print-known-requires
 print-known-requires c κs =
     let after-place = c.before.before.before in
     let entry = after-place.before.before.before.before.before.before.before.before.before.before.before.before.before in
-    let first = first-place entry.args.count entry.args.kinds.now entry.args.words.now entry.requires.0 _ after-place.function-place.ensures in
+    let first = first_place entry.args.count entry.args.kinds.now entry.args.words.now entry.requires.0 _ after-place.function-place.ensures in
     let p = entry.requires in
     let note = c.before.before.before.before.before.before.note-functions in
     (p.1.1.1.0, (p.1.1.0, (record { book = p.0; room = omega (arith, p.1.1.1.1.1, note.auto.1.1.0); noted = note.ensures }, first.0)))

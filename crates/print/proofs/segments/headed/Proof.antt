@@ -2,7 +2,7 @@
 use Prim.Native.Nat.{◌-◌}
 use mathlib.Core.Path.{refl}
 use lib.ListN.{length}
-use Rattle.print.specs.Segments.{Ahead, ahead-comment, ahead-label, ahead_jump, ahead-next, ahead-end}
+use Rattle.print.specs.Segments.{Ahead, ahead_comment, ahead_label, ahead_jump, ahead_next, ahead_end}
 use Rattle.print.proofs.segments.headed.Statement.{statement}
 use Rattle.print.proofs.segments.headed.Tie as tie
 use borrow.Author.Rules.{rules}
@@ -23,7 +23,7 @@ shared-slice-read-if1 : tie.Need-shared-slice-read-if1 invariant-loop decreases-
 shared-slice-read-if1 c = search rules
 
 returns : tie.Need-returns invariant-loop decreases-loop
-returns c = ahead-comment c.before.before.before.loop.invariant c.before.before.loop-test.true c.if1.true
+returns c = ahead_comment c.before.before.before.loop.invariant c.before.before.loop-test.true c.if1.true
 
 mul-if2 : tie.Need-overflow-mul-if2 invariant-loop decreases-loop
 mul-if2 c = search rules
@@ -35,7 +35,7 @@ returns-2 : tie.Need-returns-2 invariant-loop decreases-loop
 returns-2 c =
     let else1 = c.before.before in
     let in-loop = else1.before.before in
-    ahead-label in-loop.before.loop.invariant in-loop.loop-test.true else1.if1.false c.if2.true
+    ahead_label in-loop.before.loop.invariant in-loop.loop-test.true else1.if1.false c.if2.true
 
 mul-if3 : tie.Need-overflow-mul-if3 invariant-loop decreases-loop
 mul-if3 c = search rules
@@ -61,10 +61,10 @@ loop-again c =
     let else2 = c.before.before in
     let else1 = else2.before.before in
     let in-loop = else1.before.before in
-    ahead-next in-loop.before.loop.invariant in-loop.loop-test.true else1.if1.false else2.if2.false c.if3.false
+    ahead_next in-loop.before.loop.invariant in-loop.loop-test.true else1.if1.false else2.if2.false c.if3.false
 
 returns-4 : tie.Need-returns-4 invariant-loop decreases-loop
-returns-4 c = ahead-end c.before.loop.invariant c.loop-test.false
+returns-4 c = ahead_end c.before.loop.invariant c.loop-test.false
 
 pub headed-spec : {M : Type 1} → statement M
 headed-spec =

@@ -4,7 +4,7 @@ use mathlib.Core.Path.{sym, ◌∙◌}
 use native.Mathlib.Omega.{arith}
 use borrow.Author.Tests.{not-true, not-false}
 use lib.ListN.{length}
-use Rattle.print.specs.Segments.{Staying, staying-start, staying-next, staying-done, staying-end}
+use Rattle.print.specs.Segments.{Staying, staying_start, staying_next, staying_done, staying_end}
 use Rattle.print.proofs.segments.segment_end.Statement.{statement}
 use Rattle.print.proofs.segments.segment_end.Tie as tie
 use Rattle.print.proofs.segments.same_segment.Reads as same-segment-reads
@@ -17,7 +17,7 @@ abbrev decreases-loop : tie.decreases-loop
 decreases-loop line-kinds operands start own i₀ i = length line-kinds - i
 
 loop-holds : tie.Need-loop-init invariant-loop decreases-loop
-loop-holds c = staying-start _ _ _ _ c.before.before.requires.1
+loop-holds c = staying_start _ _ _ _ c.before.before.requires.1
 
 mul-same-segment : tie.Need-overflow-mul-same-segment invariant-loop decreases-loop
 mul-same-segment c = search rules
@@ -38,7 +38,7 @@ returns : tie.Need-returns invariant-loop decreases-loop
 returns c =
     let in-loop = c.before.before.before.before in
     let test = in-loop.loop-test.true in
-    staying-done in-loop.before.loop.invariant test (omega (arith, test, in-loop.before.before.before.before.requires.0)) (sym c.before.same-segment.ensures ∙ not-true _ c.if1.true)
+    staying_done in-loop.before.loop.invariant test (omega (arith, test, in-loop.before.before.before.before.requires.0)) (sym c.before.same-segment.ensures ∙ not-true _ c.if1.true)
 
 add-i : tie.Need-overflow-add-i invariant-loop decreases-loop
 add-i c = search rules
@@ -50,10 +50,10 @@ loop-again : tie.Need-loop-preserved invariant-loop decreases-loop
 loop-again c =
     let in-loop = c.before.before.before.before in
     let test = in-loop.loop-test.true in
-    staying-next in-loop.before.loop.invariant test (omega (arith, test, in-loop.before.before.before.before.requires.0)) (sym c.before.same-segment.ensures ∙ not-false _ c.if1.false)
+    staying_next in-loop.before.loop.invariant test (omega (arith, test, in-loop.before.before.before.before.requires.0)) (sym c.before.same-segment.ensures ∙ not-false _ c.if1.false)
 
 returns-2 : tie.Need-returns-2 invariant-loop decreases-loop
-returns-2 c = staying-end c.before.loop.invariant c.loop-test.false
+returns-2 c = staying_end c.before.loop.invariant c.loop-test.false
 
 pub segment-end-spec : {M : Type 1} → statement M
 segment-end-spec =

@@ -3,8 +3,8 @@ use Prim.Native.Nat.{◌-◌}
 use mathlib.Core.Path.{ap, ◌∙◌}
 use native.Mathlib.Omega.{arith}
 use lib.ListN.{length}
-use Rattle.print.specs.Heads.{isFn}
-use Rattle.print.specs.Segments.{Weighing, Segment, weighing-start, weighing-next, weighing-short, weighing-barred, weighing-end, weighing-over, segment-behind, segment-inside}
+use Rattle.print.specs.Heads.{is_fn}
+use Rattle.print.specs.Segments.{Weighing, Segment, weighing_start, weighing_next, weighing_short, weighing_barred, weighing_end, weighing_over, segment_behind, segment_inside}
 use Rattle.print.specs.Passes.{one_of}
 use Rattle.print.proofs.segments.weigh_segments.Statement.{statement}
 use Rattle.print.proofs.segments.weigh_segments.Tie as tie
@@ -17,7 +17,7 @@ use borrow.Author.Rules.{rules}
 
 abbrev invariant-loop : tie.invariant-loop
 invariant-loop text₀ places names starts every kinds words count from to index first line-kinds operands own₀ short₀ n₀ i₀ text own short n i =
-    Weighing (isFn count kinds words) count from to (one_of names count kinds words) first line-kinds operands text₀ own i text n short
+    Weighing (is_fn count kinds words) count from to (one_of names count kinds words) first line-kinds operands text₀ own i text n short
 
 abbrev decreases-loop : tie.decreases-loop
 decreases-loop text₀ places names starts every kinds words count from to index first line-kinds operands own₀ short₀ n₀ i₀ text own short n i = length line-kinds - i
@@ -33,7 +33,7 @@ here c =
     record { kinds = test; words = omega (arith, test, entry.requires.1.1.1.1); name = c.before.pick.ensures; end = c.segment-end.ensures }
 
 loop-holds : tie.Need-loop-init invariant-loop decreases-loop
-loop-holds c = weighing-start _ _ _ _ _ _ _ _ c.before.before.before.before.before.before.before.before.before.args.text.now
+loop-holds c = weighing_start _ _ _ _ _ _ _ _ c.before.before.before.before.before.before.before.before.before.args.text.now
 
 mul-pick : tie.Need-overflow-mul-pick invariant-loop decreases-loop
 mul-pick c = search rules
@@ -63,13 +63,13 @@ mul-weigh-under c =
     omega (arith, in-loop.loop-test.true, entry.requires.1.1.1.1, entry.well-formed)
 
 sub-weigh-under : tie.Need-overflow-sub-weigh-under invariant-loop decreases-loop
-sub-weigh-under c = omega (arith, segment-behind (here c.before))
+sub-weigh-under c = omega (arith, segment_behind (here c.before))
 
 part-weigh-under-start : tie.Need-slice-bounds-weigh-under-start invariant-loop decreases-loop
-part-weigh-under-start c = omega (arith, segment-behind (here c.before))
+part-weigh-under-start c = omega (arith, segment_behind (here c.before))
 
 part-weigh-under-end : tie.Need-slice-bounds-weigh-under-end invariant-loop decreases-loop
-part-weigh-under-end c = segment-inside (here c.before)
+part-weigh-under-end c = segment_inside (here c.before)
 
 mul-weigh-under-2 : tie.Need-overflow-mul-weigh-under-2 invariant-loop decreases-loop
 mul-weigh-under-2 c =
@@ -78,15 +78,15 @@ mul-weigh-under-2 c =
     omega (arith, in-loop.loop-test.true, entry.requires.1.1.1.1, entry.well-formed)
 
 sub-weigh-under-2 : tie.Need-overflow-sub-weigh-under-2 invariant-loop decreases-loop
-sub-weigh-under-2 c = omega (arith, segment-behind (here c.before.before))
+sub-weigh-under-2 c = omega (arith, segment_behind (here c.before.before))
 
 part-weigh-under-start-2 : tie.Need-slice-bounds-weigh-under-start-2 invariant-loop decreases-loop
-part-weigh-under-start-2 c = omega (arith, segment-behind (here c.before.before))
+part-weigh-under-start-2 c = omega (arith, segment_behind (here c.before.before))
 
 part-weigh-under-end-2 : tie.Need-slice-bounds-weigh-under-end-2 invariant-loop decreases-loop
 part-weigh-under-end-2 c =
     let entry = c.before.before.before.before.before.before.before.before.before.before.before.before.before.before.before.before.before in
-    omega (arith, segment-inside (here c.before.before), entry.requires.1.1.1.1)
+    omega (arith, segment_inside (here c.before.before), entry.requires.1.1.1.1)
 
 weigh-under-requires : tie.Need-weigh-under-requires invariant-loop decreases-loop
 weigh-under-requires c κs =
@@ -114,43 +114,43 @@ returns c =
     let after-weigh = c.before.before.before.before in
     let after-end = after-weigh.before.before.before.before in
     let at-loop = after-end.before.before.before.before.before in
-    weighing-barred at-loop.loop.invariant (here after-end) after-weigh.weigh-under.ensures c.enum-told2.given.1
+    weighing_barred at-loop.loop.invariant (here after-end) after-weigh.weigh-under.ensures c.enum-told2.given.1
 
 loop-less : tie.Need-loop-smaller invariant-loop decreases-loop
 loop-less c =
     let after-end = c.before.before.before.before.before.before.before.before.before in
-    omega (arith, segment-behind (here after-end), after-end.before.before.before.before.loop-test.true)
+    omega (arith, segment_behind (here after-end), after-end.before.before.before.before.loop-test.true)
 
 loop-again : tie.Need-loop-preserved invariant-loop decreases-loop
 loop-again c =
     let after-weigh = c.before.before.before.before.before in
     let after-end = after-weigh.before.before.before.before in
     let at-loop = after-end.before.before.before.before.before in
-    weighing-next at-loop.loop.invariant (here after-end) after-weigh.weigh-under.ensures _ c.before.next.given.1
+    weighing_next at-loop.loop.invariant (here after-end) after-weigh.weigh-under.ensures _ c.before.next.given.1
 
 loop-less-2 : tie.Need-loop-smaller-2 invariant-loop decreases-loop
 loop-less-2 c =
     let after-end = c.before.before.before.before.before.before.before.before in
-    omega (arith, segment-behind (here after-end), after-end.before.before.before.before.loop-test.true)
+    omega (arith, segment_behind (here after-end), after-end.before.before.before.before.loop-test.true)
 
 loop-again-2 : tie.Need-loop-preserved-2 invariant-loop decreases-loop
 loop-again-2 c =
     let after-weigh = c.before.before.before.before in
     let after-end = after-weigh.before.before.before.before in
     let at-loop = after-end.before.before.before.before.before in
-    weighing-short at-loop.loop.invariant (here after-end) after-weigh.weigh-under.ensures c.enum_told.given.1
+    weighing_short at-loop.loop.invariant (here after-end) after-weigh.weigh-under.ensures c.enum_told.given.1
 
 same-length-2 : tie.Need-same-length-2 invariant-loop decreases-loop
 same-length-2 c = ap length c.before.before.loop.invariant.text
 
 returns-2 : tie.Need-returns-2 invariant-loop decreases-loop
-returns-2 c = weighing-over c.before.before.loop.invariant c.before.loop-test.false c.if1.true
+returns-2 c = weighing_over c.before.before.loop.invariant c.before.loop-test.false c.if1.true
 
 same-length-3 : tie.Need-same-length-3 invariant-loop decreases-loop
 same-length-3 c = ap length c.before.before.loop.invariant.text
 
 returns-3 : tie.Need-returns-3 invariant-loop decreases-loop
-returns-3 c = weighing-end c.before.before.loop.invariant c.before.loop-test.false c.if1.false
+returns-3 c = weighing_end c.before.before.loop.invariant c.before.loop-test.false c.if1.false
 
 pub weigh-segments-spec : {M : Type 1} → statement M
 weigh-segments-spec =

@@ -1,7 +1,7 @@
 -- `weigh_under` meets its contract, by what stands at the function's place.
 use native.Mathlib.Omega.{arith}
-use Rattle.print.specs.Heads.{Standing, stands_at, stands-nowhere}
-use Rattle.print.specs.Passes.{names-callable, under-typed, under-weighed, nowhere-weighed}
+use Rattle.print.specs.Heads.{Standing, stands_at, stands_nowhere}
+use Rattle.print.specs.Passes.{names_callable, under_typed, under_weighed, nowhere_weighed}
 use borrow.Author.Rules.{rules}
 use Rattle.print.proofs.segments.weigh_under.Statement.{statement}
 use Rattle.print.proofs.segments.weigh_under.Tie as tie
@@ -30,7 +30,7 @@ returns : tie.Need-returns
 returns c =
     let find = c.before.before in
     let entry = find.before.before.before.before.before.before.before.before.before.before in
-    nowhere-weighed _ _ _ _ (stands-nowhere entry.args.count entry.args.kinds.now entry.args.words.now entry.args.own find.find-Head.ensures c.enum_told.given.1)
+    nowhere_weighed _ _ _ _ (stands_nowhere entry.args.count entry.args.kinds.now entry.args.words.now entry.args.own find.find-Head.ensures c.enum_told.given.1)
 
 add-behind : tie.Need-overflow-add-behind
 add-behind c =
@@ -74,7 +74,7 @@ weigh-lines-requires : tie.Need-weigh-lines-requires
 weigh-lines-requires c κs =
     let p = c.before.before.before.before.before.before.before.before.before.before.before.before.before.before.before.before.before.requires in
     let named = p.1.1.0 in
-    (p.0, (p.1.0, (under-typed named (here c.before.before.before.before.before), (names-callable named, p.1.1.1.1))))
+    (p.0, (p.1.0, (under_typed named (here c.before.before.before.before.before), (names_callable named, p.1.1.1.1))))
 
 same_length : tie.Need-same-length
 same_length c = search rules
@@ -86,7 +86,7 @@ returns-2 c =
     let after-find = after-name.before.before.before in
     let entry = after-find.before.before.before.before.before.before.before.before.before.before.before.before in
     let named = entry.requires.1.1.0 in
-    under-weighed named (here after-find) _ after-name.name_of.ensures entry.args.line-kinds.now entry.args.operands.now _ after-lines.weigh-lines.ensures
+    under_weighed named (here after-find) _ after-name.name_of.ensures entry.args.line-kinds.now entry.args.operands.now _ after-lines.weigh-lines.ensures
 
 pub weigh-under-spec : {M : Type 1} → statement M
 weigh-under-spec =

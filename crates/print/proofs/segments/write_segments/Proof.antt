@@ -2,8 +2,8 @@
 use Prim.Native.Nat.{◌-◌}
 use native.Mathlib.Omega.{arith}
 use lib.ListN.{length}
-use Rattle.print.specs.Heads.{isFn}
-use Rattle.print.specs.Segments.{Writing, Segment, writing_start, writing-is, writing-stands, writing-room, writing-next, writing-end, segment-behind, segment-inside}
+use Rattle.print.specs.Heads.{is_fn}
+use Rattle.print.specs.Segments.{Writing, Segment, writing_start, writing_is, writing_stands, writing_room, writing_next, writing_end, segment_behind, segment_inside}
 use Rattle.print.specs.Passes.{one_of}
 use Rattle.print.proofs.segments.write_segments.Statement.{statement}
 use Rattle.print.proofs.segments.write_segments.Tie as tie
@@ -16,7 +16,7 @@ use borrow.Author.Rules.{rules}
 
 abbrev invariant-loop : tie.invariant-loop
 invariant-loop text₀ end letters places names starts every kinds words count from to index first line-kinds operands own₀ at₀ i₀ text own at i =
-    Writing (isFn count kinds words) count from to (one_of names count kinds words) first line-kinds operands text₀ end own i text at
+    Writing (is_fn count kinds words) count from to (one_of names count kinds words) first line-kinds operands text₀ end own i text at
 
 abbrev decreases-loop : tie.decreases-loop
 decreases-loop text₀ end letters places names starts every kinds words count from to index first line-kinds operands own₀ at₀ i₀ text own at i = length line-kinds - i
@@ -64,13 +64,13 @@ mul-write-under c =
     omega (arith, in-loop.loop-test.true, entry.requires.1.1.1.1.0, entry.well-formed)
 
 sub-write-under : tie.Need-overflow-sub-write-under invariant-loop decreases-loop
-sub-write-under c = omega (arith, segment-behind (here c.before))
+sub-write-under c = omega (arith, segment_behind (here c.before))
 
 part-write-under-start : tie.Need-slice-bounds-write-under-start invariant-loop decreases-loop
-part-write-under-start c = omega (arith, segment-behind (here c.before))
+part-write-under-start c = omega (arith, segment_behind (here c.before))
 
 part-write-under-end : tie.Need-slice-bounds-write-under-end invariant-loop decreases-loop
-part-write-under-end c = segment-inside (here c.before)
+part-write-under-end c = segment_inside (here c.before)
 
 mul-write-under-2 : tie.Need-overflow-mul-write-under-2 invariant-loop decreases-loop
 mul-write-under-2 c =
@@ -79,15 +79,15 @@ mul-write-under-2 c =
     omega (arith, in-loop.loop-test.true, entry.requires.1.1.1.1.0, entry.well-formed)
 
 sub-write-under-2 : tie.Need-overflow-sub-write-under-2 invariant-loop decreases-loop
-sub-write-under-2 c = omega (arith, segment-behind (here c.before.before))
+sub-write-under-2 c = omega (arith, segment_behind (here c.before.before))
 
 part-write-under-start-2 : tie.Need-slice-bounds-write-under-start-2 invariant-loop decreases-loop
-part-write-under-start-2 c = omega (arith, segment-behind (here c.before.before))
+part-write-under-start-2 c = omega (arith, segment_behind (here c.before.before))
 
 part-write-under-end-2 : tie.Need-slice-bounds-write-under-end-2 invariant-loop decreases-loop
 part-write-under-end-2 c =
     let entry = c.before.before.before.before.before.before.before.before.before.before.before.before.before.before.before.before.before.before in
-    omega (arith, segment-inside (here c.before.before), entry.requires.1.1.1.1.0)
+    omega (arith, segment_inside (here c.before.before), entry.requires.1.1.1.1.0)
 
 write-under-requires : tie.Need-write-under-requires invariant-loop decreases-loop
 write-under-requires c κs =
@@ -96,23 +96,23 @@ write-under-requires c κs =
     let p = at-loop.before.before.before.before.before.before.before.before.before.before.before.requires in
     let inv = at-loop.loop.invariant in
     let g = here after-end in
-    (p.0, (p.1.0, (p.1.1.0, (p.1.1.1.0, (writing-is inv g, (writing-stands inv g, (writing-room inv g, omega (arith, p.1.1.1.1.1.1.1, inv.long))))))))
+    (p.0, (p.1.0, (p.1.1.0, (p.1.1.1.0, (writing_is inv g, (writing_stands inv g, (writing_room inv g, omega (arith, p.1.1.1.1.1.1.1, inv.long))))))))
 
 loop-less : tie.Need-loop-smaller invariant-loop decreases-loop
 loop-less c =
     let after-end = c.before.before.before.before.before.before in
-    omega (arith, segment-behind (here after-end), after-end.before.before.before.before.loop-test.true)
+    omega (arith, segment_behind (here after-end), after-end.before.before.before.before.loop-test.true)
 
 loop-again : tie.Need-loop-preserved invariant-loop decreases-loop
 loop-again c =
     let after-end = c.before.before.before.before.before.before in
-    writing-next after-end.before.before.before.before.before.loop.invariant (here after-end) _ _ c.before.before.write_under.ensures
+    writing_next after-end.before.before.before.before.before.loop.invariant (here after-end) _ _ c.before.before.write_under.ensures
 
 same_length : tie.Need-same-length invariant-loop decreases-loop
 same_length c = c.before.loop.invariant.long
 
 returns : tie.Need-returns invariant-loop decreases-loop
-returns c = writing-end c.before.loop.invariant c.loop-test.false
+returns c = writing_end c.before.loop.invariant c.loop-test.false
 
 pub write-segments-spec : {M : Type 1} → statement M
 write-segments-spec =

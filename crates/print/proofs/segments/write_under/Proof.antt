@@ -2,9 +2,9 @@
 use mathlib.Core.Path.{sym, ◌∙◌}
 use mathlib.Core.Bool.{false≢true}
 use native.Mathlib.Omega.{arith}
-use Rattle.print_forms.specs.Allowed.{all-ready}
-use Rattle.print.specs.Heads.{Standing, stands_at, stands-nowhere}
-use Rattle.print.specs.Passes.{names-callable, under-typed, under-room, under-wrote}
+use Rattle.print_forms.specs.Allowed.{all_ready}
+use Rattle.print.specs.Heads.{Standing, stands_at, stands_nowhere}
+use Rattle.print.specs.Passes.{names_callable, under_typed, under_room, under_wrote}
 use borrow.Author.Rules.{rules}
 use Rattle.print.proofs.segments.write_under.Statement.{statement}
 use Rattle.print.proofs.segments.write_under.Tie as tie
@@ -33,7 +33,7 @@ returns : tie.Need-returns
 returns c =
     let find = c.before.before in
     let entry = find.before.before.before.before.before.before.before.before.before.before.before in
-    let nowhere = stands-nowhere entry.args.count entry.args.kinds.now entry.args.words.now entry.args.own find.find-Head.ensures c.enum_told.given.1 in
+    let nowhere = stands_nowhere entry.args.count entry.args.kinds.now entry.args.words.now entry.args.own find.find-Head.ensures c.enum_told.given.1 in
     absurd (false≢true (sym nowhere ∙ entry.requires.1.1.1.1.0))
 
 add-behind : tie.Need-overflow-add-behind
@@ -81,9 +81,9 @@ write-lines-requires c κs =
     let p = entry.requires in
     let named = p.1.1.0 in
     let q = p.1.1.1.1.1 in
-    let ready = all-ready (names-callable named) entry.args.own _ _ q.0 in
-    let room = under-room named stands _ c.before.before.name_of.ensures entry.args.line-kinds.now entry.args.operands.now _ _ q.1.0 in
-    (p.0, (p.1.0, (under-typed named stands, (ready, (room, q.1.1)))))
+    let ready = all_ready (names_callable named) entry.args.own _ _ q.0 in
+    let room = under_room named stands _ c.before.before.name_of.ensures entry.args.line-kinds.now entry.args.operands.now _ _ q.1.0 in
+    (p.0, (p.1.0, (under_typed named stands, (ready, (room, q.1.1)))))
 
 same_length : tie.Need-same-length
 same_length c = search rules
@@ -95,7 +95,7 @@ returns-2 c =
     let after-find = after-name.before.before.before in
     let entry = after-find.before.before.before.before.before.before.before.before.before.before.before.before.before in
     let named = entry.requires.1.1.0 in
-    under-wrote named (here after-find) _ after-name.name_of.ensures entry.args.line-kinds.now entry.args.operands.now after-lines.write-lines.ensures
+    under_wrote named (here after-find) _ after-name.name_of.ensures entry.args.line-kinds.now entry.args.operands.now after-lines.write-lines.ensures
 
 pub write-under-spec : {M : Type 1} → statement M
 write-under-spec =

@@ -3,9 +3,9 @@ use Prim.Native.Nat.{◌+◌, ◌<◌}
 use mathlib.Core.Bool.{◌&&◌}
 use native.Mathlib.Omega.{arith}
 use lib.Dec.{eqb, leb}
-use Rattle.numbers.specs.Digits.{length-word}
-use Rattle.print_words.specs.Words.{word-short}
-use Rattle.print_lines.specs.Named.{around, pick-most}
+use Rattle.numbers.specs.Digits.{length_word}
+use Rattle.print_words.specs.Words.{word_short}
+use Rattle.print_lines.specs.Named.{around, pick_most}
 use borrow.Author.Rules.{rules}
 use Rattle.print_lines.proofs.weigh.around_len.Statement.{statement}
 use Rattle.print_lines.proofs.weigh.around_len.Tie as tie
@@ -30,7 +30,7 @@ decimal-len-requires : tie.Need-decimal-len-requires
 decimal-len-requires c κs = search rules
 
 add-pick-len-2 : tie.Need-overflow-add-pick-len-2
-add-pick-len-2 c = omega (arith, c.decimal-len.ensures, length-word c.before.pick.result (search rules))
+add-pick-len-2 c = omega (arith, c.decimal-len.ensures, length_word c.before.pick.result (search rules))
 
 pick-len-requires-2 : tie.Need-pick-len-requires-2
 pick-len-requires-2 c κs = search rules
@@ -44,10 +44,10 @@ fits c =
     let after_block = after-pick.before in
     let after-word = after_block.before in
     let entry = after-word.before.before in
-    let short = word-short entry.args.kind entry.requires.1.1 in
-    let most = pick-most (leb 2 entry.args.kind && leb entry.args.kind 3) (entry.args.label + 2) in
-    let few = pick-most (eqb entry.args.kind 5) (after-digits.decimal-len.result + 2) in
-    let digits = length-word after-pick.pick.result (search rules) in
+    let short = word_short entry.args.kind entry.requires.1.1 in
+    let most = pick_most (leb 2 entry.args.kind && leb entry.args.kind 3) (entry.args.label + 2) in
+    let few = pick_most (eqb entry.args.kind 5) (after-digits.decimal-len.result + 2) in
+    let digits = length_word after-pick.pick.result (search rules) in
     omega (
       arith,
       after-word.word_len.ensures,

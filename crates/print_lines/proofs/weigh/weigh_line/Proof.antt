@@ -2,11 +2,11 @@
 use Prim.Native.Nat.{◌<◌}
 use mathlib.Core.Path.{refl}
 use native.Mathlib.Omega.{arith}
-use Rattle.names.specs.Labels.{sanitize-length}
+use Rattle.names.specs.Labels.{sanitize_length}
 use Rattle.print_pen.specs.Pen.{put_same}
-use Rattle.print_forms.specs.Kinds.{comment-stands, comment-barred}
-use Rattle.print_lines.specs.All.{put-never}
-use Rattle.print_lines.specs.Weigh.{barred-is, number-weighed, named-weighed, comment-printed, counted-bytes, counted-short}
+use Rattle.print_forms.specs.Kinds.{comment_stands, comment_barred}
+use Rattle.print_lines.specs.All.{put_never}
+use Rattle.print_lines.specs.Weigh.{barred_is, number_weighed, named_weighed, comment_printed, counted_bytes, counted_short}
 use borrow.Author.Rules.{rules}
 use Rattle.print_lines.proofs.weigh.weigh_line.Statement.{statement}
 use Rattle.print_lines.proofs.weigh.weigh_line.Tie as tie
@@ -22,14 +22,14 @@ weigh-number-requires c κs =
 returns : tie.Need-returns
 returns c =
     let a = c.before.before.before.before.before.before.before.before.before.args in
-    number-weighed _ _ _ _ _ _ _ _ _ _ c.before.if1.true (c.weigh-number.ensures a.count a.own a.from a.to)
+    number_weighed _ _ _ _ _ _ _ _ _ _ c.before.if1.true (c.weigh-number.ensures a.count a.own a.from a.to)
 
 weigh-named-requires : tie.Need-weigh-named-requires
 weigh-named-requires c κs =
     let else1 = c.before in
     let entry = else1.before.before.before.before.before.before.before.before in
     let p = entry.requires in
-    let short : entry.args.label < 9223372036854775808 = omega (arith, p.1.1.1.1.1, sanitize-length entry.args.function.now, entry.well-formed) in
+    let short : entry.args.label < 9223372036854775808 = omega (arith, p.1.1.1.1.1, sanitize_length entry.args.function.now, entry.well-formed) in
     (p.0, (p.1.0, (p.1.1.1.0, (short, (p.1.1.1.1.0, (c.if2.true, else1.if1.false))))))
 
 returns-2 : tie.Need-returns-2
@@ -37,12 +37,12 @@ returns-2 c =
     let then2 = c.before in
     let else1 = then2.before in
     let entry = else1.before.before.before.before.before.before.before.before in
-    named-weighed _ _ _ _ _ _ _ _ _ _ then2.if2.true else1.if1.false
+    named_weighed _ _ _ _ _ _ _ _ _ _ then2.if2.true else1.if1.false
     (c.weigh-named.ensures entry.args.own entry.args.function.now entry.requires.1.1.1.1.1)
 
 returns-3 : tie.Need-returns-3
 returns-3 c =
-    record { is = barred-is _ _ _ (comment-barred _ _ _ _ _ _ c.before.if2.false c.if3.true); text = refl }
+    record { is = barred_is _ _ _ (comment_barred _ _ _ _ _ _ c.before.if2.false c.if3.true); text = refl }
 
 put-comment-requires : tie.Need-put-comment-requires
 put-comment-requires c κs = search rules
@@ -64,15 +64,15 @@ returns-4 c =
     let after-comment = c.before.before.before.before.before in
     let else3 = after-comment.before.before in
     let else2 = else3.before in
-    let text = put_same (comment-printed _ _ _ _ _ _ else2.if2.false) after-comment.put-comment.ensures in
-    counted-bytes _ (comment-stands _ _ _ _ _ _ else2.if2.false else3.if3.false) text _ c.before.next.given.1
+    let text = put_same (comment_printed _ _ _ _ _ _ else2.if2.false) after-comment.put-comment.ensures in
+    counted_bytes _ (comment_stands _ _ _ _ _ _ else2.if2.false else3.if3.false) text _ c.before.next.given.1
 
 same-length-2 : tie.Need-same-length-2
 same-length-2 c = search rules
 
 returns-5 : tie.Need-returns-5
 returns-5 c =
-    absurd (put-never _ c.before.before.before.before.put-comment.ensures c.enum_told.given.1)
+    absurd (put_never _ c.before.before.before.before.put-comment.ensures c.enum_told.given.1)
 
 same-length-3 : tie.Need-same-length-3
 same-length-3 c = search rules
@@ -82,8 +82,8 @@ returns-6 c =
     let after-comment = c.before.before.before.before in
     let else3 = after-comment.before.before in
     let else2 = else3.before in
-    let text = put_same (comment-printed _ _ _ _ _ _ else2.if2.false) after-comment.put-comment.ensures in
-    counted-short _ (comment-stands _ _ _ _ _ _ else2.if2.false else3.if3.false) text c.enum-told2.given.1
+    let text = put_same (comment_printed _ _ _ _ _ _ else2.if2.false) after-comment.put-comment.ensures in
+    counted_short _ (comment_stands _ _ _ _ _ _ else2.if2.false else3.if3.false) text c.enum-told2.given.1
 
 pub weigh-line-spec : {M : Type 1} → statement M
 weigh-line-spec =

@@ -6,10 +6,10 @@ use lib.ListN.{length}
 use borrow.Author.Rules.{rules}
 use Rattle.names.specs.Name.{lines}
 use Rattle.book.specs.Entry.{entries}
-use Rattle.book.specs.Decode.{typeTo}
+use Rattle.book.specs.Decode.{type_to}
 use Rattle.print_types.specs.Types.{type_bytes}
 use Rattle.print_lines.specs.Lines.{printed}
-use Rattle.print_lines.specs.Weigh.{Weighing, weighing-start, weighing-kinds, weighing-operands, weighing-next, weighing-short, weighing-barred}
+use Rattle.print_lines.specs.Weigh.{Weighing, weighing_start, weighing_kinds, weighing_operands, weighing_next, weighing_short, weighing_barred}
 use Rattle.print_lines.proofs.weigh.weigh_lines.Statement.{statement}
 use Rattle.print_lines.proofs.weigh.weigh_lines.Tie as tie
 use Rattle.names_spelling.proofs.clean_len.Reads as clean-len-reads
@@ -18,7 +18,7 @@ use Rattle.print_lines.proofs.weigh.weigh_rest.Reads as weigh-rest-reads
 
 abbrev invariant-loop : tie.invariant-loop
 invariant-loop text₀ before places names starts every function kinds words params line-kinds operands count own from to label n₀ i₀ text n i =
-    Weighing count own from to (printed (lines names) function (type_bytes (lines names) (typeTo (length (lines names)) 64 (entries kinds words))) params) line-kinds operands text₀ before i text n
+    Weighing count own from to (printed (lines names) function (type_bytes (lines names) (type_to (length (lines names)) 64 (entries kinds words))) params) line-kinds operands text₀ before i text n
 
 abbrev decreases-loop : tie.decreases-loop
 decreases-loop text₀ before places names starts every function kinds words params line-kinds operands count own from to label n₀ i₀ text n i =
@@ -30,13 +30,13 @@ clean-len-requires c κs = search rules
 loop-holds : tie.Need-loop-init invariant-loop decreases-loop
 loop-holds c =
     let entry = c.before.before.before.before.before.before.before.before.before.before in
-    weighing-start _ _ _ _ _ _ _ entry.args.text.now _ entry.requires.1.1.1.1
+    weighing_start _ _ _ _ _ _ _ entry.args.text.now _ entry.requires.1.1.1.1
 
 same_length : tie.Need-same-length invariant-loop decreases-loop
 same_length c = search rules
 
 returns : tie.Need-returns invariant-loop decreases-loop
-returns c = weighing-operands c.before.before.loop.invariant c.if1.true
+returns c = weighing_operands c.before.before.loop.invariant c.if1.true
 
 mul-weigh-line : tie.Need-overflow-mul-weigh-line invariant-loop decreases-loop
 mul-weigh-line c = search rules
@@ -80,7 +80,7 @@ returns-2 c =
     let else1 = after_Line.before.before.before.before in
     let in-loop = else1.before in
     let at-loop = in-loop.before in
-    weighing-short at-loop.loop.invariant in-loop.loop-test.true else1.if1.false after_Line.weigh-line.ensures _ c.before.enum_told.given.1 c.weigh-rest.ensures
+    weighing_short at-loop.loop.invariant in-loop.loop-test.true else1.if1.false after_Line.weigh-line.ensures _ c.before.enum_told.given.1 c.weigh-rest.ensures
 
 enum-told-2 : tie.Need-enum-told-2 invariant-loop decreases-loop
 enum-told-2 c = search rules
@@ -96,7 +96,7 @@ returns-3 c =
     let else1 = after_Line.before.before.before.before in
     let in-loop = else1.before in
     let at-loop = in-loop.before in
-    weighing-barred at-loop.loop.invariant in-loop.loop-test.true else1.if1.false after_Line.weigh-line.ensures c.enum-told2.given.1
+    weighing_barred at-loop.loop.invariant in-loop.loop-test.true else1.if1.false after_Line.weigh-line.ensures c.enum-told2.given.1
 
 add-i : tie.Need-overflow-add-i invariant-loop decreases-loop
 add-i c =
@@ -112,13 +112,13 @@ loop-again c =
     let else1 = after_Line.before.before.before.before in
     let in-loop = else1.before in
     let at-loop = in-loop.before in
-    weighing-next at-loop.loop.invariant in-loop.loop-test.true else1.if1.false after_Line.weigh-line.ensures _ c.before.next.given.1
+    weighing_next at-loop.loop.invariant in-loop.loop-test.true else1.if1.false after_Line.weigh-line.ensures _ c.before.next.given.1
 
 same-length-4 : tie.Need-same-length-4 invariant-loop decreases-loop
 same-length-4 c = search rules
 
 returns-4 : tie.Need-returns-4 invariant-loop decreases-loop
-returns-4 c = weighing-kinds c.before.loop.invariant c.loop-test.false
+returns-4 c = weighing_kinds c.before.loop.invariant c.loop-test.false
 
 pub weigh-lines-spec : {M : Type 1} → statement M
 weigh-lines-spec =

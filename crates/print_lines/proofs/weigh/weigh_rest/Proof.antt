@@ -1,5 +1,5 @@
 -- `weigh_rest` meets its contract by the check of the lines that are left.
-use Rattle.print_lines.specs.Weigh.{left-short, left-barred}
+use Rattle.print_lines.specs.Weigh.{left_short, left_barred}
 use borrow.Author.Rules.{rules}
 use Rattle.print_lines.proofs.weigh.weigh_rest.Statement.{statement}
 use Rattle.print_lines.proofs.weigh.weigh_rest.Tie as tie
@@ -35,12 +35,12 @@ check-lines-requires c κs = search rules
 returns : tie.Need-returns
 returns c =
     let a = c.before.before.before.before.before.before.args in
-    left-short a.count a.own a.from a.to a.i a.line-kinds.now a.operands.now _ c.before.check-lines.ensures c.if1.true
+    left_short a.count a.own a.from a.to a.i a.line-kinds.now a.operands.now _ c.before.check-lines.ensures c.if1.true
 
 returns-2 : tie.Need-returns-2
 returns-2 c =
     let a = c.before.before.before.before.before.before.args in
-    left-barred a.count a.own a.from a.to a.i a.line-kinds.now a.operands.now _ c.before.check-lines.ensures c.if1.false
+    left_barred a.count a.own a.from a.to a.i a.line-kinds.now a.operands.now _ c.before.check-lines.ensures c.if1.false
 
 pub weigh-rest-spec : {M : Type 1} → statement M
 weigh-rest-spec =

@@ -1,6 +1,6 @@
 -- `name_of` meets its contract: from its start the name stands up to its end, or up to the byte before the next one's start.
 use native.Mathlib.Omega.{arith}
-use Rattle.print_types.specs.Starts.{between, end_below, name-bytes}
+use Rattle.print_types.specs.Starts.{between, end_below, name_bytes}
 use borrow.Author.Rules.{rules}
 use Rattle.print_types.proofs.starts.name_of.Statement.{statement}
 use Rattle.print_types.proofs.starts.name_of.Tie as tie
@@ -81,7 +81,7 @@ returns-2 : tie.Need-returns-2
 returns-2 c =
     let after-name-start = c.before.before in
     let entry = after-name-start.before.before.before.before in
-    name-bytes _ entry.requires.0.sound _ _ _ entry.requires.1 after-name-start.name-start.ensures c.before.name-end.ensures
+    name_bytes _ entry.requires.0.sound _ _ _ entry.requires.1 after-name-start.name-start.ensures c.before.name-end.ensures
 
 pub name-of-spec : {M : Type 1} → statement M
 name-of-spec =

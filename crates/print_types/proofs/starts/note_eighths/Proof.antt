@@ -1,7 +1,7 @@
 -- `note_eighths` meets its contract: the pass stands at the start of each name in turn. The measure is what is left of the bytes.
 use native.Mathlib.Omega.{arith}
 use mathlib.Core.Logic.{⊎_elim}
-use Rattle.print_types.specs.Starts.{noting-start, noting-index, noting-below, noting-note, noting-skip, noting-end}
+use Rattle.print_types.specs.Starts.{noting_start, noting_index, noting_below, noting_note, noting_skip, noting_end}
 use borrow.Author.Rules.{rules}
 use Prim.Native.Nat.{◌-◌}
 use lib.ListN.{length}
@@ -17,7 +17,7 @@ abbrev decreases-loop : tie.decreases-loop
 decreases-loop names starts₀ at₀ i₀ starts at i = length names - at
 
 loop-holds : tie.Need-loop-init invariant-loop decreases-loop
-loop-holds c = noting-start _ _ c.before.before.requires.1
+loop-holds c = noting_start _ _ c.before.before.requires.1
 
 mul-starts : tie.Need-overflow-mul-starts invariant-loop decreases-loop
 mul-starts c = search rules
@@ -26,7 +26,7 @@ slice-write-starts : tie.Need-slice-write-starts invariant-loop decreases-loop
 slice-write-starts c =
     let at-loop = c.before.before in
     let entry = at-loop.before.before.before in
-    noting-index entry.requires.0 at-loop.loop.invariant _ (omega (arith, c.if1.true)) c.before.loop-test.true
+    noting_index entry.requires.0 at-loop.loop.invariant _ (omega (arith, c.if1.true)) c.before.loop-test.true
 
 name-end-requires : tie.Need-name-end-requires invariant-loop decreases-loop
 name-end-requires c κs = search rules
@@ -35,7 +35,7 @@ add_at : tie.Need-overflow-add-at invariant-loop decreases-loop
 add_at c =
     let at-loop = c.before.before.before in
     let entry = at-loop.before.before.before in
-    let b = noting-below entry.requires.0 at-loop.loop.invariant _ c.before.before.loop-test.true c.name-end.ensures in
+    let b = noting_below entry.requires.0 at-loop.loop.invariant _ c.before.before.loop-test.true c.name-end.ensures in
     omega arith
 
 add-i : tie.Need-overflow-add-i invariant-loop decreases-loop
@@ -49,15 +49,15 @@ loop-again c =
     let in-loop = c.before.before in
     let at-loop = in-loop.before in
     let entry = at-loop.before.before.before in
-    ⊎_elim (λ w. rw w.1 (noting-note entry.requires.0 at-loop.loop.invariant _ _ (omega (arith, w.0.taken)) in-loop.loop-test.true c.name-end.ensures))
-    (λ w. rw w.1 (noting-skip entry.requires.0 at-loop.loop.invariant _ in-loop.loop-test.true c.name-end.ensures w.0.left))
+    ⊎_elim (λ w. rw w.1 (noting_note entry.requires.0 at-loop.loop.invariant _ _ (omega (arith, w.0.taken)) in-loop.loop-test.true c.name-end.ensures))
+    (λ w. rw w.1 (noting_skip entry.requires.0 at-loop.loop.invariant _ in-loop.loop-test.true c.name-end.ensures w.0.left))
     c.before.if1.branch
 
 same_length : tie.Need-same-length invariant-loop decreases-loop
 same_length c = search rules
 
 returns : tie.Need-returns invariant-loop decreases-loop
-returns c = noting-end c.before.before.before.before.requires.0 c.before.loop.invariant c.loop-test.false
+returns c = noting_end c.before.before.before.before.requires.0 c.before.loop.invariant c.loop-test.false
 
 pub note-eighths-spec : {M : Type 1} → statement M
 note-eighths-spec =

@@ -5,8 +5,8 @@ use native.Mathlib.Omega.{arith}
 use lib.ListN.{length}
 use Rattle.names.specs.Text.{bytes}
 use Rattle.names.specs.Name.{lines}
-use Rattle.print_pen.specs.Pen.{put_same, then-put}
-use Rattle.print_types.specs.Types.{typed-kinds, typed-words, typed-level, elem-typed, named-there, type-arm}
+use Rattle.print_pen.specs.Pen.{put_same, then_put}
+use Rattle.print_types.specs.Types.{typed_kinds, typed_words, typed_level, elem_typed, named_there, type_arm}
 use borrow.Author.Rules.{rules}
 use Prim.Native.Nat.{ℕ, ◌<◌}
 use borrow.Fn.Kinds.{In}
@@ -28,19 +28,19 @@ use Rattle.print_types.proofs.types.+put_type.Tie.{close}
 abbrev μ-put-type : Measures 5 put-type-kinds.ps ℕ
 μ-put-type κs a = a.1.1.1.1.1.1.1.0
 
-abbrev put-type-at : ℕ → In 5 put-type-kinds.ps
-put-type-at t = and 5 put-type-kinds.ps (is 5 put-type-kinds.ps μ-put-type t) put-type.Pre
+abbrev put_type_at : ℕ → In 5 put-type-kinds.ps
+put_type_at t = and 5 put-type-kinds.ps (is 5 put-type-kinds.ps μ-put-type t) put-type.Pre
 
-abbrev put-type-below : ℕ → In 5 put-type-kinds.ps
-put-type-below t =
+abbrev put_type_below : ℕ → In 5 put-type-kinds.ps
+put_type_below t =
     and 5 put-type-kinds.ps (falls 5 put-type-kinds.ps ◌<◌ μ-put-type t) put-type.Pre
 
-put-type-shared-slice-read-kind : (t : ℕ) → put-type-lts.Need-shared-slice-read-kind (
+put_type_shared_slice_read_kind : (t : ℕ) → put-type-lts.Need-shared-slice-read-kind (
   type-group-reads.Asked,
   type-group-reads.Learnt,
   put-array-head-reads.Asked,
   put-array-head-reads.Learnt,
-  put-type-below t,
+  put_type_below t,
   put-type.Post,
   put-close-reads.Asked,
   put-close-reads.Learnt,
@@ -54,18 +54,18 @@ put-type-shared-slice-read-kind : (t : ℕ) → put-type-lts.Need-shared-slice-r
   put-named-reads.Learnt,
   put-sizeless-reads.Asked,
   put-sizeless-reads.Learnt,
-) (put-type-at t) put-type.Post
-put-type-shared-slice-read-kind t c =
+) (put_type_at t) put-type.Post
+put_type_shared_slice_read_kind t c =
     let entry = c.before.before.before.before.before.before in
-    typed-kinds [] (length (lines entry.args.names.now)) entry.args.level entry.args.kinds.now entry.args.words.now
+    typed_kinds [] (length (lines entry.args.names.now)) entry.args.level entry.args.kinds.now entry.args.words.now
     entry.requires.1.1
 
-put-type-shared-slice-read-word : (t : ℕ) → put-type-lts.Need-shared-slice-read-word (
+put_type_shared_slice_read_word : (t : ℕ) → put-type-lts.Need-shared-slice-read-word (
   type-group-reads.Asked,
   type-group-reads.Learnt,
   put-array-head-reads.Asked,
   put-array-head-reads.Learnt,
-  put-type-below t,
+  put_type_below t,
   put-type.Post,
   put-close-reads.Asked,
   put-close-reads.Learnt,
@@ -79,18 +79,18 @@ put-type-shared-slice-read-word : (t : ℕ) → put-type-lts.Need-shared-slice-r
   put-named-reads.Learnt,
   put-sizeless-reads.Asked,
   put-sizeless-reads.Learnt,
-) (put-type-at t) put-type.Post
-put-type-shared-slice-read-word t c =
+) (put_type_at t) put-type.Post
+put_type_shared_slice_read_word t c =
     let entry = c.before.before.before.before.before.before.before in
-    typed-words [] (length (lines entry.args.names.now)) entry.args.level entry.args.kinds.now entry.args.words.now
+    typed_words [] (length (lines entry.args.names.now)) entry.args.level entry.args.kinds.now entry.args.words.now
     entry.requires.1.1
 
-put-type-type-group-requires : (t : ℕ) → put-type-lts.Need-type-group-requires (
+put_type_type_group_requires : (t : ℕ) → put-type-lts.Need-type-group-requires (
   type-group-reads.Asked,
   type-group-reads.Learnt,
   put-array-head-reads.Asked,
   put-array-head-reads.Learnt,
-  put-type-below t,
+  put_type_below t,
   put-type.Post,
   put-close-reads.Asked,
   put-close-reads.Learnt,
@@ -104,15 +104,15 @@ put-type-type-group-requires : (t : ℕ) → put-type-lts.Need-type-group-requir
   put-named-reads.Learnt,
   put-sizeless-reads.Asked,
   put-sizeless-reads.Learnt,
-) (put-type-at t) put-type.Post
-put-type-type-group-requires t c κs = search rules
+) (put_type_at t) put-type.Post
+put_type_type_group_requires t c κs = search rules
 
-put-type-enum-known-packed : (t : ℕ) → put-type-lts.Need-enum-known-packed (
+put_type_enum_known_packed : (t : ℕ) → put-type-lts.Need-enum-known-packed (
   type-group-reads.Asked,
   type-group-reads.Learnt,
   put-array-head-reads.Asked,
   put-array-head-reads.Learnt,
-  put-type-below t,
+  put_type_below t,
   put-type.Post,
   put-close-reads.Asked,
   put-close-reads.Learnt,
@@ -126,15 +126,15 @@ put-type-enum-known-packed : (t : ℕ) → put-type-lts.Need-enum-known-packed (
   put-named-reads.Learnt,
   put-sizeless-reads.Asked,
   put-sizeless-reads.Learnt,
-) (put-type-at t) put-type.Post
-put-type-enum-known-packed t c = search rules
+) (put_type_at t) put-type.Post
+put_type_enum_known_packed t c = search rules
 
-put-type-put-array-head-requires : (t : ℕ) → put-type-lts.Need-put-array-head-requires (
+put_type_put_array_head_requires : (t : ℕ) → put-type-lts.Need-put-array-head-requires (
   type-group-reads.Asked,
   type-group-reads.Learnt,
   put-array-head-reads.Asked,
   put-array-head-reads.Learnt,
-  put-type-below t,
+  put_type_below t,
   put-type.Post,
   put-close-reads.Asked,
   put-close-reads.Learnt,
@@ -148,15 +148,15 @@ put-type-put-array-head-requires : (t : ℕ) → put-type-lts.Need-put-array-hea
   put-named-reads.Learnt,
   put-sizeless-reads.Asked,
   put-sizeless-reads.Learnt,
-) (put-type-at t) put-type.Post
-put-type-put-array-head-requires t c κs = search rules
+) (put_type_at t) put-type.Post
+put_type_put_array_head_requires t c κs = search rules
 
-put-type-sub-put-type : (t : ℕ) → put-type-lts.Need-overflow-sub-put-type (
+put_type_sub_put_type : (t : ℕ) → put-type-lts.Need-overflow-sub-put-type (
   type-group-reads.Asked,
   type-group-reads.Learnt,
   put-array-head-reads.Asked,
   put-array-head-reads.Learnt,
-  put-type-below t,
+  put_type_below t,
   put-type.Post,
   put-close-reads.Asked,
   put-close-reads.Learnt,
@@ -170,18 +170,18 @@ put-type-sub-put-type : (t : ℕ) → put-type-lts.Need-overflow-sub-put-type (
   put-named-reads.Learnt,
   put-sizeless-reads.Asked,
   put-sizeless-reads.Learnt,
-) (put-type-at t) put-type.Post
-put-type-sub-put-type t c =
+) (put_type_at t) put-type.Post
+put_type_sub_put_type t c =
     let entry = c.before.before.before.before.before.before.before.before.before.before.before.before.before.before.before.before in
-    typed-kinds [] (length (lines entry.args.names.now)) entry.args.level entry.args.kinds.now entry.args.words.now
+    typed_kinds [] (length (lines entry.args.names.now)) entry.args.level entry.args.kinds.now entry.args.words.now
     entry.requires.1.1
 
-put-type-part-put-type-start : (t : ℕ) → put-type-lts.Need-slice-bounds-put-type-start (
+put_type_part_put_type_start : (t : ℕ) → put-type-lts.Need-slice-bounds-put-type-start (
   type-group-reads.Asked,
   type-group-reads.Learnt,
   put-array-head-reads.Asked,
   put-array-head-reads.Learnt,
-  put-type-below t,
+  put_type_below t,
   put-type.Post,
   put-close-reads.Asked,
   put-close-reads.Learnt,
@@ -195,18 +195,18 @@ put-type-part-put-type-start : (t : ℕ) → put-type-lts.Need-slice-bounds-put-
   put-named-reads.Learnt,
   put-sizeless-reads.Asked,
   put-sizeless-reads.Learnt,
-) (put-type-at t) put-type.Post
-put-type-part-put-type-start t c =
+) (put_type_at t) put-type.Post
+put_type_part_put_type_start t c =
     let entry = c.before.before.before.before.before.before.before.before.before.before.before.before.before.before.before.before in
-    typed-kinds [] (length (lines entry.args.names.now)) entry.args.level entry.args.kinds.now entry.args.words.now
+    typed_kinds [] (length (lines entry.args.names.now)) entry.args.level entry.args.kinds.now entry.args.words.now
     entry.requires.1.1
 
-put-type-part-put-type-end : (t : ℕ) → put-type-lts.Need-slice-bounds-put-type-end (
+put_type_part_put_type_end : (t : ℕ) → put-type-lts.Need-slice-bounds-put-type-end (
   type-group-reads.Asked,
   type-group-reads.Learnt,
   put-array-head-reads.Asked,
   put-array-head-reads.Learnt,
-  put-type-below t,
+  put_type_below t,
   put-type.Post,
   put-close-reads.Asked,
   put-close-reads.Learnt,
@@ -220,15 +220,15 @@ put-type-part-put-type-end : (t : ℕ) → put-type-lts.Need-slice-bounds-put-ty
   put-named-reads.Learnt,
   put-sizeless-reads.Asked,
   put-sizeless-reads.Learnt,
-) (put-type-at t) put-type.Post
-put-type-part-put-type-end t c = search rules
+) (put_type_at t) put-type.Post
+put_type_part_put_type_end t c = search rules
 
-put-type-sub-put-type-2 : (t : ℕ) → put-type-lts.Need-overflow-sub-put-type-2 (
+put_type_sub_put_type_2 : (t : ℕ) → put-type-lts.Need-overflow-sub-put-type-2 (
   type-group-reads.Asked,
   type-group-reads.Learnt,
   put-array-head-reads.Asked,
   put-array-head-reads.Learnt,
-  put-type-below t,
+  put_type_below t,
   put-type.Post,
   put-close-reads.Asked,
   put-close-reads.Learnt,
@@ -242,18 +242,18 @@ put-type-sub-put-type-2 : (t : ℕ) → put-type-lts.Need-overflow-sub-put-type-
   put-named-reads.Learnt,
   put-sizeless-reads.Asked,
   put-sizeless-reads.Learnt,
-) (put-type-at t) put-type.Post
-put-type-sub-put-type-2 t c =
+) (put_type_at t) put-type.Post
+put_type_sub_put_type_2 t c =
     let entry = c.before.before.before.before.before.before.before.before.before.before.before.before.before.before.before.before.before in
-    typed-words [] (length (lines entry.args.names.now)) entry.args.level entry.args.kinds.now entry.args.words.now
+    typed_words [] (length (lines entry.args.names.now)) entry.args.level entry.args.kinds.now entry.args.words.now
     entry.requires.1.1
 
-put-type-part-put-type-start-2 : (t : ℕ) → put-type-lts.Need-slice-bounds-put-type-start-2 (
+put_type_part_put_type_start_2 : (t : ℕ) → put-type-lts.Need-slice-bounds-put-type-start-2 (
   type-group-reads.Asked,
   type-group-reads.Learnt,
   put-array-head-reads.Asked,
   put-array-head-reads.Learnt,
-  put-type-below t,
+  put_type_below t,
   put-type.Post,
   put-close-reads.Asked,
   put-close-reads.Learnt,
@@ -267,18 +267,18 @@ put-type-part-put-type-start-2 : (t : ℕ) → put-type-lts.Need-slice-bounds-pu
   put-named-reads.Learnt,
   put-sizeless-reads.Asked,
   put-sizeless-reads.Learnt,
-) (put-type-at t) put-type.Post
-put-type-part-put-type-start-2 t c =
+) (put_type_at t) put-type.Post
+put_type_part_put_type_start_2 t c =
     let entry = c.before.before.before.before.before.before.before.before.before.before.before.before.before.before.before.before.before in
-    typed-words [] (length (lines entry.args.names.now)) entry.args.level entry.args.kinds.now entry.args.words.now
+    typed_words [] (length (lines entry.args.names.now)) entry.args.level entry.args.kinds.now entry.args.words.now
     entry.requires.1.1
 
-put-type-part-put-type-end-2 : (t : ℕ) → put-type-lts.Need-slice-bounds-put-type-end-2 (
+put_type_part_put_type_end_2 : (t : ℕ) → put-type-lts.Need-slice-bounds-put-type-end-2 (
   type-group-reads.Asked,
   type-group-reads.Learnt,
   put-array-head-reads.Asked,
   put-array-head-reads.Learnt,
-  put-type-below t,
+  put_type_below t,
   put-type.Post,
   put-close-reads.Asked,
   put-close-reads.Learnt,
@@ -292,15 +292,15 @@ put-type-part-put-type-end-2 : (t : ℕ) → put-type-lts.Need-slice-bounds-put-
   put-named-reads.Learnt,
   put-sizeless-reads.Asked,
   put-sizeless-reads.Learnt,
-) (put-type-at t) put-type.Post
-put-type-part-put-type-end-2 t c = search rules
+) (put_type_at t) put-type.Post
+put_type_part_put_type_end_2 t c = search rules
 
-put-type-sub-put-type-3 : (t : ℕ) → put-type-lts.Need-overflow-sub-put-type-3 (
+put_type_sub_put_type_3 : (t : ℕ) → put-type-lts.Need-overflow-sub-put-type-3 (
   type-group-reads.Asked,
   type-group-reads.Learnt,
   put-array-head-reads.Asked,
   put-array-head-reads.Learnt,
-  put-type-below t,
+  put_type_below t,
   put-type.Post,
   put-close-reads.Asked,
   put-close-reads.Learnt,
@@ -314,21 +314,21 @@ put-type-sub-put-type-3 : (t : ℕ) → put-type-lts.Need-overflow-sub-put-type-
   put-named-reads.Learnt,
   put-sizeless-reads.Asked,
   put-sizeless-reads.Learnt,
-) (put-type-at t) put-type.Post
-put-type-sub-put-type-3 t c =
+) (put_type_at t) put-type.Post
+put_type_sub_put_type_3 t c =
     let entry = c.before.before.before.before.before.before.before.before.before.before.before.before.before.before.before.before.before.before in
     omega (
       arith,
-      typed-level [] (length (lines entry.args.names.now)) entry.args.level entry.args.kinds.now entry.args.words.now
+      typed_level [] (length (lines entry.args.names.now)) entry.args.level entry.args.kinds.now entry.args.words.now
           entry.requires.1.1,
     )
 
-put-type-put-type-requires : (t : ℕ) → put-type-lts.Need-put-type-requires (
+put_type_put_type_requires : (t : ℕ) → put-type-lts.Need-put-type-requires (
   type-group-reads.Asked,
   type-group-reads.Learnt,
   put-array-head-reads.Asked,
   put-array-head-reads.Learnt,
-  put-type-below t,
+  put_type_below t,
   put-type.Post,
   put-close-reads.Asked,
   put-close-reads.Learnt,
@@ -342,30 +342,30 @@ put-type-put-type-requires : (t : ℕ) → put-type-lts.Need-put-type-requires (
   put-named-reads.Learnt,
   put-sizeless-reads.Asked,
   put-sizeless-reads.Learnt,
-) (put-type-at t) put-type.Post
-put-type-put-type-requires t c κs =
+) (put_type_at t) put-type.Post
+put_type_put_type_requires t c κs =
     let after-packed = c.before.before.before.before.before.before.before.before in
     let after-type-group = after-packed.before.before in
     let entry = after-type-group.before.before.before.before.before.before.before.before in (
       omega (
         arith,
         entry.requires.0,
-        typed-level [] (length (lines entry.args.names.now)) entry.args.level entry.args.kinds.now
+        typed_level [] (length (lines entry.args.names.now)) entry.args.level entry.args.kinds.now
             entry.args.words.now entry.requires.1.1,
       ),
       (
         entry.requires.1.0,
-        elem-typed [] (length (lines entry.args.names.now)) entry.args.level entry.args.kinds.now
+        elem_typed [] (length (lines entry.args.names.now)) entry.args.level entry.args.kinds.now
             entry.args.words.now entry.requires.1.1 _ after-type-group.type-group.ensures _ after-packed.packed.given.1,
       ),
     )
 
-put-type-put-close-requires : (t : ℕ) → put-type-lts.Need-put-close-requires (
+put_type_put_close_requires : (t : ℕ) → put-type-lts.Need-put-close-requires (
   type-group-reads.Asked,
   type-group-reads.Learnt,
   put-array-head-reads.Asked,
   put-array-head-reads.Learnt,
-  put-type-below t,
+  put_type_below t,
   put-type.Post,
   put-close-reads.Asked,
   put-close-reads.Learnt,
@@ -379,15 +379,15 @@ put-type-put-close-requires : (t : ℕ) → put-type-lts.Need-put-close-requires
   put-named-reads.Learnt,
   put-sizeless-reads.Asked,
   put-sizeless-reads.Learnt,
-) (put-type-at t) put-type.Post
-put-type-put-close-requires t c κs = search rules
+) (put_type_at t) put-type.Post
+put_type_put_close_requires t c κs = search rules
 
-put-type-enum-told : (t : ℕ) → put-type-lts.Need-enum-told (
+put_type_enum_told : (t : ℕ) → put-type-lts.Need-enum-told (
   type-group-reads.Asked,
   type-group-reads.Learnt,
   put-array-head-reads.Asked,
   put-array-head-reads.Learnt,
-  put-type-below t,
+  put_type_below t,
   put-type.Post,
   put-close-reads.Asked,
   put-close-reads.Learnt,
@@ -401,15 +401,15 @@ put-type-enum-told : (t : ℕ) → put-type-lts.Need-enum-told (
   put-named-reads.Learnt,
   put-sizeless-reads.Asked,
   put-sizeless-reads.Learnt,
-) (put-type-at t) put-type.Post
-put-type-enum-told t c = search rules
+) (put_type_at t) put-type.Post
+put_type_enum_told t c = search rules
 
-put-type-slice-aggregate-put-bytes : (t : ℕ) → put-type-lts.Need-slice-aggregate-put-bytes (
+put_type_slice_aggregate_put_bytes : (t : ℕ) → put-type-lts.Need-slice-aggregate-put-bytes (
   type-group-reads.Asked,
   type-group-reads.Learnt,
   put-array-head-reads.Asked,
   put-array-head-reads.Learnt,
-  put-type-below t,
+  put_type_below t,
   put-type.Post,
   put-close-reads.Asked,
   put-close-reads.Learnt,
@@ -423,15 +423,15 @@ put-type-slice-aggregate-put-bytes : (t : ℕ) → put-type-lts.Need-slice-aggre
   put-named-reads.Learnt,
   put-sizeless-reads.Asked,
   put-sizeless-reads.Learnt,
-) (put-type-at t) put-type.Post
-put-type-slice-aggregate-put-bytes t c = search rules
+) (put_type_at t) put-type.Post
+put_type_slice_aggregate_put_bytes t c = search rules
 
-put-type-put-bytes-requires : (t : ℕ) → put-type-lts.Need-put-bytes-requires (
+put_type_put_bytes_requires : (t : ℕ) → put-type-lts.Need-put-bytes-requires (
   type-group-reads.Asked,
   type-group-reads.Learnt,
   put-array-head-reads.Asked,
   put-array-head-reads.Learnt,
-  put-type-below t,
+  put_type_below t,
   put-type.Post,
   put-close-reads.Asked,
   put-close-reads.Learnt,
@@ -445,15 +445,15 @@ put-type-put-bytes-requires : (t : ℕ) → put-type-lts.Need-put-bytes-requires
   put-named-reads.Learnt,
   put-sizeless-reads.Asked,
   put-sizeless-reads.Learnt,
-) (put-type-at t) put-type.Post
-put-type-put-bytes-requires t c κs = search rules
+) (put_type_at t) put-type.Post
+put_type_put_bytes_requires t c κs = search rules
 
-put-type-enum-told-2 : (t : ℕ) → put-type-lts.Need-enum-told-2 (
+put_type_enum_told_2 : (t : ℕ) → put-type-lts.Need-enum-told-2 (
   type-group-reads.Asked,
   type-group-reads.Learnt,
   put-array-head-reads.Asked,
   put-array-head-reads.Learnt,
-  put-type-below t,
+  put_type_below t,
   put-type.Post,
   put-close-reads.Asked,
   put-close-reads.Learnt,
@@ -467,15 +467,15 @@ put-type-enum-told-2 : (t : ℕ) → put-type-lts.Need-enum-told-2 (
   put-named-reads.Learnt,
   put-sizeless-reads.Asked,
   put-sizeless-reads.Learnt,
-) (put-type-at t) put-type.Post
-put-type-enum-told-2 t c = search rules
+) (put_type_at t) put-type.Post
+put_type_enum_told_2 t c = search rules
 
-put-type-put-int-requires : (t : ℕ) → put-type-lts.Need-put-int-requires (
+put_type_put_int_requires : (t : ℕ) → put-type-lts.Need-put-int-requires (
   type-group-reads.Asked,
   type-group-reads.Learnt,
   put-array-head-reads.Asked,
   put-array-head-reads.Learnt,
-  put-type-below t,
+  put_type_below t,
   put-type.Post,
   put-close-reads.Asked,
   put-close-reads.Learnt,
@@ -489,15 +489,15 @@ put-type-put-int-requires : (t : ℕ) → put-type-lts.Need-put-int-requires (
   put-named-reads.Learnt,
   put-sizeless-reads.Asked,
   put-sizeless-reads.Learnt,
-) (put-type-at t) put-type.Post
-put-type-put-int-requires t c κs = search rules
+) (put_type_at t) put-type.Post
+put_type_put_int_requires t c κs = search rules
 
-put-type-enum-told-3 : (t : ℕ) → put-type-lts.Need-enum-told-3 (
+put_type_enum_told_3 : (t : ℕ) → put-type-lts.Need-enum-told-3 (
   type-group-reads.Asked,
   type-group-reads.Learnt,
   put-array-head-reads.Asked,
   put-array-head-reads.Learnt,
-  put-type-below t,
+  put_type_below t,
   put-type.Post,
   put-close-reads.Asked,
   put-close-reads.Learnt,
@@ -511,15 +511,15 @@ put-type-enum-told-3 : (t : ℕ) → put-type-lts.Need-enum-told-3 (
   put-named-reads.Learnt,
   put-sizeless-reads.Asked,
   put-sizeless-reads.Learnt,
-) (put-type-at t) put-type.Post
-put-type-enum-told-3 t c = search rules
+) (put_type_at t) put-type.Post
+put_type_enum_told_3 t c = search rules
 
-put-type-slice-aggregate-put-bytes-2 : (t : ℕ) → put-type-lts.Need-slice-aggregate-put-bytes-2 (
+put_type_slice_aggregate_put_bytes_2 : (t : ℕ) → put-type-lts.Need-slice-aggregate-put-bytes-2 (
   type-group-reads.Asked,
   type-group-reads.Learnt,
   put-array-head-reads.Asked,
   put-array-head-reads.Learnt,
-  put-type-below t,
+  put_type_below t,
   put-type.Post,
   put-close-reads.Asked,
   put-close-reads.Learnt,
@@ -533,15 +533,15 @@ put-type-slice-aggregate-put-bytes-2 : (t : ℕ) → put-type-lts.Need-slice-agg
   put-named-reads.Learnt,
   put-sizeless-reads.Asked,
   put-sizeless-reads.Learnt,
-) (put-type-at t) put-type.Post
-put-type-slice-aggregate-put-bytes-2 t c = search rules
+) (put_type_at t) put-type.Post
+put_type_slice_aggregate_put_bytes_2 t c = search rules
 
-put-type-put-bytes-requires-2 : (t : ℕ) → put-type-lts.Need-put-bytes-requires-2 (
+put_type_put_bytes_requires_2 : (t : ℕ) → put-type-lts.Need-put-bytes-requires-2 (
   type-group-reads.Asked,
   type-group-reads.Learnt,
   put-array-head-reads.Asked,
   put-array-head-reads.Learnt,
-  put-type-below t,
+  put_type_below t,
   put-type.Post,
   put-close-reads.Asked,
   put-close-reads.Learnt,
@@ -555,15 +555,15 @@ put-type-put-bytes-requires-2 : (t : ℕ) → put-type-lts.Need-put-bytes-requir
   put-named-reads.Learnt,
   put-sizeless-reads.Asked,
   put-sizeless-reads.Learnt,
-) (put-type-at t) put-type.Post
-put-type-put-bytes-requires-2 t c κs = search rules
+) (put_type_at t) put-type.Post
+put_type_put_bytes_requires_2 t c κs = search rules
 
-put-type-enum-told-4 : (t : ℕ) → put-type-lts.Need-enum-told-4 (
+put_type_enum_told_4 : (t : ℕ) → put-type-lts.Need-enum-told-4 (
   type-group-reads.Asked,
   type-group-reads.Learnt,
   put-array-head-reads.Asked,
   put-array-head-reads.Learnt,
-  put-type-below t,
+  put_type_below t,
   put-type.Post,
   put-close-reads.Asked,
   put-close-reads.Learnt,
@@ -577,15 +577,15 @@ put-type-enum-told-4 : (t : ℕ) → put-type-lts.Need-enum-told-4 (
   put-named-reads.Learnt,
   put-sizeless-reads.Asked,
   put-sizeless-reads.Learnt,
-) (put-type-at t) put-type.Post
-put-type-enum-told-4 t c = search rules
+) (put_type_at t) put-type.Post
+put_type_enum_told_4 t c = search rules
 
-put-type-name-of-requires : (t : ℕ) → put-type-lts.Need-name-of-requires (
+put_type_name_of_requires : (t : ℕ) → put-type-lts.Need-name-of-requires (
   type-group-reads.Asked,
   type-group-reads.Learnt,
   put-array-head-reads.Asked,
   put-array-head-reads.Learnt,
-  put-type-below t,
+  put_type_below t,
   put-type.Post,
   put-close-reads.Asked,
   put-close-reads.Learnt,
@@ -599,21 +599,21 @@ put-type-name-of-requires : (t : ℕ) → put-type-lts.Need-name-of-requires (
   put-named-reads.Learnt,
   put-sizeless-reads.Asked,
   put-sizeless-reads.Learnt,
-) (put-type-at t) put-type.Post
-put-type-name-of-requires t c κs =
+) (put_type_at t) put-type.Post
+put_type_name_of_requires t c κs =
     let after-type-group = c.before.before.before in
     let entry = after-type-group.before.before.before.before.before.before.before.before in (
       entry.requires.1.0,
-      named-there [] (length (lines entry.args.names.now)) entry.args.level entry.args.kinds.now
+      named_there [] (length (lines entry.args.names.now)) entry.args.level entry.args.kinds.now
           entry.args.words.now entry.requires.1.1 _ after-type-group.type-group.ensures c.before.enum-told4.given.1,
     )
 
-put-type-put-named-requires : (t : ℕ) → put-type-lts.Need-put-named-requires (
+put_type_put_named_requires : (t : ℕ) → put-type-lts.Need-put-named-requires (
   type-group-reads.Asked,
   type-group-reads.Learnt,
   put-array-head-reads.Asked,
   put-array-head-reads.Learnt,
-  put-type-below t,
+  put_type_below t,
   put-type.Post,
   put-close-reads.Asked,
   put-close-reads.Learnt,
@@ -627,15 +627,15 @@ put-type-put-named-requires : (t : ℕ) → put-type-lts.Need-put-named-requires
   put-named-reads.Learnt,
   put-sizeless-reads.Asked,
   put-sizeless-reads.Learnt,
-) (put-type-at t) put-type.Post
-put-type-put-named-requires t c κs = search rules
+) (put_type_at t) put-type.Post
+put_type_put_named_requires t c κs = search rules
 
-put-type-enum-told-5 : (t : ℕ) → put-type-lts.Need-enum-told-5 (
+put_type_enum_told_5 : (t : ℕ) → put-type-lts.Need-enum-told-5 (
   type-group-reads.Asked,
   type-group-reads.Learnt,
   put-array-head-reads.Asked,
   put-array-head-reads.Learnt,
-  put-type-below t,
+  put_type_below t,
   put-type.Post,
   put-close-reads.Asked,
   put-close-reads.Learnt,
@@ -649,15 +649,15 @@ put-type-enum-told-5 : (t : ℕ) → put-type-lts.Need-enum-told-5 (
   put-named-reads.Learnt,
   put-sizeless-reads.Asked,
   put-sizeless-reads.Learnt,
-) (put-type-at t) put-type.Post
-put-type-enum-told-5 t c = search rules
+) (put_type_at t) put-type.Post
+put_type_enum_told_5 t c = search rules
 
-put-type-slice-aggregate-put-bytes-3 : (t : ℕ) → put-type-lts.Need-slice-aggregate-put-bytes-3 (
+put_type_slice_aggregate_put_bytes_3 : (t : ℕ) → put-type-lts.Need-slice-aggregate-put-bytes-3 (
   type-group-reads.Asked,
   type-group-reads.Learnt,
   put-array-head-reads.Asked,
   put-array-head-reads.Learnt,
-  put-type-below t,
+  put_type_below t,
   put-type.Post,
   put-close-reads.Asked,
   put-close-reads.Learnt,
@@ -671,15 +671,15 @@ put-type-slice-aggregate-put-bytes-3 : (t : ℕ) → put-type-lts.Need-slice-agg
   put-named-reads.Learnt,
   put-sizeless-reads.Asked,
   put-sizeless-reads.Learnt,
-) (put-type-at t) put-type.Post
-put-type-slice-aggregate-put-bytes-3 t c = search rules
+) (put_type_at t) put-type.Post
+put_type_slice_aggregate_put_bytes_3 t c = search rules
 
-put-type-put-bytes-requires-3 : (t : ℕ) → put-type-lts.Need-put-bytes-requires-3 (
+put_type_put_bytes_requires_3 : (t : ℕ) → put-type-lts.Need-put-bytes-requires-3 (
   type-group-reads.Asked,
   type-group-reads.Learnt,
   put-array-head-reads.Asked,
   put-array-head-reads.Learnt,
-  put-type-below t,
+  put_type_below t,
   put-type.Post,
   put-close-reads.Asked,
   put-close-reads.Learnt,
@@ -693,15 +693,15 @@ put-type-put-bytes-requires-3 : (t : ℕ) → put-type-lts.Need-put-bytes-requir
   put-named-reads.Learnt,
   put-sizeless-reads.Asked,
   put-sizeless-reads.Learnt,
-) (put-type-at t) put-type.Post
-put-type-put-bytes-requires-3 t c κs = search rules
+) (put_type_at t) put-type.Post
+put_type_put_bytes_requires_3 t c κs = search rules
 
-put-type-enum-told-6 : (t : ℕ) → put-type-lts.Need-enum-told-6 (
+put_type_enum_told_6 : (t : ℕ) → put-type-lts.Need-enum-told-6 (
   type-group-reads.Asked,
   type-group-reads.Learnt,
   put-array-head-reads.Asked,
   put-array-head-reads.Learnt,
-  put-type-below t,
+  put_type_below t,
   put-type.Post,
   put-close-reads.Asked,
   put-close-reads.Learnt,
@@ -715,15 +715,15 @@ put-type-enum-told-6 : (t : ℕ) → put-type-lts.Need-enum-told-6 (
   put-named-reads.Learnt,
   put-sizeless-reads.Asked,
   put-sizeless-reads.Learnt,
-) (put-type-at t) put-type.Post
-put-type-enum-told-6 t c = search rules
+) (put_type_at t) put-type.Post
+put_type_enum_told_6 t c = search rules
 
-put-type-put-sizeless-requires : (t : ℕ) → put-type-lts.Need-put-sizeless-requires (
+put_type_put_sizeless_requires : (t : ℕ) → put-type-lts.Need-put-sizeless-requires (
   type-group-reads.Asked,
   type-group-reads.Learnt,
   put-array-head-reads.Asked,
   put-array-head-reads.Learnt,
-  put-type-below t,
+  put_type_below t,
   put-type.Post,
   put-close-reads.Asked,
   put-close-reads.Learnt,
@@ -737,15 +737,15 @@ put-type-put-sizeless-requires : (t : ℕ) → put-type-lts.Need-put-sizeless-re
   put-named-reads.Learnt,
   put-sizeless-reads.Asked,
   put-sizeless-reads.Learnt,
-) (put-type-at t) put-type.Post
-put-type-put-sizeless-requires t c κs = search rules
+) (put_type_at t) put-type.Post
+put_type_put_sizeless_requires t c κs = search rules
 
-put-type-enum-told-7 : (t : ℕ) → put-type-lts.Need-enum-told-7 (
+put_type_enum_told_7 : (t : ℕ) → put-type-lts.Need-enum-told-7 (
   type-group-reads.Asked,
   type-group-reads.Learnt,
   put-array-head-reads.Asked,
   put-array-head-reads.Learnt,
-  put-type-below t,
+  put_type_below t,
   put-type.Post,
   put-close-reads.Asked,
   put-close-reads.Learnt,
@@ -759,15 +759,15 @@ put-type-enum-told-7 : (t : ℕ) → put-type-lts.Need-enum-told-7 (
   put-named-reads.Learnt,
   put-sizeless-reads.Asked,
   put-sizeless-reads.Learnt,
-) (put-type-at t) put-type.Post
-put-type-enum-told-7 t c = search rules
+) (put_type_at t) put-type.Post
+put_type_enum_told_7 t c = search rules
 
-put-type-slice-aggregate-put-bytes-4 : (t : ℕ) → put-type-lts.Need-slice-aggregate-put-bytes-4 (
+put_type_slice_aggregate_put_bytes_4 : (t : ℕ) → put-type-lts.Need-slice-aggregate-put-bytes-4 (
   type-group-reads.Asked,
   type-group-reads.Learnt,
   put-array-head-reads.Asked,
   put-array-head-reads.Learnt,
-  put-type-below t,
+  put_type_below t,
   put-type.Post,
   put-close-reads.Asked,
   put-close-reads.Learnt,
@@ -781,15 +781,15 @@ put-type-slice-aggregate-put-bytes-4 : (t : ℕ) → put-type-lts.Need-slice-agg
   put-named-reads.Learnt,
   put-sizeless-reads.Asked,
   put-sizeless-reads.Learnt,
-) (put-type-at t) put-type.Post
-put-type-slice-aggregate-put-bytes-4 t c = search rules
+) (put_type_at t) put-type.Post
+put_type_slice_aggregate_put_bytes_4 t c = search rules
 
-put-type-put-bytes-requires-4 : (t : ℕ) → put-type-lts.Need-put-bytes-requires-4 (
+put_type_put_bytes_requires_4 : (t : ℕ) → put-type-lts.Need-put-bytes-requires-4 (
   type-group-reads.Asked,
   type-group-reads.Learnt,
   put-array-head-reads.Asked,
   put-array-head-reads.Learnt,
-  put-type-below t,
+  put_type_below t,
   put-type.Post,
   put-close-reads.Asked,
   put-close-reads.Learnt,
@@ -803,15 +803,15 @@ put-type-put-bytes-requires-4 : (t : ℕ) → put-type-lts.Need-put-bytes-requir
   put-named-reads.Learnt,
   put-sizeless-reads.Asked,
   put-sizeless-reads.Learnt,
-) (put-type-at t) put-type.Post
-put-type-put-bytes-requires-4 t c κs = search rules
+) (put_type_at t) put-type.Post
+put_type_put_bytes_requires_4 t c κs = search rules
 
-put-type-same-length : (t : ℕ) → put-type-lts.Need-same-length (
+put_type_same_length : (t : ℕ) → put-type-lts.Need-same-length (
   type-group-reads.Asked,
   type-group-reads.Learnt,
   put-array-head-reads.Asked,
   put-array-head-reads.Learnt,
-  put-type-below t,
+  put_type_below t,
   put-type.Post,
   put-close-reads.Asked,
   put-close-reads.Learnt,
@@ -825,15 +825,15 @@ put-type-same-length : (t : ℕ) → put-type-lts.Need-same-length (
   put-named-reads.Learnt,
   put-sizeless-reads.Asked,
   put-sizeless-reads.Learnt,
-) (put-type-at t) put-type.Post
-put-type-same-length t c = search rules
+) (put_type_at t) put-type.Post
+put_type_same_length t c = search rules
 
-put-type-returns : (t : ℕ) → put-type-lts.Need-returns (
+put_type_returns : (t : ℕ) → put-type-lts.Need-returns (
   type-group-reads.Asked,
   type-group-reads.Learnt,
   put-array-head-reads.Asked,
   put-array-head-reads.Learnt,
-  put-type-below t,
+  put_type_below t,
   put-type.Post,
   put-close-reads.Asked,
   put-close-reads.Learnt,
@@ -847,25 +847,25 @@ put-type-returns : (t : ℕ) → put-type-lts.Need-returns (
   put-named-reads.Learnt,
   put-sizeless-reads.Asked,
   put-sizeless-reads.Learnt,
-) (put-type-at t) put-type.Post
-put-type-returns t c =
+) (put_type_at t) put-type.Post
+put_type_returns t c =
     let after-put-type = c.before.before.before.before.before.before in
     let after-put-array-head = after-put-type.before.before.before.before.before.before in
     let after-packed = after-put-array-head.before.before.before in
     let after-type-group = after-packed.before.before in
     let entry = after-type-group.before.before.before.before.before.before.before.before in
     put_same
-    (type-arm (lines entry.args.names.now) (length (lines entry.args.names.now)) entry.args.level entry.args.kinds.now
+    (type_arm (lines entry.args.names.now) (length (lines entry.args.names.now)) entry.args.level entry.args.kinds.now
     entry.args.words.now entry.requires.1.1 _ after-type-group.type-group.ensures _ after-packed.packed.given.1)
-    (then-put after-put-array-head.put-array-head.ensures
-    (then-put after-put-type.put-type.ensures c.before.before.put-close.ensures))
+    (then_put after-put-array-head.put-array-head.ensures
+    (then_put after-put-type.put-type.ensures c.before.before.put-close.ensures))
 
-put-type-same-length-2 : (t : ℕ) → put-type-lts.Need-same-length-2 (
+put_type_same_length_2 : (t : ℕ) → put-type-lts.Need-same-length-2 (
   type-group-reads.Asked,
   type-group-reads.Learnt,
   put-array-head-reads.Asked,
   put-array-head-reads.Learnt,
-  put-type-below t,
+  put_type_below t,
   put-type.Post,
   put-close-reads.Asked,
   put-close-reads.Learnt,
@@ -879,15 +879,15 @@ put-type-same-length-2 : (t : ℕ) → put-type-lts.Need-same-length-2 (
   put-named-reads.Learnt,
   put-sizeless-reads.Asked,
   put-sizeless-reads.Learnt,
-) (put-type-at t) put-type.Post
-put-type-same-length-2 t c = search rules
+) (put_type_at t) put-type.Post
+put_type_same_length_2 t c = search rules
 
-put-type-returns-2 : (t : ℕ) → put-type-lts.Need-returns-2 (
+put_type_returns_2 : (t : ℕ) → put-type-lts.Need-returns-2 (
   type-group-reads.Asked,
   type-group-reads.Learnt,
   put-array-head-reads.Asked,
   put-array-head-reads.Learnt,
-  put-type-below t,
+  put_type_below t,
   put-type.Post,
   put-close-reads.Asked,
   put-close-reads.Learnt,
@@ -901,23 +901,23 @@ put-type-returns-2 : (t : ℕ) → put-type-lts.Need-returns-2 (
   put-named-reads.Learnt,
   put-sizeless-reads.Asked,
   put-sizeless-reads.Learnt,
-) (put-type-at t) put-type.Post
+) (put_type_at t) put-type.Post
 unfolding bytes
-put-type-returns-2 t c =
+put_type_returns_2 t c =
     let after-enum-told = c.before.before.before.before.before in
     let after-type-group = after-enum-told.before.before in
     let entry = after-type-group.before.before.before.before.before.before.before.before in
     put_same
-    (type-arm (lines entry.args.names.now) (length (lines entry.args.names.now)) entry.args.level entry.args.kinds.now
+    (type_arm (lines entry.args.names.now) (length (lines entry.args.names.now)) entry.args.level entry.args.kinds.now
     entry.args.words.now entry.requires.1.1 _ after-type-group.type-group.ensures _ after-enum-told.enum_told.given.1)
     c.before.before.put-bytes.ensures
 
-put-type-same-length-3 : (t : ℕ) → put-type-lts.Need-same-length-3 (
+put_type_same_length_3 : (t : ℕ) → put-type-lts.Need-same-length-3 (
   type-group-reads.Asked,
   type-group-reads.Learnt,
   put-array-head-reads.Asked,
   put-array-head-reads.Learnt,
-  put-type-below t,
+  put_type_below t,
   put-type.Post,
   put-close-reads.Asked,
   put-close-reads.Learnt,
@@ -931,15 +931,15 @@ put-type-same-length-3 : (t : ℕ) → put-type-lts.Need-same-length-3 (
   put-named-reads.Learnt,
   put-sizeless-reads.Asked,
   put-sizeless-reads.Learnt,
-) (put-type-at t) put-type.Post
-put-type-same-length-3 t c = search rules
+) (put_type_at t) put-type.Post
+put_type_same_length_3 t c = search rules
 
-put-type-returns-3 : (t : ℕ) → put-type-lts.Need-returns-3 (
+put_type_returns_3 : (t : ℕ) → put-type-lts.Need-returns-3 (
   type-group-reads.Asked,
   type-group-reads.Learnt,
   put-array-head-reads.Asked,
   put-array-head-reads.Learnt,
-  put-type-below t,
+  put_type_below t,
   put-type.Post,
   put-close-reads.Asked,
   put-close-reads.Learnt,
@@ -953,22 +953,22 @@ put-type-returns-3 : (t : ℕ) → put-type-lts.Need-returns-3 (
   put-named-reads.Learnt,
   put-sizeless-reads.Asked,
   put-sizeless-reads.Learnt,
-) (put-type-at t) put-type.Post
-put-type-returns-3 t c =
+) (put_type_at t) put-type.Post
+put_type_returns_3 t c =
     let after-enum-told2 = c.before.before.before.before in
     let after-type-group = after-enum-told2.before.before in
     let entry = after-type-group.before.before.before.before.before.before.before.before in
     put_same
-    (type-arm (lines entry.args.names.now) (length (lines entry.args.names.now)) entry.args.level entry.args.kinds.now
+    (type_arm (lines entry.args.names.now) (length (lines entry.args.names.now)) entry.args.level entry.args.kinds.now
     entry.args.words.now entry.requires.1.1 _ after-type-group.type-group.ensures _ after-enum-told2.enum-told2.given.1)
     c.before.before.put-int.ensures
 
-put-type-same-length-4 : (t : ℕ) → put-type-lts.Need-same-length-4 (
+put_type_same_length_4 : (t : ℕ) → put-type-lts.Need-same-length-4 (
   type-group-reads.Asked,
   type-group-reads.Learnt,
   put-array-head-reads.Asked,
   put-array-head-reads.Learnt,
-  put-type-below t,
+  put_type_below t,
   put-type.Post,
   put-close-reads.Asked,
   put-close-reads.Learnt,
@@ -982,15 +982,15 @@ put-type-same-length-4 : (t : ℕ) → put-type-lts.Need-same-length-4 (
   put-named-reads.Learnt,
   put-sizeless-reads.Asked,
   put-sizeless-reads.Learnt,
-) (put-type-at t) put-type.Post
-put-type-same-length-4 t c = search rules
+) (put_type_at t) put-type.Post
+put_type_same_length_4 t c = search rules
 
-put-type-returns-4 : (t : ℕ) → put-type-lts.Need-returns-4 (
+put_type_returns_4 : (t : ℕ) → put-type-lts.Need-returns-4 (
   type-group-reads.Asked,
   type-group-reads.Learnt,
   put-array-head-reads.Asked,
   put-array-head-reads.Learnt,
-  put-type-below t,
+  put_type_below t,
   put-type.Post,
   put-close-reads.Asked,
   put-close-reads.Learnt,
@@ -1004,23 +1004,23 @@ put-type-returns-4 : (t : ℕ) → put-type-lts.Need-returns-4 (
   put-named-reads.Learnt,
   put-sizeless-reads.Asked,
   put-sizeless-reads.Learnt,
-) (put-type-at t) put-type.Post
+) (put_type_at t) put-type.Post
 unfolding bytes
-put-type-returns-4 t c =
+put_type_returns_4 t c =
     let after-enum-told3 = c.before.before.before.before.before in
     let after-type-group = after-enum-told3.before.before in
     let entry = after-type-group.before.before.before.before.before.before.before.before in
     put_same
-    (type-arm (lines entry.args.names.now) (length (lines entry.args.names.now)) entry.args.level entry.args.kinds.now
+    (type_arm (lines entry.args.names.now) (length (lines entry.args.names.now)) entry.args.level entry.args.kinds.now
     entry.args.words.now entry.requires.1.1 _ after-type-group.type-group.ensures _ after-enum-told3.enum-told3.given.1)
     c.before.before.put-bytes2.ensures
 
-put-type-same-length-5 : (t : ℕ) → put-type-lts.Need-same-length-5 (
+put_type_same_length_5 : (t : ℕ) → put-type-lts.Need-same-length-5 (
   type-group-reads.Asked,
   type-group-reads.Learnt,
   put-array-head-reads.Asked,
   put-array-head-reads.Learnt,
-  put-type-below t,
+  put_type_below t,
   put-type.Post,
   put-close-reads.Asked,
   put-close-reads.Learnt,
@@ -1034,15 +1034,15 @@ put-type-same-length-5 : (t : ℕ) → put-type-lts.Need-same-length-5 (
   put-named-reads.Learnt,
   put-sizeless-reads.Asked,
   put-sizeless-reads.Learnt,
-) (put-type-at t) put-type.Post
-put-type-same-length-5 t c = search rules
+) (put_type_at t) put-type.Post
+put_type_same_length_5 t c = search rules
 
-put-type-returns-5 : (t : ℕ) → put-type-lts.Need-returns-5 (
+put_type_returns_5 : (t : ℕ) → put-type-lts.Need-returns-5 (
   type-group-reads.Asked,
   type-group-reads.Learnt,
   put-array-head-reads.Asked,
   put-array-head-reads.Learnt,
-  put-type-below t,
+  put_type_below t,
   put-type.Post,
   put-close-reads.Asked,
   put-close-reads.Learnt,
@@ -1056,23 +1056,23 @@ put-type-returns-5 : (t : ℕ) → put-type-lts.Need-returns-5 (
   put-named-reads.Learnt,
   put-sizeless-reads.Asked,
   put-sizeless-reads.Learnt,
-) (put-type-at t) put-type.Post
-put-type-returns-5 t c =
+) (put_type_at t) put-type.Post
+put_type_returns_5 t c =
     let after-name-of = c.before.before.before in
     let after-enum-told4 = after-name-of.before.before in
     let after-type-group = after-enum-told4.before.before in
     let entry = after-type-group.before.before.before.before.before.before.before.before in
     put_same
-    (type-arm (lines entry.args.names.now) (length (lines entry.args.names.now)) entry.args.level entry.args.kinds.now
+    (type_arm (lines entry.args.names.now) (length (lines entry.args.names.now)) entry.args.level entry.args.kinds.now
     entry.args.words.now entry.requires.1.1 _ after-type-group.type-group.ensures _ after-enum-told4.enum-told4.given.1)
     (put_same (ap (λ s. bytes "%" ++ s) after-name-of.name_of.ensures) c.before.before.put-named.ensures)
 
-put-type-same-length-6 : (t : ℕ) → put-type-lts.Need-same-length-6 (
+put_type_same_length_6 : (t : ℕ) → put-type-lts.Need-same-length-6 (
   type-group-reads.Asked,
   type-group-reads.Learnt,
   put-array-head-reads.Asked,
   put-array-head-reads.Learnt,
-  put-type-below t,
+  put_type_below t,
   put-type.Post,
   put-close-reads.Asked,
   put-close-reads.Learnt,
@@ -1086,15 +1086,15 @@ put-type-same-length-6 : (t : ℕ) → put-type-lts.Need-same-length-6 (
   put-named-reads.Learnt,
   put-sizeless-reads.Asked,
   put-sizeless-reads.Learnt,
-) (put-type-at t) put-type.Post
-put-type-same-length-6 t c = search rules
+) (put_type_at t) put-type.Post
+put_type_same_length_6 t c = search rules
 
-put-type-returns-6 : (t : ℕ) → put-type-lts.Need-returns-6 (
+put_type_returns_6 : (t : ℕ) → put-type-lts.Need-returns-6 (
   type-group-reads.Asked,
   type-group-reads.Learnt,
   put-array-head-reads.Asked,
   put-array-head-reads.Learnt,
-  put-type-below t,
+  put_type_below t,
   put-type.Post,
   put-close-reads.Asked,
   put-close-reads.Learnt,
@@ -1108,23 +1108,23 @@ put-type-returns-6 : (t : ℕ) → put-type-lts.Need-returns-6 (
   put-named-reads.Learnt,
   put-sizeless-reads.Asked,
   put-sizeless-reads.Learnt,
-) (put-type-at t) put-type.Post
+) (put_type_at t) put-type.Post
 unfolding bytes
-put-type-returns-6 t c =
+put_type_returns_6 t c =
     let after-enum-told5 = c.before.before.before.before.before in
     let after-type-group = after-enum-told5.before.before in
     let entry = after-type-group.before.before.before.before.before.before.before.before in
     put_same
-    (type-arm (lines entry.args.names.now) (length (lines entry.args.names.now)) entry.args.level entry.args.kinds.now
+    (type_arm (lines entry.args.names.now) (length (lines entry.args.names.now)) entry.args.level entry.args.kinds.now
     entry.args.words.now entry.requires.1.1 _ after-type-group.type-group.ensures _ after-enum-told5.enum-told5.given.1)
     c.before.before.put-bytes3.ensures
 
-put-type-same-length-7 : (t : ℕ) → put-type-lts.Need-same-length-7 (
+put_type_same_length_7 : (t : ℕ) → put-type-lts.Need-same-length-7 (
   type-group-reads.Asked,
   type-group-reads.Learnt,
   put-array-head-reads.Asked,
   put-array-head-reads.Learnt,
-  put-type-below t,
+  put_type_below t,
   put-type.Post,
   put-close-reads.Asked,
   put-close-reads.Learnt,
@@ -1138,15 +1138,15 @@ put-type-same-length-7 : (t : ℕ) → put-type-lts.Need-same-length-7 (
   put-named-reads.Learnt,
   put-sizeless-reads.Asked,
   put-sizeless-reads.Learnt,
-) (put-type-at t) put-type.Post
-put-type-same-length-7 t c = search rules
+) (put_type_at t) put-type.Post
+put_type_same_length_7 t c = search rules
 
-put-type-returns-7 : (t : ℕ) → put-type-lts.Need-returns-7 (
+put_type_returns_7 : (t : ℕ) → put-type-lts.Need-returns-7 (
   type-group-reads.Asked,
   type-group-reads.Learnt,
   put-array-head-reads.Asked,
   put-array-head-reads.Learnt,
-  put-type-below t,
+  put_type_below t,
   put-type.Post,
   put-close-reads.Asked,
   put-close-reads.Learnt,
@@ -1160,22 +1160,22 @@ put-type-returns-7 : (t : ℕ) → put-type-lts.Need-returns-7 (
   put-named-reads.Learnt,
   put-sizeless-reads.Asked,
   put-sizeless-reads.Learnt,
-) (put-type-at t) put-type.Post
-put-type-returns-7 t c =
+) (put_type_at t) put-type.Post
+put_type_returns_7 t c =
     let after-enum-told6 = c.before.before.before.before in
     let after-type-group = after-enum-told6.before.before in
     let entry = after-type-group.before.before.before.before.before.before.before.before in
     put_same
-    (type-arm (lines entry.args.names.now) (length (lines entry.args.names.now)) entry.args.level entry.args.kinds.now
+    (type_arm (lines entry.args.names.now) (length (lines entry.args.names.now)) entry.args.level entry.args.kinds.now
     entry.args.words.now entry.requires.1.1 _ after-type-group.type-group.ensures _ after-enum-told6.enum-told6.given.1)
     c.before.before.put-sizeless.ensures
 
-put-type-same-length-8 : (t : ℕ) → put-type-lts.Need-same-length-8 (
+put_type_same_length_8 : (t : ℕ) → put-type-lts.Need-same-length-8 (
   type-group-reads.Asked,
   type-group-reads.Learnt,
   put-array-head-reads.Asked,
   put-array-head-reads.Learnt,
-  put-type-below t,
+  put_type_below t,
   put-type.Post,
   put-close-reads.Asked,
   put-close-reads.Learnt,
@@ -1189,15 +1189,15 @@ put-type-same-length-8 : (t : ℕ) → put-type-lts.Need-same-length-8 (
   put-named-reads.Learnt,
   put-sizeless-reads.Asked,
   put-sizeless-reads.Learnt,
-) (put-type-at t) put-type.Post
-put-type-same-length-8 t c = search rules
+) (put_type_at t) put-type.Post
+put_type_same_length_8 t c = search rules
 
-put-type-returns-8 : (t : ℕ) → put-type-lts.Need-returns-8 (
+put_type_returns_8 : (t : ℕ) → put-type-lts.Need-returns-8 (
   type-group-reads.Asked,
   type-group-reads.Learnt,
   put-array-head-reads.Asked,
   put-array-head-reads.Learnt,
-  put-type-below t,
+  put_type_below t,
   put-type.Post,
   put-close-reads.Asked,
   put-close-reads.Learnt,
@@ -1211,14 +1211,14 @@ put-type-returns-8 : (t : ℕ) → put-type-lts.Need-returns-8 (
   put-named-reads.Learnt,
   put-sizeless-reads.Asked,
   put-sizeless-reads.Learnt,
-) (put-type-at t) put-type.Post
+) (put_type_at t) put-type.Post
 unfolding bytes
-put-type-returns-8 t c =
+put_type_returns_8 t c =
     let after-enum-told7 = c.before.before.before.before.before in
     let after-type-group = after-enum-told7.before.before in
     let entry = after-type-group.before.before.before.before.before.before.before.before in
     put_same
-    (type-arm (lines entry.args.names.now) (length (lines entry.args.names.now)) entry.args.level entry.args.kinds.now
+    (type_arm (lines entry.args.names.now) (length (lines entry.args.names.now)) entry.args.level entry.args.kinds.now
     entry.args.words.now entry.requires.1.1 _ after-type-group.type-group.ensures _ after-enum-told7.enum-told7.given.1)
     c.before.before.put-bytes4.ensures
 
@@ -1228,7 +1228,7 @@ pub +put-type-spec : {M : Type 1} → statement M
   type-group-reads.Learnt,
   put-array-head-reads.Asked,
   put-array-head-reads.Learnt,
-  put-type-below t,
+  put_type_below t,
   put-type.Post,
   put-close-reads.Asked,
   put-close-reads.Learnt,
@@ -1243,54 +1243,54 @@ pub +put-type-spec : {M : Type 1} → statement M
   put-sizeless-reads.Asked,
   put-sizeless-reads.Learnt,
 )
-    (put-type-at t)
+    (put_type_at t)
     put-type.Post
-    (put-type-shared-slice-read-kind t)
-    (put-type-shared-slice-read-word t)
-    (put-type-type-group-requires t)
-    (put-type-enum-known-packed t)
-    (put-type-put-array-head-requires t)
-    (put-type-sub-put-type t)
-    (put-type-part-put-type-start t)
-    (put-type-part-put-type-end t)
-    (put-type-sub-put-type-2 t)
-    (put-type-part-put-type-start-2 t)
-    (put-type-part-put-type-end-2 t)
-    (put-type-sub-put-type-3 t)
-    (put-type-put-type-requires t)
-    (put-type-put-close-requires t)
-    (put-type-enum-told t)
-    (put-type-slice-aggregate-put-bytes t)
-    (put-type-put-bytes-requires t)
-    (put-type-enum-told-2 t)
-    (put-type-put-int-requires t)
-    (put-type-enum-told-3 t)
-    (put-type-slice-aggregate-put-bytes-2 t)
-    (put-type-put-bytes-requires-2 t)
-    (put-type-enum-told-4 t)
-    (put-type-name-of-requires t)
-    (put-type-put-named-requires t)
-    (put-type-enum-told-5 t)
-    (put-type-slice-aggregate-put-bytes-3 t)
-    (put-type-put-bytes-requires-3 t)
-    (put-type-enum-told-6 t)
-    (put-type-put-sizeless-requires t)
-    (put-type-enum-told-7 t)
-    (put-type-slice-aggregate-put-bytes-4 t)
-    (put-type-put-bytes-requires-4 t)
-    (put-type-same-length t)
-    (put-type-returns t)
-    (put-type-same-length-2 t)
-    (put-type-returns-2 t)
-    (put-type-same-length-3 t)
-    (put-type-returns-3 t)
-    (put-type-same-length-4 t)
-    (put-type-returns-4 t)
-    (put-type-same-length-5 t)
-    (put-type-returns-5 t)
-    (put-type-same-length-6 t)
-    (put-type-returns-6 t)
-    (put-type-same-length-7 t)
-    (put-type-returns-7 t)
-    (put-type-same-length-8 t)
-    (put-type-returns-8 t)
+    (put_type_shared_slice_read_kind t)
+    (put_type_shared_slice_read_word t)
+    (put_type_type_group_requires t)
+    (put_type_enum_known_packed t)
+    (put_type_put_array_head_requires t)
+    (put_type_sub_put_type t)
+    (put_type_part_put_type_start t)
+    (put_type_part_put_type_end t)
+    (put_type_sub_put_type_2 t)
+    (put_type_part_put_type_start_2 t)
+    (put_type_part_put_type_end_2 t)
+    (put_type_sub_put_type_3 t)
+    (put_type_put_type_requires t)
+    (put_type_put_close_requires t)
+    (put_type_enum_told t)
+    (put_type_slice_aggregate_put_bytes t)
+    (put_type_put_bytes_requires t)
+    (put_type_enum_told_2 t)
+    (put_type_put_int_requires t)
+    (put_type_enum_told_3 t)
+    (put_type_slice_aggregate_put_bytes_2 t)
+    (put_type_put_bytes_requires_2 t)
+    (put_type_enum_told_4 t)
+    (put_type_name_of_requires t)
+    (put_type_put_named_requires t)
+    (put_type_enum_told_5 t)
+    (put_type_slice_aggregate_put_bytes_3 t)
+    (put_type_put_bytes_requires_3 t)
+    (put_type_enum_told_6 t)
+    (put_type_put_sizeless_requires t)
+    (put_type_enum_told_7 t)
+    (put_type_slice_aggregate_put_bytes_4 t)
+    (put_type_put_bytes_requires_4 t)
+    (put_type_same_length t)
+    (put_type_returns t)
+    (put_type_same_length_2 t)
+    (put_type_returns_2 t)
+    (put_type_same_length_3 t)
+    (put_type_returns_3 t)
+    (put_type_same_length_4 t)
+    (put_type_returns_4 t)
+    (put_type_same_length_5 t)
+    (put_type_returns_5 t)
+    (put_type_same_length_6 t)
+    (put_type_returns_6 t)
+    (put_type_same_length_7 t)
+    (put_type_returns_7 t)
+    (put_type_same_length_8 t)
+    (put_type_returns_8 t)

@@ -1,7 +1,7 @@
 -- `put_array_head` meets its contract, one part after the other.
 use Rattle.names.specs.Text.{bytes}
-use Rattle.print_pen.specs.Pen.{then-put}
-use Rattle.print_types.specs.Types.{arrayHead}
+use Rattle.print_pen.specs.Pen.{then_put}
+use Rattle.print_types.specs.Types.{array_head}
 use borrow.Author.Rules.{rules}
 use Rattle.print_types.proofs.types.put_array_head.Statement.{statement}
 use Rattle.print_types.proofs.types.put_array_head.Tie as tie
@@ -25,11 +25,11 @@ same_length : tie.Need-same-length
 same_length c = search rules
 
 returns : tie.Need-returns
-unfolding arrayHead bytes
+unfolding array_head bytes
 returns c =
     let after-put-number = c.before.before.before.before.before.before.before in
     let after-put-open = after-put-number.before.before.before.before in
-    then-put after-put-open.put-open.ensures (then-put after-put-number.put-number.ensures c.before.before.put-bytes.ensures)
+    then_put after-put-open.put-open.ensures (then_put after-put-number.put-number.ensures c.before.before.put-bytes.ensures)
 
 pub put-array-head-spec : {M : Type 1} → statement M
 put-array-head-spec =

@@ -1,6 +1,6 @@
 -- `put_named` meets its contract, one part after the other.
 use Rattle.names.specs.Text.{bytes}
-use Rattle.print_pen.specs.Pen.{then-put}
+use Rattle.print_pen.specs.Pen.{then_put}
 use borrow.Author.Rules.{rules}
 use Rattle.print_types.proofs.types.put_named.Statement.{statement}
 use Rattle.print_types.proofs.types.put_named.Tie as tie
@@ -20,7 +20,7 @@ same_length c = search rules
 
 returns : tie.Need-returns
 unfolding bytes
-returns c = then-put c.before.before.before.before.before.before.put-bytes.ensures c.before.before.put-bytes2.ensures
+returns c = then_put c.before.before.before.before.before.before.put-bytes.ensures c.before.before.put-bytes2.ensures
 
 pub put-named-spec : {M : Type 1} → statement M
 put-named-spec =

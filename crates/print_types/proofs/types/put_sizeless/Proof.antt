@@ -2,7 +2,7 @@
 use borrow.Author.Tests.{eq-eqb, ne_eqb}
 use Rattle.names.specs.Text.{bytes}
 use Rattle.print_pen.specs.Pen.{put_same}
-use Rattle.print_types.specs.Types.{sizelessText}
+use Rattle.print_types.specs.Types.{sizeless_text}
 use borrow.Author.Rules.{rules}
 use Rattle.print_types.proofs.types.put_sizeless.Statement.{statement}
 use Rattle.print_types.proofs.types.put_sizeless.Tie as tie
@@ -18,7 +18,7 @@ same_length : tie.Need-same-length
 same_length c = search rules
 
 returns : tie.Need-returns
-unfolding sizelessText bytes
+unfolding sizeless_text bytes
 returns c = put_same (rw (eq-eqb _ 18 c.before.before.before.before.before.if1.true)) c.before.before.put-bytes.ensures
 
 slice-aggregate-put-bytes-2 : tie.Need-slice-aggregate-put-bytes-2
@@ -31,7 +31,7 @@ same-length-2 : tie.Need-same-length-2
 same-length-2 c = search rules
 
 returns-2 : tie.Need-returns-2
-unfolding sizelessText bytes
+unfolding sizeless_text bytes
 returns-2 c =
     let then2 = c.before.before.before.before.before in
     let else1 = then2.before in
@@ -47,7 +47,7 @@ same-length-3 : tie.Need-same-length-3
 same-length-3 c = search rules
 
 returns-3 : tie.Need-returns-3
-unfolding sizelessText bytes
+unfolding sizeless_text bytes
 returns-3 c =
     let else2 = c.before.before.before.before.before in
     let else1 = else2.before in

@@ -2,9 +2,9 @@
 use mathlib.Core.Path.{ap, ◌∙◌}
 use native.Mathlib.Omega.{arith}
 use lib.ListN.{length}
-use Rattle.numbers.specs.Digits.{length-word}
-use Rattle.print_words.specs.Words.{word-short}
-use Rattle.print_words.specs.Plain.{plain-bare, plain-long}
+use Rattle.numbers.specs.Digits.{length_word}
+use Rattle.print_words.specs.Words.{word_short}
+use Rattle.print_words.specs.Plain.{plain_bare, plain_long}
 use borrow.Author.Rules.{rules}
 use Rattle.print_words.proofs.plain.plain_len.Statement.{statement}
 use Rattle.print_words.proofs.plain.plain_len.Tie as tie
@@ -18,7 +18,7 @@ decimal-len-requires : tie.Need-decimal-len-requires
 decimal-len-requires c κs = search rules
 
 add-number : tie.Need-overflow-add-number
-add-number c = omega (arith, c.decimal-len.ensures, length-word c.before.before.before.args.x (search rules))
+add-number c = omega (arith, c.decimal-len.ensures, length_word c.before.before.before.args.x (search rules))
 
 add-result : tie.Need-overflow-add-result
 add-result c =
@@ -26,18 +26,18 @@ add-result c =
     omega (
       arith,
       c.before.decimal-len.ensures,
-      length-word entry.args.x (search rules),
+      length_word entry.args.x (search rules),
       c.before.before.word_len.ensures,
-      word-short entry.args.kind entry.requires.1,
+      word_short entry.args.kind entry.requires.1,
     )
 
 returns : tie.Need-returns
-returns c = c.before.before.word_len.ensures ∙ ap length (plain-bare _ _ c.if1.true)
+returns c = c.before.before.word_len.ensures ∙ ap length (plain_bare _ _ c.if1.true)
 
 returns-2 : tie.Need-returns-2
 returns-2 c =
     let entry = c.before.before.before.before in
-    omega (arith, c.before.before.word_len.ensures, c.before.decimal-len.ensures, plain-long entry.args.kind entry.args.x c.if1.false)
+    omega (arith, c.before.before.word_len.ensures, c.before.decimal-len.ensures, plain_long entry.args.kind entry.args.x c.if1.false)
 
 pub plain-len-spec : {M : Type 1} → statement M
 plain-len-spec =

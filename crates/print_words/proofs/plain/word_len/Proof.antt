@@ -2,7 +2,7 @@
 use mathlib.Core.Path.{sym, ap}
 use native.Mathlib.Omega.{arith}
 use lib.ListN.{length}
-use Rattle.print_words.specs.Words.{places-long, word_size}
+use Rattle.print_words.specs.Words.{places_long, word_size}
 use borrow.Author.Rules.{rules}
 use Rattle.print_words.proofs.plain.word_len.Statement.{statement}
 use Rattle.print_words.proofs.plain.word_len.Tie as tie
@@ -13,7 +13,7 @@ mul-place c = search rules
 
 shared-slice-read-place : tie.Need-shared-slice-read-place
 shared-slice-read-place c =
-    omega (arith, ap length c.before.before.requires.0, places-long, c.before.before.requires.1)
+    omega (arith, ap length c.before.before.requires.0, places_long, c.before.before.requires.1)
 
 place-requires : tie.Need-place-requires
 place-requires c κs = search rules

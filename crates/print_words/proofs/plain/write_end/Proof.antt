@@ -3,7 +3,7 @@ use mathlib.Core.Path.{sym, ◌∙◌}
 use mathlib.Core.Logic.{⊎_elim}
 use native.Mathlib.Omega.{arith}
 use lib.ListN.{length-set}
-use Rattle.print_words.specs.Plain.{colon-stored, semicolon-stored}
+use Rattle.print_words.specs.Plain.{colon_stored, semicolon_stored}
 use borrow.Author.Rules.{rules}
 use Rattle.print_words.proofs.plain.write_end.Statement.{statement}
 use Rattle.print_words.proofs.plain.write_end.Tie as tie
@@ -30,7 +30,7 @@ same_length c = search rules
 returns : tie.Need-returns
 returns c =
     let is = sym c.before.is-label.ensures in
-    ⊎_elim (λ w. colon-stored _ _ _ _ (is ∙ w.0.taken) w.1) (λ w. semicolon-stored _ _ _ _ (is ∙ w.0.left) w.1) c.if1.branch
+    ⊎_elim (λ w. colon_stored _ _ _ _ (is ∙ w.0.taken) w.1) (λ w. semicolon_stored _ _ _ _ (is ∙ w.0.left) w.1) c.if1.branch
 
 pub write-end-spec : {M : Type 1} → statement M
 write-end-spec =

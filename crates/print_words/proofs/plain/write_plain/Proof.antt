@@ -3,8 +3,8 @@ use mathlib.Core.Path.{ap}
 use native.Mathlib.Omega.{arith}
 use lib.ListN.{length}
 use lib.Seq.{length-sets}
-use Rattle.print_pen.specs.Write.{wrote-same}
-use Rattle.print_words.specs.Plain.{plain-bare, plain-long, plain_word, short-room, number-wrote, bare-wrote}
+use Rattle.print_pen.specs.Write.{wrote_same}
+use Rattle.print_words.specs.Plain.{plain_bare, plain_long, plain_word, short_room, number_wrote, bare_wrote}
 use borrow.Author.Rules.{rules}
 use Rattle.print_words.proofs.plain.write_plain.Statement.{statement}
 use Rattle.print_words.proofs.plain.write_plain.Tie as tie
@@ -27,7 +27,7 @@ put-short-requires c κs =
     let after-word = then1.before.before.before in
     let entry = after-word.before.before.before.before.before in
     let w = after-word.write_word.ensures in
-    let room = short-room _ _ _ _ _ entry.requires.1.0 then1.if1.true w.place in
+    let room = short_room _ _ _ _ _ entry.requires.1.0 then1.if1.true w.place in
     (room.0, omega (arith, w.long, room.1, entry.requires.1.1.1))
 
 write-end-requires : tie.Need-write-end-requires
@@ -39,7 +39,7 @@ write-end-requires c κs =
     let w = after-word.write_word.ensures in
     let d = after-short.put-short.ensures in
     let l = simp length-sets at (ap length d.1) in
-    let room = short-room entry.args.kind entry.args.x entry.args.at entry.args.end _ entry.requires.1.0 then1.if1.true w.place in
+    let room = short_room entry.args.kind entry.args.x entry.args.at entry.args.end _ entry.requires.1.0 then1.if1.true w.place in
     omega (arith, w.long, d.0, room.1, entry.requires.1.1.1)
 
 same_length : tie.Need-same-length
@@ -53,8 +53,8 @@ returns c =
     let after-word = then1.before.before.before in
     let entry = after-word.before.before.before.before.before in
     let w = after-word.write_word.ensures in
-    let room = (short-room _ _ _ _ _ entry.requires.1.0 then1.if1.true w.place).1 in
-    bare-wrote _ _ w after-short.put-short.ensures after-end.write-end.ensures room entry.requires.1.1.1 c.if2.true
+    let room = (short_room _ _ _ _ _ entry.requires.1.0 then1.if1.true w.place).1 in
+    bare_wrote _ _ w after-short.put-short.ensures after-end.write-end.ensures room entry.requires.1.1.1 c.if2.true
 
 same-length-2 : tie.Need-same-length-2
 same-length-2 c = search rules
@@ -67,15 +67,15 @@ returns-2 c =
     let after-word = then1.before.before.before in
     let entry = after-word.before.before.before.before.before in
     let w = after-word.write_word.ensures in
-    let room = (short-room _ _ _ _ _ entry.requires.1.0 then1.if1.true w.place).1 in
-    number-wrote _ _ w after-short.put-short.ensures after-end.write-end.ensures room entry.requires.1.1.1 c.if2.false
+    let room = (short_room _ _ _ _ _ entry.requires.1.0 then1.if1.true w.place).1 in
+    number_wrote _ _ w after-short.put-short.ensures after-end.write-end.ensures room entry.requires.1.1.1 c.if2.false
 
 same-length-3 : tie.Need-same-length-3
 same-length-3 c = search rules
 
 returns-3 : tie.Need-returns-3
 returns-3 c =
-    wrote-same (plain-bare _ _ c.if3.true) c.before.before.before.before.write_word.ensures
+    wrote_same (plain_bare _ _ c.if3.true) c.before.before.before.before.write_word.ensures
 
 put-decimal-requires : tie.Need-put-decimal-requires
 put-decimal-requires c κs =
@@ -83,7 +83,7 @@ put-decimal-requires c κs =
     let after-word = else3.before.before.before.before in
     let entry = after-word.before.before.before.before.before in
     let w = after-word.write_word.ensures in
-    omega (arith, w.place, w.long, plain-long entry.args.kind entry.args.x else3.if3.false, entry.requires.1.1.0, entry.requires.1.1.1)
+    omega (arith, w.place, w.long, plain_long entry.args.kind entry.args.x else3.if3.false, entry.requires.1.1.0, entry.requires.1.1.1)
 
 write-end-requires-2 : tie.Need-write-end-requires-2
 write-end-requires-2 c κs =
@@ -94,7 +94,7 @@ write-end-requires-2 c κs =
     let w = after-word.write_word.ensures in
     let d = after-number.put-decimal.ensures in
     let l = simp length-sets at (ap length d.1) in
-    omega (arith, w.place, w.long, d.0, plain-long entry.args.kind entry.args.x else3.if3.false, entry.requires.1.1.0, entry.requires.1.1.1)
+    omega (arith, w.place, w.long, d.0, plain_long entry.args.kind entry.args.x else3.if3.false, entry.requires.1.1.0, entry.requires.1.1.1)
 
 same-length-4 : tie.Need-same-length-4
 same-length-4 c = search rules
@@ -107,8 +107,8 @@ returns-4 c =
     let after-word = else3.before.before.before.before in
     let entry = after-word.before.before.before.before.before in
     let w = after-word.write_word.ensures in
-    let size = plain-long entry.args.kind entry.args.x else3.if3.false in
-    number-wrote _ _ w after-number.put-decimal.ensures after-end.write-end2.ensures (omega (arith, w.place, size, entry.requires.1.1.0)) entry.requires.1.1.1 else3.if3.false
+    let size = plain_long entry.args.kind entry.args.x else3.if3.false in
+    number_wrote _ _ w after-number.put-decimal.ensures after-end.write-end2.ensures (omega (arith, w.place, size, entry.requires.1.1.0)) entry.requires.1.1.1 else3.if3.false
 
 pub write-plain-spec : {M : Type 1} → statement M
 write-plain-spec =

@@ -1,7 +1,7 @@
 -- `write_word` meets its contract by the rule of the table of words.
 use Prim.Native.Nat.{◌+◌, ◌-◌, ◌/◌, ◌%◌}
 use native.Mathlib.Omega.{arith}
-use Rattle.print_words.specs.Words.{kinds-known, word-by, word-long, word-wrote}
+use Rattle.print_words.specs.Words.{kinds_known, word_by, word_long, word_wrote}
 use borrow.Author.Rules.{rules}
 use Rattle.print_words.proofs.plain.write_word.Statement.{statement}
 use Rattle.print_words.proofs.plain.write_word.Tie as tie
@@ -13,7 +13,7 @@ mul-place c = search rules
 
 shared-slice-read-place : tie.Need-shared-slice-read-place
 shared-slice-read-place c =
-    omega (arith, kinds-known c.before.before.before.before.requires.0, c.before.before.before.before.requires.1.0)
+    omega (arith, kinds_known c.before.before.before.before.requires.0, c.before.before.before.before.requires.1.0)
 
 place-requires : tie.Need-place-requires
 place-requires c κs = search rules
@@ -33,7 +33,7 @@ part-copy-start c = search rules
 part-copy-end : tie.Need-slice-bounds-copy-end
 part-copy-end c =
     let entry = c.before.before.before.before.before.before in
-    let w = word-by entry.requires.0 _ _ entry.requires.1.0 c.before.place.ensures in
+    let w = word_by entry.requires.0 _ _ entry.requires.1.0 c.before.place.ensures in
     omega (arith, w.room)
 
 copy-requires : tie.Need-copy-requires
@@ -48,9 +48,9 @@ same_length c = search rules
 returns : tie.Need-returns
 returns c =
     let entry = c.before.before.before.before.before.before.before.before.before.before.before in
-    let w = word-by entry.requires.0 _ _ entry.requires.1.0 c.before.before.before.before.before.before.place.ensures in
+    let w = word_by entry.requires.0 _ _ entry.requires.1.0 c.before.before.before.before.before.before.place.ensures in
     let p = c.before.before.before.before.before.before.place.result in
-    word-wrote w entry.args.text.now _ entry.args.at entry.args.end (p / 32 + 24 - p / 32) c.before.before.copy.ensures (omega (arith, w.short)) (omega arith)
+    word_wrote w entry.args.text.now _ entry.args.at entry.args.end (p / 32 + 24 - p / 32) c.before.before.copy.ensures (omega (arith, w.short)) (omega arith)
     (omega (arith, c.before.before.before.before.before.if1.true, entry.requires.1.1.0)) entry.requires.1.1.1
 
 add-stop : tie.Need-overflow-add-stop
@@ -65,14 +65,14 @@ part-copy-start-2 c = search rules
 part-copy-end-2 : tie.Need-slice-bounds-copy-end-2
 part-copy-end-2 c =
     let entry = c.before.before.before.before.before.before in
-    let w = word-by entry.requires.0 _ _ entry.requires.1.0 c.before.place.ensures in
+    let w = word_by entry.requires.0 _ _ entry.requires.1.0 c.before.place.ensures in
     omega (arith, w.room, w.short)
 
 copy-requires-2 : tie.Need-copy-requires-2
 copy-requires-2 c κs =
     let entry = c.before.before.before.before.before.before.before.before in
-    let w = word-by entry.requires.0 _ _ entry.requires.1.0 c.before.before.before.place.ensures in
-    omega (arith, w.room, w.short, word-long w, entry.requires.1.1.0, entry.requires.1.1.1)
+    let w = word_by entry.requires.0 _ _ entry.requires.1.0 c.before.before.before.place.ensures in
+    omega (arith, w.room, w.short, word_long w, entry.requires.1.1.0, entry.requires.1.1.1)
 
 add-result-2 : tie.Need-overflow-add-result-2
 add-result-2 c = search rules
@@ -83,10 +83,10 @@ same-length-2 c = search rules
 returns-2 : tie.Need-returns-2
 returns-2 c =
     let entry = c.before.before.before.before.before.before.before.before.before.before.before in
-    let w = word-by entry.requires.0 _ _ entry.requires.1.0 c.before.before.before.before.before.before.place.ensures in
+    let w = word_by entry.requires.0 _ _ entry.requires.1.0 c.before.before.before.before.before.before.place.ensures in
     let p = c.before.before.before.before.before.before.place.result in
-    word-wrote w entry.args.text.now _ entry.args.at entry.args.end (p / 32 + p % 32 - p / 32) c.before.before.copy2.ensures (omega arith) (omega (arith, w.short))
-    (omega (arith, word-long w, entry.requires.1.1.0)) entry.requires.1.1.1
+    word_wrote w entry.args.text.now _ entry.args.at entry.args.end (p / 32 + p % 32 - p / 32) c.before.before.copy2.ensures (omega arith) (omega (arith, w.short))
+    (omega (arith, word_long w, entry.requires.1.1.0)) entry.requires.1.1.1
 
 pub write-word-spec : {M : Type 1} → statement M
 write-word-spec =

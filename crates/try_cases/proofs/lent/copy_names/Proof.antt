@@ -1,13 +1,13 @@
 -- What is copied so far are that many bytes in front, `|` turned into 10.
 use Rattle.std.proofs.Common.{◌≡◌, ℕ, ◌-◌, ◌<◌, ◌≤◌, List, ◌++◌, map, length, take, drop, set, sym, refl, ap, ◌∙◌, arith, length-set, rules}
 use lib.ListN.{length-map, get_or-map}
-use Rattle.try_cases.specs.Lent.{nameByte}
+use Rattle.try_cases.specs.Lent.{name_byte}
 use Rattle.try_cases.proofs.Copying.{copied_more, copied_all}
 use Rattle.try_cases.proofs.lent.copy_names.Statement.{statement}
 use Rattle.try_cases.proofs.lent.copy_names.Tie as tie
 
 abbrev invariant-loop : tie.invariant-loop
-invariant-loop from to₀ i₀ i-end to i = (i ≤ i-end) × (i-end ≡ length from) × (length to ≡ length to₀) × (to ≡ take i (map nameByte from) ++ drop i to₀)
+invariant-loop from to₀ i₀ i-end to i = (i ≤ i-end) × (i-end ≡ length from) × (length to ≡ length to₀) × (to ≡ take i (map name_byte from) ++ drop i to₀)
 
 abbrev decreases-loop : tie.decreases-loop
 decreases-loop from to₀ i₀ i-end to i = i-end - i
@@ -31,17 +31,17 @@ loop-less : tie.Need-loop-smaller invariant-loop decreases-loop
 loop-less c = search rules
 
 loop-again : tie.Need-loop-preserved invariant-loop decreases-loop
-unfolding nameByte
+unfolding name_byte
 loop-again c =
     let l = c.before.before.before.loop in
     let a = c.before.before.before.before.before.before.args in
-    let n = length-map a.from.now nameByte in
-    let h : l.i < length (map nameByte a.from.now) = omega (arith, n) in (
+    let n = length-map a.from.now name_byte in
+    let h : l.i < length (map name_byte a.from.now) = omega (arith, n) in (
       omega arith,
       refl,
       length-set l.to l.i _ ∙ l.invariant.2,
       ap (λ (t : List ℕ). set t l.i c.name-byte.result) l.invariant.3
-          ∙ copied_more (map nameByte a.from.now) a.to.now l.i 0 _ h (omega (arith, n)) (get_or-map nameByte a.from.now l.i 0 ∙ sym c.name-byte.ensures),
+          ∙ copied_more (map name_byte a.from.now) a.to.now l.i 0 _ h (omega (arith, n)) (get_or-map name_byte a.from.now l.i 0 ∙ sym c.name-byte.ensures),
     )
 
 same_length : tie.Need-same-length invariant-loop decreases-loop
@@ -51,9 +51,9 @@ returns : tie.Need-returns invariant-loop decreases-loop
 returns c =
     let l = c.before.loop in
     let a = c.before.before.before.before.args in
-    let n = length-map a.from.now nameByte in
-    copied_all (map nameByte a.from.now) a.to.now l.to l.i l.invariant.3 (omega (arith, n))
-    ∙ ap (λ (k : ℕ). map nameByte a.from.now ++ drop k a.to.now) n
+    let n = length-map a.from.now name_byte in
+    copied_all (map name_byte a.from.now) a.to.now l.to l.i l.invariant.3 (omega (arith, n))
+    ∙ ap (λ (k : ℕ). map name_byte a.from.now ++ drop k a.to.now) n
 
 pub copy-names-spec : {M : Type 1} → statement M
 copy-names-spec =

@@ -2,7 +2,7 @@
 use Rattle.std.proofs.Common.{◌≡◌, ℕ, ◌+◌, ◌-◌, ◌<◌, ◌≤◌, List, length, get_or, set, sym, refl, ap, ◌∙◌, add-one, arith, length-set, rules, le-leb}
 use borrow.Author.Tests.{lt-leb}
 use lib.Seq.{paste, paste-zero, paste-suc}
-use Rattle.try_cases.specs.Lent.{putEnd, putWords}
+use Rattle.try_cases.specs.Lent.{put_end, put_words}
 use Rattle.try_cases.proofs.lent.put_words.Statement.{statement}
 use Rattle.try_cases.proofs.lent.put_words.Tie as tie
 
@@ -13,7 +13,7 @@ abbrev decreases-loop : tie.decreases-loop
 decreases-loop from to₀ at i₀ i-end to i = i-end - i
 
 returns : tie.Need-returns invariant-loop decreases-loop
-unfolding putEnd putWords
+unfolding put_end put_words
 returns c =
     let h : length c.before.args.to.now < c.before.args.at + length c.before.args.from.now = omega arith in
     rw (lt-leb _ _ h) (refl, refl)
@@ -22,7 +22,7 @@ sub-if2 : tie.Need-overflow-sub-if2 invariant-loop decreases-loop
 sub-if2 c = search rules
 
 returns-2 : tie.Need-returns-2 invariant-loop decreases-loop
-unfolding putEnd putWords
+unfolding put_end put_words
 returns-2 c =
     let a = c.before.before.args in
     let h : length a.to.now < a.at + length a.from.now = omega arith in
@@ -77,7 +77,7 @@ same_length : tie.Need-same-length invariant-loop decreases-loop
 same_length c = search rules
 
 returns-3 : tie.Need-returns-3 invariant-loop decreases-loop
-unfolding putEnd putWords
+unfolding put_end put_words
 returns-3 c =
     let l = c.before.loop in
     let a = c.before.before.before.before.args in

@@ -1,7 +1,7 @@
 -- What is passed and what stands before the byte from there on make the whole.
 use Rattle.std.proofs.Common.{◌≡◌, ◌+◌, ◌-◌, ◌≤◌, length, drop, arith, rules, eq-eqb, ne_eqb}
 use Rattle.try_cases.specs.Text.{up_to}
-use Rattle.try_cases.proofs.Reading.{up-past, up-stop, up-pass}
+use Rattle.try_cases.proofs.Reading.{up_past, up_stop, up_pass}
 use Rattle.try_cases.proofs.text.before.Statement.{statement}
 use Rattle.try_cases.proofs.text.before.Tie as tie
 
@@ -21,7 +21,7 @@ returns : tie.Need-returns invariant-loop decreases-loop
 returns c =
     let l = c.before.before.before.loop in
     let a = c.before.before.before.before.args in
-    omega (arith, l.invariant.1, up-stop a.wanted a.text.now l.at c.before.before.loop-test.true (eq-eqb _ _ c.if1.true))
+    omega (arith, l.invariant.1, up_stop a.wanted a.text.now l.at c.before.before.loop-test.true (eq-eqb _ _ c.if1.true))
 
 add_at : tie.Need-overflow-add-at invariant-loop decreases-loop
 add_at c = search rules
@@ -33,13 +33,13 @@ loop-again : tie.Need-loop-preserved invariant-loop decreases-loop
 loop-again c =
     let l = c.before.before.before.loop in
     let a = c.before.before.before.before.args in
-    omega (arith, l.invariant.1, up-pass a.wanted a.text.now l.at c.before.before.loop-test.true (ne_eqb _ _ c.if1.false))
+    omega (arith, l.invariant.1, up_pass a.wanted a.text.now l.at c.before.before.loop-test.true (ne_eqb _ _ c.if1.false))
 
 returns-2 : tie.Need-returns-2 invariant-loop decreases-loop
 returns-2 c =
     let l = c.before.loop in
     let a = c.before.before.args in
-    omega (arith, l.invariant.1, up-past a.wanted a.text.now l.at c.loop-test.false)
+    omega (arith, l.invariant.1, up_past a.wanted a.text.now l.at c.loop-test.false)
 
 pub before-spec : {M : Type 1} → statement M
 before-spec =
