@@ -1,3 +1,4 @@
+#![tactic(auto)]
 // How many entries the blocks or the function take at the front of the lent kinds and words, and whether something in them is
 // forbidden: a value of kind 37, or a call of a name whose bit is set in `barred`. `names` is the number of the book's names.
 mod calls;

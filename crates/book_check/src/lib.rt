@@ -1,3 +1,4 @@
+#![tactic(auto)]
 // The whole check: whether a book slice, its names, a label counter and the length of a work slice are fit for
 // a translation, or the first of document 01's refusals 1 to 4. It passes once over the names and once over the entries.
 ghost use Rattle.std.specs.Prelude.{◌≡◌, ◌≤◌, leb, get_or};

@@ -1,3 +1,4 @@
+#![tactic(auto)]
 // Maps with a bit for each name: whether a name was seen before, and the names of a range.
 ghost use Rattle.std.specs.Prelude.{◌≡◌};
 ghost use Rattle.numbers.specs.Bits.{set_bit_at};

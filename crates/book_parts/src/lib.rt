@@ -1,3 +1,4 @@
+#![tactic(auto)]
 // The parts of a book in one pass: marks, named structs, the functions. Repeated marks, struct names and function names are found by
 // maps with a bit for each name. `barred` has a bit set for each name that may not be called; reserved names are added to it before
 // the functions are read.

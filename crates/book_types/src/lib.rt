@@ -1,3 +1,4 @@
+#![tactic(auto)]
 // Readers of a book's entries: how many entries a type, a value and so on takes at the front
 // of the lent kinds and words, or that none stands there. A reader is lent the rest of the entries from its
 // start; where one slice is longer than the other, what it has more does not count. `names` is the number of

@@ -1,3 +1,4 @@
+#![tactic(auto)]
 // Values, and what the fields of instructions and terminators hold.
 ghost use Rattle.std.specs.Prelude.{◌≡◌};
 ghost use Rattle.book.specs.Entry.{entries};

@@ -1,3 +1,4 @@
+#![tactic(auto)]
 // The boundary for C and Rust: each function lends its slices on and gives document 01's numbers.
 ghost use Rattle.std.specs.Prelude.{◌≡◌};
 ghost use Rattle.book.specs.Check.{checked, refusal_of};

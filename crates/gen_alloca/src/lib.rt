@@ -1,3 +1,4 @@
+#![tactic(auto)]
 // `alloca`: a fixed place is the frame's base and an offset, a varying one moves the stack pointer. The entries are lent from
 // the type on; the place among a result's work words has its offset with 1 added, 0 for none.
 ghost use Rattle.std.specs.Prelude.{◌≡◌, List, ◌∷◌, ℕ, ◌≤◌, drop};

@@ -1,3 +1,4 @@
+#![tactic(auto)]
 // `gen_bin`, `gen_icmp` and `gen_conv`. Each is lent the rest of the entries from the first field of its instruction.
 ghost use Rattle.std.specs.Prelude.{◌≡◌, ◌<◌, ◌+◌, ltb};
 ghost use Rattle.book.specs.Entry.{entries};

@@ -1,3 +1,4 @@
+#![tactic(auto)]
 // Atomics, and the two slots of a `cmpxchg`. The entries are lent from the first field on.
 ghost use Rattle.std.specs.Prelude.{ℕ, ◌+◌, ◌*◌, ◌<◌, ◌≤◌, List, ◌∷◌, length};
 ghost use Rattle.book.specs.Ast.{Value};

@@ -1,3 +1,4 @@
+#![tactic(auto)]
 // `gen_function`'s blocks: a block's label, its instructions one after the other, its terminator.
 ghost use Rattle.std.specs.Prelude.{◌≡◌, List};
 ghost use Rattle.book.specs.Ast.{Inst, Terminator, BasicBlock};

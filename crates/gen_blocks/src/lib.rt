@@ -1,3 +1,4 @@
+#![tactic(auto)]
 // Work words 0 and 2 of names: a function's parameters and its blocks. `names` is the number of the book's names.
 ghost use Rattle.std.specs.Prelude.{◌≡◌, List, ℕ};
 ghost use Rattle.book.specs.Ast.{BasicBlock, Function, Param};

@@ -1,3 +1,4 @@
+#![tactic(auto)]
 // `gen_call`, `gen_syscall` and `gen_memcmp_call`. The entries are lent from the return type on; the callee is behind it and
 // the arguments behind the callee. The mark of a name says how it is called.
 ghost use Rattle.std.specs.Prelude.{◌≡◌, ℕ, ◌+◌, ◌*◌, ◌%◌, ◌^◌, ◌≤◌, List, length, slice_index};

@@ -1,3 +1,4 @@
+#![tactic(auto)]
 // Words 0 to 3 of names, cleared where a function has set them: along its entries, not over all names. So the functions of a piece
 // are translated in a time that goes by their entries, however many names the book has.
 ghost use Rattle.std.specs.Prelude.{◌≤◌, length};

@@ -1,3 +1,4 @@
+#![tactic(auto)]
 // `emit_edge_copies`, and the jump behind it: "An edge pushes every incoming value, then sets slots backwards; the scan of
 // leading phis ends at the first instruction that is none. The first matching predecessor counts." A first pass pushes the
 // values and notes what is refused before any of them; a second one sets the slots, at places counted from the last.

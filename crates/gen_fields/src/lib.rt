@@ -1,3 +1,4 @@
+#![tactic(auto)]
 // A value with its type among an instruction's fields.
 ghost use Rattle.std.specs.Prelude.{◌≡◌, List, ◌∷◌, ℕ};
 ghost use Rattle.book.specs.Entry.{entries};

@@ -1,3 +1,4 @@
+#![tactic(auto)]
 // The frame pass and the slots of `gen_function`, in one pass over the instructions of all blocks. A name's slot goes into
 // word 1 of its work words, where its fixed place starts into word 3, each with 1 added.
 mod places;

@@ -1,3 +1,4 @@
+#![tactic(auto)]
 // `gen_function` behind the frame pass: the lines around the blocks, and the blocks one after the other.
 ghost use Rattle.std.specs.Prelude.{◌≡◌, List, ◌≤◌, ltb};
 ghost use Rattle.book.specs.Ast.{BasicBlock, Function};

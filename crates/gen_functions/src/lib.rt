@@ -1,3 +1,4 @@
+#![tactic(auto)]
 // The functions of a book, one after the other: for each the words that the last one set are cleared, its own are filled, and its
 // lines are put behind the last one's.
 ghost use Rattle.std.specs.Prelude.{List, ◌∷◌};

@@ -1,3 +1,4 @@
+#![tactic(auto)]
 // `gen_gep`. A walk over the indices adds up the constant offsets modulo 2^64 and keeps the varying terms, of which there are
 // at most 32, in the 64 work words behind the names': for each the place of its index among the book's entries and its stride.
 ghost use Rattle.std.specs.Prelude.{◌≡◌, List, ℕ, ◌<◌, ltb, length, drop};

@@ -1,3 +1,4 @@
+#![tactic(auto)]
 // `gen_inst`: an instruction in front of the entries lent, by its kind.
 pub mod measured;
 pub mod own;

@@ -1,3 +1,4 @@
+#![tactic(auto)]
 // Where lines are put. One code counts and writes: lines behind the end of the lent slices are counted and not stored. What
 // a generator reached is handed through, and a refusal goes through unchanged, so that generators follow one another without
 // a test between them.

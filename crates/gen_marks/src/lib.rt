@@ -1,3 +1,4 @@
+#![tactic(auto)]
 // Work word 5 of each name: how a global of that name is called. 2 for a name that starts `__uvm_`, 3 for `bcmp` and `memcmp`,
 // 1 for another that is defined here, else 0; and 4 more where the name contains `.with.overflow.`. Until this is placed, the word
 // holds where the next name starts, as the check has noted it.

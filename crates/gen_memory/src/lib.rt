@@ -1,3 +1,4 @@
+#![tactic(auto)]
 // Loads and stores, and `freeze`, which measures its type too. The entries are lent from the type on.
 ghost use Rattle.std.specs.Prelude.{◌≡◌, ◌<◌, ◌≤◌, length, get_or};
 ghost use Rattle.book.specs.Ast.{Ty};

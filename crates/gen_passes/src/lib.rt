@@ -1,3 +1,4 @@
+#![tactic(auto)]
 // The lines of a sound book's functions: a pass into slices of our own finds every refusal, and where the lines of all fit, they are
 // copied or made again.
 ghost use Rattle.std.specs.Prelude.{◌≡◌, List, ℕ, min, length};

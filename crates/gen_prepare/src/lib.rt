@@ -1,3 +1,4 @@
+#![tactic(auto)]
 // All passes before any line is generated. Those of the book fill the work words, 0 at first but for the starts of names, with what
 // its functions share; those of a function fill words 0 to 3 of names, which are 0, for its context.
 ghost use Rattle.std.specs.Prelude.{◌≡◌, ◌≤◌};

@@ -1,3 +1,4 @@
+#![tactic(auto)]
 // `gen_select`, lent the rest of the entries from the first field of its instruction.
 ghost use Rattle.book.specs.Entry.{entries};
 ghost use Rattle.book.specs.Fields.{Meanings};

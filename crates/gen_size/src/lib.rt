@@ -1,3 +1,4 @@
+#![tactic(auto)]
 // Measurements that a generator asks for: the bytes, or a refusal noted.
 ghost use Rattle.book.specs.Entry.{entries};
 ghost use Rattle.gen_size.specs.Sizes.{Measurable, SizeAsked, AlignAsked};

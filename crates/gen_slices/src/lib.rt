@@ -1,3 +1,4 @@
+#![tactic(auto)]
 // Slices as a whole: cleared, copied over another, and whether lines fit them.
 ghost use Rattle.std.specs.Prelude.{◌≡◌, length, take, replicate};
 ghost use Rattle.lowering.specs.Translate.{over};

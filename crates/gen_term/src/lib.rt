@@ -1,3 +1,4 @@
+#![tactic(auto)]
 // `gen_term`: a block's terminator. Its fields stand behind its entry, from which on the entries are handed in.
 mod switch;
 

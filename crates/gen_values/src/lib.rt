@@ -1,3 +1,4 @@
+#![tactic(auto)]
 // Operands: `push_value`, `push_int`, `store_dest`, widths, `emit_sext` and `emit_trunc_to`. A value or a type is lent as the part of
 // the entries that begins at it. Names are looked up in the work words: a name's parameter, then its slot, each with 1 added, 0 for none.
 ghost use Rattle.std.specs.Prelude.{◌≡◌, ℕ, ◌+◌, ◌<◌, ◌≤◌, length, get_or, ◌&&◌, ltb};

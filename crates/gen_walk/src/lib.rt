@@ -1,3 +1,4 @@
+#![tactic(auto)]
 // From one instruction to the next, and from one block to the next, in the entries of a sound book: the fields of an
 // instruction or a terminator have kinds below 40 and no 7, so that nothing has to be read again.
 ghost use Rattle.std.specs.Prelude.{◌≤◌, length};

@@ -1,1 +1,2 @@
+#![tactic(auto)]
 // Definitions of the sizes, alignments and offsets of types, and their laws.

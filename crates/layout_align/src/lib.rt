@@ -1,3 +1,4 @@
+#![tactic(auto)]
 // Alignments.
 ghost use Rattle.book.specs.Entry.{entries};
 ghost use Rattle.book.specs.Ast.{Ty};

@@ -1,3 +1,4 @@
+#![tactic(auto)]
 // Offsets of fields.
 ghost use Rattle.std.specs.Prelude.{◌≡◌};
 ghost use Rattle.book.specs.Entry.{entries};

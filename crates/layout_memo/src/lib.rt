@@ -1,3 +1,4 @@
+#![tactic(auto)]
 // Sizes, alignments and offsets of a book's types. A type is lent as the rest of the entries from its start, `kinds` and
 // `words`; the bodies of named structs stand among the book's entries, `book_kinds` and `book_words`, where word 4 of a
 // name's 8 work words says. What was measured of a named struct is remembered in word 7.

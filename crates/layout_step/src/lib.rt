@@ -1,3 +1,4 @@
+#![tactic(auto)]
 // The step that an index of a getelementptr takes into an array or a struct. A type is named by its place among the book's
 // entries, so that the type stepped into can be handed on.
 ghost use Rattle.book.specs.Entry.{entries};

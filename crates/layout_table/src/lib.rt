@@ -1,3 +1,4 @@
+#![tactic(auto)]
 // Where the fields of structs stand, noted in the work words, so that a field is found without passing all fields before it;
 // and alignments of long types.
 // A fact is noted behind j fields where the 2^t fields before it take `size` entries or more, 2^t the largest power of two that

@@ -1,3 +1,4 @@
+#![tactic(auto)]
 // Reads a book and its names from standard input, and writes the text of its lines at counter 0, or the refusal's number.
 ghost use Rattle.std.specs.Prelude.{◌≡◌, ◌≤◌, ◌<◌, ◌*◌, length, take};
 ghost use Rattle.lines.specs.Shown.{longest, text_room, zeros, word, words, translated, answered, refusal, said, shown, Begins};

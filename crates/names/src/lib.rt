@@ -1,1 +1,2 @@
+#![tactic(auto)]
 // Definitions of names, and the laws about them.

@@ -1,3 +1,4 @@
+#![tactic(auto)]
 // The names that come with a book: whether they are a list of names as documents 01 and 02 (card 6) want them, which of them start
 // with a prefix, and where the one behind each of them starts.
 ghost use Rattle.std.specs.Prelude.{◌≡◌, true, ◌+◌, ◌<◌, ◌≤◌, length, set};

@@ -1,3 +1,4 @@
+#![tactic(auto)]
 // Two names compared: by words while eight bytes of both remain, then byte by byte.
 ghost use Rattle.std.specs.Prelude.{◌≡◌, ◌+◌, ◌≤◌, min, ltb, length, drop};
 ghost use Rattle.names.specs.Compare.{order_by, order, byte_steps, steps};

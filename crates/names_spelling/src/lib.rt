@@ -1,3 +1,4 @@
+#![tactic(auto)]
 // The names that come with a book: where each of them ends, and what their spelling says.
 pub mod utf8;
 

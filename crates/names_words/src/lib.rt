@@ -1,3 +1,4 @@
+#![tactic(auto)]
 // Eight bytes of a name as one word, the first of them highest, so that two names are compared by one test and a name's end is found with
 // no loop.
 ghost use Rattle.std.specs.Prelude.{◌≡◌, List, ℕ, ◌+◌, ◌<◌, ◌≤◌, min, length, take, drop};

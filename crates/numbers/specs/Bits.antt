@@ -1,5 +1,5 @@
 -- A map of bits in words of 64: a number's bit stands in the word that its quotient by 64 names. Assumes nothing.
-use Rattle.std.specs.Prelude.{◌≡◌, ℕ, zero, suc, ◌+◌, ◌-◌, ◌*◌, ◌/◌, ◌%◌, ◌^◌, ◌<◌, ◌≤◌, Bool, true, false, ◌≢◌, ◌⊎◌, List, length, set, replicate, ◌==◌, bit_and, bit_or, slice_index, slice_index_or, slice_set, refl}
+use Rattle.std.specs.Prelude.{◌≡◌, ℕ, zero, suc, ◌+◌, ◌-◌, ◌*◌, ◌/◌, ◌%◌, ◌^◌, ◌<◌, ◌≤◌, Bool, true, false, ◌≢◌, ◌⊎◌, List, length, replicate, ◌==◌, bit_and, bit_or, slice_index, slice_index_or, slice_set, refl}
 use Rattle.std.proofs.Common.{ap, sym, ◌∙◌, inl, inr, ⊎_elim, one-mul, pow-suc, arith, length-set, get_or-set_same, get_or-set_other, pow_pos, pow-add}
 use Rattle.std.proofs.Math.Nat.{zero-div, div_self, div-eq_of_lt, mul-mod_left}
 use Rattle.std.proofs.lemmas.List.{get_or-replicate, length-replicate}

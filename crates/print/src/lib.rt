@@ -1,3 +1,4 @@
+#![tactic(auto)]
 // The printer: lines of the stack machine, as kinds and operands, become text.
 pub mod booked;
 pub mod heads;

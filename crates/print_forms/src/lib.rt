@@ -1,3 +1,4 @@
+#![tactic(auto)]
 // Which form a line's kind has: what its operand may be, and what is put for it.
 ghost use Rattle.std.specs.Prelude.{◌≡◌, cond, ℕ, ◌<◌, ◌≤◌};
 ghost use Rattle.print_forms.specs.Forms.{form_of, number_form, name_form, allowed_by, most_of};

@@ -1,3 +1,4 @@
+#![tactic(auto)]
 // The text of a line: the word of its kind, what stands for its operand, and its end.
 pub mod weigh;
 

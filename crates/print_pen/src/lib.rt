@@ -1,3 +1,4 @@
+#![tactic(auto)]
 // Where text is put. One code counts and writes: a counting pen stores nothing.
 ghost use Rattle.std.specs.Prelude.{◌≡◌, ◌+◌, ◌-◌, ◌≤◌, length, take, drop, leb};
 ghost use Rattle.std.proofs.lemmas.List.Edits.{sets};

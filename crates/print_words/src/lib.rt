@@ -1,3 +1,4 @@
+#![tactic(auto)]
 // The pieces of a line: its word, which is the whole line where there is no operand, what names a block or a call, and its end.
 pub mod plain;
 

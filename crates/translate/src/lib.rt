@@ -1,3 +1,4 @@
+#![tactic(auto)]
 // The translator: a book's functions become lines of the stack machine, as kinds and operands.
 ghost use Rattle.std.specs.Prelude.{◌≡◌, min, ◌<◌, ◌≤◌, length, get_or};
 ghost use Rattle.lowering.specs.Translate.{generated, translate};

@@ -1,1 +1,2 @@
+#![tactic(auto)]
 // The theorem of the two runs for calls of `translate::translate`.

@@ -1,3 +1,4 @@
+#![tactic(auto)]
 // Runs the check of a book on the cases of standard input, and writes a line for each: its name and document 01's
 // number, 0 where the book is sound. The top of the input says what its lines are.
 ghost use Rattle.std.specs.Prelude.{◌≡◌, ◌≤◌, length};

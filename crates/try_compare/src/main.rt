@@ -1,3 +1,4 @@
+#![tactic(auto)]
 // Compares each line of standard input with the one before it, the first with an empty one, and writes a line for each: how the earlier
 // one stands to it (<, = or >), and the steps of the comparison.
 use names_compare::{Ordering, compare};

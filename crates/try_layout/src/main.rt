@@ -1,3 +1,4 @@
+#![tactic(auto)]
 // Measures the types of a book and prints, for each parameter of its function, the size and the alignment; a refusal is
 // printed as r and its number.
 ghost use Rattle.std.specs.Prelude.{◌≤◌};

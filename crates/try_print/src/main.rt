@@ -1,3 +1,4 @@
+#![tactic(auto)]
 // Prints one line of every kind for a function `i32 @f(i32)`, then what else is accepted or refused: the answer, and the text slice
 // after the call.
 use assembly::line;

@@ -1,3 +1,4 @@
+#![tactic(auto)]
 // Replays recorded calls of the translator and the printer, each a line of standard input, and writes how many there were of each refusal.
 // A line whose call has another answer than the recorded one, or leaves a slice other than it must, is named. The last lines are recorded wrong, each
 // in one of the things that are compared: these and no others are named.
