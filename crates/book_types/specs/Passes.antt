@@ -18,7 +18,6 @@ use Rattle.book_types.specs.declared.Length.TheVariants as len
 use Rattle.book_types.specs.declared.Step.{Step}
 use Rattle.book_types.specs.declared.Step.TheVariants as step
 use Rattle.book_types.specs.declared.Front.{Front}
-use Rattle.book_types.specs.declared.Front.TheVariants as front
 use Rattle.book_types.specs.declared.ListHead.{ListHead}
 use Rattle.book_types.specs.declared.ListHead.TheVariants as head
 use Rattle.book_types.specs.Found.{found_of, joined, followed_by, plain_of, FoundRoom, next_of, last_of, pick_pass, pass_of, all_test, pair_test, never}
