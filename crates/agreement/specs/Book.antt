@@ -71,11 +71,13 @@ module _ (m : ℕ) where
 
 -- ---- members of lists
 pub each_in : {A : Type 0} (P : A → Type 0) {a : A} (l : List A) → Each P l → In a l → P a
+each_in {A = A} P {a = a} [] h x'' = elim x'' [ ]
 each_in P (x ∷ l) h here = h.0
 each_in P (x ∷ l) h (there i) = each_in P l h.1 i
 
 pub inst_in : {i : Inst} {k : BasicBlock} (bs : List BasicBlock) → In k bs → In i k.insts → In i (all_insts bs)
 unfolding all_insts
+inst_in {i = i} {k = k} [] x'' h = elim x'' [ ]
 inst_in (k ∷ bs) here h = in_left (all_insts bs) h
 inst_in (j ∷ bs) (there q) h = in_right j.insts (inst_in bs q h)
 

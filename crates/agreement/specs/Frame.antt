@@ -62,6 +62,7 @@ module _ (structs : List StructType) where
   pass_varying : (x : ℕ) (ty : Ty) (count : Option TypedVal) {i : Inst} (is : List Inst) (f : Places) → In i is → i.dest ≡ some x → shape i.kind ≡ Shape.alloca ty count → count_of count ≡ none
       → Distinct (result_names is) → Holds (frame_pass structs is f) (λ g. (lookup x g.offsets ≡ lookup x f.offsets) × (g.dynamic ≡ true))
   unfolding frame_pass result_names
+  pass_varying x ty count {i = i} [] f x6 e k n d = elim x6 [ ]
   pass_varying x ty count (i ∷ is) f here e k n d = H-bind _ (own_varying x i.dest (shape i.kind) ty count f k n) λ g p. H-map (pass_kept is g) λ h q.
       (q.same x (λ t. apart (optional i.dest) (result_names is) d (stands_own x i.dest e) t) ∙ p.0, q.dynamic p.1)
   pass_varying x ty count (j ∷ is) f (there h) e k n d = H-bind _ (step_kept j.dest (shape j.kind) f) λ g p.
@@ -84,6 +85,7 @@ module _ (structs : List StructType) where
   pub fixed_place_lem : (x : ℕ) (ty : Ty) (count : Option TypedVal) (m : ℕ) {i : Inst} (is : List Inst) (f : Places) → In i is → i.dest ≡ some x → shape i.kind ≡ Shape.alloca ty count → count_of count ≡ some m
       → Distinct (result_names is) → Holds (frame_pass structs is f) (λ g. (off : ℕ) × (lookup x g.offsets ≡ some off))
   unfolding frame_pass result_names
+  fixed_place_lem x ty count m {i = i} [] f x6 e k n d = elim x6 [ ]
   fixed_place_lem x ty count m (i ∷ is) f here e k n d = H-bind _ (own_fixed x i.dest (shape i.kind) ty count m f e k n) λ g p. H-map (pass_kept is g) λ h q.
       (p.0, q.same x (λ t. apart (optional i.dest) (result_names is) d (stands_own x i.dest e) t) ∙ p.1)
   fixed_place_lem x ty count m (j ∷ is) f (there h) e k n d = H-bind _ (step_kept j.dest (shape j.kind) f) λ g p.

@@ -44,12 +44,14 @@ labels_of (k ∷ ks) = (k.label ∷ []) ++ labels_of ks
 
 label_in_lem : {k : BasicBlock} {bs : List BasicBlock} → In k bs → Stands k.label (labels_of bs)
 unfolding labels_of
+label_in_lem {bs = []} x'' = elim x'' [ ]
 label_in_lem {bs = k ∷ bs} here = stands_left (k.label ∷ []) (labels_of bs) (stands_first k.label)
 label_in_lem {bs = j ∷ bs} (there h) = stands_right (j.label ∷ []) (labels_of bs) (label_in_lem h)
 
 -- where labels are distinct, a block is the first with its label
 pub find_in : {k : BasicBlock} (bs : List BasicBlock) → Distinct (labels_of bs) → In k bs → find (λ (x : BasicBlock). x.label) k.label bs ≡ some k
 unfolding labels_of find
+find_in {k = k} [] d x'' = elim x'' [ ]
 find_in (k ∷ bs) d here = rw (eq-eqb k.label k.label refl) refl
 find_in {k} (j ∷ bs) d (there h) =
     let n : eqb j.label k.label ≡ false = ne_eqb j.label k.label (λ e. apart (j.label ∷ []) (labels_of bs) d (rw e (stands_first k.label)) (label_in_lem h)) in

@@ -45,6 +45,7 @@ distinct_right a b d i j x p q =
 -- an instruction's name stands among the names
 pub stands_in : (x : ℕ) {i : Inst} {is : List Inst} → In i is → i.dest ≡ some x → Stands x (result_names is)
 unfolding result_names
+stands_in x {is = []} x7 e = elim x7 [ ]
 stands_in x {is = i ∷ is} here e = stands_left (optional i.dest) (result_names is) (stands_own x i.dest e)
 stands_in x {is = j ∷ is} (there h) e = stands_right (optional j.dest) (result_names is) (stands_in x h e)
 

@@ -117,6 +117,7 @@ module _ (names : List (List ℕ)) where
   second_all : (x : ℕ) {i : Inst} (is : List Inst) (s : Slots) (l : List ℕ) → Owned s l → In i is → i.dest ≡ some x → slots_for names (shape i.kind) ≡ 2
       → Distinct (result_names is) → Second x (slot_map names is s) (l ++ owners is)
   unfolding slot_map owners result_names
+  second_all x {i = i} [] s l w x6 e k d = elim x6 [ ]
   second_all x (i ∷ is) s l w here e k d =
       rw (← append_assoc l (owners_in i.dest (shape i.kind)) (owners is))
       (second_later x is (slot_step names i.dest (shape i.kind) s) (l ++ owners_in i.dest (shape i.kind)) (λ q. apart (optional i.dest) (result_names is) d (stands_own x i.dest e) q)

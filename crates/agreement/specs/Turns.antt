@@ -56,6 +56,7 @@ later_turn {g} {k} {p} t at = subst (λ ls. LinesAt g k ls (length t.own.lines +
 
 -- each function's lines are there
 pub in_turn_lem : (g : Codegen) {f : Function} (fs : List Function) (c : ℕ) (out : Out) → gen_functions g fs c ≡ ok out → In f fs → (p : ℕ) × LinesAt g f out.lines p
+in_turn_lem g {f = f} [] c out h x'' = elim x'' [ ]
 in_turn_lem g (f ∷ fs) c out h here = (0, this_turn (turn g f fs c out h))
 in_turn_lem g (k ∷ fs) c out h (there i) =
     let t = turn g k fs c out h in

@@ -57,6 +57,7 @@ distinct_append (x ∷ xs) ys h k apart =
 
 -- what holds of each holds of one among them
 each_at : {A : Type 0} (P : A → Type 0) (xs : List A) → Each P xs → (x : A) → Memᴰ x xs → P x
+each_at {A = A} P [] p x x4 = elim x4 [ ]
 each_at P (y ∷ xs) p x (Memᴰ.head e) = subst P (sym e) p.0
 each_at P (y ∷ xs) p x (Memᴰ.tail m) = each_at P xs p.1 x m
 
@@ -135,6 +136,7 @@ module _ (test : ℕ → Bool) where
 
   fewer : (f : Function) → test f.name ≡ false → (fs : List Function) → Memᴰ f fs → length (taken test (map name_of fs)) + size f ≤ sum_of size fs
   unfolding taken sum_of enc_function
+  fewer f h [] x' = elim x' [ ]
   fewer f h (g ∷ fs) (Memᴰ.head e) =
       let k : test g.name ≡ false = rw e at h in
       let n : size f ≡ size g = ap size e in

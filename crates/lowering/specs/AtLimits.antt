@@ -1,6 +1,6 @@
 -- Limits of a translation at their value and one beyond, from raw entries, and what comes before or behind them: 255 arguments (15), 32 indices and 64 levels
 -- (1, 7), 65,535 slots (8), the counter (1), the work slice (4), the line and text slices (20). The number is the refusal's, 0 for none.
-use Rattle.std.specs.Prelude.{ℕ, zero, suc, ◌+◌, ◌-◌, ◌^◌, ◌≡◌, refl, List, [], ◌∷◌, ◌++◌, map}
+use Rattle.std.specs.Prelude.{ℕ, zero, suc, ◌+◌, ◌^◌, ◌≡◌, refl, List, [], ◌∷◌, ◌++◌, map}
 use Prim.Native.String.{String}
 use Rattle.std.proofs.Math.Option.{some}
 use Rattle.book.specs.Ast.{Ty, Value, Terminator, BasicBlock}

@@ -1,7 +1,7 @@
 -- Laws: what docs/LINES.md says of kinds and operands holds of every line of an accepted translation.
 use Rattle.std.specs.Prelude.{ℕ, ◌≤◌, ◌<◌, ◌≡◌, true, List, [], ◌∷◌, length, leb}
 use Rattle.std.proofs.Common.{arith}
-use borrow.Author.Tests.{eqb-true, leb-true, ltb-true}
+use borrow.Author.Tests.{leb-true, ltb-true}
 use Rattle.names.specs.Name.{name_at}
 use Rattle.names.specs.Spelling.{is_syscall}
 use Rattle.names.specs.Tests.{both}

@@ -6,7 +6,7 @@ use Rattle.names.specs.Spelling.{is_syscall, is_bcmp, is_memcmp}
 use Rattle.book.specs.Ast.{Ty, Value, TypedVal}
 use Rattle.book.specs.Decode.{member}
 use Rattle.assembly.specs.Line.{Line}
-use Rattle.lowering.specs.Gen.{Gen, line, refuse, ◌>>=◌, ◌>>◌, when, choose, each}
+use Rattle.lowering.specs.Gen.{Gen, line, refuse, ◌>>◌, when, choose, each}
 use Rattle.lowering.specs.Context.{FnCtx}
 use Rattle.lowering.specs.Operand.{push_value, push_typed, store_or_pop}
 

@@ -2,7 +2,7 @@
 use Rattle.std.specs.Prelude.{ℕ}
 use Rattle.std.proofs.Math.Option.{Option}
 use Rattle.book.specs.Ast.{InstKind, Inst}
-use Rattle.lowering.specs.Gen.{Gen, skip, ◌>>=◌, ◌>>◌}
+use Rattle.lowering.specs.Gen.{Gen, skip, ◌>>◌}
 use Rattle.lowering.specs.Context.{FnCtx}
 use Rattle.lowering.specs.Operand.{store_dest}
 use Rattle.lowering.specs.Arith.{gen_bin, gen_icmp, gen_conv, gen_select, gen_freeze}

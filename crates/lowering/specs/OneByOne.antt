@@ -67,6 +67,7 @@ member_marks x (Mark.reserved y ∷ ms) = rw (member_marks x ms) (go (eqb x y) (
 -- a function's name is among the names
 own_name : (f : Function) (fs : List Function) → Memᴰ f fs → member f.name (map (λ (g : Function). g.name) fs) ≡ true
 unfolding member
+own_name f [] x' = elim x' [ ]
 own_name f (g ∷ fs) (Memᴰ.head e) = rw (eq-eqb f.name g.name (ap (λ (h : Function). h.name) e))
 own_name f (g ∷ fs) (Memᴰ.tail m) = rw (own_name f fs m) (or-true (eqb f.name g.name))
 
@@ -122,6 +123,7 @@ each_same g h (x ∷ xs) e = rw (e x (Memᴰ.head refl), each_same g h xs (λ y 
 
 pub none_of : {A : Type 0} (test : A → Bool) (xs : List A) → any test xs ≡ false → (x : A) → Memᴰ x xs → test x ≡ false
 unfolding any
+none_of {A = A} test [] h x x4 = elim x4 [ ]
 none_of test (y ∷ xs) h x (Memᴰ.head e) = ap test e ∙ (neither (test y) _ h).0
 none_of test (y ∷ xs) h x (Memᴰ.tail m) = none_of test xs (neither (test y) _ h).1 x m
 

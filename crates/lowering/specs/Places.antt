@@ -1,5 +1,5 @@
 -- Laws of maps, slots and fixed places: a name's latest entry is found; a named result has a slot below their number; fixed places lie within the frame.
-use Rattle.std.specs.Prelude.{ℕ, zero, ◌+◌, ◌*◌, ◌^◌, ◌≤◌, ◌<◌, ◌≡◌, ◌⊎◌, Bool, cond, leb}
+use Rattle.std.specs.Prelude.{ℕ, ◌+◌, ◌*◌, ◌^◌, ◌≤◌, ◌<◌, ◌≡◌, ◌⊎◌, Bool, cond, leb}
 use Rattle.std.proofs.Math.Path.{refl, subst}
 use Rattle.std.proofs.Common.{sym, eqb-true, eq-eqb, ne_eqb, leb-true}
 use Rattle.std.proofs.Math.Logic.{inl, inr, ⊎_elim}

@@ -6,7 +6,7 @@ use Rattle.names.specs.Name.{names_of, counts, accepted}
 use Rattle.names.specs.Lines.{accepted_iff}
 use Rattle.book.specs.Rule.{pick}
 use Rattle.book.specs.Limits.{Limits}
-use Rattle.book.specs.Result.{Result, ok, err, given, bind_ok, given_ok}
+use Rattle.book.specs.Result.{Result, ok, err, bind_ok, given_ok}
 use Rattle.book.specs.Input.{Counted, book_in, names_in}
 use Rattle.book.specs.AgreeInput.{slice_sound}
 use Rattle.book.specs.Check.{Sound, checked}

@@ -1,6 +1,6 @@
 -- A step fails exactly where `Works` does not hold.
 use Prim.Native.Nat.{ℕ, zero, suc, ◌<◌, ◌≤◌}
-use Rattle.std.specs.Prelude.{◌≡◌, ◌↔◌, Bool, cond, not, eqb, pos}
+use Rattle.std.specs.Prelude.{◌≡◌, ◌↔◌, Bool, cond, not, eqb}
 use Rattle.std.proofs.Math.Path.{refl}
 use Rattle.std.proofs.Common.{sym, ◌∙◌}
 use Rattle.std.proofs.Math.Bool.{true, false}

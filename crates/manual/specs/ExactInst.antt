@@ -211,9 +211,9 @@ module _ (g : Given) (σ : Source) where
   kind_goes m (Goes.atomic_load s r b) = load_go _ m s r b
   kind_goes m (Goes.store s r q) = store_go m s r q
   kind_goes m (Goes.atomic_store s r q) = store_go m s r q
-  kind_goes (n, h) (Goes.cmpxchg s p a b) = onward _ h (onward _ (scalar_width s) (onward _ (reading p) (onward _ (reading a) (onward _ (reading b) (_, refl)))))
-  kind_goes (x, d, m) (Goes.fixed {ty = ty} {count = count} {align = align} c f u) = named x ty count align d (fixed_go x ty count align c f (u x d) m)
-  kind_goes (x, d, m) (Goes.varying {ty = ty} {count = count} {align = align} c t) = named x ty (some count) align d (varying_go x ty count align c t m)
+  kind_goes m (Goes.cmpxchg s p a b) = onward _ m.1 (onward _ (scalar_width s) (onward _ (reading p) (onward _ (reading a) (onward _ (reading b) (_, refl)))))
+  kind_goes m (Goes.fixed {ty = ty} {count = count} {align = align} c f u) = named m.0 ty count align m.1 (fixed_go m.0 ty count align c f (u m.0 m.1) m.2)
+  kind_goes m (Goes.varying {ty = ty} {count = count} {align = align} c t) = named m.0 ty (some count) align m.1 (varying_go m.0 ty count align c t m.2)
   kind_goes m (Goes.get_element_ptr {ty = ty} {is = is} r i) = onward _ (bind_step _ _ (reading r) (bind_step _ _ (indices_go g σ ty is m i).1 refl)) (_, refl)
   kind_goes m (Goes.call {args = args} a c w s r) = call_go g σ args a c w s r
   kind_goes m (Goes.freeze s r) = onward _ (scalar_width s) (onward _ (reading r) (_, refl))

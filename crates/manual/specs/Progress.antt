@@ -156,6 +156,7 @@ module _ (g : Given) where
 -- ---- the run of a function
 first_block_lem : (bs : List BasicBlock) → HasBlock bs → Going (first_block bs)
 unfolding first_block
+first_block_lem [] x' = elim x' [ ]
 first_block_lem (b ∷ bs) HasBlock.has = (_, refl)
 
 block_first : (bs : List BasicBlock) (b : ℕ) → first_block bs ≡ ok b → HasBlock bs
