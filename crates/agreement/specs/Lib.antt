@@ -38,11 +38,6 @@ pub mod Measures
 pub mod Book
 pub mod Only
 pub mod OnlyStops
-pub mod TwoRuns
-pub mod Corollaries
-pub mod NeverFails
-pub mod GoesOn
 pub mod Operations
 pub mod Cases
 pub mod Decide
-pub mod Example

@@ -20,7 +20,7 @@ use Rattle.lowering.specs.Inst.{gen_kind, gen_inst}
 use Rattle.lowering.specs.Function.{gen_block}
 use Rattle.manual.specs.Goes.{Leads}
 use Rattle.manual.specs.Measured.{Sized, Aligned, MeasuredStep, MeasuredWay, MeasuredIndices, MeasuredPlace, Measured}
-use Rattle.manual.specs.Progress.{Sizes}
+use Rattle.manual.proofs.Progress.{Sizes}
 use Rattle.agreement.specs.Holds.{ok_same}
 use Rattle.agreement.specs.Gives.{Gives, G-put, G-skip, G-then, G-bind, G-map, G-self}
 use Rattle.agreement.specs.Lists.{none_some, some_same, In, here, there}

@@ -15,9 +15,9 @@ use Rattle.manual.specs.Term.{Stand, body}
 use Rattle.manual.specs.Run.{run_block, go, run, first_block, begin}
 use Rattle.manual.specs.Measured.{Sized, Aligned, Offset, MeasuredStep, MeasuredWay, MeasuredIndices, MeasuredPlace, Measured}
 use Rattle.manual.specs.GoesOn.{AllMeasured}
-use Rattle.manual.specs.ExactGep.{const_is, into_leads}
-use Rattle.manual.specs.ExactInst.{stated_go}
-use Rattle.manual.specs.Progress.{Sizes, body_sizes, each_find}
+use Rattle.manual.proofs.ExactGep.{const_is, into_leads}
+use Rattle.manual.proofs.ExactInst.{stated_go}
+use Rattle.manual.proofs.Progress.{Sizes, body_sizes, each_find}
 use Rattle.agreement.specs.Operand.{ok_or_some}
 use Rattle.agreement.specs.Only.{Only, O-ok, O-stop, O-bind, O-then, O-known, O-need, O-okOr, width_only, integer_only, value_only, typed_only, eval_bin_only, eval_icmp_only, eval_conv_only, eval_select_only, eval_load_only, extract_only, fixed_only, call_only, block_only, term_only}
 

@@ -13,8 +13,8 @@ use Rattle.machine.specs.Cells.{drop_cell}
 use Rattle.machine.specs.Labels.{Placed, find}
 use Rattle.machine.specs.Line.{Effect}
 use Rattle.machine.specs.Run.{State, state, Outcome, running, returned, failed, found, follow, step_at, step, steps}
-use Rattle.machine.specs.Exact.{Alive}
-use Rattle.machine.specs.ExactParts.{find_label}
+use Rattle.machine.proofs.Exact.{Alive}
+use Rattle.machine.proofs.ExactParts.{find_label}
 use Rattle.agreement.specs.Lists.{some_same, drop_left, drop_right}
 use Rattle.agreement.specs.Unique.{found_there}
 use Rattle.agreement.specs.Naming.{LabelsOnce}

@@ -14,7 +14,7 @@ use Rattle.lowering.specs.Gen.{Out}
 use Rattle.book.specs.Result.{ok}
 use Rattle.lowering.specs.Context.{Codegen}
 use Rattle.lowering.specs.Function.{gen_lines, gen_function}
-use Rattle.lowering.specs.AllowedFunction.{function_opens}
+use Rattle.lowering.proofs.AllowedFunction.{function_opens}
 use Rattle.agreement.specs.Holds.{H-use}
 use Rattle.agreement.specs.Gives.{Gives, G-bind, G-put, G-map, G-self}
 use Rattle.agreement.specs.Statement.{LinesAt}

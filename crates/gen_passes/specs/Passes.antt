@@ -14,7 +14,7 @@ use Rattle.assembly.specs.Number.{kind_of}
 use Rattle.lowering.specs.Context.{Codegen}
 use Rattle.lowering.specs.Function.{gen_functions}
 use Rattle.lowering.specs.Gen.{Gen, Out}
-use Rattle.lowering.specs.Printable.{take_over}
+use Rattle.lowering.proofs.Printable.{take_over}
 use Rattle.lowering.specs.Translate.{over}
 use Rattle.gen_lines.specs.declared.Reached.{Reached}
 use Rattle.gen_lines.specs.Puts.{Puts, Able, After, is_refused, most, operand_word, map_length}

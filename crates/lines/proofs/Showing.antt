@@ -8,7 +8,7 @@ use lib.ListN.{length, take, drop, length-replicate}
 use Rattle.assembly.specs.Printer as definition
 use Rattle.assembly.specs.Printer.{Printing, refusing, print}
 use Rattle.lowering.specs.Translate.{Translating, translate}
-use Rattle.lowering.specs.Printable.{translate_accepted}
+use Rattle.lowering.proofs.Printable.{translate_accepted}
 use Rattle.print.specs.Reply.{Replied, Prints}
 use Rattle.print.specs.declared.passes.Printed.{Printed}
 use Rattle.print.specs.declared.passes.Printed.TheVariants as reply

@@ -17,14 +17,8 @@ pub mod Labels
 pub mod Allows
 pub mod Allowed
 pub mod AllowedInsts
-pub mod AllowedBlocks
-pub mod AllowedFunction
 pub mod Headed
-pub mod Printable
-pub mod Bounds
 pub mod Words
-pub mod WordsOf
-pub mod Fits
 pub mod Open
 pub mod Sheet
 pub mod Sheets
@@ -47,5 +41,4 @@ pub mod AtLimits
 pub mod Pieces
 pub mod Alike
 pub mod OneByOne
-pub mod AloneCalls
 pub mod Numbers

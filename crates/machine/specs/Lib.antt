@@ -12,8 +12,6 @@ pub mod Cases
 pub mod Cells
 pub mod Overflow
 pub mod Works
-pub mod ExactParts
-pub mod Exact
 pub mod Sweep
 pub mod Alone
 pub mod Counts

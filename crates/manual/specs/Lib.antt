@@ -18,12 +18,8 @@ pub mod GoesOn
 -- and that it goes on exactly there
 pub mod Going
 pub mod Exact
-pub mod ExactGep
 pub mod ExactCall
-pub mod ExactInst
 pub mod ExactTerm
-pub mod Progress
-pub mod Loop
 pub mod LeftOut
 pub mod Alone
 pub mod Conversions

@@ -7,7 +7,7 @@ use Rattle.std.proofs.Math.Nat.{mod-eq_of_lt}
 use Rattle.book.specs.Result.{Result, ok, err}
 use Rattle.assembly.specs.Number.{operand_of}
 use Rattle.lowering.specs.Gen.{Out}
-use Rattle.lowering.specs.Fits.{Fits, generated_fits, operands_same}
+use Rattle.lowering.proofs.Fits.{Fits, generated_fits, operands_same}
 use Rattle.lowering.specs.Numbers.{is_refusal, refusal_range, generated_numbered, refused_numbered}
 use Rattle.lowering.specs.Translate as definition
 use Rattle.lowering.specs.Translate.{Translating, generated, translation_number, translation_lines, translation_counter, replied, translate}

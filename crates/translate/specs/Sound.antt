@@ -23,7 +23,7 @@ use Rattle.lowering.specs.Gen.{Out}
 use Rattle.lowering.specs.Context.{codegen_of}
 use Rattle.lowering.specs.Function.{gen_functions}
 use Rattle.lowering.specs.Numbers.{refusal_range, checked_numbered}
-use Rattle.lowering.specs.Printable.{Lent, checked_lent, names_counted}
+use Rattle.lowering.proofs.Printable.{Lent, checked_lent, names_counted}
 use Rattle.lowering.specs.Translate.{generated}
 use Rattle.gen_passes.specs.Passes.{fitted, Answered}
 use Rattle.gen_passes.specs.Generate.{GenerateAsk}

@@ -10,14 +10,14 @@ use Rattle.assembly.specs.Number.{kind_of, operand_of}
 use Rattle.assembly.specs.Printer.{lines_of}
 use Rattle.assembly.specs.Lists.{lines_of_numbers}
 use Rattle.lowering.specs.Gen.{Out}
-use Rattle.lowering.specs.AllowedFunction.{functions_allow}
-use Rattle.lowering.specs.Printable.{checked_lent, take_over}
+use Rattle.lowering.proofs.AllowedFunction.{functions_allow}
+use Rattle.lowering.proofs.Printable.{checked_lent, take_over}
 use Rattle.lowering.specs.Numbers.{number_0}
 use Rattle.lowering.specs.Translate.{Translating, generated, translation_lines, over, replied, translate}
 use Rattle.agreement.specs.Lists.{In}
 use Rattle.agreement.specs.Statement.{LinesAt, RunsAs, RunsIn}
 use Rattle.agreement.specs.Turns.{in_turn_lem}
-use Rattle.agreement.specs.TwoRuns.{codegen, made_by_lem, piece_runs, own_runs}
+use Rattle.agreement.proofs.TwoRuns.{codegen, made_by_lem, piece_runs, own_runs}
 use Rattle.translate.specs.Reply.{Answers}
 
 -- the lines that these kinds and operands are, and the runs of the book's functions: with document 01's naming conditions, for all arguments that fit, every memory,

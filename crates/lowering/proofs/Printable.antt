@@ -20,7 +20,7 @@ use Rattle.lowering.specs.Function.{gen_functions}
 use Rattle.lowering.specs.Translate.{generated, Translation, Translating, over, replied, translate}
 use Rattle.lowering.specs.Labels.{sum_of, function_labels, functions_labels}
 use Rattle.lowering.specs.Allowed.{ok_some}
-use Rattle.lowering.specs.AllowedFunction.{functions_allow}
+use Rattle.lowering.proofs.AllowedFunction.{functions_allow}
 use Rattle.lowering.specs.Headed.{functions_headed}
 
 -- ---- a sound book: what was read, and that it keeps its limits

@@ -28,7 +28,7 @@ use Rattle.manual.specs.Measured.{Sized, Aligned, MeasuredPlace, Measured}
 use Rattle.machine.specs.Cells.{some_same, none_some}
 use Rattle.manual.specs.Going.{ok_same, Going, onward, need_ok, ok_or_ok, ok_or_some}
 use Rattle.manual.specs.Exact.{scalar_width, width_scalar, integer_width_lem, width_integer, untested, reads_value, value_reads, typed_value, value_typed, defined_value, value_defined, converts_widths, widths_convert}
-use Rattle.manual.specs.ExactGep.{indices_go, gone_indices}
+use Rattle.manual.proofs.ExactGep.{indices_go, gone_indices}
 use Rattle.manual.specs.ExactCall.{call_go, gone_call}
 
 -- ---- loads: only an i1 has fewer bits than its bytes

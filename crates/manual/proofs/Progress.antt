@@ -21,7 +21,7 @@ use Rattle.manual.specs.Measured.{Measured}
 use Rattle.manual.specs.GoesOn.{Other, GoesInsts, GoesBody, GoesBlock, GoesOn, AllMeasured, HasBlock, places_of, given_of, SourceGoes}
 use Rattle.machine.specs.Cells.{some_same, none_some}
 use Rattle.manual.specs.Going.{ok_same, Going, onward, ok_or_ok, ok_or_some}
-use Rattle.manual.specs.ExactInst.{inst_goes}
+use Rattle.manual.proofs.ExactInst.{inst_goes}
 use Rattle.manual.specs.ExactTerm.{term_goes, gone_term}
 
 -- ---- the instructions behind the leading phis

@@ -18,7 +18,7 @@ use Rattle.manual.specs.State.{Cell, Source}
 use Rattle.manual.specs.Term.{Stand}
 use Rattle.manual.specs.Run.{args_fit, source_run}
 use Rattle.agreement.specs.Statement.{LinesAt, after, AtLabel, Returned}
-use Rattle.agreement.specs.TwoRuns.{codegen, two_runs}
+use Rattle.agreement.proofs.TwoRuns.{codegen, two_runs}
 use Rattle.agreement.specs.Where.{read_at, arg_cell, first_slot}
 use Rattle.agreement.specs.Naming.{Naming}
 use Rattle.agreement.specs.Lists.{In}

@@ -15,7 +15,7 @@ use Rattle.machine.specs.Memory.{Memory}
 use Rattle.machine.specs.State.{World, Frame}
 use Rattle.machine.specs.Labels.{placed}
 use Rattle.machine.specs.Run.{returned}
-use Rattle.machine.specs.Exact.{Alive}
+use Rattle.machine.proofs.Exact.{Alive}
 use Rattle.lowering.specs.Gen.{Out}
 use Rattle.lowering.specs.Translate.{generated}
 use Rattle.manual.specs.State.{Cell, Given, Source, nothing, assign}
@@ -23,7 +23,7 @@ use Rattle.manual.specs.Term.{Stand}
 use Rattle.layout.specs.Frame.{Places, no_frame}
 use Rattle.manual.specs.Goes.{Scalar, Integer, Answers, Reads, Goes}
 use Rattle.manual.specs.GoesOn.{Other, GoesTerm, GoesInsts, GoesBody, GoesBlock, HasBlock, given_of, SourceGoes}
-use Rattle.agreement.specs.GoesOn.{lines_go_on, lines_never_fail}
+use Rattle.agreement.proofs.GoesOn.{lines_go_on, lines_never_fail}
 use Rattle.manual.specs.Run.{args_fit, run, source_run}
 use Rattle.manual.specs.Open.{open_manual}
 use Rattle.lowering.specs.Open.{open_lowering}
@@ -31,7 +31,7 @@ use Rattle.agreement.specs.Holds.{ok_same}
 use Rattle.agreement.specs.Book.{each_in}
 use Rattle.agreement.specs.Decide.{has_label, new_label, labels_once, labels_ok, distinct_ok}
 use Rattle.agreement.specs.Statement.{LinesAt, after, Returned, Agrees}
-use Rattle.agreement.specs.TwoRuns.{codegen, two_runs}
+use Rattle.agreement.proofs.TwoRuns.{codegen, two_runs}
 use Rattle.agreement.specs.Turns.{by_itself}
 use Rattle.agreement.specs.Lists.{In, here}
 use Rattle.agreement.specs.Naming.{optional, param_names, result_names, NoSelf, Naming}

@@ -15,7 +15,7 @@ use Rattle.manual.specs.Open.{open_manual}
 use Rattle.manual.specs.Goes.{Scalar, Integer, Reads, Goes}
 use Rattle.manual.specs.GoesOn.{From, Other, Enters, GoesTerm, GoesInsts, GoesBody, GoesBlock}
 use Rattle.manual.specs.Going.{ok_same, Going}
-use Rattle.manual.specs.Progress.{run_goes, by_invariant}
+use Rattle.manual.proofs.Progress.{run_goes, by_invariant}
 
 -- names: 0 the function, 1 and 2 its blocks, 3 and 4 its values
 unfoldable pub next : Inst

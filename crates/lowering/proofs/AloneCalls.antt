@@ -23,10 +23,10 @@ use Rattle.book.specs.Check.{Sound, work_for, checked}
 use Rattle.lowering.specs.Gen.{each}
 use Rattle.lowering.specs.Translate.{generated}
 use Rattle.lowering.specs.Allowed.{ok_some}
-use Rattle.lowering.specs.Printable.{names_counted}
+use Rattle.lowering.proofs.Printable.{names_counted}
 use Rattle.lowering.specs.Labels.{sum_of}
 use Rattle.lowering.specs.Alike.{neither}
-use Rattle.lowering.specs.AllowedBlocks.{and-true}
+use Rattle.lowering.proofs.AllowedBlocks.{and-true}
 use Rattle.lowering.specs.OneByOne.{taken, others, alone, translated, member_append, member_taken, none_of, forbidden_one_by_one, one_by_one_lem}
 
 abbrev name_of : Function → ℕ

@@ -18,11 +18,11 @@ use Rattle.machine.specs.Memory.{Memory}
 use Rattle.machine.specs.State.{World}
 use Rattle.machine.specs.Labels.{placed}
 use Rattle.machine.specs.Run.{Outcome, running, state, steps, start}
-use Rattle.machine.specs.Exact.{Alive}
+use Rattle.machine.proofs.Exact.{Alive}
 use Rattle.lowering.specs.Gen.{Out, ◌>>=◌}
 use Rattle.lowering.specs.Translate.{generated, Translation, over, replied, translate}
-use Rattle.lowering.specs.AllowedFunction.{functions_allow}
-use Rattle.lowering.specs.Printable.{checked_lent, take_over}
+use Rattle.lowering.proofs.AllowedFunction.{functions_allow}
+use Rattle.lowering.proofs.Printable.{checked_lent, take_over}
 use Rattle.lowering.specs.Context.{Codegen, codegen_of}
 use Rattle.layout.specs.Frame.{Places, frame_pass, no_frame}
 use Rattle.lowering.specs.Function.{slots_of, context_of, gen_function, gen_functions}

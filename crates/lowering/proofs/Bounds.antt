@@ -12,7 +12,7 @@ use Rattle.assembly.specs.Line.{Line, Work, Mem, Narrow, Hint}
 use Rattle.assembly.specs.Number.{hint_number, mem_number, narrow_number, bin_number, icmp_number, operation, kind_of, is_name, allowed}
 use Rattle.assembly.specs.Lists.{AllAllowed}
 use Rattle.lowering.specs.Translate.{Translation, translate}
-use Rattle.lowering.specs.Printable.{translate_accepted}
+use Rattle.lowering.proofs.Printable.{translate_accepted}
 
 -- ---- kinds
 bin_small : (op : BinOp) → bin_number op < 13

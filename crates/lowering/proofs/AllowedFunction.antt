@@ -17,7 +17,7 @@ use Rattle.lowering.specs.Function.{gen_block, prologue, gen_lines, slots_of, co
 use Rattle.lowering.specs.Places.{lookup_cons, all_below_lem}
 use Rattle.lowering.specs.Allows.{Allows, line_allows, then_allows, when_allows, when_true, guard_allows, each_allows, Opens, line_opens, bind_opens, opens_allows, plain}
 use Rattle.lowering.specs.Allowed.{Within, add_allows, set_base}
-use Rattle.lowering.specs.AllowedBlocks.{and-true, block_allows}
+use Rattle.lowering.proofs.AllowedBlocks.{and-true, block_allows}
 use Rattle.book.specs.Map.{Map, lookup}
 
 or-true : (b : Bool) → (b || true) ≡ true

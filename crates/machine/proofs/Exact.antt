@@ -22,7 +22,7 @@ use Rattle.machine.specs.Labels.{Placed, block_in, find}
 use Rattle.machine.specs.Line.{Effect, or_fails, pop_n, branch, jump, replying, system_call, does, work_width, word}
 use Rattle.machine.specs.Run.{State, Outcome, running, returned, failed, found, follow, step_at, step, steps}
 use Rattle.machine.specs.Works.{Labelled, Answered, Works, StepWorks}
-use Rattle.machine.specs.ExactParts.{defined_op, op_defined, label_find, find_label}
+use Rattle.machine.proofs.ExactParts.{defined_op, op_defined, label_find, find_label}
 
 -- a step that does not fail
 abbrev pub Alive : Outcome → Type 0

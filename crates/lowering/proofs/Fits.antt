@@ -25,11 +25,11 @@ use Rattle.lowering.specs.Function.{gen_block, gen_lines, context_of, gen_functi
 use Rattle.lowering.specs.Translate.{generated}
 use Rattle.lowering.specs.Places.{lookup_cons, frame_within}
 use Rattle.lowering.specs.Labels.{inst_labels, br_labels, term_labels, sum_of, block_labels, function_labels, functions_labels}
-use Rattle.lowering.specs.AllowedFunction.{functions_allow}
-use Rattle.lowering.specs.Printable.{names_counted, checked_lent}
-use Rattle.lowering.specs.Bounds.{Keeps, all_keep}
+use Rattle.lowering.proofs.AllowedFunction.{functions_allow}
+use Rattle.lowering.proofs.Printable.{names_counted, checked_lent}
+use Rattle.lowering.proofs.Bounds.{Keeps, all_keep}
 use Rattle.lowering.specs.Words.{Word, Words, bind_words, then_words, skip_words, worded}
-use Rattle.lowering.specs.WordsOf.{Numbers, block_words, prologue_words}
+use Rattle.lowering.proofs.WordsOf.{Numbers, block_words, prologue_words}
 
 -- ---- at most two labels for each entry
 module _ {A : Type 0} (write : A → List Entry) where

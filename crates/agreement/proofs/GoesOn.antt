@@ -12,16 +12,16 @@ use Rattle.assembly.specs.Line.{Line}
 use Rattle.machine.specs.Labels.{placed}
 use Rattle.machine.specs.Run.{State, running, start}
 use Rattle.machine.specs.Works.{StepWorks}
-use Rattle.machine.specs.Exact.{Alive, step_works}
+use Rattle.machine.proofs.Exact.{Alive, step_works}
 use Rattle.lowering.specs.Context.{codegen_of}
 use Rattle.manual.specs.Term.{Stand}
 use Rattle.manual.specs.Run.{args_fit, source_run}
 use Rattle.manual.specs.Going.{Going}
 use Rattle.manual.specs.GoesOn.{SourceGoes}
-use Rattle.manual.specs.Progress.{source_goes, gone_source}
+use Rattle.manual.proofs.Progress.{source_goes, gone_source}
 use Rattle.agreement.specs.Statement.{LinesAt, after, Agrees}
-use Rattle.agreement.specs.TwoRuns.{function_measured, function_places, codegen, sound_limits, two_runs}
-use Rattle.agreement.specs.NeverFails.{alive_step, Comes, never_fails}
+use Rattle.agreement.proofs.TwoRuns.{function_measured, function_places, codegen, sound_limits, two_runs}
+use Rattle.agreement.proofs.NeverFails.{alive_step, Comes, never_fails}
 use Rattle.agreement.specs.Naming.{Naming}
 use Rattle.agreement.specs.Lists.{In}
 

@@ -11,9 +11,9 @@ use Rattle.machine.specs.State.{World, Frame}
 use Rattle.machine.specs.Labels.{Placed, find}
 use Rattle.machine.specs.Line.{Effect}
 use Rattle.machine.specs.Run.{State, Outcome, running, returned, failed, found, follow, step_at, step, steps}
-use Rattle.machine.specs.Exact.{Alive}
+use Rattle.machine.proofs.Exact.{Alive}
 use Rattle.agreement.specs.Piece.{alive_from}
-use Rattle.agreement.specs.Corollaries.{same_state, not_returned, not_failed}
+use Rattle.agreement.proofs.Corollaries.{same_state, not_returned, not_failed}
 
 module _ (names : List (List ℕ)) (world : World) (lines : List Placed) where
   abbrev run : ℕ → Outcome → Outcome
