@@ -3,3 +3,4 @@ pub mod ExactGep
 pub mod ExactInst
 pub mod Progress
 pub mod Loop
+pub mod ExactTerm

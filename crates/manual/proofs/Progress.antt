@@ -22,7 +22,7 @@ use Rattle.manual.specs.GoesOn.{Other, GoesInsts, GoesBody, GoesBlock, GoesOn, A
 use Rattle.machine.specs.Cells.{some_same, none_some}
 use Rattle.manual.specs.Going.{ok_same, Going, onward, ok_or_ok, ok_or_some}
 use Rattle.manual.proofs.ExactInst.{inst_goes}
-use Rattle.manual.specs.ExactTerm.{term_goes, gone_term}
+use Rattle.manual.proofs.ExactTerm.{term_goes, gone_term}
 
 -- ---- the instructions behind the leading phis
 other_body : {s : Shape} (is rest : List Inst) → Other s → body_step s is rest ≡ is

@@ -19,7 +19,6 @@ pub mod GoesOn
 pub mod Going
 pub mod Exact
 pub mod ExactCall
-pub mod ExactTerm
 pub mod LeftOut
 pub mod Alone
 pub mod Conversions
