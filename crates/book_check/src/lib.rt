@@ -16,7 +16,7 @@ use book_types::Found;
 use names_check::Names;
 
 // The answer: a sound book, or the first refusal.
-#[derive(Drop)]
+#[derive(Clone, Copy)]
 pub enum Verdict {
     Sound,
     BadBook,
@@ -26,7 +26,7 @@ pub enum Verdict {
 }
 
 // A book, with something forbidden in it or not; or none.
-#[derive(Drop)]
+#[derive(Clone, Copy)]
 enum Reading {
     Book(bool),
     Bad,

@@ -15,7 +15,7 @@ use book_types::{Found, first_entry, plain, shorter};
 use book_values::{Atom, Item, atom_len, item_len, list_len, optional_len};
 
 // The group of an instruction's kind; the operations and predicates are numbered from 0 in the order of ast.rs.
-#[derive(Drop)]
+#[derive(Clone, Copy)]
 pub enum InstGroup {
     Bin(u64),
     Conv(u64),
@@ -72,7 +72,7 @@ fn single_group(kind: u64) -> InstGroup
 }
 
 // The group of a terminator's kind.
-#[derive(Drop)]
+#[derive(Clone, Copy)]
 pub enum TermGroup {
     Ret,
     Br,
@@ -101,7 +101,7 @@ pub fn term_group(kind: u64) -> TermGroup
 // The fields of a kind: a number with a digit to the base 16 for each, the first field in the last digit.
 // 1 a type, 2 a value, 3 a block's name, 4 an index, 5 an align or none, 6 a typed value or none, 7 a value or none,
 // 8 a block's name or none, 9 the indices of a getelementptr, 10 a phi's values, 11 arguments, 12 the cases of a switch.
-#[derive(Drop)]
+#[derive(Clone, Copy)]
 pub enum Shape {
     Known(u64),
     Unknown,

@@ -19,7 +19,7 @@ use book_types::{
 };
 
 // The group of a value's kind: null, undef, poison and zeroinitializer are zeros.
-#[derive(Drop)]
+#[derive(Clone, Copy)]
 pub enum ValueGroup {
     Local,
     Global,
@@ -73,7 +73,7 @@ pub fn word_len(entry: Front, kind: u64, below: u64) -> Length
 
 // What may stand in one entry: a value, a getelementptr's index, a block's name, an index, an align, a case's integer,
 // a parameter's name + 1 or 0.
-#[derive(Drop)]
+#[derive(Clone, Copy)]
 pub enum Atom {
     Value,
     GepValue,
@@ -162,7 +162,7 @@ fn param_len(kinds: &[u64], words: &[u64], names: u64) -> Found
 }
 
 // What may stand in a field or a list.
-#[derive(Drop)]
+#[derive(Clone, Copy)]
 pub enum Item {
     Type,
     Value,

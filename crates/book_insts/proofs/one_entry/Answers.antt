@@ -1,0 +1,10 @@
+-- `book_insts::one_entry` meets its contract: the rules of the kind hold of the word and the digit.
+use native.Mathlib.Omega.{arith}
+use Rattle.book_insts.specs.Rules.{alone_beyond, alone_below}
+use Rattle.book_insts.proofs.one_entry.Goals as goal
+
+pub returns-then-kind-ge-ADD : goal.returns-then-kind-ge-ADD
+returns-then-kind-ge-ADD c = alone_beyond _ _ _ _ c.if-kind-ge-ADD.true
+
+pub returns : goal.returns
+returns c = alone_below _ _ _ _ (omega arith) _ c.width_ok.ensures
