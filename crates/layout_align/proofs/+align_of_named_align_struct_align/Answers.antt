@@ -3,164 +3,161 @@ use Rattle.layout_align.specs.LoopCalls as lc
 use Rattle.layout_memo.specs.FieldCalls as fields
 use Rattle.layout_memo.specs.Scalars.{passes_from, reach_none}
 use borrow.Author.Rules.{rules}
-use Prim.Native.Nat.{◌-◌}
 use native.Mathlib.Omega.{arith}
 use Rattle.book.specs.Entry.{entries}
-use borrow.Fn.PlainCycle.{is}
 use Rattle.layout_align.proofs.+align_of_named_align_struct_align.Goals as goal
 
 pub align_of-returns-then-level-eq0 : goal.align_of-returns-then-level-eq0
-align_of-returns-then-level-eq0 t c = calls.align_none _ _ _ _ _ _ c.requires.1 c.if-level-eq0.true
+align_of-returns-then-level-eq0 t c = calls.align_none _ _ _ _ _ _ c.requires c.if-level-eq0.true
 
 pub align_of-bounds-words-0 : goal.align_of-bounds-words-0
-align_of-bounds-words-0 t c = let h = calls.words_there _ _ _ _ _ _ c.requires.1 in search rules
+align_of-bounds-words-0 t c = let h = calls.words_there _ _ _ _ _ _ c.requires in search rules
 
 pub align_of-bounds-kinds-0 : goal.align_of-bounds-kinds-0
-align_of-bounds-kinds-0 t c = let h = calls.kinds_there _ _ _ _ _ _ c.requires.1 in search rules
+align_of-bounds-kinds-0 t c = let h = calls.kinds_there _ _ _ _ _ _ c.requires in search rules
 
 pub align_of-overflow_add-result : goal.align_of-overflow_add-result
 align_of-overflow_add-result t c =
-    omega (arith, calls.int_width_lem _ _ _ _ _ _ c.requires.1 _ c.type_group.ensures c.in-Int.is)
+    omega (arith, calls.int_width_lem _ _ _ _ _ _ c.requires _ c.type_group.ensures c.in-Int.is)
 
 pub align_of-slice_bounds-align_of-count : goal.align_of-slice_bounds-align_of-count
-align_of-slice_bounds-align_of-count t c = let h = calls.kinds_there _ _ _ _ _ _ c.requires.1 in search rules
+align_of-slice_bounds-align_of-count t c = let h = calls.kinds_there _ _ _ _ _ _ c.requires in search rules
 
 pub align_of-slice_bounds-align_of-start : goal.align_of-slice_bounds-align_of-start
-align_of-slice_bounds-align_of-start t c = let h = calls.kinds_there _ _ _ _ _ _ c.requires.1 in search rules
+align_of-slice_bounds-align_of-start t c = let h = calls.kinds_there _ _ _ _ _ _ c.requires in search rules
 
 pub align_of-slice_bounds-align_of-count-in-Array : goal.align_of-slice_bounds-align_of-count-in-Array
-align_of-slice_bounds-align_of-count-in-Array t c = let h = calls.words_there _ _ _ _ _ _ c.requires.1 in search rules
+align_of-slice_bounds-align_of-count-in-Array t c = let h = calls.words_there _ _ _ _ _ _ c.requires in search rules
 
 pub align_of-slice_bounds-align_of-start-in-Array : goal.align_of-slice_bounds-align_of-start-in-Array
-align_of-slice_bounds-align_of-start-in-Array t c = let h = calls.words_there _ _ _ _ _ _ c.requires.1 in search rules
+align_of-slice_bounds-align_of-start-in-Array t c = let h = calls.words_there _ _ _ _ _ _ c.requires in search rules
 
 pub align_of-align_of-requires : goal.align_of-align_of-requires
 align_of-align_of-requires t c =
-    (omega arith, calls.array_ask _ _ _ _ _ _ c.requires.1 _ c.type_group.ensures _ c.in-Array.is)
+    (omega arith, calls.array_ask _ _ _ _ _ _ c.requires _ c.type_group.ensures _ c.in-Array.is)
 
 pub align_of-one_more-requires : goal.align_of-one_more-requires
 align_of-one_more-requires t c =
-    calls.outcome_few (omega (arith, c.requires.1.levels)) c.align_of.ensures
+    calls.outcome_few (omega (arith, c.requires.levels)) c.align_of.ensures
 
 pub align_of-named_align-requires : goal.align_of-named_align-requires
-align_of-named_align-requires t c =
-    let entry = c in (
-      omega arith,
-      calls.named_ask _ _ _ _ _ _ entry.requires.1 _ c.type_group.ensures c.if-level-eq0.false
-          c.in-Named.is,
-    )
+align_of-named_align-requires t c = (
+  omega arith,
+  calls.named_ask _ _ _ _ _ _ c.requires _ c.type_group.ensures c.if-level-eq0.false
+      c.in-Named.is,
+)
 
 pub align_of-slice_bounds-struct_align-count : goal.align_of-slice_bounds-struct_align-count
-align_of-slice_bounds-struct_align-count t c = let h = calls.kinds_there _ _ _ _ _ _ c.requires.1 in search rules
+align_of-slice_bounds-struct_align-count t c = let h = calls.kinds_there _ _ _ _ _ _ c.requires in search rules
 
 pub align_of-slice_bounds-struct_align-start : goal.align_of-slice_bounds-struct_align-start
-align_of-slice_bounds-struct_align-start t c = let h = calls.kinds_there _ _ _ _ _ _ c.requires.1 in search rules
+align_of-slice_bounds-struct_align-start t c = let h = calls.kinds_there _ _ _ _ _ _ c.requires in search rules
 
 pub align_of-slice_bounds-struct_align-count-in-Struct : goal.align_of-slice_bounds-struct_align-count-in-Struct
 align_of-slice_bounds-struct_align-count-in-Struct t c =
-    let h = calls.words_there _ _ _ _ _ _ c.requires.1 in
+    let h = calls.words_there _ _ _ _ _ _ c.requires in
     search rules
 
 pub align_of-slice_bounds-struct_align-start-in-Struct : goal.align_of-slice_bounds-struct_align-start-in-Struct
 align_of-slice_bounds-struct_align-start-in-Struct t c =
-    let h = calls.words_there _ _ _ _ _ _ c.requires.1 in
+    let h = calls.words_there _ _ _ _ _ _ c.requires in
     search rules
 
 pub align_of-struct_align-requires : goal.align_of-struct_align-requires
 align_of-struct_align-requires t c =
-    (omega arith, calls.struct_ask _ _ _ _ _ _ c.requires.1 _ c.type_group.ensures _ c.in-Struct.is)
+    (omega arith, calls.struct_ask _ _ _ _ _ _ c.requires _ c.type_group.ensures _ c.in-Struct.is)
 
 pub align_of-one_more-requires-in-Struct : goal.align_of-one_more-requires-in-Struct
 align_of-one_more-requires-in-Struct t c =
-    calls.outcome_few (omega (arith, c.requires.1.levels)) c.struct_align.ensures
+    calls.outcome_few (omega (arith, c.requires.levels)) c.struct_align.ensures
 
 pub align_of-returns-in-Void : goal.align_of-returns-in-Void
 align_of-returns-in-Void t c =
-    calls.align_void _ _ _ _ _ _ c.requires.1 _ c.type_group.ensures c.if-level-eq0.false c.in-Void.is
+    calls.align_void _ _ _ _ _ _ c.requires _ c.type_group.ensures c.if-level-eq0.false c.in-Void.is
 
 pub align_of-returns-in-Int : goal.align_of-returns-in-Int
 align_of-returns-in-Int t c =
-    calls.align_int _ _ _ _ _ _ c.requires.1 _ c.type_group.ensures c.if-level-eq0.false c.in-Int.is
+    calls.align_int _ _ _ _ _ _ c.requires _ c.type_group.ensures c.if-level-eq0.false c.in-Int.is
 
 pub align_of-returns-in-Ptr : goal.align_of-returns-in-Ptr
 align_of-returns-in-Ptr t c =
-    calls.align_ptr _ _ _ _ _ _ c.requires.1 _ c.type_group.ensures c.if-level-eq0.false c.in-Ptr.is
+    calls.align_ptr _ _ _ _ _ _ c.requires _ c.type_group.ensures c.if-level-eq0.false c.in-Ptr.is
 
 pub align_of-returns-in-Array : goal.align_of-returns-in-Array
 align_of-returns-in-Array t c =
-    calls.align_array _ _ _ _ _ _ c.requires.1 _ c.type_group.ensures c.if-level-eq0.false _
+    calls.align_array _ _ _ _ _ _ c.requires _ c.type_group.ensures c.if-level-eq0.false _
     c.in-Array.is c.align_of.ensures _ c.one_more.ensures
 
 pub align_of-returns-in-Named : goal.align_of-returns-in-Named
 align_of-returns-in-Named t c =
-    calls.align_named _ _ _ _ _ _ c.requires.1 _ c.type_group.ensures c.if-level-eq0.false
+    calls.align_named _ _ _ _ _ _ c.requires _ c.type_group.ensures c.if-level-eq0.false
     c.in-Named.is c.named_align.ensures
 
 pub align_of-returns-in-Struct : goal.align_of-returns-in-Struct
 align_of-returns-in-Struct t c =
-    calls.align_struct _ _ _ _ _ _ c.requires.1 _ c.type_group.ensures c.if-level-eq0.false _ c.in-Struct.is
+    calls.align_struct _ _ _ _ _ _ c.requires _ c.type_group.ensures c.if-level-eq0.false _ c.in-Struct.is
     c.struct_align.ensures _ c.one_more-in-Struct.ensures
 
 pub align_of-returns-in-Sizeless : goal.align_of-returns-in-Sizeless
 align_of-returns-in-Sizeless t c =
-    calls.align_sizeless _ _ _ _ _ _ c.requires.1 _ c.type_group.ensures c.if-level-eq0.false c.in-Sizeless.is
+    calls.align_sizeless _ _ _ _ _ _ c.requires _ c.type_group.ensures c.if-level-eq0.false c.in-Sizeless.is
 
 pub align_of-returns-in-Other : goal.align_of-returns-in-Other
 align_of-returns-in-Other t c =
-    calls.other _ _ _ _ _ _ c.requires.1 _ c.type_group.ensures c.if-level-eq0.false c.in-Other.is
+    calls.other _ _ _ _ _ _ c.requires _ c.type_group.ensures c.if-level-eq0.false c.in-Other.is
 
 pub named_align-returns-then-part-ne0 : goal.named_align-returns-then-part-ne0
-named_align-returns-then-part-ne0 t c = calls.align_recalled _ _ _ _ _ _ c.requires.1 c.if-part-ne0.true _ c.recalled.ensures
+named_align-returns-then-part-ne0 t c = calls.align_recalled _ _ _ _ _ _ c.requires c.if-part-ne0.true _ c.recalled.ensures
 
 pub named_align-returns-then-body-eq0 : goal.named_align-returns-then-body-eq0
-named_align-returns-then-body-eq0 t c = calls.align_absent _ _ _ _ _ _ c.requires.1 c.if-body-eq0.true
+named_align-returns-then-body-eq0 t c = calls.align_absent _ _ _ _ _ _ c.requires c.if-body-eq0.true
 
 pub named_align-offset_bounds-book_kinds-from : goal.named_align-offset_bounds-book_kinds-from
-named_align-offset_bounds-book_kinds-from t c = let h = calls.body_kinds _ _ _ _ _ _ c.requires.1 c.if-body-eq0.false in search rules
+named_align-offset_bounds-book_kinds-from t c = let h = calls.body_kinds _ _ _ _ _ _ c.requires c.if-body-eq0.false in search rules
 
 pub named_align-slice_bounds-align_of-count : goal.named_align-slice_bounds-align_of-count
-named_align-slice_bounds-align_of-count t c = let h = calls.body_kinds _ _ _ _ _ _ c.requires.1 c.if-body-eq0.false in search rules
+named_align-slice_bounds-align_of-count t c = let h = calls.body_kinds _ _ _ _ _ _ c.requires c.if-body-eq0.false in search rules
 
 pub named_align-slice_bounds-align_of-start : goal.named_align-slice_bounds-align_of-start
-named_align-slice_bounds-align_of-start t c = let h = calls.body_kinds _ _ _ _ _ _ c.requires.1 c.if-body-eq0.false in search rules
+named_align-slice_bounds-align_of-start t c = let h = calls.body_kinds _ _ _ _ _ _ c.requires c.if-body-eq0.false in search rules
 
 pub named_align-offset_bounds-book_words-from : goal.named_align-offset_bounds-book_words-from
-named_align-offset_bounds-book_words-from t c = let h = calls.body_words _ _ _ _ _ _ c.requires.1 c.if-body-eq0.false in search rules
+named_align-offset_bounds-book_words-from t c = let h = calls.body_words _ _ _ _ _ _ c.requires c.if-body-eq0.false in search rules
 
 pub named_align-slice_bounds-align_of-count-2 : goal.named_align-slice_bounds-align_of-count-2
-named_align-slice_bounds-align_of-count-2 t c = let h = calls.body_words _ _ _ _ _ _ c.requires.1 c.if-body-eq0.false in search rules
+named_align-slice_bounds-align_of-count-2 t c = let h = calls.body_words _ _ _ _ _ _ c.requires c.if-body-eq0.false in search rules
 
 pub named_align-slice_bounds-align_of-start-2 : goal.named_align-slice_bounds-align_of-start-2
-named_align-slice_bounds-align_of-start-2 t c = let h = calls.body_words _ _ _ _ _ _ c.requires.1 c.if-body-eq0.false in search rules
+named_align-slice_bounds-align_of-start-2 t c = let h = calls.body_words _ _ _ _ _ _ c.requires c.if-body-eq0.false in search rules
 
 pub named_align-align_of-requires : goal.named_align-align_of-requires
 named_align-align_of-requires t c =
-    (omega arith, calls.body_ask _ _ _ _ _ _ c.requires.1 c.if-body-eq0.false)
+    (omega arith, calls.body_ask _ _ _ _ _ _ c.requires c.if-body-eq0.false)
 
 pub named_align-one_more-r-requires : goal.named_align-one_more-r-requires
 named_align-one_more-r-requires t c =
-    calls.outcome_few (omega (arith, c.requires.1.levels)) c.align_of.ensures
+    calls.outcome_few (omega (arith, c.requires.levels)) c.align_of.ensures
 
 pub named_align-with_align-requires : goal.named_align-with_align-requires
 named_align-with_align-requires t c =
-    calls.align_body_small _ _ _ _ _ _ c.requires.1 c.if-body-eq0.false _ c.one_more-r.ensures c.align_of.ensures
+    calls.align_body_small _ _ _ _ _ _ c.requires c.if-body-eq0.false _ c.one_more-r.ensures c.align_of.ensures
 
 pub named_align-returns : goal.named_align-returns
 named_align-returns t c =
-    calls.align_stored _ _ _ _ _ _ c.requires.1 c.if-body-eq0.false _ c.one_more-r.ensures c.align_of.ensures _
+    calls.align_stored _ _ _ _ _ _ c.requires c.if-body-eq0.false _ c.one_more-r.ensures c.align_of.ensures _
     c.with_align.ensures
 
 pub struct_align-returns-then-packed : goal.struct_align-returns-then-packed
 struct_align-returns-then-packed t c =
     lc.align_packed c.args.names c.args.kinds.now c.args.words.now
     (entries c.args.book_kinds.now c.args.book_words.now) c.args.work.now c.args.level c.args.packed
-    c.requires.1 c.if-packed.true
+    c.requires c.if-packed.true
 
 pub struct_align-pass_scalars-first-requires : goal.struct_align-pass_scalars-first-requires
 struct_align-pass_scalars-first-requires t c =
     let start = lc.align_start c.args.names c.args.kinds.now c.args.words.now
     (entries c.args.book_kinds.now c.args.book_words.now) c.args.work.now c.args.level c.args.packed
-    c.requires.1 in
+    c.requires in
     lc.align_from c.args.names c.args.kinds.now c.args.words.now
     (entries c.args.book_kinds.now c.args.book_words.now) c.args.work.now c.args.level c.args.packed
     start _ c.run_from.ensures
@@ -169,7 +166,7 @@ pub struct_align-loop-at-init : goal.struct_align-loop-at-init
 struct_align-loop-at-init t c =
     let start = lc.align_start c.args.names c.args.kinds.now c.args.words.now
     (entries c.args.book_kinds.now c.args.book_words.now) c.args.work.now c.args.level c.args.packed
-    c.requires.1 in
+    c.requires in
     lc.align_again c.args.names c.args.kinds.now c.args.words.now
     (entries c.args.book_kinds.now c.args.book_words.now) c.args.work.now c.args.level c.args.packed
     start _ _ c.run_from.ensures (reach_none _ _ _ c.reach-stop.ensures) c.pass_scalars-first.ensures
@@ -200,13 +197,12 @@ struct_align-slice_bounds-ws-start t c =
     search rules
 
 pub struct_align-align_of-requires : goal.struct_align-align_of-requires
-struct_align-align_of-requires t c =
-    let entry = c in (
-      omega arith,
-      lc.align_ask entry.args.names entry.args.kinds.now entry.args.words.now
-          (entries entry.args.book-kinds.now entry.args.book-words.now) entry.args.work.now entry.args.level
-          entry.args.packed c.loop-at.invariant c.loop-at-test.true entry.requires.1.levels,
-    )
+struct_align-align_of-requires t c = (
+  omega arith,
+  lc.align_ask c.args.names c.args.kinds.now c.args.words.now
+      (entries c.args.book_kinds.now c.args.book_words.now) c.args.work.now c.args.level
+      c.args.packed c.loop-at.invariant c.loop-at-test.true c.requires.levels,
+)
 
 pub struct_align-returns-in-Refused : goal.struct_align-returns-in-Refused
 struct_align-returns-in-Refused t c =
