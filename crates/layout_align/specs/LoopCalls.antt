@@ -1,5 +1,5 @@
 -- The loop over a struct's fields, over the lent slices: what each step asks and leaves.
-use Rattle.std.specs.Prelude.{ℕ, ◌+◌, ◌-◌, ◌*◌, ◌<◌, ◌≤◌, max, ◌≡◌, Bool, true, false, List, get_or, drop}
+use Rattle.std.specs.Prelude.{ℕ, ◌+◌, ◌≤◌, max, ◌≡◌, Bool, true, false, List, get_or, drop}
 use Rattle.std.proofs.Common.{arith}
 use Rattle.book.specs.Entry.{Entry, entries}
 use Rattle.book.specs.Ast.{StructType}

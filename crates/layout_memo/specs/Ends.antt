@@ -5,7 +5,7 @@ use Rattle.std.proofs.Common.{◌∙◌, arith, ne_eqb, drop-drop}
 use Rattle.std.proofs.Math.Bool.{true, false}
 use mathlib.Core.List.{List, [], ◌∷◌, ◌++◌, append_assoc}
 use Rattle.std.proofs.Math.ListN.{length, drop, length-append, length-drop}
-use Rattle.book.specs.Entry.{Entry, entry, entries}
+use Rattle.book.specs.Entry.{Entry, entries}
 use Rattle.book.specs.Ast.{Ty, Tys, Sizeless}
 use Rattle.book.specs.Encode.{enc_ty, enc_tys}
 use Rattle.book_types.specs.Laws.{within_kinds}

@@ -1,5 +1,5 @@
 -- A place among the fields of a struct, over the lent slices.
-use Rattle.std.specs.Prelude.{ℕ, ◌+◌, ◌-◌, ◌≤◌, ◌≡◌, List, length, get_or, drop}
+use Rattle.std.specs.Prelude.{ℕ, ◌+◌, ◌≤◌, ◌≡◌, List, length, get_or, drop}
 use Rattle.std.proofs.Common.{sym, ap, ◌∙◌, subst, arith}
 use Rattle.book.specs.Entry.{entries}
 use Rattle.book_types.specs.Laws.{entries_part, within_kinds, within_words}

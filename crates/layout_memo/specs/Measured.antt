@@ -1,5 +1,5 @@
 -- What a measurement answers, and how measurements of parts make one of the whole. A measure goes by the allowance: f k is the answer with k levels.
-use Rattle.std.specs.Prelude.{ℕ, zero, suc, ◌+◌, ◌-◌, ◌<◌, ◌≤◌, max, ◌≡◌, refl, ◌⊎◌}
+use Rattle.std.specs.Prelude.{ℕ, zero, suc, ◌+◌, ◌-◌, ◌<◌, ◌≤◌, max, ◌≡◌, refl}
 use Rattle.std.proofs.Common.{sym, ◌∙◌, arith, sub-one}
 use Rattle.std.proofs.Math.Logic.{⊎_elim}
 use Rattle.numbers.specs.Tests.{lt_or_le}

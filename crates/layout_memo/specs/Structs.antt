@@ -10,9 +10,9 @@ use Rattle.std.proofs.Math.ListN.{drop}
 use Rattle.std.proofs.Math.Seq.{drop-append_seam}
 use Rattle.std.proofs.lemmas.Bool.{eqb-false}
 use Rattle.book.specs.Entry.{Entry, entry, entries}
-use Rattle.book.specs.Ast.{Ty, StructBody, StructType, Mark, Book}
+use Rattle.book.specs.Ast.{StructBody, StructType, Mark, Book}
 use Rattle.book.specs.Rule.{find, pick}
-use Rattle.book.specs.Result.{ok, ok_or}
+use Rattle.book.specs.Result.{ok_or}
 use Rattle.book.specs.Kinds.{TyTag, ty_kind}
 use Rattle.book.specs.Decode.{decode, member, distinct, once_each, mark_name, function_names}
 use Rattle.book.specs.Encode.{ending, enc_ty, enc_mark, mark_entry, enc_struct, enc_body, enc_functions, encode}

@@ -17,7 +17,7 @@ use book_types::Length;
 use book_types::types::type_len;
 
 // A measured size or alignment with the levels that it takes, or the number of a refusal.
-#[derive(Drop)]
+#[derive(Clone, Copy)]
 pub enum Measured {
     Bytes(u64, u32),
     Refused(u64),

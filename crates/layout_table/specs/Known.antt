@@ -1,10 +1,10 @@
 -- The fields of a struct one after the other, each with what is known behind it.
-use Rattle.std.specs.Prelude.{ℕ, zero, suc, ◌+◌, ◌-◌, ◌*◌, ◌<◌, ◌≤◌, ◌^◌, ◌≡◌, Bool, true, false, List, length, get_or, drop}
+use Rattle.std.specs.Prelude.{ℕ, suc, ◌+◌, ◌-◌, ◌<◌, ◌≤◌, ◌^◌, ◌≡◌, Bool, true, false, List, length, get_or, drop}
 use Rattle.std.proofs.Math.Path.{refl}
 use Rattle.std.proofs.Common.{sym, ap, ◌∙◌, subst, arith}
 use Rattle.book.specs.Entry.{Entry, entries}
-use Rattle.book.specs.Ast.{Ty, Tys, StructType}
-use Rattle.book.specs.Result.{Result, ok, err, bind}
+use Rattle.book.specs.Ast.{Ty, StructType}
+use Rattle.book.specs.Result.{Result, ok, bind}
 use Rattle.book_types.specs.Laws.{entries_part}
 use Rattle.layout.specs.Layout.{placed, align_in, offset_from, align_of, size_of}
 use Rattle.layout.specs.Step.{field_at}
@@ -18,7 +18,7 @@ use Rattle.layout_memo.specs.FieldCalls.{skipped}
 use Rattle.layout_memo.specs.Scalars.{Scalar, Passes, none, more, RunFrom, scalar_kind, scalar_type}
 use Rattle.layout_memo.specs.declared.scalars.Run.{Run}
 use Rattle.layout_memo.specs.declared.Measured.{Measured}
-use Rattle.layout_memo.specs.declared.Measured.TheVariants.{Bytes, Refused}
+use Rattle.layout_memo.specs.declared.Measured.TheVariants.{Bytes}
 use Rattle.layout_field.specs.Offsets.{left_from, start_of, offset_result, AskStart, StartOutcome, StartsBy, through, scalar_starts, scalar_sized}
 use Rattle.layout_field.specs.declared.Offset.{Offset}
 use Rattle.layout_field.specs.declared.Offset.TheVariants as offset

@@ -4,7 +4,7 @@ use Rattle.std.proofs.Common.{sym, ◌∙◌, subst, arith}
 use Rattle.std.proofs.Math.Path.{ap}
 use Rattle.book.specs.Entry.{Entry, entries}
 use Rattle.book.specs.Ast.{Ty, StructType}
-use Rattle.book.specs.Result.{Result, ok, bind}
+use Rattle.book.specs.Result.{ok, bind}
 use Rattle.book_types.specs.Laws.{entries_part, within_kinds, within_words}
 use Rattle.layout.specs.Layout.{placed, align_in, align_of}
 use Rattle.layout_memo.specs.Front.{Starts, ty_of}

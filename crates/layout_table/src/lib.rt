@@ -23,7 +23,7 @@ use layout_size::size_of;
 
 // Behind `index` fields of a struct, the fields from `at` on are left, and `offset` bytes are taken. Passing sets `ended` where
 // it did not come as far as it was to.
-#[derive(Drop)]
+#[derive(Clone, Copy)]
 pub struct Known {
     pub index: u64,
     pub at: usize,
@@ -33,7 +33,7 @@ pub struct Known {
 
 // The field with this index of the struct whose first field stands at the place; facts are noted behind fields that take `size`
 // entries or more.
-#[derive(Drop)]
+#[derive(Clone, Copy)]
 pub struct Sought {
     pub place: usize,
     pub packed: bool,
