@@ -193,8 +193,8 @@ fn prints_all(
 }
 
 // Whether a reply is the recorded one.
-fn replied(row: &[u64], reply: Translation) -> bool {
-    match reply {
+fn replied(row: &[u64], reply: &Translation) -> bool {
+    match *reply {
         Translation::Accepted(n, next) => {
             (number(row, REFUSAL) == 0)
                 & (n as u64 == number(row, LINES))
@@ -223,11 +223,11 @@ fn shows(
     book: &[u64],
     names: &[u8],
     lines: &[u64],
-    reply: Translation,
+    reply: &Translation,
     kinds: &[u16],
     operands: &[u64],
 ) -> bool {
-    let Translation::Accepted(count, _) = reply else {
+    let Translation::Accepted(count, _) = *reply else {
         return true;
     };
     let n = number(row, LINES);
@@ -255,9 +255,9 @@ fn translates_into(
     operands: &mut [u64],
 ) -> bool {
     let reply = translate(book, names, number(row, COUNTER), work, kinds, operands);
-    replied(row, reply)
+    replied(row, &reply)
         & leaves(row, lines, work, kinds, operands)
-        & shows(row, book, names, lines, reply, kinds, operands)
+        & shows(row, book, names, lines, &reply, kinds, operands)
 }
 
 // The same with slices of the recorded lengths.
