@@ -1,17 +1,15 @@
-use Prim.Native.Nat.{◌-◌}
 use mathlib.Core.Path.{sym, ap, ◌∙◌}
-use mathlib.Core.Logic.{⊎_elim}
 use native.Mathlib.Omega.{arith}
-use borrow.Author.Tests.{not-true, not-false}
 use lib.ListN.{length}
 use Rattle.names.specs.Labels.{sanitize_length}
 use Rattle.names.specs.Labels.{clean_over, clean_tail, clean_more}
+use Rattle.names_spelling.proofs.clean_len.Goals.{then-not-is_tail, else-not-is_tail}
 use Rattle.names_spelling.proofs.clean_len.Goals as goal
 
 pub overflow_add-n : goal.overflow_add-n
 overflow_add-n c =
     let name = c.args.name.now in
-    let first = sym c.is_tail.ensures ∙ not-true _ c.if-not-is_tail.true in
+    let first = sym c.is_tail.ensures ∙ c.if-not-is_tail.true in
     let more = clean_more name c.loop-i.i c.loop-i-test.true first in
     omega (arith, c.loop-i.invariant, ap length more, sanitize_length name)
 
@@ -21,8 +19,10 @@ loop-i-preserved c =
     let is = sym c.is_tail.ensures in
     let more = clean_more name c.loop-i.i c.loop-i-test.true in
     let tail = clean_tail name c.loop-i.i c.loop-i-test.true in
-    ⊎_elim (λ w. omega (arith, c.loop-i.invariant, ap length (more (is ∙ not-true _ w.0.taken)), w.1))
-    (λ w. omega (arith, c.loop-i.invariant, ap length (tail (is ∙ not-false _ w.0.left)), w.1)) c.if-not-is_tail.branch
+    elim c.if-not-is_tail.branch [
+      | then-not-is_tail w ↦ omega (arith, c.loop-i.invariant, ap length (more (is ∙ w.if-not-is_tail.true)), w.n-is)
+      | else-not-is_tail w ↦ omega (arith, c.loop-i.invariant, ap length (tail (is ∙ w.if-not-is_tail.false)), w.n-is)
+    ]
 
 pub returns : goal.returns
 returns c =

@@ -1,4 +1,3 @@
-use Prim.Native.Nat.{◌-◌}
 use mathlib.Core.Path.{sym, ◌∙◌}
 use borrow.Author.Rules.{rules}
 use Rattle.names_spelling.proofs.Spell.{name_past, name_ended, name_more, starts_over, starts_none, starts_more, starts_differ}
@@ -21,12 +20,11 @@ returns-then-b-text c =
     ∙ starts_differ _ _ c.loop-i-test.true _ _ _ (name_more _ _ c.if-names-j.false c.if-b-eq-END.false) c.if-b-text.true)
 
 pub loop-i-preserved : goal.loop-i-preserved
-loop-i-preserved c =
-    let t = c in (
-      search rules,
-      t.before.before.loop.invariant.1
-          ∙ starts_more _ _ t.before.loop-test.true _ _ _ (name_more _ _ t.if1.false c.if-b-eq-END.false) c.if-b-text.false,
-    )
+loop-i-preserved c = (
+  search rules,
+  c.loop-i.invariant.1
+      ∙ starts_more _ _ c.loop-i-test.true _ _ _ (name_more _ _ c.if-names-j.false c.if-b-eq-END.false) c.if-b-text.false,
+)
 
 pub returns : goal.returns
 returns c = sym (c.loop-i.invariant.1 ∙ starts_over _ _ _ c.loop-i-test.false)
