@@ -1,13 +1,16 @@
 #![tactic(auto)]
 // Runs the check of a book on the cases of standard input, and writes a line for each: its name and document 01's
 // number, 0 where the book is sound. The top of the input says what its lines are.
-ghost use Rattle.std.specs.Prelude.{◌≡◌, ◌≤◌, length};
+ghost use Rattle.std.specs.Prelude.{◌≡◌, ◌≤◌, length, IfOk, vec_len};
 
+use std::alloc::{AllocError, Global};
+use std::io;
+use std::io::Read;
 use try_cases::lent::{copy_names, put_words};
 use try_cases::text::{Token, before, read_token};
 
 // How many entries are kept; how many names there are, and where they stand in the input.
-#[derive(Drop)]
+#[derive(Clone, Copy)]
 struct Base {
     held: usize,
     names: u64,
@@ -43,9 +46,9 @@ fn digit(verdict: book_check::Verdict) -> u8 {
 }
 
 // Writes a case's name and an answer.
-fn report(name: &[u8], verdict: book_check::Verdict) {
-    io::write_all(1, name);
-    io::write_all(1, &[b' ', digit(verdict), b'\n']);
+fn report(rt: &impl Print, name: &[u8], verdict: book_check::Verdict) -> io::Result<()> {
+    rt.write_all(name)?;
+    rt.write_all(&[b' ', digit(verdict), b'\n'])
 }
 
 // The answer to what is lent.
@@ -238,13 +241,14 @@ fn changed(line: &[u8], loan: Loan, book: &mut [u64], names: &mut [u8]) -> Loan 
 
 // A case: its name to the colon, its entries to the slash, changes of what is lent.
 fn run_case(
+    rt: &impl Print,
     text: &[u8],
     line: &[u8],
     base: Base,
     kept_kinds: &[u64],
     kept_words: &[u64],
     names: &mut [u8],
-) {
+) -> io::Result<()> {
     let colon = place(line, 0, b':');
     let start = place(line, colon, b' ');
     let slash = place(line, start, b'/');
@@ -262,11 +266,12 @@ fn run_case(
         work: 1_048_640,
     };
     let lent = changed(&line[slash..], loan, &mut book, names);
-    report(&line[0..colon], answer(&book, names, lent));
+    report(rt, &line[0..colon], answer(&book, names, lent))
 }
 
 // A line of the input from one place to another: names, entries to keep, a case, or a remark.
 fn run_line(
+    rt: &impl Print,
     text: &[u8],
     from: usize,
     to: usize,
@@ -274,11 +279,11 @@ fn run_line(
     kinds: &mut [u64],
     words: &mut [u64],
     names: &mut [u8],
-) -> Base
+) -> io::Result<Base>
     requires { (from ≤ to) × (to ≤ length text.now) }
 {
     if to <= from {
-        return base;
+        return Ok(base);
     }
     let mut after = base;
     let behind = from + 1;
@@ -303,15 +308,21 @@ fn run_line(
             );
         }
         b'?' => {
-            run_case(text, &text[behind..to], base, kinds, words, names);
+            run_case(rt, text, &text[behind..to], base, kinds, words, names)?;
         }
         _ => {}
     }
-    after
+    Ok(after)
 }
 
 // All lines of the input; the slices are for the entries that are kept and the names that are lent.
-fn run_lines(text: &[u8], kinds: &mut [u64], words: &mut [u64], names: &mut [u8]) {
+fn run_lines(
+    rt: &impl Print,
+    text: &[u8],
+    kinds: &mut [u64],
+    words: &mut [u64],
+    names: &mut [u8],
+) -> io::Result<()> {
     let mut base = Base {
         held: 0,
         names: 0,
@@ -321,23 +332,25 @@ fn run_lines(text: &[u8], kinds: &mut [u64], words: &mut [u64], names: &mut [u8]
     let mut at: usize = 0;
     while at < text.len() {
         let end = place(text, at, b'\n');
-        base = run_line(text, at, end, base, kinds, words, names);
+        base = run_line(rt, text, at, end, base, kinds, words, names)?;
         at = end + 1;
     }
+    Ok(())
 }
 
 // Room for the most names, each of three bytes and its end.
-fn room_for_names() -> [u8; 524288]
-    ensures { 524288 ≡ length result }
+fn room_for_names(alloc: Global) -> Result<Vec<u8>, AllocError>
+    ensures { IfOk result (λ room. 524288 ≡ vec_len room) }
 {
-    [0; 524288]
+    vec![in alloc; 0; 524288]
 }
 
-fn main() {
-    let mut buffer = io::large_buffer();
-    let n = io::read_full(0, &mut buffer);
+// The first 64 KiB of the input are read.
+fn main(rt: HostRuntime) -> io::Result<()> {
+    let mut text = Vec::new(rt.alloc());
+    rt.reader().take(65536).read_to_end(&mut text)?;
     let mut kinds = [0u64; 512];
     let mut words = [0u64; 512];
-    let mut names = room_for_names();
-    run_lines(&buffer[..n], &mut kinds, &mut words, &mut names);
+    let mut names = room_for_names(rt.alloc())?;
+    run_lines(&rt, &text, &mut kinds, &mut words, &mut names)
 }

@@ -3,6 +3,8 @@
 // one stands to it (<, = or >), and the steps of the comparison.
 use names_compare::{Ordering, compare};
 use names_spelling::name_end;
+use std::io;
+use std::io::Read;
 
 fn sign(order: Ordering) -> u8 {
     match order {
@@ -12,29 +14,30 @@ fn sign(order: Ordering) -> u8 {
     }
 }
 
-fn report(a: &[u8], b: &[u8]) {
+fn report(rt: &impl Print, a: &[u8], b: &[u8]) -> io::Result<()> {
     let compared = compare(a, b);
     let order = compared.order;
-    io::write_all(1, &[sign(order), b' ']);
-    io::print_decimal(1, compared.steps);
-    io::write_all(1, &[b'\n']);
+    rt.write_all(&[sign(order), b' '])?;
+    println!(rt; "{}", compared.steps)
 }
 
-fn run_lines(text: &[u8]) {
+fn run_lines(rt: &impl Print, text: &[u8]) -> io::Result<()> {
     let mut last: usize = 0;
     let mut past: usize = 0;
     let mut at: usize = 0;
     while at < text.len() {
         let end = name_end(text, at);
-        report(&text[last..past], &text[at..end]);
+        report(rt, &text[last..past], &text[at..end])?;
         last = at;
         past = end;
         at = end + 1;
     }
+    Ok(())
 }
 
-fn main() {
-    let mut buffer = io::large_buffer();
-    let n = io::read_full(0, &mut buffer);
-    run_lines(&buffer[..n]);
+// The first 64 KiB of the input are read.
+fn main(rt: HostRuntime) -> io::Result<()> {
+    let mut text = Vec::new(rt.alloc());
+    rt.reader().take(65536).read_to_end(&mut text)?;
+    run_lines(&rt, &text)
 }

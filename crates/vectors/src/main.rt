@@ -5,10 +5,13 @@
 //
 // A line is numbers with a space between, a repeated one as TIMES*NUMBER: those below, and then the book, the bytes of its names, the kinds of
 // the lines, their operands, and the bytes of the text.
-ghost use Rattle.std.specs.Prelude.{◌≡◌, ◌≤◌, length};
+ghost use Rattle.std.specs.Prelude.{◌≡◌, ◌≤◌, length, IfOk, vec_len};
 
 use gen_passes::Translation;
 use print::passes::Printed;
+use std::alloc::{AllocError, Global};
+use std::io;
+use std::io::Read;
 use translate::translate;
 
 // What is lent: the counter, the lengths of the work slice and of the two line slices.
@@ -53,7 +56,7 @@ const HEAD: u64 = 15;
 const RUBBISH: u64 = 43690;
 
 // How many numbers of a line are read, the number that is being read, and how many times it stands; which line it is.
-#[derive(Drop)]
+#[derive(Clone, Copy)]
 struct Reader {
     put: usize,
     value: u64,
@@ -190,8 +193,8 @@ fn prints_all(
 }
 
 // Whether a reply is the recorded one.
-fn replied(row: &[u64], reply: Translation) -> bool {
-    match reply {
+fn replied(row: &[u64], reply: &Translation) -> bool {
+    match *reply {
         Translation::Accepted(n, next) => {
             (number(row, REFUSAL) == 0)
                 & (n as u64 == number(row, LINES))
@@ -220,11 +223,11 @@ fn shows(
     book: &[u64],
     names: &[u8],
     lines: &[u64],
-    reply: Translation,
+    reply: &Translation,
     kinds: &[u16],
     operands: &[u64],
 ) -> bool {
-    let Translation::Accepted(count, _) = reply else {
+    let Translation::Accepted(count, _) = *reply else {
         return true;
     };
     let n = number(row, LINES);
@@ -252,9 +255,9 @@ fn translates_into(
     operands: &mut [u64],
 ) -> bool {
     let reply = translate(book, names, number(row, COUNTER), work, kinds, operands);
-    replied(row, reply)
+    replied(row, &reply)
         & leaves(row, lines, work, kinds, operands)
-        & shows(row, book, names, lines, reply, kinds, operands)
+        & shows(row, book, names, lines, &reply, kinds, operands)
 }
 
 // The same with slices of the recorded lengths.
@@ -309,13 +312,12 @@ fn count(counts: &mut [u64], number: u64) {
 }
 
 // Replays a line.
-fn run_line(row: &[u64], line: u64, counts: &mut [u64]) {
+fn run_line(rt: &impl Print, row: &[u64], line: u64, counts: &mut [u64]) -> io::Result<()> {
     count(counts, number(row, REFUSAL));
     if !replay(row) {
-        io::write_all(1, b"line ");
-        io::print_decimal(1, line);
-        io::write_all(1, b" is answered otherwise\n");
+        println!(rt; "line {line} is answered otherwise")?;
     }
+    Ok(())
 }
 
 // Puts a number so many times behind what is put, as long as there is room.
@@ -337,7 +339,13 @@ fn with_digit(value: u64, b: u8) -> u64 {
 }
 
 // Takes the next byte: a line is replayed where it ends.
-fn take(r: Reader, b: u8, row: &mut [u64], counts: &mut [u64]) -> Reader {
+fn take(
+    rt: &impl Print,
+    r: Reader,
+    b: u8,
+    row: &mut [u64],
+    counts: &mut [u64],
+) -> io::Result<Reader> {
     let mut after = r;
     match b {
         b'*' => {
@@ -351,7 +359,7 @@ fn take(r: Reader, b: u8, row: &mut [u64], counts: &mut [u64]) -> Reader {
         }
         b'\n' => {
             let n = put_times(row, r.put, r.value, r.times);
-            run_line(&row[0..least(n, row.len())], r.line, counts);
+            run_line(rt, &row[0..least(n, row.len())], r.line, counts)?;
             after = Reader {
                 put: 0,
                 value: 0,
@@ -363,10 +371,10 @@ fn take(r: Reader, b: u8, row: &mut [u64], counts: &mut [u64]) -> Reader {
             after.value = with_digit(r.value, b);
         }
     }
-    after
+    Ok(after)
 }
 
-fn run_lines(input: &[u8], row: &mut [u64], counts: &mut [u64]) {
+fn run_lines(rt: &impl Print, input: &[u8], row: &mut [u64], counts: &mut [u64]) -> io::Result<()> {
     let mut r = Reader {
         put: 0,
         value: 0,
@@ -374,32 +382,46 @@ fn run_lines(input: &[u8], row: &mut [u64], counts: &mut [u64]) {
         line: 1,
     };
     for i in 0..input.len() {
-        r = take(r, input[i], row, counts);
+        r = take(rt, r, input[i], row, counts)?;
     }
+    Ok(())
 }
 
 // Writes how many calls there were of each refusal, 0 for none.
-fn show(counts: &[u64]) {
+fn show(rt: &impl Print, counts: &[u64]) -> io::Result<()> {
     for i in 0..counts.len() {
-        io::print_decimal(1, i as u64);
-        io::write_all(1, b": ");
-        io::print_decimal(1, counts[i]);
-        io::write_all(1, b"\n");
+        println!(rt; "{i}: {}", counts[i])?;
     }
+    Ok(())
 }
 
 // 2 MiB.
-fn room_for_input() -> [u8; 2097152]
-    ensures { 2097152 ≡ length result }
+fn room_for_input(alloc: Global) -> Result<Vec<u8>, AllocError>
+    ensures { IfOk result (λ room. 2097152 ≡ vec_len room) }
 {
-    [0; 2097152]
+    vec![in alloc; 0; 2097152]
 }
 
-fn main() {
-    let mut input = room_for_input();
-    let n = io::read_full(0, &mut input);
-    let mut row = [0u64; 140000];
+// Reads until the buffer is full or the input ends; how many bytes these are.
+fn read_full(input: &mut impl Read, buffer: &mut [u8]) -> io::Result<usize>
+    ensures { IfOk result (λ n. n ≤ length buffer.new) }
+{
+    let mut done: usize = 0;
+    while done < buffer.len() {
+        let n = input.read(&mut buffer[done..])?;
+        if n == 0 {
+            break;
+        }
+        done += n;
+    }
+    Ok(done)
+}
+
+fn main(rt: HostRuntime) -> io::Result<()> {
+    let mut input = room_for_input(rt.alloc())?;
+    let n = read_full(&mut rt.reader(), &mut input)?;
+    let mut row = vec![in rt.alloc(); 0; 140000]?;
     let mut counts = [0u64; 21];
-    run_lines(&input[..n], &mut row, &mut counts);
-    show(&counts);
+    run_lines(&rt, &input[..n], &mut row, &mut counts)?;
+    show(&rt, &counts)
 }
