@@ -1,5 +1,5 @@
 -- What the work words hold for a function's context: the name x has the 8 words from 8 * x on (docs/DECISIONS.md 23). A number has 1 added, 0 is none.
-use Rattle.std.specs.Prelude.{ℕ, suc, ◌+◌, ◌-◌, ◌*◌, ◌<◌, ◌≤◌, ◌≡◌, cond, ◌||◌, List, ◌++◌, length, drop, get_or}
+use Rattle.std.specs.Prelude.{ℕ, suc, ◌+◌, ◌-◌, ◌<◌, ◌≤◌, ◌≡◌, cond, ◌||◌, List, ◌++◌, length, drop, get_or}
 use Rattle.std.proofs.Common.{◌∙◌, arith}
 use Rattle.std.proofs.Math.Option.{Option, none, some}
 use Rattle.names.specs.Name.{name_at}
@@ -9,7 +9,7 @@ use Rattle.book.specs.Entry.{Entry}
 use Rattle.book.specs.Work.{block_at, mark_at, name_words, param_at, place_at, slot_at}
 use Rattle.book.specs.Encode.{ending, enc_inst, enc_term}
 use Rattle.book.specs.Limits.{Each, InstLimits, TermLimits}
-use Rattle.book.specs.Map.{Map, lookup}
+use Rattle.book.specs.Map.{lookup}
 use Rattle.book.specs.Decode.{member}
 use Rattle.lowering.specs.Context.{Codegen, FnCtx}
 use Rattle.layout_memo.specs.Work.{Ready, After, kept_word, kept_first, structs_in}

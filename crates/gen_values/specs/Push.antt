@@ -10,7 +10,7 @@ use Rattle.book.specs.Map.{lookup}
 use Rattle.book.specs.Result.{ok, bind}
 use Rattle.assembly.specs.Line.{Line}
 use Rattle.assembly.specs.Number.{kind_of, operand_of}
-use Rattle.lowering.specs.Gen.{line, lines, refuse, ◌>>=◌}
+use Rattle.lowering.specs.Gen.{line, refuse, ◌>>=◌}
 use Rattle.lowering.specs.Context.{FnCtx}
 use Rattle.lowering.specs.Operand.{push_int, push_value, local_line}
 use Rattle.gen_lines.specs.declared.Reached.{Reached}

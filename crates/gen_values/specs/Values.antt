@@ -2,7 +2,7 @@
 use Rattle.std.specs.Prelude.{ℕ, ◌+◌, ◌-◌, ◌<◌, ◌≡◌, refl, List, cond, length, eqb, leb}
 use Rattle.std.proofs.Common.{ap, sym, subst, arith, ne_eqb}
 use Rattle.std.proofs.Math.Option.{Option, none, some}
-use Rattle.book.specs.Ast.{Ty, Value, Zero}
+use Rattle.book.specs.Ast.{Value, Zero}
 use Rattle.book.specs.Work.{slot_at}
 use Rattle.book.specs.Kinds.{ValTag, val_tag}
 use Rattle.book.specs.Encode.{value_entry, dest_word}
