@@ -105,7 +105,7 @@ pub fn gen_atomic_store(
 }
 
 // A slot, 0 where it was refused, and what was reached.
-#[derive(Drop)]
+#[derive(Clone, Copy)]
 pub struct Slot {
     pub slot: u64,
     pub s: Reached,

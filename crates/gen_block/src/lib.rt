@@ -19,7 +19,7 @@ use gen_term::{Base, gen_term};
 use gen_walk::next_inst;
 
 // The place of the terminator, counted from the block's entry, and what is reached there.
-#[derive(Drop)]
+#[derive(Clone, Copy)]
 pub struct Passed {
     pub at: usize,
     pub s: Reached,

@@ -80,7 +80,7 @@ fn place_blocks(kinds: &[u64], words: &[u64], work: &mut [u64], names: u64, at: 
 }
 
 // Where a function's list of blocks stands in the book, and where the function ends.
-#[derive(Drop)]
+#[derive(Clone, Copy)]
 pub struct Placed {
     pub blocks: usize,
     pub end: usize,

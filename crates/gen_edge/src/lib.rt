@@ -26,7 +26,7 @@ use layout_memo::skip;
 use std::num::wrapping_add_usize;
 
 // The number of phis passed, and what was reached behind their values.
-#[derive(Drop)]
+#[derive(Clone, Copy)]
 pub struct Copies {
     pub phis: usize,
     pub reached: Reached,

@@ -16,7 +16,7 @@ use book_types::shorter;
 
 // The slots taken so far, where the fixed places end, whether a varying one is among the places, and the refusal's number
 // where a place was refused, 0 where none was.
-#[derive(Drop)]
+#[derive(Clone, Copy)]
 pub struct Frame {
     pub slots: u64,
     pub off: u64,

@@ -109,7 +109,7 @@ fn place(
 }
 
 // The count of an alloca: a number, or a value that varies.
-#[derive(Drop)]
+#[derive(Clone, Copy)]
 enum Count {
     Fixed(u64),
     Varying,

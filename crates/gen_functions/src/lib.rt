@@ -17,7 +17,7 @@ use gen_lines::{Reached, refuse};
 use gen_prepare::prepare;
 
 // What was reached, and the places between which the entries stand that have set words 0 to 3 of names.
-#[derive(Drop)]
+#[derive(Clone, Copy)]
 pub struct Turn {
     pub s: Reached,
     pub from: usize,

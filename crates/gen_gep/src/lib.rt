@@ -33,7 +33,7 @@ use numbers::wrap::wrapping_add;
 
 // The walk so far: whether the next index is the first, the place of the type that it steps into, the sum of the constant
 // offsets, the number of varying terms, and what is reached.
-#[derive(Drop)]
+#[derive(Clone, Copy)]
 pub struct Way {
     pub first: bool,
     pub ty: usize,

@@ -10,7 +10,7 @@ use std::num::wrapping_add_u64;
 // The place behind the last line, the label counter, and the refusal's number where a generator refused, 0 where none did: behind
 // it the place and the counter count for nothing. All are words because a flag would leave padding: the struct is handed on by
 // value, and copying padding reads across what was stored just before, which waits for the store.
-#[derive(Drop)]
+#[derive(Clone, Copy)]
 pub struct Reached {
     pub at: usize,
     pub counter: u64,

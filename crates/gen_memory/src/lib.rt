@@ -23,7 +23,7 @@ use gen_values::{push_value, width_of};
 use layout_memo::skip;
 
 // The number of a load's or store's width, 0 where it was refused, and what was reached.
-#[derive(Drop)]
+#[derive(Clone, Copy)]
 pub struct Width {
     pub number: u16,
     pub s: Reached,

@@ -19,7 +19,7 @@ use gen_prepare::prepare_book;
 use gen_slices::{Fit, copy_kinds, copy_operands, lines_fit};
 
 // The answer: the number of lines and the next label counter, or document 01's number of a refusal.
-#[derive(Drop)]
+#[derive(Clone, Copy)]
 pub enum Translation {
     Accepted(usize, u64),
     Refused(u64),

@@ -13,7 +13,7 @@ use numbers::align::align_up;
 
 // Where a function stands, its list of blocks and its end; the number of its slots, which is the slot of the frame's base; the bytes
 // of its frame, and whether it has one; and the refusal's number where a place was refused, 0 where none was.
-#[derive(Drop)]
+#[derive(Clone, Copy)]
 pub struct Prepared {
     pub at: usize,
     pub blocks: usize,

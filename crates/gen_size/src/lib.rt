@@ -9,7 +9,7 @@ use layout_memo::Measured;
 use layout_size::size_of;
 
 // A number of bytes, 0 where it was refused, and what was reached.
-#[derive(Drop)]
+#[derive(Clone, Copy)]
 pub struct Bytes {
     pub bytes: u64,
     pub s: Reached,

@@ -43,7 +43,7 @@ pub fn copy_operands(from: &[u64], to: &mut [u64], many: usize)
 }
 
 // So many lines, which fit; or the number of a refusal.
-#[derive(Drop)]
+#[derive(Clone, Copy)]
 pub enum Fit {
     Lines(usize),
     Refused(u64),

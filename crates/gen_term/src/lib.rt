@@ -28,7 +28,7 @@ use gen_values::push_value;
 use layout_memo::skip;
 
 // The function's frame: the slot of its base, and whether there is one.
-#[derive(Drop)]
+#[derive(Clone, Copy)]
 pub struct Base {
     pub slot: u64,
     pub framed: bool,

@@ -52,7 +52,7 @@ pub fn width_of(kinds: &[u64], words: &[u64]) -> u32
 }
 
 // A width that was asked for, 0 where there is none, and what is reached behind the question.
-#[derive(Drop)]
+#[derive(Clone, Copy)]
 pub struct Wide {
     pub width: u32,
     pub s: Reached,
