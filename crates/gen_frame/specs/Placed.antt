@@ -14,7 +14,7 @@ use Rattle.book.specs.Ast.{Ty, StructType}
 use Rattle.book.specs.Result.{Result, ok, err, bind, given}
 use Rattle.book.specs.Work.{name_words, place_at}
 use Rattle.layout.specs.Layout.{align_at, size_at, align_of, size_of, frame_limit}
-use Rattle.layout.specs.Refusals.{refusal_positive, refusing_err, align_refusing, size_refusing}
+use Rattle.layout.proofs.Refusals.{refusal_positive, refusing_err, align_refusing, size_refusing}
 use Rattle.layout.specs.Frame.{Places, place, with_place}
 use Rattle.layout_memo.specs.Front.{Starts, ty_of}
 use Rattle.layout_memo.specs.Work.{Ready, After, Outcome, kept_word, table_other, structs_in, sizes, aligns, size_small, align_small}

@@ -14,7 +14,7 @@ use Rattle.book.specs.Fields.{Meanings}
 use Rattle.book.specs.Result.{Result, ok, err, bind}
 use Rattle.book.specs.Check.{work_for}
 use Rattle.layout.specs.Step.{Step as GepStep, const_int, stride}
-use Rattle.layout.specs.Refusals.{Refusing, refusal_positive, refusing_err, gep_step_refusing}
+use Rattle.layout.proofs.Refusals.{Refusing, refusal_positive, refusing_err, gep_step_refusing}
 use Rattle.layout_memo.specs.Front.{Starts, ty_of, ty_len}
 use Rattle.layout_memo.specs.Work.{Ready, After}
 use Rattle.layout_step.specs.Steps.{Stepped, Steps, StepOutcome, index_of, array_by, step_by, step_by_lem}

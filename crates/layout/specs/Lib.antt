@@ -3,10 +3,3 @@ pub mod Step
 pub mod Frame
 pub mod Cases
 pub mod Natural
-pub mod Multiple
-pub mod Allowance
-pub mod Parts
-pub mod Limit
-pub mod AnyAllowance
-pub mod AtLimits
-pub mod Refusals

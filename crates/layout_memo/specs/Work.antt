@@ -17,7 +17,7 @@ use Rattle.book.specs.Check.{work_for}
 use Rattle.layout.specs.Layout.{as_type, resolve, align_at, size_at, align_of, size_of, offset_from}
 use Rattle.layout.specs.Step.{field_at}
 use Rattle.layout.specs.Natural.{Natural, one, two, four, eight, align_of_natural}
-use Rattle.layout.specs.Limit.{size_of_limit}
+use Rattle.layout.proofs.Limit.{size_of_limit}
 use Rattle.layout_memo.specs.Measured.{result_of, Known, Measures, measures_result}
 use Rattle.layout_memo.specs.Front.{Starts, StartsFields, ty_of, tys_of}
 use Rattle.layout_memo.specs.declared.Measured.{Measured}

@@ -14,7 +14,7 @@ use Rattle.assembly.specs.Line.{Line}
 use Rattle.layout.specs.Layout.{frame_limit, align_of, size_of}
 use Rattle.layout.specs.Step.{Step, gep_step}
 use Rattle.layout.specs.Frame.{Places, place, frame_step, frame_pass}
-use Rattle.layout.specs.Refusals.{LayoutRefusal, six, seven, fourteen, Refusing, align_of_refusing, size_of_refusing, gep_step_refusing}
+use Rattle.layout.proofs.Refusals.{LayoutRefusal, six, seven, fourteen, Refusing, align_of_refusing, size_of_refusing, gep_step_refusing}
 use Rattle.lowering.specs.Gen.{Out, Gen, lines, line, skip, refuse, ◌>>=◌, ◌>>◌, when, choose, fresh, reserve, each}
 use Rattle.lowering.specs.Context.{Codegen, FnCtx, codegen_of, slot_of}
 use Rattle.lowering.specs.Operand.{int_width, emit_trunc_to, sext_bit, sext_more, emit_sext, push_int, local_line, add64, mul64, push_value, push_typed, store_dest, store_or_pop}

@@ -1,7 +1,7 @@
 #![tactic(auto)]
 // Measures the types of a book and prints, for each parameter of its function, the size and the alignment; a refusal is
 // printed as r and its number.
-ghost use Rattle.std.specs.Prelude.{◌≤◌};
+ghost use Rattle.std.specs.Prelude.{◌≤◌, IfOk, OnErr};
 ghost use Rattle.book.specs.Entry.{entries};
 ghost use Rattle.layout_memo.specs.Work.{Ready};
 ghost use Rattle.try_layout.specs.Laws.{Measuring};
@@ -13,7 +13,7 @@ use layout_align::align_of;
 use layout_memo::Measured;
 use layout_memo::structs::place_structs;
 use layout_size::size_of;
-use libc::STDOUT_FILENO;
+use std::io;
 
 // %0 is empty, and each of %1 to %60 has two of the one before; %61 is {i8, i32, i8}, %62 the same, packed; %63 is opaque and
 // %64 not defined; %65 holds itself; %66 has 2^24 bytes, %67 one more; %68 is {%61, i64}, %69 is {i8}.
@@ -95,58 +95,69 @@ const WORDS: [u64; 944] = [
     0,
 ];
 
-fn show(m: Measured) {
+fn show(rt: &impl Print, m: Measured) -> io::Result<()> {
     match m {
-        Measured::Bytes(n, _) => {
-            io::print_decimal(STDOUT_FILENO, n);
-        }
-        Measured::Refused(e) => {
-            io::write_all(STDOUT_FILENO, b"r");
-            io::print_decimal(STDOUT_FILENO, e);
-        }
+        Measured::Bytes(n, _) => print!(rt; "{n}"),
+        Measured::Refused(e) => print!(rt; "r{e}"),
     }
 }
 
-// Prints what the type at the place measures, and answers the place behind it.
-fn measure_one(kinds: &[u64], words: &[u64], work: &mut [u64], names: u64, at: usize) -> usize
+// Prints what the type at the place measures, and answers the place behind it. The work words stay ready where printing fails too.
+fn measure_one(
+    rt: &impl Print,
+    kinds: &[u64],
+    words: &[u64],
+    work: &mut [u64],
+    names: u64,
+    at: usize,
+) -> io::Result<usize>
     requires { Ready names (entries kinds.now words.now) work.old }
-    ensures { Measuring names (entries kinds.now words.now) work.old work.new at result }
+    ensures ok { IfOk result (λ behind. Measuring names (entries kinds.now words.now) work.old work.new at behind) }
+    ensures err { OnErr result (Measuring names (entries kinds.now words.now) work.old work.new at at) }
 {
     if kinds.len() < at {
-        return at;
+        return Ok(at);
     }
     if words.len() < at {
-        return at;
+        return Ok(at);
     }
     let Length::Entries(n) = type_len(&kinds[at..], &words[at..], names, 64) else {
-        return at;
+        return Ok(at);
     };
     let size = size_of(&kinds[at..], &words[at..], kinds, words, work, names, 64);
     let align = align_of(&kinds[at..], &words[at..], kinds, words, work, names, 64);
-    show(size);
-    io::write_all(STDOUT_FILENO, b" ");
-    show(align);
-    io::write_all(STDOUT_FILENO, b"\n");
-    at + n
+    show(rt, size)?;
+    print!(rt; " ")?;
+    show(rt, align)?;
+    println!(rt)?;
+    Ok(at + n)
 }
 
 // Measures the types of a list of parameters.
-fn measure_all(kinds: &[u64], words: &[u64], work: &mut [u64], names: u64, first: usize)
+fn measure_all(
+    rt: &impl Print,
+    kinds: &[u64],
+    words: &[u64],
+    work: &mut [u64],
+    names: u64,
+    first: usize,
+) -> io::Result<()>
     requires { Ready names (entries kinds.now words.now) work.old }
 {
     let mut at = first;
     while at < kinds.len() {
         if kinds[at] != entry::PARAM {
-            return;
+            return Ok(());
         }
-        at = measure_one(kinds, words, work, names, at + 1);
+        at = measure_one(rt, kinds, words, work, names, at + 1)?;
     }
+    Ok(())
 }
 
-fn main() {
+fn main(rt: HostRuntime) -> io::Result<()> {
     let kinds = KINDS;
     let words = WORDS;
     let mut work = [0u64; 576];
     place_structs(&kinds, &words, &mut work, 72);
-    measure_all(&kinds, &words, &mut work, 72, 347);
+    measure_all(&rt, &kinds, &words, &mut work, 72, 347)
 }

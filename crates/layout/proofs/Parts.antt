@@ -11,8 +11,8 @@ use Rattle.book.specs.Ast.{Ty, Tys, StructBody, StructType}
 use Rattle.book.specs.Result.{Result, ok, bind, bind_ok, bind_step}
 use Rattle.layout.specs.Layout.{limit, placed, size_from, struct_size, align_in, offset_from, as_type, resolve, align_at, size_at, align_of, size_of, field_offset}
 use Rattle.layout.specs.Step.{field_at}
-use Rattle.layout.specs.Multiple.{limit_ok}
-use Rattle.layout.specs.Allowance.{size_from_within, align_one_more, size_one_more}
+use Rattle.layout.proofs.Multiple.{limit_ok}
+use Rattle.layout.proofs.Allowance.{size_from_within, align_one_more, size_one_more}
 
 pub record Answers (r : Result ℕ) : Type 0 where
   pub answer : ℕ

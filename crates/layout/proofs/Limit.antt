@@ -9,7 +9,7 @@ use Rattle.book.specs.Ast.{Ty, Tys, StructType}
 use Rattle.book.specs.Result.{Result, ok, bind, err_no_ok, bind_ok, bind_step, given_ok}
 use Rattle.layout.specs.Layout.{limit, placed, max_align, struct_align, size_from, struct_size, as_type, resolve, align_at, size_at, align_of, size_of}
 use Rattle.layout.specs.Natural.{Natural, one, two, four, eight, int_natural}
-use Rattle.layout.specs.Parts.{Answers}
+use Rattle.layout.proofs.Parts.{Answers}
 
 limit_le : (n : ℕ) {s : ℕ} → limit n ≡ ok s → s ≤ 2 ^ 24
 unfolding limit
