@@ -1,6 +1,6 @@
 -- Where the functions stand among a book's entries: the first of them, and what stands behind each.
 use Rattle.std.specs.Prelude.{ℕ, ◌+◌, ◌-◌, ◌<◌, ◌≤◌, ◌^◌, ◌≡◌, refl, ◌⊎◌, List, [], ◌∷◌, ◌++◌, get_or, take, drop}
-use Rattle.std.proofs.Common.{sym, ◌∙◌, subst, inl, inr, append_assoc, append-nil, arith, length-append, drop-drop}
+use Rattle.std.proofs.Common.{sym, ◌∙◌, subst, inl, inr, append_assoc, arith, length-append, drop-drop}
 use Rattle.std.proofs.Math.Path.{ap}
 use Rattle.std.proofs.Math.Option.{Option, none, some}
 use Rattle.std.proofs.Math.ListN.{length, length-drop}

@@ -1,5 +1,5 @@
 -- Word 0 of each name, filled from the function's list of parameters: "list of 6 parameters (name + 1, or 0; type)", "later duplicates win".
-use Rattle.std.specs.Prelude.{ℕ, ◌+◌, ◌-◌, ◌*◌, ◌<◌, ◌≤◌, ◌^◌, ◌≡◌, Bool, take, drop, set}
+use Rattle.std.specs.Prelude.{ℕ, ◌+◌, ◌-◌, ◌<◌, ◌≤◌, ◌^◌, ◌≡◌, Bool, take, drop, set}
 use Rattle.std.proofs.Math.Path.{refl, sym, ap}
 use Rattle.std.proofs.Common.{◌∙◌, subst, add-zero, le_of_eq, length-set, length-append, length-drop, drop-drop, take_all, get_or-drop, get_or-set_same}
 use Rattle.std.proofs.Math.Bool.{true, false}

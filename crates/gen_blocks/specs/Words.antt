@@ -1,5 +1,5 @@
 -- Work words that a pass stores: the word j of names, of the 8 that a name has.
-use Rattle.std.specs.Prelude.{ℕ, ◌+◌, ◌*◌, ◌<◌, ◌≡◌, refl, List, length, get_or, set}
+use Rattle.std.specs.Prelude.{ℕ, ◌<◌, ◌≡◌, refl, List, length, get_or, set}
 use Rattle.std.proofs.Common.{◌∙◌, arith, length-set, get_or-set_other}
 use Rattle.book.specs.Entry.{Entry}
 use Rattle.book.specs.Work.{body_at, measured_at, word_at}

@@ -1,5 +1,5 @@
 -- The pass that sets the slots, and an edge as a whole.
-use Rattle.std.specs.Prelude.{◌≡◌, ℕ, suc, ◌+◌, ◌-◌, ◌%◌, ◌^◌, ◌<◌, ◌≤◌, List, [], ◌∷◌, ◌++◌, map, reverse, length, take, drop, set, ◌≢◌, slice_index, slice_index_or, slice_set}
+use Rattle.std.specs.Prelude.{◌≡◌, ℕ, suc, ◌+◌, ◌-◌, ◌%◌, ◌^◌, ◌<◌, ◌≤◌, List, [], ◌∷◌, ◌++◌, map, reverse, length, take, drop, ◌≢◌, slice_index, slice_index_or, slice_set}
 use Rattle.std.proofs.Math.Path.{refl}
 use Rattle.std.proofs.Common.{sym, ap, subst, ◌∙◌, append-nil, append_assoc, arith, mod-eq_of_lt, length-append, drop-drop}
 use Rattle.std.proofs.Math.Option.{some}
@@ -13,7 +13,7 @@ use Rattle.book.specs.Result.{bind, ok_or}
 use Rattle.book_types.specs.Laws.{lent_from, entries_part, within_kinds, within_words}
 use Rattle.assembly.specs.Line.{Line}
 use Rattle.assembly.specs.Number.{kind_of, operand_of}
-use Rattle.lowering.specs.Gen.{refuse, ◌>>=◌, ◌>>◌, each}
+use Rattle.lowering.specs.Gen.{refuse, ◌>>=◌, each}
 use Rattle.layout_memo.specs.Front.{ty_len}
 use Rattle.lowering.specs.Context.{FnCtx}
 use Rattle.lowering.specs.Edge.{Copy, set_copy, emit_edge_copies, edge}

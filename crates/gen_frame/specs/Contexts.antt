@@ -1,5 +1,5 @@
 -- What the frame pass leaves for a function's context (`context_of`), where it accepts; else its number.
-use Rattle.std.specs.Prelude.{ℕ, ◌+◌, ◌*◌, ◌<◌, ◌≤◌, ◌≡◌, refl, Bool, true, false, cond, ◌||◌, List, get_or, leb}
+use Rattle.std.specs.Prelude.{ℕ, ◌+◌, ◌<◌, ◌≤◌, ◌≡◌, refl, Bool, true, false, cond, ◌||◌, List, get_or, leb}
 use Rattle.std.proofs.Common.{sym, ap, subst, ◌∙◌}
 use Rattle.names.specs.Name.{name_at}
 use Rattle.names.specs.Spelling.{is_syscall, is_bcmp, is_memcmp, has_overflow}

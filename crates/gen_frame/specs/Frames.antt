@@ -1,5 +1,5 @@
 -- What the frame pass has reached, in its answer and in the work words: word 1 of a name holds its slot, word 3 where its fixed place starts, each with 1 added.
-use Rattle.std.specs.Prelude.{ℕ, ◌+◌, ◌*◌, ◌<◌, ◌≤◌, ◌^◌, ◌≡◌, Bool, List, ◌∷◌, set, leb}
+use Rattle.std.specs.Prelude.{ℕ, ◌+◌, ◌<◌, ◌≤◌, ◌^◌, ◌≡◌, Bool, List, ◌∷◌, set, leb}
 use Rattle.std.proofs.Math.Path.{refl}
 use Rattle.std.proofs.Common.{sym, ap, ◌∙◌, length-set, get_or-set_same}
 use Rattle.std.proofs.Math.Bool.{true, false}

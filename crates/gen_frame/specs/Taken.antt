@@ -1,5 +1,5 @@
 -- The slots of an instruction: "cmpxchg takes two, and so does a call of a global containing `.with.overflow.`. In each map later duplicates win."
-use Rattle.std.specs.Prelude.{ℕ, ◌+◌, ◌-◌, ◌*◌, ◌<◌, ◌≤◌, ◌^◌, ◌≡◌, refl, length, drop, set}
+use Rattle.std.specs.Prelude.{ℕ, ◌+◌, ◌-◌, ◌<◌, ◌≤◌, ◌^◌, ◌≡◌, refl, length, drop, set}
 use Rattle.std.proofs.Math.Path.{sym, ap, subst}
 use Rattle.std.proofs.Common.{◌∙◌, arith, zero-add, length-drop}
 use mathlib.Core.List.{List, [], ◌∷◌, ◌++◌}

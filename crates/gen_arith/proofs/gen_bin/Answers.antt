@@ -1,82 +1,65 @@
 -- `gen_arith::gen_bin` meets its contract: its lines are those of its parts, one after the other.
-use Prim.Native.Nat.{ℕ, ◌+◌}
 use mathlib.Core.Path.{ap, ◌∙◌}
 use native.Mathlib.Omega.{arith}
-use Rattle.book.specs.Ast.{Value}
 use Rattle.assembly.specs.Number.{operation}
 use Rattle.lowering.specs.Operand.{work_of}
-use Rattle.gen_values.specs.Fields.{ValueAt, OperandAt, part_from, value_part, type_in, width_is}
+use Rattle.gen_values.specs.Fields.{value_part, type_in, width_is}
 use Rattle.gen_arith.specs.Arith.{first_value, second_value, operand_there, bin_lines}
 use Rattle.gen_arith.proofs.gen_bin.Goals as goal
-
--- the two values behind the type
-abbrev start_of : tie.After-skip → tie.Start
-start_of c = c.before.before.before.before.before.before.before
-
-module _ (c : tie.After-skip) where
-  lhs : ValueAt (start_of c).args.names (start_of c).args.kinds.now (start_of c).args.words.now c.skip.result (start_of c).requires.1.holds.1.0
-  lhs = first_value (start_of c).args.kinds.now (start_of c).args.words.now (start_of c).requires.1.fields c.skip.ensures
-
-  rhs : ValueAt (start_of c).args.names (start_of c).args.kinds.now (start_of c).args.words.now (c.skip.result + 1) (start_of c).requires.1.holds.1.1.0
-  rhs = second_value (start_of c).args.kinds.now (start_of c).args.words.now (start_of c).requires.1.fields c.skip.ensures
-
-  there : {a : ℕ} {v : Value} → ValueAt (start_of c).args.names (start_of c).args.kinds.now (start_of c).args.words.now a v
-      → OperandAt (part_from (start_of c).args.kinds.now a) (part_from (start_of c).args.words.now a) 0 (start_of c).args.work.now
-  there v = operand_there (start_of c).args.work.now (start_of c).requires.1.room v
 
 pub need_width-wide-requires : goal.need_width-wide-requires
 need_width-wide-requires c =
     type_in c.args.kinds.now c.args.words.now 0 c.requires.there.fields
 
 pub overflow_add-rhs : goal.overflow_add-rhs
-overflow_add-rhs c = omega (arith, (lhs c).in_kinds, c.well_formed)
+overflow_add-rhs c = omega (arith, (first_value c.args.kinds.now c.args.words.now c.requires.there.fields c.skip-lhs.ensures).in_kinds, c.well_formed)
 
 pub offset_bounds-kinds-lhs : goal.offset_bounds-kinds-lhs
-offset_bounds-kinds-lhs c = omega (arith, (lhs c).in_kinds)
+offset_bounds-kinds-lhs c = omega (arith, (first_value c.args.kinds.now c.args.words.now c.requires.there.fields c.skip-lhs.ensures).in_kinds)
 
 pub slice_bounds-lhs_kinds-count : goal.slice_bounds-lhs_kinds-count
-slice_bounds-lhs_kinds-count c = omega (arith, (lhs c).in_kinds)
+slice_bounds-lhs_kinds-count c = omega (arith, (first_value c.args.kinds.now c.args.words.now c.requires.there.fields c.skip-lhs.ensures).in_kinds)
 
 pub slice_bounds-lhs_kinds-start : goal.slice_bounds-lhs_kinds-start
-slice_bounds-lhs_kinds-start c = omega (arith, (lhs c).in_kinds)
+slice_bounds-lhs_kinds-start c = omega (arith, (first_value c.args.kinds.now c.args.words.now c.requires.there.fields c.skip-lhs.ensures).in_kinds)
 
 pub offset_bounds-words-lhs : goal.offset_bounds-words-lhs
-offset_bounds-words-lhs c = omega (arith, (lhs c).in_words)
+offset_bounds-words-lhs c = omega (arith, (first_value c.args.kinds.now c.args.words.now c.requires.there.fields c.skip-lhs.ensures).in_words)
 
 pub slice_bounds-lhs_words-count : goal.slice_bounds-lhs_words-count
-slice_bounds-lhs_words-count c = omega (arith, (lhs c).in_words)
+slice_bounds-lhs_words-count c = omega (arith, (first_value c.args.kinds.now c.args.words.now c.requires.there.fields c.skip-lhs.ensures).in_words)
 
 pub slice_bounds-lhs_words-start : goal.slice_bounds-lhs_words-start
-slice_bounds-lhs_words-start c = omega (arith, (lhs c).in_words)
+slice_bounds-lhs_words-start c = omega (arith, (first_value c.args.kinds.now c.args.words.now c.requires.there.fields c.skip-lhs.ensures).in_words)
 
 pub offset_bounds-kinds-rhs : goal.offset_bounds-kinds-rhs
-offset_bounds-kinds-rhs c = omega (arith, (rhs c).in_kinds)
+offset_bounds-kinds-rhs c = omega (arith, (second_value c.args.kinds.now c.args.words.now c.requires.there.fields c.skip-lhs.ensures).in_kinds)
 
 pub slice_bounds-rhs_kinds-count : goal.slice_bounds-rhs_kinds-count
-slice_bounds-rhs_kinds-count c = omega (arith, (rhs c).in_kinds)
+slice_bounds-rhs_kinds-count c = omega (arith, (second_value c.args.kinds.now c.args.words.now c.requires.there.fields c.skip-lhs.ensures).in_kinds)
 
 pub slice_bounds-rhs_kinds-start : goal.slice_bounds-rhs_kinds-start
-slice_bounds-rhs_kinds-start c = omega (arith, (rhs c).in_kinds)
+slice_bounds-rhs_kinds-start c = omega (arith, (second_value c.args.kinds.now c.args.words.now c.requires.there.fields c.skip-lhs.ensures).in_kinds)
 
 pub offset_bounds-words-rhs : goal.offset_bounds-words-rhs
-offset_bounds-words-rhs c = omega (arith, (rhs c).in_words)
+offset_bounds-words-rhs c = omega (arith, (second_value c.args.kinds.now c.args.words.now c.requires.there.fields c.skip-lhs.ensures).in_words)
 
 pub slice_bounds-rhs_words-count : goal.slice_bounds-rhs_words-count
-slice_bounds-rhs_words-count c = omega (arith, (rhs c).in_words)
+slice_bounds-rhs_words-count c = omega (arith, (second_value c.args.kinds.now c.args.words.now c.requires.there.fields c.skip-lhs.ensures).in_words)
 
 pub slice_bounds-rhs_words-start : goal.slice_bounds-rhs_words-start
-slice_bounds-rhs_words-start c = omega (arith, (rhs c).in_words)
+slice_bounds-rhs_words-start c = omega (arith, (second_value c.args.kinds.now c.args.words.now c.requires.there.fields c.skip-lhs.ensures).in_words)
 
 pub push_value-left-requires : goal.push_value-left-requires
-push_value-left-requires c = there c (lhs c)
+push_value-left-requires c = (operand_there c.args.work.now c.requires.there.room (first_value c.args.kinds.now c.args.words.now c.requires.there.fields c.skip-lhs.ensures))
 
 pub push_value-right-requires : goal.push_value-right-requires
 push_value-right-requires c =
-    there c (rhs c)
+    (operand_there c.args.work.now c.requires.there.room (second_value c.args.kinds.now c.args.words.now c.requires.there.fields c.skip-lhs.ensures))
 
 pub operation-requires : goal.operation-requires
 operation-requires c =
-    omega (arith, (start_of c).requires.0)
+    omega (arith, c.requires.op_bound)
 
 pub shape_of-lines : goal.shape_of-lines
 shape_of-lines c =

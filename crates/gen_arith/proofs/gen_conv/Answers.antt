@@ -1,78 +1,56 @@
 -- `gen_arith::gen_conv` meets its contract: its lines are those of its parts, one after the other.
-use Prim.Native.Nat.{◌+◌, ◌<◌}
+use Prim.Native.Nat.{◌+◌}
 use native.Mathlib.Omega.{arith}
-use lib.ListN.{length}
-use Rattle.book.specs.Fields.{Item, Field}
-use Rattle.book_types.specs.Laws.{lent_from}
-use mathlib.Core.List.{[], ◌∷◌}
-use Rattle.gen_values.specs.Fields.{Fields, ValueAt, OperandAt, part_from, fields_part, value_part, type_in, width_is}
+use Rattle.gen_values.specs.Fields.{part_from, fields_part, value_part, type_in, width_is}
 use Rattle.gen_arith.specs.Arith.{first_value, behind_first_lem, operand_there}
 use Rattle.gen_arith.specs.Conv.{cast_lines, conv_lines}
 use Rattle.gen_arith.proofs.gen_conv.Goals as goal
-
--- the value behind the first type, and the second type behind it
-abbrev start_of : tie.After-skip → tie.Start
-start_of c = c.before.before.before.before.before.before.before
-
-module _ (c : tie.After-skip) where
-  val : ValueAt (start_of c).args.names (start_of c).args.kinds.now (start_of c).args.words.now c.skip.result (start_of c).requires.holds.1.0
-  val = first_value (start_of c).args.kinds.now (start_of c).args.words.now (start_of c).requires.fields c.skip.ensures
-
-  val_there : OperandAt (part_from (start_of c).args.kinds.now c.skip.result) (part_from (start_of c).args.words.now c.skip.result) 0 (start_of c).args.work.now
-  val_there = operand_there (start_of c).args.work.now (start_of c).requires.room val
-
-  ty : Fields (start_of c).args.names (Field.plain Item.type ∷ []) (start_of c).requires.holds.1.1 (lent_from (start_of c).args.kinds.now (start_of c).args.words.now (c.skip.result + 1))
-  ty = fields_part (start_of c).args.kinds.now (start_of c).args.words.now (c.skip.result + 1)
-      (behind_first_lem (start_of c).args.kinds.now (start_of c).args.words.now (start_of c).requires.fields c.skip.ensures)
-
-  ty_there : (0 < length (part_from (start_of c).args.kinds.now (c.skip.result + 1))) × (0 < length (part_from (start_of c).args.words.now (c.skip.result + 1)))
-  ty_there = type_in (part_from (start_of c).args.kinds.now (c.skip.result + 1)) (part_from (start_of c).args.words.now (c.skip.result + 1)) 0 ty
 
 pub need_width-from-requires : goal.need_width-from-requires
 need_width-from-requires c =
     type_in c.args.kinds.now c.args.words.now 0 c.requires.fields
 
 pub overflow_add-ty : goal.overflow_add-ty
-overflow_add-ty c = omega (arith, (val c).in_kinds, c.well_formed)
+overflow_add-ty c = omega (arith, (first_value c.args.kinds.now c.args.words.now c.requires.fields c.skip-val.ensures).in_kinds, c.well_formed)
 
 pub offset_bounds-kinds-val : goal.offset_bounds-kinds-val
-offset_bounds-kinds-val c = omega (arith, (val c).in_kinds)
+offset_bounds-kinds-val c = omega (arith, (first_value c.args.kinds.now c.args.words.now c.requires.fields c.skip-val.ensures).in_kinds)
 
 pub slice_bounds-val_kinds-count : goal.slice_bounds-val_kinds-count
-slice_bounds-val_kinds-count c = omega (arith, (val c).in_kinds)
+slice_bounds-val_kinds-count c = omega (arith, (first_value c.args.kinds.now c.args.words.now c.requires.fields c.skip-val.ensures).in_kinds)
 
 pub slice_bounds-val_kinds-start : goal.slice_bounds-val_kinds-start
-slice_bounds-val_kinds-start c = omega (arith, (val c).in_kinds)
+slice_bounds-val_kinds-start c = omega (arith, (first_value c.args.kinds.now c.args.words.now c.requires.fields c.skip-val.ensures).in_kinds)
 
 pub offset_bounds-words-val : goal.offset_bounds-words-val
-offset_bounds-words-val c = omega (arith, (val c).in_words)
+offset_bounds-words-val c = omega (arith, (first_value c.args.kinds.now c.args.words.now c.requires.fields c.skip-val.ensures).in_words)
 
 pub slice_bounds-val_words-count : goal.slice_bounds-val_words-count
-slice_bounds-val_words-count c = omega (arith, (val c).in_words)
+slice_bounds-val_words-count c = omega (arith, (first_value c.args.kinds.now c.args.words.now c.requires.fields c.skip-val.ensures).in_words)
 
 pub slice_bounds-val_words-start : goal.slice_bounds-val_words-start
-slice_bounds-val_words-start c = omega (arith, (val c).in_words)
+slice_bounds-val_words-start c = omega (arith, (first_value c.args.kinds.now c.args.words.now c.requires.fields c.skip-val.ensures).in_words)
 
 pub offset_bounds-kinds-ty : goal.offset_bounds-kinds-ty
-offset_bounds-kinds-ty c = omega (arith, (val c).in_kinds)
+offset_bounds-kinds-ty c = omega (arith, (first_value c.args.kinds.now c.args.words.now c.requires.fields c.skip-val.ensures).in_kinds)
 
 pub slice_bounds-to_kinds-count : goal.slice_bounds-to_kinds-count
-slice_bounds-to_kinds-count c = omega (arith, (val c).in_kinds)
+slice_bounds-to_kinds-count c = omega (arith, (first_value c.args.kinds.now c.args.words.now c.requires.fields c.skip-val.ensures).in_kinds)
 
 pub slice_bounds-to_kinds-start : goal.slice_bounds-to_kinds-start
-slice_bounds-to_kinds-start c = omega (arith, (val c).in_kinds)
+slice_bounds-to_kinds-start c = omega (arith, (first_value c.args.kinds.now c.args.words.now c.requires.fields c.skip-val.ensures).in_kinds)
 
 pub offset_bounds-words-ty : goal.offset_bounds-words-ty
-offset_bounds-words-ty c = omega (arith, (val c).in_words)
+offset_bounds-words-ty c = omega (arith, (first_value c.args.kinds.now c.args.words.now c.requires.fields c.skip-val.ensures).in_words)
 
 pub slice_bounds-to_words-count : goal.slice_bounds-to_words-count
-slice_bounds-to_words-count c = omega (arith, (val c).in_words)
+slice_bounds-to_words-count c = omega (arith, (first_value c.args.kinds.now c.args.words.now c.requires.fields c.skip-val.ensures).in_words)
 
 pub slice_bounds-to_words-start : goal.slice_bounds-to_words-start
-slice_bounds-to_words-start c = omega (arith, (val c).in_words)
+slice_bounds-to_words-start c = omega (arith, (first_value c.args.kinds.now c.args.words.now c.requires.fields c.skip-val.ensures).in_words)
 
 pub push_value-requires : goal.push_value-requires
-push_value-requires c = val_there c
+push_value-requires c = (operand_there c.args.work.now c.requires.room (first_value c.args.kinds.now c.args.words.now c.requires.fields c.skip-val.ensures))
 
 pub returns-then-op-eq5 : goal.returns-then-op-eq5
 returns-then-op-eq5 c =
@@ -84,10 +62,10 @@ returns-then-op-eq5 c =
     (c.push_value.ensures m k p.1.0 (value_part (first_value ks ws f c.skip-val.ensures)) maps) o e
 
 pub need_width-to-requires : goal.need_width-to-requires
-need_width-to-requires c = ty_there c
+need_width-to-requires c = (type_in (part_from c.args.kinds.now (c.skip-val.result + 1)) (part_from c.args.words.now (c.skip-val.result + 1)) 0 (fields_part c.args.kinds.now c.args.words.now (c.skip-val.result + 1) (behind_first_lem c.args.kinds.now c.args.words.now c.requires.fields c.skip-val.ensures)))
 
 pub push_value-value-requires : goal.push_value-value-requires
-push_value-value-requires c = val_there c
+push_value-value-requires c = (operand_there c.args.work.now c.requires.room (first_value c.args.kinds.now c.args.words.now c.requires.fields c.skip-val.ensures))
 
 pub returns : goal.returns
 returns c =
