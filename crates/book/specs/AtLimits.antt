@@ -1,6 +1,6 @@
 -- "The book", entry by entry: each limit at its value and one beyond, each word that is 0 where it is unmentioned, each kind beside those that there are. The
 -- number is the refusal's, 0 for a sound book.
-use Rattle.std.specs.Prelude.{ℕ, zero, suc, ◌+◌, ◌-◌, ◌^◌, ◌≡◌, refl, List, [], ◌∷◌, ◌++◌, map, length}
+use Rattle.std.specs.Prelude.{ℕ, zero, suc, ◌-◌, ◌^◌, ◌≡◌, refl, List, [], ◌∷◌, ◌++◌, map, length}
 use Rattle.names.specs.Text.{bytes}
 use Rattle.names.specs.Name.{join}
 use Rattle.book.specs.Check.{checked, refusal_of}

@@ -10,7 +10,6 @@ pub mod Limits
 pub mod Agree
 pub mod AgreeTy
 pub mod AgreeInst
-pub mod AgreeBook
 pub mod Result
 pub mod Work
 pub mod Shape

@@ -15,8 +15,9 @@ use Rattle.book.specs.Decode.{type, inst}
 use Rattle.book.specs.Encode.{enc_ty, value_entry, enc_value, enc_fields, enc_inst}
 use Rattle.book.specs.Limits.{InstLimits}
 use Rattle.book.specs.Forbidden.{any, other_item, other_inst, other_term, barred_callee, barred_shape, forbidden_inst, forbidden_block}
-use Rattle.book.specs.AgreeTy.{agrees_type}
-use Rattle.book.specs.AgreeInst.{inst_found, agrees_inst}
+use Rattle.book.proofs.AgreeTy.{agrees_type}
+use Rattle.book.specs.AgreeInst.{inst_found}
+use Rattle.book.proofs.AgreeInst.{agrees_inst}
 use Rattle.book_types.specs.Length.{len_of, front_of}
 use Rattle.book_types.specs.Found.{found_of, joined, all_test, pair_test, never}
 use Rattle.book_types.specs.Laws.{entries_part, lent_from, len_got, len_bad}

@@ -14,7 +14,7 @@ use Rattle.book.specs.Fields as book
 use Rattle.book.specs.Read.{stops, mapped, both, until, one, word, is_closing, closing, many}
 use Rattle.book.specs.Decode.{inst, term, tagged, body, basic_block, name}
 use Rattle.book.specs.Forbidden.{any, other_field, other_term, other_inst, forbidden_inst, forbidden_block}
-use Rattle.book.specs.AgreeInst.{agrees_field}
+use Rattle.book.proofs.AgreeInst.{agrees_field}
 use Rattle.book_types.specs.Found.{found_of, joined, followed_by, all_test, never}
 use Rattle.book_types.specs.Laws.{entry_at, entries_part, length_entries, lent_from}
 use Rattle.book_types.specs.Passes.{joined_joined, joined_none, followed_joined, followed_twice, both_found, mapped_found, many_found, until_end, until_item, found_fits}

@@ -15,8 +15,9 @@ use Rattle.book.specs.Decode.{parts, book_of, once_each, whole, decode}
 use Rattle.book.specs.Encode.{encode}
 use Rattle.book.specs.Limits.{Limits}
 use Rattle.book.specs.Forbidden.{any, forbidden_function}
-use Rattle.book.specs.AgreeBook.{PartsLimits, agrees_book}
-use Rattle.book.specs.AgreeInput.{slice, slice_sound, entries_back, length_kinds, length_words}
+use Rattle.book.proofs.AgreeBook.{PartsLimits, agrees_book}
+use Rattle.book.specs.AgreeInput.{slice, entries_back, length_kinds, length_words}
+use Rattle.book.proofs.AgreeInput.{slice_sound}
 use Rattle.book.specs.Input.{Counted, counted, book_in}
 use Rattle.book_marks.specs.Range.{marked_range, length_range}
 use Rattle.book_types.specs.declared.Found.{Found}

@@ -16,7 +16,7 @@ use Rattle.book.specs.Encode.{enc_field}
 use Rattle.book.specs.Open.{open_book}
 use Rattle.book.specs.Forbidden.{other_field, other_fields, other_inst, other_term}
 use Rattle.book.specs.Agree.{no_got}
-use Rattle.book.specs.AgreeInst.{agrees_field}
+use Rattle.book.proofs.AgreeInst.{agrees_field}
 use Rattle.book_types.specs.Found.{found_of, joined, followed_by}
 use Rattle.book_types.specs.Tables.{in_range_lem}
 use Rattle.book_types.specs.Passes.{both_found, found_got}

@@ -17,7 +17,7 @@ use Rattle.book.specs.Read.{Read, got, bad, mapped, and_then}
 use Rattle.book.specs.Decode.{parts, member, distinct, mark_name, function_names, book_of, once_each}
 use Rattle.book.specs.Limits.{Each, StructLimits, FunctionLimits, FunctionsLimits}
 use Rattle.book.specs.Forbidden.{any, reserved_by, forbidden_function}
-use Rattle.book.specs.AgreeBook.{PartsLimits, agrees_book}
+use Rattle.book.proofs.AgreeBook.{PartsLimits, agrees_book}
 use Rattle.book_marks.specs.Range.{marked_range, length_range, bit_range}
 use Rattle.book_marks.specs.Once.{is_new, all_new, AllBelow, new_distinct, bit_set}
 use Rattle.book_types.specs.declared.Found.{Found}

@@ -20,8 +20,9 @@ use Rattle.book.specs.Decode.{type, mark_as, mark, body_of, struct_body, struct_
 use Rattle.book.specs.Encode.{enc_ty, enc_struct, enc_function}
 use Rattle.book.specs.Forbidden.{forbidden_function}
 use Rattle.book.specs.Agree.{Agrees}
-use Rattle.book.specs.AgreeTy.{agrees_type, ty_found}
-use Rattle.book.specs.AgreeBook.{agrees_function, agrees_struct_type, agrees_functions, agrees_structs}
+use Rattle.book.specs.AgreeTy.{ty_found}
+use Rattle.book.proofs.AgreeTy.{agrees_type}
+use Rattle.book.proofs.AgreeBook.{agrees_function, agrees_struct_type, agrees_functions, agrees_structs}
 use Rattle.book_types.specs.Length.{len_of, len_if, front_of}
 use Rattle.book_types.specs.Groups.{type_group_of}
 use Rattle.book_values.specs.Items.{pick_len}

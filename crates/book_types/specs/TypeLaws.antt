@@ -11,7 +11,8 @@ use Rattle.std.proofs.Math.ListN.{length}
 use Rattle.numbers.specs.Width.{width_ok}
 use Rattle.book.specs.Entry.{Entry, entries}
 use Rattle.book.specs.Agree.{Agrees}
-use Rattle.book.specs.AgreeTy.{ty_head, agrees_many, agrees_type_to}
+use Rattle.book.specs.AgreeTy.{ty_head}
+use Rattle.book.proofs.AgreeTy.{agrees_many, agrees_type_to}
 use Rattle.book.specs.Encode.{closed, enc_ty}
 use Rattle.book.specs.Limits.{Each, TyTo}
 use Rattle.book.specs.Rule.{when, pick}

@@ -12,7 +12,7 @@ use Rattle.book.specs.Read.{Read, got, bad}
 use Rattle.book.specs.Decode.{function, decode}
 use Rattle.book.specs.Encode.{ending, enc_function, enc_functions, function_long}
 use Rattle.book.specs.Limits.{Each, FunctionLimits, FunctionsLimits}
-use Rattle.book.specs.AgreeBook.{Five, functions_begin, agrees_function, decode_sound}
+use Rattle.book.proofs.AgreeBook.{Five, functions_begin, agrees_function, decode_sound}
 use Rattle.book_types.specs.Laws.{entries_drop, entries_take}
 use Rattle.layout_memo.specs.Structs.{IsBook}
 use Rattle.gen_values.specs.Fields.{entry_at}

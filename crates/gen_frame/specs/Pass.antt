@@ -11,7 +11,7 @@ use Rattle.book.specs.Map.{lookup}
 use Rattle.book.specs.Read.{got, many}
 use Rattle.book.specs.Result.{Result, ok, err, bind}
 use Rattle.book.specs.Shape.{shape, all_insts}
-use Rattle.book.specs.AgreeBook.{agrees_blocks}
+use Rattle.book.proofs.AgreeBook.{agrees_blocks}
 use Rattle.book.specs.Work.{slot_at, place_at}
 use Rattle.book_types.specs.Laws.{entries_drop, entries_part, within_kinds, within_words}
 use Rattle.layout.specs.Frame.{Places, no_frame, frame_step, frame_pass}

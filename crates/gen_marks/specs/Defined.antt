@@ -14,7 +14,7 @@ use Rattle.book.specs.Ast.{Ty, Param, BasicBlock, Mark, StructBody, StructType, 
 use Rattle.book.specs.Decode.{decode, member, mark_name, function_names}
 use Rattle.book.specs.Encode.{ending, closed, enc_ty, enc_inst, enc_term, enc_param, enc_basic_block, enc_body, enc_mark, mark_entry, enc_struct, enc_function, enc_functions, encode}
 use Rattle.book.specs.Limits.{Each, FunctionLimits}
-use Rattle.book.specs.AgreeBook.{decode_sound}
+use Rattle.book.proofs.AgreeBook.{decode_sound}
 use Rattle.lowering.specs.Context.{Codegen, defined_by, codegen_of}
 use Rattle.layout_memo.specs.Structs.{IsBook}
 use Rattle.layout_memo.specs.Work.{Ready}

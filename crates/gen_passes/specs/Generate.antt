@@ -8,7 +8,7 @@ use Rattle.book.specs.Ast.{Book, Function}
 use Rattle.book.specs.Entry.{entries}
 use Rattle.book.specs.Decode.{decode}
 use Rattle.book.specs.Encode.{enc_functions}
-use Rattle.book.specs.AgreeBook.{functions_begin, decode_sound}
+use Rattle.book.proofs.AgreeBook.{functions_begin, decode_sound}
 use Rattle.book.specs.Heads.{book_heads}
 use Rattle.book_types.specs.Laws.{length_entries}
 use Rattle.lowering.specs.Context.{codegen_of}

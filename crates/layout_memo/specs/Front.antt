@@ -17,7 +17,8 @@ use Rattle.book.specs.Kinds.{TyTag, ty_tag, ty_kind}
 use Rattle.book.specs.Decode.{tys, type_to}
 use Rattle.book.specs.Encode.{enc_ty, enc_tys, depth, depths, closed}
 use Rattle.book.specs.Limits.{Each, Parts, PartsOf, TyTo}
-use Rattle.book.specs.AgreeTy.{ty_found, ty_head, untys, enc_tys_lem, agrees_type_to}
+use Rattle.book.specs.AgreeTy.{ty_found, ty_head, untys, enc_tys_lem}
+use Rattle.book.proofs.AgreeTy.{agrees_type_to}
 use Rattle.book_types.specs.Groups.{type_group_of}
 use Rattle.book_types.specs.Laws.{entries_drop}
 use Rattle.book_types.specs.TypeLaws.{agrees_types}

@@ -17,7 +17,7 @@ use Rattle.book.specs.Kinds.{TyTag, ty_kind}
 use Rattle.book.specs.Decode.{decode, member, distinct, once_each, mark_name, function_names}
 use Rattle.book.specs.Encode.{ending, enc_ty, enc_mark, mark_entry, enc_struct, enc_body, enc_functions, encode}
 use Rattle.book.specs.Limits.{Each, StructLimits, BodyLimits}
-use Rattle.book.specs.AgreeBook.{Five, functions_begin, decode_sound}
+use Rattle.book.proofs.AgreeBook.{Five, functions_begin, decode_sound}
 use Rattle.book.specs.Work.{body_at, measured_at, name_words}
 use Rattle.book_types.specs.Laws.{entries_part, within_kinds, within_words}
 use Rattle.layout.specs.Layout.{body_of, resolve, as_type}

@@ -18,7 +18,8 @@ use Rattle.book.specs.Limits.{Each, FunctionLimits, Limits}
 use Rattle.book.specs.Forbidden.{forbidden}
 use Rattle.book.specs.Result.{ok, bind, ok_or, given, require, bind_ok, given_ok}
 use Rattle.book.specs.Input.{Counted, book_in, names_in}
-use Rattle.book.specs.AgreeInput.{slice, slice_sound, slice_complete}
+use Rattle.book.specs.AgreeInput.{slice}
+use Rattle.book.proofs.AgreeInput.{slice_sound, slice_complete}
 use Rattle.book.specs.Check.{Sound, work_for, checked}
 use Rattle.lowering.specs.Gen.{each}
 use Rattle.lowering.specs.Translate.{generated}

@@ -15,7 +15,7 @@ use Rattle.book.specs.Map.{Map, lookup, insert}
 use Rattle.book.specs.Result.{ok, require, bind_ok, given_ok}
 use Rattle.book.specs.Shape.{all_insts}
 use Rattle.book.specs.Check.{Sound, checked}
-use Rattle.book.specs.AgreeInput.{slice_sound}
+use Rattle.book.proofs.AgreeInput.{slice_sound}
 use Rattle.layout.specs.Frame.{Places, no_frame, frame_pass}
 use Rattle.assembly.specs.Line.{Line}
 use Rattle.assembly.specs.Number.{operand_of}

@@ -8,7 +8,7 @@ use Rattle.book.specs.Rule.{pick}
 use Rattle.book.specs.Limits.{Limits}
 use Rattle.book.specs.Result.{Result, ok, err, bind_ok, given_ok}
 use Rattle.book.specs.Input.{Counted, book_in, names_in}
-use Rattle.book.specs.AgreeInput.{slice_sound}
+use Rattle.book.proofs.AgreeInput.{slice_sound}
 use Rattle.book.specs.Check.{Sound, checked}
 use Rattle.assembly.specs.Line.{Line}
 use Rattle.assembly.specs.Number.{kind_of, operand_of}

@@ -1,13 +1,12 @@
 -- UTF-8 one character after the other: a character in front of other bytes, as a grammar has it and by its length.
 use Rattle.std.specs.Prelude.{ℕ, suc, ◌<◌, ◌≤◌, ◌≡◌, refl, Bool, true, false, ◌&&◌, cond, List, [], ◌∷◌, ◌++◌, leb, length, take, drop}
-use Rattle.std.proofs.Common.{sym, ◌∙◌, arith, leb-true, le-leb, lt-ltb}
+use Rattle.std.proofs.Common.{sym, ◌∙◌, arith, leb-true, le-leb}
 use Rattle.std.proofs.lemmas.Bool.{false≢true}
 use Rattle.std.proofs.Math.Bool.{and_assoc}
 use Rattle.names.specs.Utf8.{Range, to, tail, table, has, opens, others, begins, behind, follow, well_formed, fills, char_length}
 use Rattle.names.specs.Text.{within}
 use Rattle.names.specs.Name.{plain_byte, name_byte, every_byte}
 use Rattle.names.specs.Texts.{in_within}
-use Rattle.names.specs.Lead.{lead_behind, lead_begins}
 use Rattle.names.specs.Tests.{both, or_right, is_false}
 
 -- the bytes are one of each of the ranges
@@ -41,15 +40,6 @@ pub char_first : (p q : List ℕ) → is_char p ≡ true → well_formed (p ++ q
 unfolding well_formed is_char follow
 char_first [] q h = absurd (false≢true h)
 char_first (b ∷ p) q h = let k = both (begins table b) (exactly (behind table b) p) h in rw k.0 (follow_exactly (behind table b) p q k.1)
-
--- an ASCII character is one byte
-pub char_alone : (b : ℕ) (p : List ℕ) → b < 0x80 → is_char (b ∷ p) ≡ exactly [] p
-unfolding is_char
-char_alone b p h = rw (lead_begins b (omega arith), lead_behind b (omega arith), lt-ltb b 0x80 h, lt-ltb b 0xC2 (omega arith))
-
-pub char_ascii : (b : ℕ) → b < 0x80 → is_char (b ∷ []) ≡ true
-unfolding exactly
-char_ascii b h = char_alone b [] h
 
 -- ---- its bytes may stand in a name where the first one may
 

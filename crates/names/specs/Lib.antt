@@ -8,7 +8,6 @@ pub mod Tests
 pub mod Lead
 pub mod Characters
 pub mod Encoding
-pub mod Reading
 pub mod Texts
 pub mod Labels
 pub mod Order

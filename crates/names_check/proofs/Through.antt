@@ -12,7 +12,8 @@ use Rattle.names.specs.Utf8.{well_formed, char_length}
 use Rattle.names.specs.Tests.{both}
 use Rattle.names.specs.Texts.{in_within}
 use Rattle.names.specs.Lines.{no_end}
-use Rattle.names.specs.Characters.{is_char, char_first, char_ascii, char_bytes, char_taken, char_missing}
+use Rattle.names.specs.Characters.{is_char, char_first, char_bytes, char_taken, char_missing}
+use Rattle.names.proofs.Characters.{char_ascii}
 use Rattle.names_spelling.proofs.Scan.{until_part, from_place}
 use Rattle.names_spelling.proofs.Spell.{name_more}
 use Rattle.names_check.specs.Found.{part, Through}

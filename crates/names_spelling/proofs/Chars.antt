@@ -10,7 +10,8 @@ use borrow.Author.Tests.{lt-ltb, le-ltb}
 use lib.Dec.{ltb}
 use lib.ListN.{length, get_or, drop, replicate, length-drop, length-replicate, drop_of_length-le}
 use Rattle.names.specs.Utf8.{Range, to, tail, has, is_tail, fills, char_length}
-use Rattle.names.specs.Lead.{tails, lowest, highest, ranges, lead_behind, lead_begins}
+use Rattle.names.specs.Lead.{tails, lowest, highest, ranges}
+use Rattle.names.proofs.Lead.{lead_behind, lead_begins}
 use Rattle.names_spelling.proofs.Scan.{from_place}
 
 ranges_long : (n : ℕ) (r : Range) → length (ranges n r) ≡ n

@@ -8,8 +8,8 @@ use Rattle.book.specs.Ast.{Ty, Tys, Sizeless, Param, Function}
 use Rattle.book.specs.Entry.{Entry, entry, entries}
 use Rattle.book.specs.Fields.{Item}
 use Rattle.book.specs.Encode.{ending, closed, enc_ty, enc_tys, enc_param}
-use Rattle.book.specs.AgreeTy.{agrees_type}
-use Rattle.book.specs.AgreeInst.{agrees_items, agrees_name}
+use Rattle.book.proofs.AgreeTy.{agrees_type}
+use Rattle.book.proofs.AgreeInst.{agrees_items, agrees_name}
 use Rattle.book.specs.Read.{Read, got, bad, Reader, and_then, one, word, both, mapped, many}
 use Rattle.book.specs.Decode.{name, type, type_to, item, function}
 use Rattle.book_types.specs.Length.{len_of}

@@ -17,7 +17,7 @@ use Rattle.book.specs.Read.{got}
 use Rattle.book.specs.Decode.{type_to, function, member, function_names, decode}
 use Rattle.book.specs.Encode.{ending, enc_function, enc_functions, encode}
 use Rattle.book.specs.Limits.{Each, FunctionLimits, Limits}
-use Rattle.book.specs.AgreeBook.{agrees_function, decode_sound}
+use Rattle.book.proofs.AgreeBook.{agrees_function, decode_sound}
 use Rattle.book.specs.Heads.{Other, function_rest, function_rest_lem, other_function, book_heads, other_closing}
 use Rattle.book_types.specs.Laws.{lent_from, entries_part, length_entries}
 use Rattle.assembly.specs.Printer.{function_named, first}

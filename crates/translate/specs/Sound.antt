@@ -12,7 +12,7 @@ use Rattle.book.specs.Entry.{entries}
 use Rattle.book.specs.Rule.{pick}
 use Rattle.book.specs.Decode.{decode}
 use Rattle.book.specs.Encode.{encode}
-use Rattle.book.specs.AgreeBook.{decode_complete}
+use Rattle.book.proofs.AgreeBook.{decode_complete}
 use Rattle.book.specs.Forbidden.{forbidden}
 use Rattle.book.specs.Input.{Counted, book_in, names_in}
 use Rattle.book.specs.Result.{Result, ok, err, bind, ok_or, require, bind_ok, given_ok}

@@ -8,7 +8,7 @@ use Rattle.numbers.specs.Tests.{lt_or_le}
 use Rattle.book.specs.Entry.{Entry, entries}
 use Rattle.book.specs.Ast.{Book}
 use Rattle.book.specs.Decode.{type_to, decode}
-use Rattle.book.specs.AgreeTy.{agrees_type_to}
+use Rattle.book.proofs.AgreeTy.{agrees_type_to}
 use Rattle.book_types.specs.Length.{len_of}
 use Rattle.book_types.specs.Laws.{len_got, len_fits, entries_part, length_entries}
 use Rattle.book_types.specs.declared.Length.{Length}

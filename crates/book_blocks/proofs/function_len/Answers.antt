@@ -7,8 +7,8 @@ use Rattle.book.specs.Read.{word, many, both}
 use Rattle.book.specs.Fields.{Item}
 use Rattle.book.specs.Decode.{name, type, item, basic_block, function}
 use Rattle.book.specs.Forbidden.{any, other_item, forbidden_block, forbidden_function}
-use Rattle.book.specs.AgreeInst.{agrees_name}
-use Rattle.book.specs.AgreeBook.{agrees_signature_and_blocks}
+use Rattle.book.proofs.AgreeInst.{agrees_name}
+use Rattle.book.proofs.AgreeBook.{agrees_signature_and_blocks}
 use Rattle.book_types.specs.Laws.{lent_from}
 use Rattle.book_types.specs.Found.{pair_test, never}
 use Rattle.book_values.specs.Items.{word_front}

@@ -6,8 +6,8 @@ use Rattle.book.specs.Read.{many}
 use Rattle.book.specs.Fields.{Item}
 use Rattle.book.specs.Decode.{item, basic_block}
 use Rattle.book.specs.Forbidden.{any, other_item, forbidden_block}
-use Rattle.book.specs.AgreeInst.{agrees_items}
-use Rattle.book.specs.AgreeBook.{agrees_blocks}
+use Rattle.book.proofs.AgreeInst.{agrees_items}
+use Rattle.book.proofs.AgreeBook.{agrees_blocks}
 use Rattle.book_types.specs.Laws.{lent_from}
 use Rattle.book_types.specs.Passes as passes
 use Rattle.book_blocks.proofs.params_and_blocks_len.Goals as goal

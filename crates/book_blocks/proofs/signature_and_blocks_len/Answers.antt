@@ -6,8 +6,8 @@ use Rattle.book.specs.Read.{many, both}
 use Rattle.book.specs.Fields.{Item}
 use Rattle.book.specs.Decode.{type, item, basic_block}
 use Rattle.book.specs.Forbidden.{any, other_item, forbidden_block}
-use Rattle.book.specs.AgreeTy.{agrees_type}
-use Rattle.book.specs.AgreeBook.{agrees_params_and_blocks}
+use Rattle.book.proofs.AgreeTy.{agrees_type}
+use Rattle.book.proofs.AgreeBook.{agrees_params_and_blocks}
 use Rattle.book_types.specs.Laws.{lent_from}
 use Rattle.book_types.specs.Found.{pair_test, never}
 use Rattle.book_types.specs.Passes as passes

@@ -4,8 +4,8 @@ use native.Mathlib.Omega.{arith}
 use Rattle.book.specs.Entry.{entries}
 use Rattle.book.specs.Read.{word, both}
 use Rattle.book.specs.Decode.{name, struct_body, struct_type}
-use Rattle.book.specs.AgreeInst.{agrees_name}
-use Rattle.book.specs.AgreeBook.{agrees_struct_body}
+use Rattle.book.proofs.AgreeInst.{agrees_name}
+use Rattle.book.proofs.AgreeBook.{agrees_struct_body}
 use Rattle.book_types.specs.Laws.{lent_from}
 use Rattle.book_types.specs.Found.{never}
 use Rattle.book_values.specs.Items.{word_front}

@@ -3,8 +3,8 @@ use mathlib.Core.Path.{refl, ◌∙◌, sym}
 use Rattle.book.specs.Read.{closing, is_closing}
 use Rattle.book.specs.Decode.{item as itemReader}
 use Rattle.book.specs.Forbidden.{other_item}
-use Rattle.book.specs.AgreeTy.{agrees_closing}
-use Rattle.book.specs.AgreeInst.{agrees_item}
+use Rattle.book.proofs.AgreeTy.{agrees_closing}
+use Rattle.book.proofs.AgreeInst.{agrees_item}
 use Rattle.book_values.specs.Items.{item_of}
 use Rattle.book_types.specs.Found.{never}
 use Rattle.book_types.specs.Passes as passes

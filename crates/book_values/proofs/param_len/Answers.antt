@@ -2,7 +2,7 @@
 use native.Mathlib.Omega.{arith}
 use Rattle.book.specs.Entry.{entries}
 use Rattle.book.specs.Decode.{type}
-use Rattle.book.specs.AgreeTy.{agrees_type}
+use Rattle.book.proofs.AgreeTy.{agrees_type}
 use Rattle.book_types.specs.Laws.{lent_from}
 use Rattle.book_types.specs.Found.{never}
 use Rattle.book_values.specs.Items.{atom_reader, atom_test}

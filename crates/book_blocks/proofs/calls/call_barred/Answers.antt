@@ -2,7 +2,7 @@
 use mathlib.Core.Path.{◌∙◌, sym}
 use native.Mathlib.Omega.{arith}
 use Rattle.book.specs.Entry.{entries}
-use Rattle.book.specs.AgreeTy.{agrees_type}
+use Rattle.book.proofs.AgreeTy.{agrees_type}
 use Rattle.book_types.specs.Laws.{len_fits, within_kinds, within_words}
 use Rattle.numbers.specs.Bits.{bit_at}
 use Rattle.book_blocks.specs.Calls as calls

@@ -4,7 +4,7 @@ use lib.ListN.{length}
 use Rattle.book.specs.Entry.{entries}
 use Rattle.book.specs.Read.{closing, is_closing}
 use Rattle.book.specs.Decode.{type_to}
-use Rattle.book.specs.AgreeTy.{agrees_closing, agrees_type_to}
+use Rattle.book.proofs.AgreeTy.{agrees_closing, agrees_type_to}
 use Rattle.book_types.specs.Passes as passes
 use Rattle.book_types.specs.Laws as laws
 use Rattle.book_types.specs.TypeLaws as types

@@ -1,7 +1,7 @@
 -- The book: decoder and encoder agree.
-use Rattle.std.specs.Prelude.{ℕ, ◌+◌, ◌-◌, ◌<◌, ◌↔◌, Bool, ◌&&◌, length, drop, ltb}
+use Rattle.std.specs.Prelude.{ℕ, ◌<◌, ◌↔◌, Bool, ◌&&◌, length, drop, ltb}
 use Rattle.std.proofs.Math.Path.{◌≡◌, refl, ap}
-use Rattle.std.proofs.Common.{sym, ◌∙◌, subst, arith}
+use Rattle.std.proofs.Common.{◌∙◌, subst, arith}
 use Rattle.std.proofs.Math.Bool.{true, false}
 use Rattle.std.proofs.Math.Option.{Option, none, some}
 use mathlib.Core.List.{List, [], ◌∷◌, ◌++◌, append-nil}
@@ -18,8 +18,10 @@ use Rattle.book.specs.Decode.{name, type, inst, term, body, basic_block, item, f
 use Rattle.book.specs.Encode.{ending, closed, enc_ty, enc_inst, enc_term, enc_basic_block, enc_param, enc_function, enc_functions, mark_entry, enc_mark, enc_body, enc_struct, encode}
 use Rattle.book.specs.Limits.{Each, TyLimits, NameLimits, InstLimits, TermLimits, BlockLimits, ParamLimits, FunctionLimits, FunctionsLimits, BodyLimits, StructLimits, Limits}
 use Rattle.book.specs.Agree.{Begins, Sound, Complete, Heads, Agrees, no_got, no_some, moved, when_some, entry_is, agrees_one, agrees_both, agrees_mapped, agrees_filtered, agrees_all}
-use Rattle.book.specs.AgreeTy.{find_every, agrees_many, agrees_type}
-use Rattle.book.specs.AgreeInst.{inst_found, term_found, agrees_name, agrees_items, agrees_inst, agrees_term}
+use Rattle.book.specs.AgreeTy.{find_every}
+use Rattle.book.proofs.AgreeTy.{agrees_many, agrees_type}
+use Rattle.book.specs.AgreeInst.{inst_found, term_found}
+use Rattle.book.proofs.AgreeInst.{agrees_name, agrees_items, agrees_inst, agrees_term}
 
 -- a function's entry stands in front
 abbrev pub Five : List Entry → Type 0

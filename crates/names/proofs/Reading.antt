@@ -1,5 +1,5 @@
 -- Bytes that are UTF-8 have one reading only.
-use Rattle.std.specs.Prelude.{ℕ, suc, ◌+◌, ◌-◌, ◌/◌, ◌≤◌, ◌<◌, ◌≡◌, refl, true, cond, List, [], ◌∷◌, ◌++◌, ltb, get_or, drop}
+use Rattle.std.specs.Prelude.{ℕ, suc, ◌+◌, ◌/◌, ◌≤◌, ◌<◌, ◌≡◌, refl, true, cond, List, [], ◌∷◌, ◌++◌, ltb, get_or, drop}
 use Rattle.std.proofs.Common.{sym, ap, ap₂, ◌∙◌}
 use Rattle.std.proofs.lemmas.Bool.{false≢true}
 use native.Mathlib.Omega.{arith}
@@ -8,7 +8,8 @@ use Rattle.names.specs.Utf8.{scalar, six, encode, every_scalar, encodes}
 use Rattle.names.specs.Tests.{both}
 use Rattle.names.specs.Lead.{tails}
 use Rattle.names.specs.Characters.{is_char}
-use Rattle.names.specs.Encoding.{by_range, by_scalar, encode_one, encode_two, encode_three, encode_four, tails_two, tails_three, tails_four, two, three, four, encoded_char}
+use Rattle.names.specs.Encoding.{by_range, by_scalar, encode_one, encode_two, encode_three, encode_four, tails_two, tails_three, tails_four, two, three, four}
+use Rattle.names.proofs.Encoding.{encoded_char}
 
 -- the number of the character that the bytes begin with
 abbrev number : ℕ → ℕ → ℕ → ℕ → ℕ

@@ -1,0 +1,4 @@
+pub mod AgreeTy
+pub mod AgreeInst
+pub mod AgreeBook
+pub mod AgreeInput

@@ -1,0 +1,4 @@
+pub mod Lead
+pub mod Characters
+pub mod Encoding
+pub mod Reading
