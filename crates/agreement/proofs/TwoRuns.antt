@@ -13,7 +13,7 @@ use Rattle.book.specs.Check.{Sound, checked}
 use Rattle.assembly.specs.Line.{Line}
 use Rattle.assembly.specs.Number.{kind_of, operand_of}
 use Rattle.assembly.specs.Printer.{lines_of}
-use Rattle.assembly.specs.Lists.{lines_of_numbers}
+use Rattle.assembly.proofs.Lists.{lines_of_numbers}
 use Rattle.machine.specs.Memory.{Memory}
 use Rattle.machine.specs.State.{World}
 use Rattle.machine.specs.Labels.{placed}

@@ -12,7 +12,8 @@ use Rattle.book.proofs.AgreeInput.{slice_sound}
 use Rattle.book.specs.Check.{Sound, checked}
 use Rattle.assembly.specs.Line.{Line}
 use Rattle.assembly.specs.Number.{kind_of, operand_of}
-use Rattle.assembly.specs.Lists.{AllAllowed, lines_of_numbers}
+use Rattle.assembly.specs.Lists.{AllAllowed}
+use Rattle.assembly.proofs.Lists.{lines_of_numbers}
 use Rattle.assembly.specs.Printer.{Printed, printed_number, refusing, writing, needed, headed, book_texts, print_lines, print}
 use Rattle.lowering.specs.Gen.{Out}
 use Rattle.lowering.specs.Context.{codegen_of}

@@ -1,7 +1,7 @@
 -- The slice of a sound book: how many entries and names it has, its kinds and its words.
 use Prim.Native.Nat.{ℕ, suc, ◌+◌, ◌-◌, ◌*◌, ◌≤◌}
 use Rattle.std.specs.Prelude.{◌≡◌, refl, Bool, ◌&&◌, leb, length, get_or, take, drop}
-use Rattle.std.proofs.Common.{ap, ◌∙◌, le_of_eq, length-drop, length-take, take_all}
+use Rattle.std.proofs.Common.{ap, le_of_eq, length-drop, length-take, take_all}
 use Rattle.std.proofs.Math.Path.{subst}
 use Rattle.std.proofs.Math.Bool.{true, false}
 use Rattle.std.proofs.lemmas.Bool.{false≢true}

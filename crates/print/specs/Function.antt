@@ -10,8 +10,8 @@ use Rattle.book.specs.Fields.{Item}
 use Rattle.book.specs.Encode.{ending, closed, enc_ty, enc_tys, enc_param}
 use Rattle.book.proofs.AgreeTy.{agrees_type}
 use Rattle.book.proofs.AgreeInst.{agrees_items, agrees_name}
-use Rattle.book.specs.Read.{Read, got, bad, Reader, and_then, one, word, both, mapped, many}
-use Rattle.book.specs.Decode.{name, type, type_to, item, function}
+use Rattle.book.specs.Read.{Read, got, bad, Reader, and_then, both, mapped, many}
+use Rattle.book.specs.Decode.{type_to, item, function}
 use Rattle.book_types.specs.Length.{len_of}
 use Rattle.book_types.specs.Found.{found_of}
 use Rattle.book_types.specs.Passes.{found_got, found_bad}

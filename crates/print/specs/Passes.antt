@@ -18,7 +18,7 @@ use Rattle.book.specs.Decode.{type_to, member, function_names}
 use Rattle.book.specs.Input.{names_in}
 use Rattle.assembly.specs.Line.{Line}
 use Rattle.assembly.specs.Number.{is_name, line_of}
-use Rattle.assembly.specs.Laws.{number_of_line}
+use Rattle.assembly.proofs.Laws.{number_of_line}
 use Rattle.assembly.specs.Text.{type_text, text}
 use Rattle.assembly.specs.Printer.{Printing, refusing, writing, needed, consed, lines_of, function_named, is_comment, of_block, headed, heading, texts_from, first, book_texts, print_lines}
 use Rattle.print_types.specs.Starts.{Sound}

@@ -12,7 +12,7 @@ use Rattle.book.specs.Ast.{BinOp, ICmpPred, Book, Function}
 use Rattle.assembly.specs.Line.{Line, Work, Mem, Narrow, Hint}
 use Rattle.assembly.specs.Number.{open_number, kind_of, operand_of, is_name, allowed, line_of}
 use Rattle.assembly.specs.Text.{work_text, mem_text, narrow_text, bin_text, icmp_text, hint_text, jump_text, hinted, plain, sized, with1, labelled, clean, type_text, block_text, comment_text, text}
-use Rattle.assembly.specs.Laws.{number_of_line}
+use Rattle.assembly.proofs.Laws.{number_of_line}
 use Rattle.assembly.specs.Printer.{consed}
 use Rattle.print_forms.specs.Forms.{number_form, name_form, form_of}
 use Rattle.print_words.specs.Ends.{is_label, ending, params_text}

@@ -8,7 +8,7 @@ use Rattle.book.specs.Check.{Sound, checked}
 use Rattle.assembly.specs.Line.{Line}
 use Rattle.assembly.specs.Number.{kind_of, operand_of}
 use Rattle.assembly.specs.Printer.{lines_of}
-use Rattle.assembly.specs.Lists.{lines_of_numbers}
+use Rattle.assembly.proofs.Lists.{lines_of_numbers}
 use Rattle.lowering.specs.Gen.{Out}
 use Rattle.lowering.proofs.AllowedFunction.{functions_allow}
 use Rattle.lowering.proofs.Printable.{checked_lent, take_over}
