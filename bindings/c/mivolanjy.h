@@ -1,4 +1,4 @@
-/* The functions of libexports.a, which `rt staticlib exports` writes to target/staticlib.
+/* The functions of libexports.a, which `tools/library` writes to target/staticlib.
 
    A lent slice is a pointer and the number of its elements. The pointer is never null, not even for a
    slice of length 0, and is aligned for its elements. What is written (work, kinds and operands of the

@@ -27,15 +27,22 @@ fn built() -> PathBuf {
     let root = PathBuf::from(std::env::var_os("CARGO_MANIFEST_DIR").expect("cargo sets it")).join("../..");
     let folder = root.join("target/staticlib");
     let library = folder.join("libexports.a");
-    let crates = root.join("crates");
-    println!("cargo:rerun-if-changed={}", crates.display());
+    let sources = sources(&root.join("crates"));
+    sources.iter().for_each(|folder| println!("cargo:rerun-if-changed={}", folder.display()));
     if !library.is_file() {
         let status = Command::new(root.join("tools/library")).current_dir(&root).status();
         assert!(status.is_ok_and(|status| status.success()), "`tools/library` did not build the library");
-    } else if changed(&library) < newest(&crates) {
+    } else if changed(&library) < sources.iter().filter_map(|folder| newest(folder)).max() {
         println!("cargo:warning=target/staticlib/libexports.a is older than crates/: tools/library makes it anew");
     }
     folder
+}
+
+/// The folders of the crates that code and proofs stand in.
+fn sources(crates: &Path) -> Vec<PathBuf> {
+    let entries = crates.read_dir().into_iter().flatten().filter_map(|entry| Some(entry.ok()?.path()));
+    let folders = entries.flat_map(|path| ["src", "specs", "proofs"].map(|name| path.join(name)));
+    folders.filter(|folder| folder.is_dir()).collect()
 }
 
 fn changed(file: &Path) -> Option<SystemTime> {

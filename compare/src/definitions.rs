@@ -12,7 +12,7 @@ const SCRATCH: Scratch = Scratch {
     module: None,
     head: HEAD,
     per_file: 20,
-    unfolding: "openSheet",
+    unfolding: "open_sheet",
 };
 
 /// Longer books take long to compute.
@@ -117,10 +117,8 @@ fn number(case: &Case) -> usize {
     }
 }
 
-const HEAD: &str = "use Prim.Native.Nat.{ℕ}
-use mathlib.Core.Path.{_≡_, refl}
-use mathlib.Core.List.{List, [], _∷_}
-use Rattle·lowering.specs.Sheet.{Answer, answerIn, openSheet}
+const HEAD: &str = "use Rattle.std.specs.Prelude.{◌≡◌, refl, [], ◌∷◌}
+use Rattle.lowering.specs.Sheet.{Answer, answer_in, open_sheet}
 ";
 
 /// The slices are exactly full where the book is accepted.
@@ -132,7 +130,7 @@ fn equation(case: &Case) -> String {
         Says::Refusal(number) => (ROOM, 1, format!("Answer.refusal {number}")),
     };
     format!(
-        "answerIn {} {lines} {bytes}\n    ({})\n    ({})\n    {}\n    ≡ {says}",
+        "answer_in {} {lines} {bytes}\n    ({})\n    ({})\n    {}\n    ≡ {says}",
         case.lent.work,
         numbers(case.lent.slices.book.iter().copied()),
         numbers(case.lent.slices.names.iter().map(|byte| *byte as u64)),

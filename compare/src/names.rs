@@ -174,15 +174,13 @@ const SCRATCH: Scratch = Scratch {
     name: "names",
     crates: &["names"],
     module: None,
-    head: "use Prim.Native.Nat.{ℕ}
-use mathlib.Core.Path.{_≡_, refl}
-use mathlib.Core.List.{List, [], _∷_}
-use Rattle·names.specs.Text.{openText}
-use Rattle·names.specs.Name.{openName}
-use Rattle·names.specs.Compare.{Order, order, steps, openCompare}
+    head: "use Rattle.std.specs.Prelude.{ℕ, ◌≡◌, refl, [], ◌∷◌}
+use Rattle.names.specs.Text.{open_text}
+use Rattle.names.specs.Name.{open_name}
+use Rattle.names.specs.Compare.{Order, order, steps, open_compare}
 ",
     per_file: 50,
-    unfolding: "openText openName openCompare",
+    unfolding: "open_text open_name open_compare",
 };
 
 /// Whether the definition gives the order and steps owed, by computation.
@@ -192,7 +190,7 @@ pub fn definitions(seed: u64, count: u64) -> Result<(), String> {
     let equation = |[a, b]: &[Name; 2]| {
         let (order, steps) = (format!("{:?}", a.cmp(b)).to_lowercase(), steps(a, b));
         let (a, b) = (list(a), list(b));
-        format!("_≡_ {{A = Order × ℕ}} (order ({a}) ({b}), steps ({a}) ({b})) (Order.{order}, {steps})")
+        format!("◌≡◌ {{A = Order × ℕ}} (order ({a}) ({b}), steps ({a}) ({b})) (Order.{order}, {steps})")
     };
     let differing = SCRATCH.differing(&pairs.iter().map(equation).collect::<Vec<_>>())?;
     println!("{count} pairs, {} agreed", count as usize - differing.len());

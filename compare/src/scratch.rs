@@ -38,7 +38,7 @@ impl Scratch<'_> {
         let specs = crates.join("equations/specs");
         fs::create_dir_all(&specs)?;
         fs::create_dir_all(crates.join("equations/src"))?;
-        fs::write(crates.join("equations/src/lib.rt"), "// equations\n")?;
+        fs::write(crates.join("equations/src/lib.rt"), "#![tactic(auto)]\n// Equations.\n")?;
         let all = fs::read_to_string(root.join("crates.txt"))?;
         let needed = needed(&all, self.crates);
         for name in &needed {
@@ -78,7 +78,7 @@ fn root() -> Result<PathBuf, String> {
 
 /// The crates of a list, each with its line.
 fn listed(all: &str) -> impl Iterator<Item = (&str, &str)> {
-    all.lines().filter(|line| !line.starts_with('#')).filter_map(|line| Some((line.split_once(':')?.0, line)))
+    all.lines().filter(|line| !line.starts_with('#')).filter_map(|line| Some((line.split_once(':')?.0.split_whitespace().next()?, line)))
 }
 
 /// These crates and all that they rest on.
@@ -98,6 +98,10 @@ fn copy_folder(from: &Path, to: &Path) -> std::io::Result<()> {
     fs::create_dir_all(to)?;
     for entry in fs::read_dir(from)? {
         let entry = entry?;
+        // What `rt` has made of a crate stays behind.
+        if entry.file_name() == "out" {
+            continue;
+        }
         let target = to.join(entry.file_name());
         if entry.file_type()?.is_dir() {
             copy_folder(&entry.path(), &target)?;
@@ -121,8 +125,8 @@ pub fn numbers(items: impl Iterator<Item = u64>) -> String {
 fn check(folder: &Path, count: usize) -> Result<Vec<usize>, String> {
     let rt = std::env::var("RT").unwrap_or_else(|_| "rt".to_string());
     let output = Command::new(&rt)
-        .args(["dev", "equations"])
-        .current_dir(folder)
+        .arg("check")
+        .current_dir(folder.join("crates/equations"))
         .output()
         .map_err(|error| format!("{rt}: {error}"))?;
     let log = [output.stdout, output.stderr].concat();

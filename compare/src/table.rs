@@ -76,20 +76,19 @@ pub fn says(answer: &Expected) -> Option<String> {
 /// A file with one table of this name and one theorem, and the same again for books at the largest counter, if there are any; `head` stands
 /// over it.
 pub fn named(head: &str, name: &str, rows: &[Row], largest: &[Row]) -> String {
-    let power = if largest.is_empty() { "" } else { "use Prim.Native.Nat.{_^_}\n" };
-    let at = if largest.is_empty() { "" } else { " answersAt," };
+    let power = if largest.is_empty() { "" } else { "◌^◌, " };
+    let at = if largest.is_empty() { "" } else { " answers_at," };
     let file = format!(
-        "{head}{power}use mathlib.Core.Path.{{_≡_, refl}}
-use mathlib.Core.List.{{List, [], _∷_, map}}
-use Rattle·assembly.specs.Cases.{{unlines}}
-use Rattle·lowering·specs.specs.Sheet.{{Sheet, Answer,{at} answers, saysOf, openSheet}}
+        "{head}use Rattle.std.specs.Prelude.{{{power}◌≡◌, refl, List, [], ◌∷◌, map}}
+use Rattle.assembly.specs.Cases.{{unlines}}
+use Rattle.lowering.specs.Sheet.{{Sheet, Answer,{at} answers, says_of, open_sheet}}
 "
     );
     let first = theorem(name, "answers", rows);
     if largest.is_empty() {
         return file + &first;
     }
-    file + &first + "\n-- at the largest counter, so that only a later function begins above it" + &theorem("largest", "(answersAt (2 ^ 32))", largest)
+    file + &first + "\n-- at the largest counter, so that only a later function begins above it" + &theorem("largest", "(answers_at (2 ^ 32))", largest)
 }
 
 /// A table, and the theorem that its books have these answers.
@@ -98,7 +97,7 @@ fn theorem(name: &str, answers: &str, rows: &[Row]) -> String {
     rows.iter().for_each(|row| sheet(&mut table, &row.title, &row.slices, &row.says));
     let _ = write!(
         table,
-        "    []\n\npub {name}-hold : map {answers} {name} ≡ map saysOf {name}\nunfolding openSheet {name}\n{name}-hold = refl\n"
+        "    []\n\npub {name}_hold : map {answers} {name} ≡ map says_of {name}\nunfolding open_sheet {name}\n{name}_hold = refl\n"
     );
     table
 }

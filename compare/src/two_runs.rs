@@ -40,7 +40,7 @@ const SCRATCH: Scratch = Scratch {
     module: Some(("Show", equations::SHOW)),
     head: equations::HEAD,
     per_file: 10,
-    unfolding: "openShow",
+    unfolding: "open_show",
 };
 
 /// A run by its names: the book's seed and index, the function's place in it, the input's number.

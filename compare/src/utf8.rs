@@ -119,17 +119,14 @@ const SCRATCH: Scratch = Scratch {
     name: "utf8",
     crates: &["names"],
     module: None,
-    head: "use Prim.Native.Nat.{ℕ}
-use mathlib.Core.Bool.{Bool, true, false}
-use mathlib.Core.Path.{_≡_, refl}
-use mathlib.Core.List.{List, [], _∷_}
-use Rattle·names.specs.Text.{openText}
-use Rattle·names.specs.Utf8.{wellFormed, openUtf8}
-use Rattle·names.specs.Name.{accepted, openName}
-use Rattle·names.specs.Spelling.{sanitize, openSpelling}
+    head: "use Rattle.std.specs.Prelude.{Bool, true, false, ◌≡◌, refl, [], ◌∷◌}
+use Rattle.names.specs.Text.{open_text}
+use Rattle.names.specs.Utf8.{well_formed, open_utf8}
+use Rattle.names.specs.Name.{accepted, open_name}
+use Rattle.names.specs.Spelling.{sanitize, open_spelling}
 ",
     per_file: 50,
-    unfolding: "openText openUtf8 openName openSpelling",
+    unfolding: "open_text open_utf8 open_name open_spelling",
 };
 
 /// Up to some twenty bytes, none of them 10: a first byte with others at the bounds behind it, or characters with ill-formed bytes among them.
@@ -157,7 +154,7 @@ fn equations(bytes: &[u8]) -> Vec<String> {
     let text = std::str::from_utf8(bytes).ok();
     let (here, line) = (list(bytes), list(&[bytes, b"\n"].concat()));
     let (formed, named) = (text.is_some(), check::name(bytes).is_some());
-    let tests = format!("_≡_ {{A = Bool × Bool}} (wellFormed ({here}), accepted ({line}) 1) ({formed}, {named})");
+    let tests = format!("◌≡◌ {{A = Bool × Bool}} (well_formed ({here}), accepted ({line}) 1) ({formed}, {named})");
     let spelling = text.map(|text| format!("sanitize ({here}) ≡ ({})", list(sanitize(text).as_bytes())));
     [tests].into_iter().chain(spelling).collect()
 }

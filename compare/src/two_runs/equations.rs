@@ -11,12 +11,9 @@ use std::fmt::Write as _;
 /// What the definitions are asked, over the crates' own.
 pub const SHOW: &str = include_str!("show.txt");
 
-pub const HEAD: &str = "use Prim.Native.Nat.{ℕ}
-use mathlib.Core.Bool.{Bool, true, false}
-use mathlib.Core.Path.{_≡_, refl}
-use mathlib.Core.List.{List, [], _∷_}
-use Rattle·machine.specs.State.{Target, Call, Shape}
-use Rattle·equations·specs.specs.Show.{Bytes, Input, Seen, Shown, called, show, agreed, openShow}
+pub const HEAD: &str = "use Rattle.std.specs.Prelude.{ℕ, Bool, true, false, ◌≡◌, refl, List, [], ◌∷◌}
+use Rattle.machine.specs.State.{Target, Call, Shape}
+use Rattle.equations.specs.Show.{Bytes, Input, Seen, Shown, called, show, agreed, open_show}
 ";
 
 /// Addresses at which the memories are compared.

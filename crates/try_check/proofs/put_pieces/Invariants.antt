@@ -1,0 +1,11 @@
+-- Each piece leaves the slices as long as they were; what is left of the line falls.
+use Prim.Native.Nat.{◌-◌}
+use mathlib.Core.Path.{◌≡◌}
+use lib.ListN.{length}
+use Rattle.try_check.proofs.put_pieces.Given as goal
+
+abbrev pub invariant-loop-at : goal.invariant-loop-at
+invariant-loop-at l = (length l.kinds ≡ length l.initial.kinds) × (length l.words ≡ length l.initial.words)
+
+abbrev pub decreases-loop-at : goal.decreases-loop-at
+decreases-loop-at l = length l.line - l.at
