@@ -98,17 +98,14 @@ shape_of-operands c =
 
 pub returns : goal.returns
 returns c = λ p k fields maps.
-    let after-skip = c in
-    let after-slot-of = after-skip.before in
-    let entry = c in
-    let ks = entry.args.kinds.now in
-    let ws = entry.args.words.now in
-    let m = entry.args.names in
-    let at = after-skip.skip.result in
-    let address = places.behind ks ws 0 fields (places.from_front after-skip.skip.ensures) in
+    let ks = c.args.kinds.now in
+    let ws = c.args.words.now in
+    let m = c.args.names in
+    let at = c.skip-ptr.result in
+    let address = places.behind ks ws 0 fields (places.from_front c.skip-ptr.ensures) in
     let compared = behind_value ks ws at address in
     let stored = behind_value ks ws (at + 1) compared in
-    laws.cmpxchg_puts k p.1.0 p.1.1.0 p.1.1.1.0 _ (after-slot-of.slot_of.ensures m k entry.pre.result maps)
+    laws.cmpxchg_puts k p.1.0 p.1.1.0 p.1.1.1.0 _ (c.slot_of-own.ensures m k c.requires.result maps)
     (c.push_value-address.ensures m k p.1.0 (value_part (value_at ks ws at address)) maps)
     (c.push_value-compared.ensures m k p.1.1.0 (value_part (value_at ks ws (at + 1) compared)) maps)
     (c.push_value-new.ensures m k p.1.1.1.0 (value_part (value_at ks ws (at + 1 + 1) stored)) maps) c.put-found.ensures

@@ -5,7 +5,7 @@ use native.Mathlib.Omega.{arith}
 use Rattle.names.specs.Text.{bytes}
 use Rattle.gen_marks.proofs.Scan.{look_start, look_here, look_end, look_later, look_other}
 use Rattle.gen_marks.proofs.overflows.Goals as goal
-use Rattle.gen_marks.proofs.overflows.Goals.{then-names-i-eq46, else-names-i-eq46}
+use Rattle.gen_marks.proofs.overflows.Goals.{then-names-i-eq46+else-name_starts, else-names-i-eq46}
 
 pub overflow_sub-end : goal.overflow_sub-end
 overflow_sub-end c = omega (arith, c.requires.ends)
@@ -34,7 +34,7 @@ pub loop-i-preserved : goal.loop-i-preserved
 unfolding bytes
 loop-i-preserved c =
     elim c.if-names-i-eq46.branch [
-      then-names-i-eq46 w ↦ look_later c.loop-i.invariant (omega (arith, c.loop-i-test.true)) (sym w.name_starts.ensures ∙ w.if-name_starts.false)
+      then-names-i-eq46+else-name_starts w ↦ look_later c.loop-i.invariant (omega (arith, c.loop-i-test.true)) (sym w.name_starts.ensures ∙ w.if-name_starts.false)
     | else-names-i-eq46 w ↦ look_other c.loop-i.invariant (omega (arith, c.loop-i-test.true)) w.if-names-i-eq46.false
     ]
 
