@@ -12,35 +12,34 @@ measured_size-size-requires c =
     lent.measurable c.args.kinds.now c.args.words.now c.requires
 
 pub offset_bounds-kinds-at : goal.offset_bounds-kinds-at
-offset_bounds-kinds-at c = omega (arith, (places.typed_value c.args.kinds.now c.args.words.now 0 c.requires.fields (places.from_front c.skip-at.ensures)).in_kinds, c.well_formed)
+offset_bounds-kinds-at c = omega (arith, ((places.typed_value c.args.kinds.now c.args.words.now 0 c.requires.fields (places.from_front c.skip-at.ensures))).in_kinds, c.well_formed)
 
 pub slice_bounds-ptr_kinds-count : goal.slice_bounds-ptr_kinds-count
-slice_bounds-ptr_kinds-count c = omega (arith, (places.typed_value c.args.kinds.now c.args.words.now 0 c.requires.fields (places.from_front c.skip-at.ensures)).in_kinds)
+slice_bounds-ptr_kinds-count c = omega (arith, ((places.typed_value c.args.kinds.now c.args.words.now 0 c.requires.fields (places.from_front c.skip-at.ensures))).in_kinds)
 
 pub slice_bounds-ptr_kinds-start : goal.slice_bounds-ptr_kinds-start
-slice_bounds-ptr_kinds-start c = omega (arith, (places.typed_value c.args.kinds.now c.args.words.now 0 c.requires.fields (places.from_front c.skip-at.ensures)).in_kinds)
+slice_bounds-ptr_kinds-start c = omega (arith, ((places.typed_value c.args.kinds.now c.args.words.now 0 c.requires.fields (places.from_front c.skip-at.ensures))).in_kinds)
 
 pub offset_bounds-words-at : goal.offset_bounds-words-at
-offset_bounds-words-at c = omega (arith, (places.typed_value c.args.kinds.now c.args.words.now 0 c.requires.fields (places.from_front c.skip-at.ensures)).in_words, c.well_formed)
+offset_bounds-words-at c = omega (arith, ((places.typed_value c.args.kinds.now c.args.words.now 0 c.requires.fields (places.from_front c.skip-at.ensures))).in_words, c.well_formed)
 
 pub slice_bounds-ptr_words-count : goal.slice_bounds-ptr_words-count
-slice_bounds-ptr_words-count c = omega (arith, (places.typed_value c.args.kinds.now c.args.words.now 0 c.requires.fields (places.from_front c.skip-at.ensures)).in_words)
+slice_bounds-ptr_words-count c = omega (arith, ((places.typed_value c.args.kinds.now c.args.words.now 0 c.requires.fields (places.from_front c.skip-at.ensures))).in_words)
 
 pub slice_bounds-ptr_words-start : goal.slice_bounds-ptr_words-start
-slice_bounds-ptr_words-start c = omega (arith, (places.typed_value c.args.kinds.now c.args.words.now 0 c.requires.fields (places.from_front c.skip-at.ensures)).in_words)
+slice_bounds-ptr_words-start c = omega (arith, ((places.typed_value c.args.kinds.now c.args.words.now 0 c.requires.fields (places.from_front c.skip-at.ensures))).in_words)
 
 pub push_value-address-requires : goal.push_value-address-requires
 push_value-address-requires c =
-    operand_part (operand_at (places.typed_value c.args.kinds.now c.args.words.now 0 c.requires.fields (places.from_front c.skip-at.ensures)) c.measured_size-size.ensures.after.ready.room)
+    operand_part (operand_at ((places.typed_value c.args.kinds.now c.args.words.now 0 c.requires.fields (places.from_front c.skip-at.ensures))) c.measured_size-size.ensures.after.ready.room)
 
 pub returns : goal.returns
 returns c = λ p k fields maps.
-    let entry = c in
-    let ks = entry.args.kinds.now in
-    let ws = entry.args.words.now in
+    let ks = c.args.kinds.now in
+    let ws = c.args.words.now in
     let size = c.measured_size-size.ensures in
     let locals = (maps_after maps size.after).locals in
     lent.did maps size.after
     (laws.load_puts k p.0 p.1.0 (lent.size_asked ks ws fields maps size) c.mem_of-width.ensures
-    (c.push_value-address.ensures entry.args.names k p.1.0 (value_part (places.typed_value ks ws 0 fields (places.from_front c.skip-at.ensures))) locals)
+    (c.push_value-address.ensures c.args.names k p.1.0 (value_part (places.typed_value ks ws 0 fields (places.from_front c.skip-at.ensures))) locals)
     c.put.ensures)

@@ -13,34 +13,33 @@ measured_size-size-requires c =
     lent.measurable c.args.kinds.now c.args.words.now c.requires
 
 pub overflow_add-ptr : goal.overflow_add-ptr
-overflow_add-ptr c = omega (arith, (places.typed_value c.args.kinds.now c.args.words.now 0 c.requires.fields (places.from_front c.skip-at.ensures)).in_kinds, c.well_formed)
+overflow_add-ptr c = omega (arith, ((places.typed_value c.args.kinds.now c.args.words.now 0 c.requires.fields (places.from_front c.skip-at.ensures))).in_kinds, c.well_formed)
 
 pub offset_bounds-kinds-ptr : goal.offset_bounds-kinds-ptr
-offset_bounds-kinds-ptr c = omega (arith, (let ks = c.args.kinds.now in let ws = c.args.words.now in value_at ks ws (c.skip-at.result + 1) (behind_value ks ws c.skip-at.result (places.behind ks ws 0 c.requires.fields (places.from_front c.skip-at.ensures)))).in_kinds, c.well_formed)
+offset_bounds-kinds-ptr c = omega (arith, ((let ks = c.args.kinds.now in let ws = c.args.words.now in value_at ks ws (c.skip-at.result + 1) (behind_value ks ws c.skip-at.result (places.behind ks ws 0 c.requires.fields (places.from_front c.skip-at.ensures))))).in_kinds, c.well_formed)
 
 pub slice_bounds-ptr_kinds-count : goal.slice_bounds-ptr_kinds-count
-slice_bounds-ptr_kinds-count c = omega (arith, (let ks = c.args.kinds.now in let ws = c.args.words.now in value_at ks ws (c.skip-at.result + 1) (behind_value ks ws c.skip-at.result (places.behind ks ws 0 c.requires.fields (places.from_front c.skip-at.ensures)))).in_kinds)
+slice_bounds-ptr_kinds-count c = omega (arith, ((let ks = c.args.kinds.now in let ws = c.args.words.now in value_at ks ws (c.skip-at.result + 1) (behind_value ks ws c.skip-at.result (places.behind ks ws 0 c.requires.fields (places.from_front c.skip-at.ensures))))).in_kinds)
 
 pub slice_bounds-ptr_kinds-start : goal.slice_bounds-ptr_kinds-start
-slice_bounds-ptr_kinds-start c = omega (arith, (let ks = c.args.kinds.now in let ws = c.args.words.now in value_at ks ws (c.skip-at.result + 1) (behind_value ks ws c.skip-at.result (places.behind ks ws 0 c.requires.fields (places.from_front c.skip-at.ensures)))).in_kinds)
+slice_bounds-ptr_kinds-start c = omega (arith, ((let ks = c.args.kinds.now in let ws = c.args.words.now in value_at ks ws (c.skip-at.result + 1) (behind_value ks ws c.skip-at.result (places.behind ks ws 0 c.requires.fields (places.from_front c.skip-at.ensures))))).in_kinds)
 
 pub offset_bounds-words-ptr : goal.offset_bounds-words-ptr
-offset_bounds-words-ptr c = omega (arith, (let ks = c.args.kinds.now in let ws = c.args.words.now in value_at ks ws (c.skip-at.result + 1) (behind_value ks ws c.skip-at.result (places.behind ks ws 0 c.requires.fields (places.from_front c.skip-at.ensures)))).in_words, c.well_formed)
+offset_bounds-words-ptr c = omega (arith, ((let ks = c.args.kinds.now in let ws = c.args.words.now in value_at ks ws (c.skip-at.result + 1) (behind_value ks ws c.skip-at.result (places.behind ks ws 0 c.requires.fields (places.from_front c.skip-at.ensures))))).in_words, c.well_formed)
 
 pub slice_bounds-ptr_words-count : goal.slice_bounds-ptr_words-count
-slice_bounds-ptr_words-count c = omega (arith, (let ks = c.args.kinds.now in let ws = c.args.words.now in value_at ks ws (c.skip-at.result + 1) (behind_value ks ws c.skip-at.result (places.behind ks ws 0 c.requires.fields (places.from_front c.skip-at.ensures)))).in_words)
+slice_bounds-ptr_words-count c = omega (arith, ((let ks = c.args.kinds.now in let ws = c.args.words.now in value_at ks ws (c.skip-at.result + 1) (behind_value ks ws c.skip-at.result (places.behind ks ws 0 c.requires.fields (places.from_front c.skip-at.ensures))))).in_words)
 
 pub slice_bounds-ptr_words-start : goal.slice_bounds-ptr_words-start
-slice_bounds-ptr_words-start c = omega (arith, (let ks = c.args.kinds.now in let ws = c.args.words.now in value_at ks ws (c.skip-at.result + 1) (behind_value ks ws c.skip-at.result (places.behind ks ws 0 c.requires.fields (places.from_front c.skip-at.ensures)))).in_words)
+slice_bounds-ptr_words-start c = omega (arith, ((let ks = c.args.kinds.now in let ws = c.args.words.now in value_at ks ws (c.skip-at.result + 1) (behind_value ks ws c.skip-at.result (places.behind ks ws 0 c.requires.fields (places.from_front c.skip-at.ensures))))).in_words)
 
 pub push_value-address-requires : goal.push_value-address-requires
 push_value-address-requires c =
-    operand_part (operand_at (let ks = c.args.kinds.now in let ws = c.args.words.now in value_at ks ws (c.skip-at.result + 1) (behind_value ks ws c.skip-at.result (places.behind ks ws 0 c.requires.fields (places.from_front c.skip-at.ensures)))) c.measured_size-size.ensures.after.ready.room)
+    operand_part (operand_at ((let ks = c.args.kinds.now in let ws = c.args.words.now in value_at ks ws (c.skip-at.result + 1) (behind_value ks ws c.skip-at.result (places.behind ks ws 0 c.requires.fields (places.from_front c.skip-at.ensures))))) c.measured_size-size.ensures.after.ready.room)
 
 pub push_typed-value-requires : goal.push_typed-value-requires
 push_typed-value-requires c =
-    let entry = c in
-    places.typed_at entry.args.kinds.now entry.args.words.now 0 entry.pre.fields (places.from_front c.skip-at.ensures)
+    places.typed_at c.args.kinds.now c.args.words.now 0 c.requires.fields (places.from_front c.skip-at.ensures)
     c.measured_size-size.ensures.after.ready.room
 
 pub overflow_add-width : goal.overflow_add-width
@@ -53,14 +52,13 @@ shape_of-work c =
 
 pub returns : goal.returns
 returns c = λ p k fields maps.
-    let entry = c in
-    let ks = entry.args.kinds.now in
-    let ws = entry.args.words.now in
+    let ks = c.args.kinds.now in
+    let ws = c.args.words.now in
     let at = c.skip-at.result in
     let size = c.measured_size-size.ensures in
     let locals = (maps_after maps size.after).locals in
     let value = places.behind ks ws 0 fields (places.from_front c.skip-at.ensures) in
     lent.did maps size.after
     (laws.store_puts k p.0 p.1.0 p.1.1.0 (lent.size_asked ks ws fields maps size) c.mem_of-width.ensures
-    (c.push_value-address.ensures entry.args.names k p.1.1.0 (value_part (value_at ks ws (at + 1) (behind_value ks ws at value))) locals)
-    (c.push_typed-value.ensures entry.args.names k _ p fields c.skip-at.ensures locals) c.put.ensures)
+    (c.push_value-address.ensures c.args.names k p.1.1.0 (value_part (value_at ks ws (at + 1) (behind_value ks ws at value))) locals)
+    (c.push_typed-value.ensures c.args.names k _ p fields c.skip-at.ensures locals) c.put.ensures)

@@ -30,19 +30,19 @@ pub returns-then-kinds-eq-ABSENT : goal.returns-then-kinds-eq-ABSENT
 returns-then-kinds-eq-ABSENT c = λ k cond x y fields maps.
     let a = c.args in
     let at = br_at a.kinds.now a.words.now cond x y fields in
-    laws.plain_puts k a.pred x y (at.plain c.if-kinds-eq-ABSENT.taken) (rw (sym at.true_is) (c.edge.ensures k maps))
+    laws.plain_puts k a.pred x y (at.plain c.if-kinds-eq-ABSENT.true) (rw (sym at.true_is) (c.edge.ensures k maps))
 
 -- src/lib.rt:152:5
 pub gen_cond_br-requires : goal.gen_cond_br-requires
 gen_cond_br-requires c =
     let a = c.args in
     let at = br_at a.kinds.now a.words.now c.requires.cond c.requires.if_true c.requires.if_false c.requires.fields in
-    laws.cond_ask c.requires (at.tested c.if-kinds-eq-ABSENT.left).1
+    laws.cond_ask c.requires (at.tested c.if-kinds-eq-ABSENT.false).1
 
 -- src/lib.rt:129:1
 pub returns : goal.returns
 returns c = λ k cond x y fields maps.
     let a = c.args in
     let at = br_at a.kinds.now a.words.now cond x y fields in
-    let value = at.tested c.if-kinds-eq-ABSENT.left in
+    let value = at.tested c.if-kinds-eq-ABSENT.false in
     laws.tested_puts k a.pred x y value.0 value.1 (c.gen_cond_br.ensures k value.0 x y (laws.cond_fields cond value.0 value.1 fields) maps)

@@ -20,7 +20,7 @@ returns-then-kinds-eq-ABSENT c = λ k v x y fields maps.
     let ks = a.kinds.now in
     let ws = a.words.now in
     let is = br_at ks ws _ x y fields in
-    laws.one_way_puts k a.pred x y v (is.one_way c.if-kinds-eq-ABSENT.taken) a.s a.lines.now a.operands.now c.refuse.ensures
+    laws.one_way_puts k a.pred x y v (is.one_way c.if-kinds-eq-ABSENT.true) a.s a.lines.now a.operands.now c.refuse.ensures
 
 pub slice_bounds-push_value-count : goal.slice_bounds-push_value-count
 slice_bounds-push_value-count c =
@@ -108,15 +108,15 @@ edge-requires c =
     let ks = a.kinds.now in
     let ws = a.words.now in
     let br = br_at ks ws _ c.requires.if_true c.requires.if_false c.requires.fields in
-    record { ctx = c.requires.ctx; maps = c.requires.maps; target = (br.both_ways c.if-kinds-eq-ABSENT.left).1 }
+    record { ctx = c.requires.ctx; maps = c.requires.maps; target = (br.both_ways c.if-kinds-eq-ABSENT.false).1 }
 
 pub shape_of-lines : goal.shape_of-lines
 shape_of-lines c =
-    c.edge.kept.1.1.1.1.1.1.0 ∙ c.put-labelled.kept.0 ∙ c.edge-gone.kept.1.1.1.1.1.1.0 ∙ c.put-jumped.kept.0 ∙ c.push_value-pushed.kept.1.1.1.1.0
+    c.edge.auto.lines ∙ c.put-labelled.auto.lines ∙ c.edge-gone.auto.lines ∙ c.put-jumped.auto.lines ∙ c.push_value-pushed.auto.lines
 
 pub shape_of-operands : goal.shape_of-operands
 shape_of-operands c =
-    c.edge.kept.1.1.1.1.1.1.1.0 ∙ c.put-labelled.kept.1.0 ∙ c.edge-gone.kept.1.1.1.1.1.1.1.0 ∙ c.put-jumped.kept.1.0 ∙ c.push_value-pushed.kept.1.1.1.1.1.0
+    c.edge.auto.operands ∙ c.put-labelled.auto.operands ∙ c.edge-gone.auto.operands ∙ c.put-jumped.auto.operands ∙ c.push_value-pushed.auto.operands
 
 pub returns : goal.returns
 returns c = λ k v x y fields maps.
@@ -126,5 +126,5 @@ returns c = λ k v x y fields maps.
     let m = a.names in
     let is = br_at ks ws _ x y fields in
     let push = c.push_value-pushed.ensures m k v (value_part (cond_at ks ws fields)) maps.locals in
-    laws.both_ways_puts k a.pred x y v _ (is.both_ways c.if-kinds-eq-ABSENT.left).0 push c.fresh-made.ensures c.word-label.ensures.0 c.word-label.ensures.1
+    laws.both_ways_puts k a.pred x y v _ (is.both_ways c.if-kinds-eq-ABSENT.false).0 push c.fresh-made.ensures c.word-label.ensures.0 c.word-label.ensures.1
     c.put-jumped.ensures (rw is.true_is at (c.edge-gone.ensures k maps)) c.put-labelled.ensures (c.edge.ensures k maps)

@@ -10,11 +10,11 @@ use Rattle.gen_term.specs.Switches.{CaseWalk, CasesLeft}
 use Rattle.gen_term.proofs.switch.case_edges.Given as goal
 
 abbrev pub invariant-loop-at : goal.invariant-loop-at
-invariant-loop-at l =
-    ((cs : List Case) → Cases l.names cs (entries l.kinds l.words) → CasesLeft l.names l.kinds l.words l.at)
-    × (length l.lines ≡ length l.initial.lines) × (length l.operands ≡ length l.initial.operands)
-    × ((c : FnCtx) (l : ℕ) (cs : List Case) → Maps l.names (entries l.book_kinds l.book_words) c l.work → Cases l.names cs (entries l.kinds l.words) → l.first ≡ l % 2 ^ 64
-    → CaseWalk (case_edges c l.pred) l.names l.kinds l.words l cs l.at l.label l.initial.reached l.reached l.initial.lines l.initial.operands l.lines l.operands)
+invariant-loop-at here =
+    ((cs : List Case) → Cases here.names cs (entries here.kinds here.words) → CasesLeft here.names here.kinds here.words here.at)
+    × (length here.lines ≡ length here.initial.lines) × (length here.operands ≡ length here.initial.operands)
+    × ((c : FnCtx) (l : ℕ) (cs : List Case) → Maps here.names (entries here.book_kinds here.book_words) c here.work → Cases here.names cs (entries here.kinds here.words) → here.first ≡ l % 2 ^ 64
+    → CaseWalk (case_edges c here.pred) here.names here.kinds here.words l cs here.at here.label here.initial.reached here.reached here.initial.lines here.initial.operands here.lines here.operands)
 
 abbrev pub decreases-loop-at : goal.decreases-loop-at
 decreases-loop-at l =

@@ -11,11 +11,11 @@ use Rattle.gen_term.specs.Switches.{CaseWalk, CasesLeft}
 use Rattle.gen_term.proofs.switch.case_tests.Given as goal
 
 abbrev pub invariant-loop-at : goal.invariant-loop-at
-invariant-loop-at l =
-    ((m : ℕ) (cs : List Case) → Cases m cs (entries l.case_kinds l.case_words) → CasesLeft m l.case_kinds l.case_words l.at)
-    × (length l.lines ≡ length l.initial.lines) × (length l.operands ≡ length l.initial.operands)
-    × ((m : ℕ) (c : FnCtx) (v : Value) (l : ℕ) (cs : List Case) → ValueAt m l.kinds l.words 0 v → Locals c m l.work → Cases m cs (entries l.case_kinds l.case_words) → l.first ≡ l % 2 ^ 64
-    → CaseWalk (case_tests c l.width v) m l.case_kinds l.case_words l cs l.at l.label l.initial.reached l.reached l.initial.lines l.initial.operands l.lines l.operands)
+invariant-loop-at here =
+    ((m : ℕ) (cs : List Case) → Cases m cs (entries here.case_kinds here.case_words) → CasesLeft m here.case_kinds here.case_words here.at)
+    × (length here.lines ≡ length here.initial.lines) × (length here.operands ≡ length here.initial.operands)
+    × ((m : ℕ) (c : FnCtx) (v : Value) (l : ℕ) (cs : List Case) → ValueAt m here.kinds here.words 0 v → Locals c m here.work → Cases m cs (entries here.case_kinds here.case_words) → here.first ≡ l % 2 ^ 64
+    → CaseWalk (case_tests c here.width v) m here.case_kinds here.case_words l cs here.at here.label here.initial.reached here.reached here.initial.lines here.initial.operands here.lines here.operands)
 
 abbrev pub decreases-loop-at : goal.decreases-loop-at
 decreases-loop-at l = length l.case_kinds - l.at
