@@ -4,6 +4,9 @@ use Rattle.lines.specs.Shown.{line_room, text_room}
 use Rattle.lines.proofs.Showing.{room_for, own_shown, zeros_made}
 use Rattle.lines.proofs.show.Goals as goal
 
+pub show_input-requires-clause-in_bounds_2 : goal.show_input-requires-clause-in_bounds_2
+show_input-requires-clause-in_bounds_2 c = omega (arith, c.in_ok-work.ensures.len, c.deref_mut-2.ensures.len)
+
 pub show_input-requires-clause-in_bounds_3 : goal.show_input-requires-clause-in_bounds_3
 show_input-requires-clause-in_bounds_3 c = room_for text_room _ c.requires.text_value (omega arith)
 
