@@ -14,7 +14,7 @@ measured_size-size-requires c =
 
 pub width_or-width-requires : goal.width_or-width-requires
 width_or-width-requires c =
-    (type_in c.args.kinds.now c.args.words.now 0 c.requires.fields, search rules)
+    record { kinds_nonzero = type_in c.args.kinds.now c.args.words.now 0 c.requires.fields; bytes_bound = search rules }
 
 pub offset_bounds-kinds-at : goal.offset_bounds-kinds-at
 offset_bounds-kinds-at c = omega (arith, ((places.typed_value c.args.kinds.now c.args.words.now 0 c.requires.fields (places.from_front c.skip-at.ensures))).in_kinds, c.well_formed)
