@@ -11,7 +11,7 @@ use Rattle.book.specs.Shape.{all_insts}
 use Rattle.book.specs.Work.{name_words, param_at, slot_at, block_at, place_at, body_at, mark_at, measured_at, word_at}
 use Rattle.book_types.specs.Laws.{within_kinds, within_words}
 use Rattle.layout.specs.Frame.{Places, frame_pass, no_frame}
-use Rattle.layout_memo.specs.Work.{Ready, table_at, table_other}
+use Rattle.layout_memo.specs.Work.{table_at, table_other}
 use Rattle.lowering.specs.Context.{Codegen}
 use Rattle.lowering.specs.Function.{context_of}
 use Rattle.gen_values.specs.Maps.{Maps}

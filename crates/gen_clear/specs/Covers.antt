@@ -72,6 +72,7 @@ inst_says x i h = inl ((inst_kinds (inst_tag_of i.kind)).0, rw h refl)
 
 insts_say : (x : ℕ) (is : List Inst) (end : List Entry) → Somewhere (Result-of x) is → Somewhere (Says x) (ending enc_inst end is)
 unfolding ending
+insts_say x [] end x'' = elim x'' [ ]
 insts_say x (i ∷ is) end (inl h) = some_left (Says x) (enc_inst i) (ending enc_inst end is) (inst_says x i h)
 insts_say x (i ∷ is) end (inr h) = some_right (Says x) (enc_inst i) (ending enc_inst end is) (insts_say x is end h)
 
@@ -82,11 +83,13 @@ somewhere_split P (x ∷ xs) ys (inr h) = ⊎_elim (λ p. inl (inr p)) (λ p. in
 
 blocks_say : (x : ℕ) (bs : List BasicBlock) (end : List Entry) → Somewhere (Result-of x) (all_insts bs) → Somewhere (Says x) (ending enc_basic_block end bs)
 unfolding all_insts ending enc_basic_block
+blocks_say x [] end h = elim h [ ]
 blocks_say x (b ∷ bs) end h =
     ⊎_elim (λ p. some_left (Says x) (enc_basic_block b) (ending enc_basic_block end bs) (inr (insts_say x b.insts (enc_term b.term) p)))
     (λ p. some_right (Says x) (enc_basic_block b) (ending enc_basic_block end bs) (blocks_say x bs end p)) (somewhere_split (Result-of x) b.insts (all_insts bs) h)
 
 somewhere_map : {A : Type 0} (P Q : A → Type 0) → ((a : A) → P a → Q a) → (xs : List A) → Somewhere P xs → Somewhere Q xs
+somewhere_map {A = A} P Q f [] x' = elim x' [ ]
 somewhere_map P Q f (x ∷ xs) (inl p) = inl (f x p)
 somewhere_map P Q f (x ∷ xs) (inr p) = inr (somewhere_map P Q f xs p)
 

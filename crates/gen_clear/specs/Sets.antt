@@ -25,6 +25,7 @@ Somewhere P [] = ⊥
 Somewhere P (a ∷ as') = P a ⊎ Somewhere P as'
 
 pub some_left : {A : Type 0} (P : A → Type 0) (xs ys : List A) → Somewhere P xs → Somewhere P (xs ++ ys)
+some_left {A = A} P [] ys x' = elim x' [ ]
 some_left P (x ∷ xs) ys (inl p) = inl p
 some_left P (x ∷ xs) ys (inr p) = inr (some_left P xs ys p)
 

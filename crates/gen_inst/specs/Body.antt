@@ -1,5 +1,5 @@
 -- An instruction's lines but for the result's slot, where `gen_inst` stores one behind them.
-use Rattle.std.specs.Prelude.{ℕ, ◌-◌, ◌<◌, ◌≤◌, ◌≡◌, List, ◌⊎◌}
+use Rattle.std.specs.Prelude.{ℕ, ◌<◌, ◌≤◌, ◌≡◌, List, ◌⊎◌}
 use Rattle.std.proofs.Common.{sym, ap, subst, ◌∙◌, ⊎_elim, arith}
 use Rattle.std.proofs.Math.Option.{Option}
 use Rattle.book.specs.Ast.{BinOp, ConvOp, ICmpPred, InstKind}

@@ -1,5 +1,5 @@
 -- Loads, stores and freezes, atomic ones among them: the instruction by its kind, and its lines.
-use Rattle.std.specs.Prelude.{ℕ, ◌-◌, ◌<◌, ◌≤◌, ◌≡◌, Bool, true, false, ◌⊎◌, List, eqb}
+use Rattle.std.specs.Prelude.{ℕ, ◌<◌, ◌≤◌, ◌≡◌, Bool, true, false, ◌⊎◌, List, eqb}
 use Rattle.std.proofs.Math.Path.{refl}
 use Rattle.std.proofs.Common.{inl, inr, ⊎_elim, arith, eqb-true}
 use Rattle.std.proofs.Math.Option.{Option}

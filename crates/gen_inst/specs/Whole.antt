@@ -1,5 +1,5 @@
 -- `gen_inst`: what it is lent, and the body with the result behind it.
-use Rattle.std.specs.Prelude.{ℕ, ◌+◌, ◌-◌, ◌<◌, ◌≤◌, ◌≡◌, List, length, drop, get_or}
+use Rattle.std.specs.Prelude.{ℕ, ◌+◌, ◌<◌, ◌≤◌, ◌≡◌, List, length, drop, get_or}
 use Rattle.std.proofs.Common.{sym, ap, subst, ◌∙◌, arith, length-drop, drop-drop}
 use Rattle.book.specs.Ast.{Inst}
 use Rattle.book.specs.Entry.{Entry, entries}
