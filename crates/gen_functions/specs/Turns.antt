@@ -1,27 +1,25 @@
 -- One function: the words that the last one set are cleared, then its own are filled, then come its lines.
-use Rattle.std.specs.Prelude.{ℕ, ◌+◌, ◌<◌, ◌≡◌, refl, Bool, true, false, not, List, ◌∷◌, ◌++◌, length, drop}
+use Rattle.std.specs.Prelude.{ℕ, ◌+◌, ◌<◌, ◌≡◌, refl, Bool, true, false, List, ◌∷◌, ◌++◌, length, drop}
 use Rattle.std.proofs.Math.Path.{sym, ap}
 use Rattle.std.proofs.Common.{subst, ◌∙◌, arith, length-append, length-drop}
 use Rattle.std.proofs.Math.Bool.{cond}
 use Rattle.book.specs.Ast.{Function}
 use Rattle.book.specs.Entry.{Entry, entries}
-use Rattle.book.specs.Encode.{ending, closed, enc_basic_block, enc_function, function_long}
-use Rattle.book.specs.Limits.{FunctionLimits}
+use Rattle.book.specs.Encode.{closed, enc_basic_block, enc_function, function_long}
 use Rattle.book.specs.Result.{Result, ok, err, bind}
 use Rattle.book.specs.Shape.{all_insts}
 use Rattle.book_types.specs.Laws.{length_entries}
 use Rattle.layout.specs.Frame.{Places, frame_pass, no_frame, framed}
-use Rattle.lowering.specs.Gen.{Gen, refuse, ◌>>=◌}
+use Rattle.lowering.specs.Gen.{refuse, ◌>>=◌}
 use Rattle.lowering.specs.Context.{Codegen, FnCtx}
 use Rattle.lowering.specs.Function.{gen_lines, context_of, total_slots, gen_function}
 use Rattle.gen_lines.specs.declared.Reached.{Reached}
 use Rattle.gen_lines.specs.Puts.{Puts, is_refused, made_refused, refuse_puts, same_puts}
-use Rattle.gen_values.specs.Maps.{Maps, Did}
+use Rattle.gen_values.specs.Maps.{Did}
 use Rattle.gen_frame.specs.Frames.{not_told}
-use Rattle.gen_blocks.specs.Function.{function_in, behind_in, FunctionAt, FunctionsAt, first_is, first_at, next_at}
+use Rattle.gen_blocks.specs.Function.{function_in, behind_in, FunctionsAt, first_is, first_at, next_at}
 use Rattle.gen_prepare.specs.declared.Prepared.{Prepared}
 use Rattle.gen_prepare.specs.Prepare.{Shared, PrepareAsk, PreparedAs, SetUp, PrepareDone}
-use Rattle.gen_function.specs.Blocks.{Listed}
 use Rattle.gen_function.specs.Function.{FunctionHere, FunctionAsk, Framed, slots_of}
 use Rattle.gen_clear.specs.Clear.{AllCleared, ClearAsk, shared_after, function_ask}
 use Rattle.gen_functions.specs.declared.Turn.{Turn}

@@ -1,0 +1,95 @@
+-- `gen_functions::gen_turn` meets its contract: what was set is cleared, the function prepared, and its lines put.
+use native.Mathlib.Omega.{arith}
+use Rattle.gen_lines.specs.Puts.{made_refused_lem}
+use Rattle.gen_clear.specs.Clear.{cut_within, clear_part}
+use Rattle.gen_functions.specs.Turns as laws
+use borrow.Author.Rules.{rules}
+use Rattle.gen_functions.proofs.gen_turn.Goals as goal
+
+pub offset_bounds-book_kinds-from : goal.offset_bounds-book_kinds-from
+offset_bounds-book_kinds-from c =
+    let w = cut_within c.args.book_kinds.now c.args.book_words.now c.requires.ask in
+    search rules
+
+pub slice_bounds-clear_function-count : goal.slice_bounds-clear_function-count
+slice_bounds-clear_function-count c =
+    let w = cut_within c.args.book_kinds.now c.args.book_words.now c.requires.ask in
+    search rules
+
+pub slice_bounds-clear_function-start : goal.slice_bounds-clear_function-start
+slice_bounds-clear_function-start c =
+    let w = cut_within c.args.book_kinds.now c.args.book_words.now c.requires.ask in
+    search rules
+
+pub slice_bounds-clear_function-end : goal.slice_bounds-clear_function-end
+slice_bounds-clear_function-end c =
+    let w = cut_within c.args.book_kinds.now c.args.book_words.now c.requires.ask in
+    search rules
+
+pub offset_bounds-book_words-from : goal.offset_bounds-book_words-from
+offset_bounds-book_words-from c =
+    let w = cut_within c.args.book_kinds.now c.args.book_words.now c.requires.ask in
+    search rules
+
+pub slice_bounds-clear_function-count-2 : goal.slice_bounds-clear_function-count-2
+slice_bounds-clear_function-count-2 c =
+    let w = cut_within c.args.book_kinds.now c.args.book_words.now c.requires.ask in
+    search rules
+
+pub slice_bounds-clear_function-start-2 : goal.slice_bounds-clear_function-start-2
+slice_bounds-clear_function-start-2 c =
+    let w = cut_within c.args.book_kinds.now c.args.book_words.now c.requires.ask in
+    search rules
+
+pub slice_bounds-clear_function-end-2 : goal.slice_bounds-clear_function-end-2
+slice_bounds-clear_function-end-2 c =
+    let w = cut_within c.args.book_kinds.now c.args.book_words.now c.requires.ask in
+    search rules
+
+pub clear_function-requires : goal.clear_function-requires
+clear_function-requires c =
+    clear_part c.args.book_kinds.now c.args.book_words.now c.requires.ask
+
+pub prepare-head-requires : goal.prepare-head-requires
+prepare-head-requires c =
+    let a = c.requires in
+    laws.prepare_ask c.args.book_kinds.now c.args.book_words.now a.codegen a.fn a.others a.here a.shared c.clear_function.ensures
+
+pub returns-then-head-ne0 : goal.returns-then-head-ne0
+returns-then-head-ne0 c g f fs here shared ask =
+    let ks = c.args.book_kinds.now in
+    let ws = c.args.book_words.now in
+    let cleared = c.clear_function.ensures in
+    let prepared = c.prepare-head.ensures in
+    record {
+      puts = laws.refused_turn ks ws g f fs here shared cleared prepared c.if-head-ne0.true _ _ c.refuse.ensures;
+      next = laws.next ks ws g f fs here shared cleared prepared;
+      further = laws.further ks ws g f fs here shared cleared prepared;
+      again = λ e. laws.never (made_refused_lem _ (omega (arith, c.if-head-ne0.true)) c.args.t.s c.refuse.ensures) e;
+    }
+
+pub gen_function-s-requires : goal.gen_function-s-requires
+gen_function-s-requires c =
+    let ks = c.args.book_kinds.now in
+    let ws = c.args.book_words.now in
+    let cleared = c.clear_function.ensures in
+    let prepared = c.prepare-head.ensures in
+    let a = c.requires in
+    laws.function_asked ks ws a.codegen a.fn a.others a.here a.shared cleared prepared c.if-head-ne0.false
+
+pub returns : goal.returns
+returns c g f fs here shared ask =
+    let ks = c.args.book_kinds.now in
+    let ws = c.args.book_words.now in
+    let cleared = c.clear_function.ensures in
+    let prepared = c.prepare-head.ensures in
+    let going = c.if-head-ne0.false in
+    let x = laws.context ks ws g f fs here shared cleared prepared going in
+    let did = c.gen_function-s.ensures _ f (laws.function_here ks ws g f fs here shared cleared prepared)
+    (laws.context_framed ks ws g f fs here shared cleared prepared going) x.set.maps in
+    record {
+      puts = laws.lines_put ks ws g f fs here shared cleared prepared going did;
+      next = laws.next ks ws g f fs here shared cleared prepared;
+      further = laws.further ks ws g f fs here shared cleared prepared;
+      again = λ _. laws.for_next ks ws g f fs here shared cleared prepared going did;
+    }
