@@ -1,8 +1,7 @@
 -- From the entries of a sound book to its functions' lines.
 use Rattle.std.specs.Prelude.{ℕ, ◌-◌, ◌<◌, ◌≡◌, List, length}
-use Rattle.std.proofs.Common.{sym, ap, subst, ◌∙◌, arith, length-append}
+use Rattle.std.proofs.Common.{ap, subst, ◌∙◌, arith, length-append}
 use Rattle.std.proofs.Math.Option.{some}
-use Rattle.names.specs.Name.{names_of}
 use Rattle.names.specs.Lines.{accepted_iff}
 use Rattle.book.specs.Ast.{Book, Function}
 use Rattle.book.specs.Entry.{entries}
