@@ -5,7 +5,7 @@ use Rattle.std.proofs.Common.{◌∙◌, arith, leb-true, length-take, length-dr
 use Rattle.std.proofs.Math.Bool.{true, false}
 use Rattle.std.proofs.Math.Option.{Option, none, some}
 use Rattle.std.proofs.lemmas.List.{length-replicate}
-use Rattle.names.specs.Name.{names_of, counts, accepted}
+use Rattle.names.specs.Name.{names_of, counts}
 use Rattle.names.specs.Lines.{accepted_iff}
 use Rattle.names_check.specs.Nexts.{Noted, NextsAlone, nexts_alone}
 use Rattle.book.specs.Entry.{entries}
