@@ -100,8 +100,8 @@ loop-at-preserved c =
     let l : c.loop-at.at < length (entries c.args.kinds.now c.args.words.now) = rw c.shorter-end.ensures at c.loop-at-test.true in
     let h = laws.seen_here _ c.args.kinds.now c.args.words.now _ _ _ c.loop-at.invariant l in
     elim c.if-defines.branch [
-      then-defines w ↦ rw (w.work-is, w.defined.ensures) (h.defined (sym c.defines.ensures ∙ w.if-defines.true))
-    | else-defines w ↦ rw w.work-is (h.other (sym c.defines.ensures ∙ w.if-defines.false))
+      | then-defines w ↦ rw (w.work-is, w.defined.ensures) (h.defined (sym c.defines.ensures ∙ w.if-defines.true))
+      | else-defines w ↦ rw w.work-is (h.other (sym c.defines.ensures ∙ w.if-defines.false))
     ]
 
 pub returns : goal.returns

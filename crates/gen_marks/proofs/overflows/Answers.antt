@@ -34,8 +34,8 @@ pub loop-i-preserved : goal.loop-i-preserved
 unfolding bytes
 loop-i-preserved c =
     elim c.if-names-i-eq46.branch [
-      then-names-i-eq46+else-name_starts w ↦ look_later c.loop-i.invariant (omega (arith, c.loop-i-test.true)) (sym w.name_starts.ensures ∙ w.if-name_starts.false)
-    | else-names-i-eq46 w ↦ look_other c.loop-i.invariant (omega (arith, c.loop-i-test.true)) w.if-names-i-eq46.false
+      | then-names-i-eq46+else-name_starts w ↦ look_later c.loop-i.invariant (omega (arith, c.loop-i-test.true)) (sym w.name_starts.ensures ∙ w.if-name_starts.false)
+      | else-names-i-eq46 w ↦ look_other c.loop-i.invariant (omega (arith, c.loop-i-test.true)) w.if-names-i-eq46.false
     ]
 
 pub returns : goal.returns
