@@ -4,7 +4,7 @@ use mathlib.Core.Path.{◌≡◌, sym, ap, subst, ◌∙◌}
 use mathlib.Core.List.{List}
 use native.Mathlib.Omega.{arith}
 use borrow.Author.Tests.{le-leb, lt-leb}
-use lib.ListN.{length, take, drop, replicate, length-replicate}
+use lib.ListN.{length, take, drop, length-replicate}
 use Rattle.assembly.specs.Printer as definition
 use Rattle.assembly.specs.Printer.{Printing, refusing, print}
 use Rattle.lowering.specs.Translate.{Translating, translate}
@@ -115,10 +115,6 @@ module _ (input kinds operands text : List ℕ) (z : List ℕ) (m : ℕ) where
 zeros_long : (n : ℕ) → length (zeros n) ≡ n
 unfolding zeros
 zeros_long n = length-replicate {A = ℕ} n 0
-
-pub zeros_made : (n : ℕ) (xs : List ℕ) → xs ≡ replicate n 0 → xs ≡ zeros n
-unfolding zeros
-zeros_made n xs e = e
 
 pub room_for : (n : ℕ) (text : List ℕ) → text ≡ zeros n → 21 ≤ n → 21 ≤ length text
 room_for n text e h = omega (arith, ap length e, zeros_long n)

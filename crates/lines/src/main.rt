@@ -1,12 +1,11 @@
 #![tactic(auto)]
 // Reads a book and its names from standard input, and writes the text of its lines at counter 0, or the refusal's number.
-ghost use Rattle.std.specs.Prelude.{◌≡◌, ◌≤◌, ◌<◌, ◌*◌, length, take, IfOk, vec_len};
+ghost use Rattle.std.specs.Prelude.{◌≡◌, ◌≤◌, ◌<◌, ◌*◌, length, take, IfOk};
 ghost use Rattle.lines.specs.Shown.{longest, text_room, zeros, word, words, translated, answered, refusal, said, shown, Begins};
 
 use gen_passes::Translation;
 use numbers::digits::put_decimal;
 use print::passes::Printed;
-use std::alloc::{AllocError, Global};
 use std::io;
 use std::io::Read;
 use translate::translate;
@@ -110,30 +109,30 @@ fn show_input(
 
 // What is shown for the first n bytes of an input slice, to the front of a text that is all 0; how many bytes these are. The slice has room for a byte more
 // than is taken, so that a longer input is known.
-fn show(alloc: Global, input: &[u8], n: usize, text: &mut [u8]) -> Result<usize, AllocError>
+fn show(input: &[u8], n: usize, text: &mut [u8]) -> usize
     requires n_in_bounds { (n ≤ length input.now) × (longest < length input.now) }
     requires text_value { text.old ≡ zeros text_room }
-    ensures { IfOk result (λ count. Begins (shown (take n input.now)) text.new count) }
+    ensures { Begins (shown (take n input.now)) text.new result }
 {
-    let mut book = vec![in alloc; 0u64; 8192]?;
-    let mut work = vec![in alloc; 0u64; 262144]?;
-    let mut kinds = vec![in alloc; 0u16; 65536]?;
-    let mut operands = vec![in alloc; 0u64; 65536]?;
-    Ok(show_input(
+    let mut book = [0u64; 8192];
+    let mut work = [0u64; 262144];
+    let mut kinds = [0u16; 65536];
+    let mut operands = [0u64; 65536];
+    show_input(
         &input[0..n],
         &mut book,
         &mut work,
         &mut kinds,
         &mut operands,
         text,
-    ))
+    )
 }
 
 // 1 MiB.
-fn room_for_text(alloc: Global) -> Result<Vec<u8>, AllocError>
-    ensures { IfOk result (λ room. room.items ≡ zeros text_room) }
+fn room_for_text() -> [u8; 1048576]
+    ensures { result ≡ zeros text_room }
 {
-    vec![in alloc; 0; 1048576]
+    [0; 1048576]
 }
 
 // Reads until the buffer is full or the input ends; how many bytes these are.
@@ -152,9 +151,9 @@ fn read_full(input: &mut impl Read, buffer: &mut [u8]) -> io::Result<usize>
 }
 
 fn main(rt: HostRuntime) -> io::Result<()> {
-    let mut input = vec![in rt.alloc(); 0u8; 65537]?;
+    let mut input = [0u8; 65537];
     let n = read_full(&mut rt.reader(), &mut input)?;
-    let mut text = room_for_text(rt.alloc())?;
-    let count = show(rt.alloc(), &input, n, &mut text)?;
+    let mut text = room_for_text();
+    let count = show(&input, n, &mut text);
     rt.write_all(&text[0..count])
 }

@@ -3,7 +3,6 @@
 // number, 0 where the book is sound. The top of the input says what its lines are.
 ghost use Rattle.std.specs.Prelude.{◌≡◌, ◌≤◌, length, IfOk, vec_len};
 
-use std::alloc::{AllocError, Global};
 use std::io;
 use std::io::Read;
 use try_cases::lent::{copy_names, put_words};
@@ -339,10 +338,10 @@ fn run_lines(
 }
 
 // Room for the most names, each of three bytes and its end.
-fn room_for_names(alloc: Global) -> Result<Vec<u8>, AllocError>
-    ensures { IfOk result (λ room. 524288 ≡ vec_len room) }
+fn room_for_names() -> [u8; 524288]
+    ensures { 524288 ≡ length result }
 {
-    vec![in alloc; 0; 524288]
+    [0; 524288]
 }
 
 // The first 64 KiB of the input are read.
@@ -351,6 +350,6 @@ fn main(rt: HostRuntime) -> io::Result<()> {
     rt.reader().take(65536).read_to_end(&mut text)?;
     let mut kinds = [0u64; 512];
     let mut words = [0u64; 512];
-    let mut names = room_for_names(rt.alloc())?;
+    let mut names = room_for_names();
     run_lines(&rt, &text, &mut kinds, &mut words, &mut names)
 }

@@ -9,7 +9,6 @@ ghost use Rattle.std.specs.Prelude.{◌≡◌, ◌≤◌, length, IfOk, vec_len}
 
 use gen_passes::Translation;
 use print::passes::Printed;
-use std::alloc::{AllocError, Global};
 use std::io;
 use std::io::Read;
 use translate::translate;
@@ -396,10 +395,10 @@ fn show(rt: &impl Print, counts: &[u64]) -> io::Result<()> {
 }
 
 // 2 MiB.
-fn room_for_input(alloc: Global) -> Result<Vec<u8>, AllocError>
-    ensures { IfOk result (λ room. 2097152 ≡ vec_len room) }
+fn room_for_input() -> [u8; 2097152]
+    ensures { 2097152 ≡ length result }
 {
-    vec![in alloc; 0; 2097152]
+    [0; 2097152]
 }
 
 // Reads until the buffer is full or the input ends; how many bytes these are.
@@ -418,9 +417,9 @@ fn read_full(input: &mut impl Read, buffer: &mut [u8]) -> io::Result<usize>
 }
 
 fn main(rt: HostRuntime) -> io::Result<()> {
-    let mut input = room_for_input(rt.alloc())?;
+    let mut input = room_for_input();
     let n = read_full(&mut rt.reader(), &mut input)?;
-    let mut row = vec![in rt.alloc(); 0; 140000]?;
+    let mut row = [0u64; 140000];
     let mut counts = [0u64; 21];
     run_lines(&rt, &input[..n], &mut row, &mut counts)?;
     show(&rt, &counts)

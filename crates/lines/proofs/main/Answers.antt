@@ -1,6 +1,6 @@
--- The input slice has a byte more than is taken.
-use Rattle.std.proofs.Common.{arith}
+-- The slices have the lengths that `show` wants.
+use borrow.Author.Rules.{rules}
 use Rattle.lines.proofs.main.Goals as goal
 
-pub show-requires-clause-n_in_bounds : goal.show-requires-clause-n_in_bounds
-show-requires-clause-n_in_bounds c = (omega arith, omega (arith, c.in_ok-input.ensures.len))
+pub show-count-requires : goal.show-count-requires
+show-count-requires c = record { n_in_bounds = (search rules, search rules); text_value = c.room_for_text-text.ensures }
