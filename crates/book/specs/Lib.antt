@@ -17,6 +17,7 @@ pub mod Input
 pub mod AgreeInput
 pub mod Forbidden
 pub mod Check
+pub mod Refusal
 pub mod Open
 pub mod Cases
 pub mod Map
