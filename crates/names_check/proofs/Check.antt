@@ -5,15 +5,17 @@ use mathlib.Core.Bool.{Bool, true, false, ◌&&◌, and-false}
 use mathlib.Core.List.{List, [], ◌∷◌, ◌++◌}
 use native.Mathlib.Nat.{zero-add, add-zero}
 use native.Mathlib.Omega.{arith}
-use lib.Dec.{eqb}
+use borrow.Author.Tests.{eqb-true, eqb-false, ltb-true, ltb-false}
+use Rattle.std.proofs.Common.{⊎_elim}
+use lib.Dec.{eqb, ltb}
 use lib.ListN.{length, get_or, drop, length-drop, drop_of_length-le}
 use lib.Seq.{split_at, take_all, length-take-le, get_or-drop, drop-drop}
 use Rattle.names.specs.Utf8.{follow, well_formed}
 use Rattle.names.specs.Name.{name_byte, is_end, every_byte, spelled, filled, allowed, every_name, before, ascending_from, ascending, lines, last_or, ended, sound, keep, names_of, counts, accepted, line, name_from}
-use Rattle.names.specs.Tests.{both}
+use Rattle.names.specs.Tests.{both, decide}
 use Rattle.names.specs.Lines.{lines_first, line_of, lines_of, no_end, ended_behind}
 use Rattle.names_spelling.proofs.Spell.{name_ended}
-use Rattle.names_check.specs.Found.{part, Spelled}
+use Rattle.names_check.specs.Found.{part, Spelled, Unnamed}
 
 -- whether the bytes that are left are names that ascend from `last` and are, with n that were passed, m
 unfoldable pub going : List ℕ → List ℕ → ℕ → ℕ → Bool
@@ -124,3 +126,15 @@ module _ (names : List ℕ) (at end : ℕ) (q : Spelled names at end) where
 
       pub going_ordered : after ≡ true → going last (drop at names) n m ≡ going (part names at end) (drop (end + 1) names) (n + 1) m
       going_ordered b = going_named ∙ ap (λ t. t && going (part names at end) (drop (end + 1) names) (n + 1) m) b
+
+-- no name that comes after the last one
+pub going_unnamed : {names : List ℕ} {last past at : ℕ} → at < length names → Unnamed names last past at → (n m : ℕ) → going (part names last past) (drop at names) n m ≡ false
+going_unnamed {names} {last} {past} {at} l u n m =
+    let p = part names last past in
+    ⊎_elim
+    (λ i. let i' = ltb-true u.end (length names) i in
+    ⊎_elim (λ e. let e' = eqb-true (get_or names u.end 0) 10 e in going_unordered names at u.end u.reached p n m i' e' false (sym (u.unordered i' e')) refl)
+    (λ d. going_barred names at u.end u.reached p n m i' (eqb-false (get_or names u.end 0) 10 d))
+    (decide (eqb (get_or names u.end 0) 10)))
+    (λ h. going_open names at u.end u.reached p n m l (ltb-false u.end (length names) h))
+    (decide (ltb u.end (length names)))

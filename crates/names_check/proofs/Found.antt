@@ -1,7 +1,7 @@
 -- The name at a place: where it ends, its key, and its order with the one before it.
 use Prim.Native.Nat.{ℕ, ◌+◌, ◌-◌, ◌*◌, ◌^◌, ◌<◌, ◌≤◌}
 use mathlib.Core.Path.{◌≡◌, refl, sym, ap, ◌∙◌}
-use mathlib.Core.Bool.{Bool}
+use mathlib.Core.Bool.{Bool, true, false}
 use mathlib.Core.List.{List, [], ◌∷◌, ◌++◌}
 use native.Mathlib.Numerals.{add-one}
 use native.Mathlib.Omega.{arith}
@@ -10,7 +10,9 @@ use lib.ListN.{length, get_or, take, drop, length-drop}
 use lib.Seq.{take-append-le, take-take, take-suc, length-take-le, get_or-drop}
 use Rattle.names.specs.Name.{every_byte, before}
 use Rattle.names_words.specs.Word.{word, key_of, Octets, word_take, key_order}
-use Rattle.names_check.specs.Found.{part, Through, Spelled, Kept, Found}
+use Rattle.std.specs.Bool.{then_some}
+use Rattle.names_check.specs.declared.Next.{Next}
+use Rattle.names_check.specs.Found.{part, Through, Spelled, Kept, Named, Found}
 use Rattle.names_check.proofs.Through.{through_none}
 use Rattle.names_check.proofs.Words.{WordRead, room, word_through, word_whole}
 
@@ -31,18 +33,6 @@ key_over n bs l m = sym (word_take 8 bs) ∙ ap (word 8) same ∙ word_take 8 (t
     same : take 8 bs ≡ take 8 (take n bs ++ (10 ∷ []))
     same = rw (take-append-le 8 (take n bs) (10 ∷ []) (omega (arith, length-take-le n bs m))) (sym (take-take 8 n bs l))
 
--- the characters at `at`, which reach up to `end`
-module _ {names : List ℕ} {at end : ℕ} (s : Spelled names at end) (last past : ℕ) (after : Bool) (key : ℕ) where
-  -- what was found, by what was found of the order and of the key
-  found : (end < length names → get_or names end 0 ≡ 10 → after ≡ before (part names last past) (part names at end))
-      → (end + 9 ≤ length names → get_or names end 0 ≡ 10 → key ≡ key_of (part names at end)) → Found names last past at end key after
-  found o k =
-      record {
-        reached = s;
-        ordered = o;
-        kept = λ m e. record { starts = s.through.starts; ends = s.through.ends; bytes = s.through.bytes; keyed = λ h. k (omega arith) e };
-      }
-
 -- the name at `at`, of which the characters in front of `from` were passed, and the word that stands there, where there are eight bytes
 pub record Passing (names : List ℕ) (at from w : ℕ) : Type 0 where
   pub through : Through names at from
@@ -60,32 +50,60 @@ module _ {names : List ℕ} {at w n : ℕ} (d : WordRead names at w n) where
   passing_whole l = record { through = word_whole d l; octets = d.octets; same = λ h. d.same }
 
   -- an ASCII name that ends among the word's bytes is ordered by the keys
-  pub found_short : {last past key : ℕ} → Kept names last past key at → (key' : ℕ) → n < 8 → get_or names (at + n) 0 ≡ 10
-      → ((bs : List ℕ) → Octets bs → w ≡ word 8 bs → key' ≡ word 8 (take (n + 1) bs)) → Found names last past at (at + n) key' (ltb key key')
-  found_short {last} {past} {key} k key' l e f =
-      found record { through = word_through d; stuck = λ m z. absurd (z e) } last past (ltb key key') key' (λ m _. ordered) (λ m _. keyed)
+  pub found_short : {last past key : ℕ} → Kept names last past key at → (next : Next) → next.end ≡ at + n → n < 8 → get_or names (at + n) 0 ≡ 10
+      → ((bs : List ℕ) → Octets bs → w ≡ word 8 bs → next.key ≡ word 8 (take (n + 1) bs)) → Found names last past at (then_some (ltb key next.key) next)
+  found_short {last} {past} {key} k next q l e f = go (ltb key next.key) ordered
     where
-      drawn : at + n - at ≡ n
+      drawn : next.end - at ≡ n
       drawn = omega arith
 
-      keyed : key' ≡ key_of (part names at (at + n))
+      there : get_or names next.end 0 ≡ 10
+      there = ap (λ (i : ℕ). get_or names i 0) q ∙ e
+
+      through : Through names at next.end
+      through = rw q (word_through d)
+
+      keyed : next.key ≡ key_of (part names at next.end)
       keyed = f (drop at names) d.octets d.same ∙ key_ended n (drop at names) (omega (arith, d.long)) (rw get_or-drop e) ∙ rw drawn
 
-      ordered : ltb key key' ≡ before (part names last past) (part names at (at + n))
+      ordered : ltb key next.key ≡ before (part names last past) (part names at next.end)
       ordered =
           rw (k.keyed (room d), keyed)
-          (sym (key_order (part names last past) (part names at (at + n)) k.bytes (word_through d).bytes (λ _. rw drawn (omega (arith, length-take-le n (drop at names) (omega (arith, d.long)))))))
+          (sym (key_order (part names last past) (part names at next.end) k.bytes through.bytes (λ _. rw drawn (omega (arith, length-take-le n (drop at names) (omega (arith, d.long)))))))
+
+      reached : Spelled names at next.end
+      reached = record { through = through; stuck = λ m z. absurd (z there) }
+
+      go : (t : Bool) → t ≡ before (part names last past) (part names at next.end) → Found names last past at (then_some t next)
+      go true o = record {
+        reached = reached;
+        inside = omega (arith, room d);
+        ended = there;
+        ordered = sym o;
+        kept = record { starts = through.starts; ends = through.ends; bytes = through.bytes; keyed = λ _. keyed };
+      }
+      go false o = record { end = next.end; reached = reached; unordered = λ _ _. sym o }
 
 -- one that was compared with the name before it
-module _ {names : List ℕ} {at from w : ℕ} (p : Passing names at from w) (end : ℕ) (s : Spelled names at end) (last past : ℕ) (after : Bool)
-    (o : after ≡ before (part names last past) (part names at end)) where
-  pub found_long : 8 ≤ end - at → Found names last past at end w after
-  found_long l =
-      found s last past after w (λ m _. o) (λ m _. p.same (omega (arith, s.through.starts)) ∙ key_over (end - at) (drop at names) l (omega (arith, s.through.ends, length-drop at names)))
+module _ {names : List ℕ} {at from w : ℕ} (p : Passing names at from w) (end : ℕ) (s : Spelled names at end) (l : end < length names) (e : get_or names end 0 ≡ 10)
+    (last past : ℕ) (o : before (part names last past) (part names at end) ≡ true) where
+  found : (key : ℕ) → (end + 9 ≤ length names → key ≡ key_of (part names at end)) → Named names last past at end key
+  found key k =
+      record {
+        reached = s;
+        inside = l;
+        ended = e;
+        ordered = o;
+        kept = record { starts = s.through.starts; ends = s.through.ends; bytes = s.through.bytes; keyed = λ h. k (omega arith) };
+      }
 
-  pub found_wide : (key : ℕ) → ((bs : List ℕ) → Octets bs → w ≡ word 8 bs → key ≡ word 8 (take (end - at + 1) bs)) → Found names last past at end key after
+  pub found_long : 8 ≤ end - at → Named names last past at end w
+  found_long m =
+      found w (λ _. p.same (omega (arith, s.through.starts)) ∙ key_over (end - at) (drop at names) m (omega (arith, s.through.ends, length-drop at names)))
+
+  pub found_wide : (key : ℕ) → ((bs : List ℕ) → Octets bs → w ≡ word 8 bs → key ≡ word 8 (take (end - at + 1) bs)) → Named names last past at end key
   found_wide key f =
-      found s last past after key (λ m _. o) λ m e.
+      found key λ m.
       f (drop at names) p.octets (p.same (omega (arith, s.through.starts)))
       ∙ key_ended (end - at) (drop at names) (omega (arith, s.through.starts, length-drop at names)) (rw (get_or-drop, there) e)
     where

@@ -1,7 +1,9 @@
 -- A name and the one before it, by where their bytes stand.
-use Rattle.std.specs.Prelude.{ℕ, ◌+◌, ◌-◌, ◌<◌, ◌≤◌, ◌≡◌, Bool, true, false, List, length, get_or, take, drop}
+use Rattle.std.specs.Prelude.{ℕ, ◌+◌, ◌-◌, ◌<◌, ◌≤◌, ◌≡◌, true, false, Some, None, List, length, get_or, take, drop}
+use Rattle.std.specs.declared.option.Option.{Option}
 use Rattle.names.specs.Name.{every_byte, spelled, before, name_from}
 use Rattle.names_words.specs.Word.{key_of}
+use Rattle.names_check.specs.declared.Next.{Next}
 
 -- the bytes from one place up to another
 abbrev pub part : List ℕ → ℕ → ℕ → List ℕ
@@ -27,9 +29,21 @@ pub record Kept (names : List ℕ) (last end key at : ℕ) : Type 0 where
   pub bytes : every_byte (part names last end) ≡ true
   pub keyed : at + 8 ≤ length names → key ≡ key_of (part names last end)
 
--- the characters at `at` that may stand in a name, up to `end`, and if the byte behind them ends a name: whether it comes after the last
--- one, and what is known of it
-pub record Found (names : List ℕ) (last last_end at end key : ℕ) (after : Bool) : Type 0 where
+-- the name at `at`, which comes after the last one, and what is known of it
+pub record Named (names : List ℕ) (last last_end at end key : ℕ) : Type 0 where
   pub reached : Spelled names at end
-  pub ordered : end < length names → get_or names end 0 ≡ 10 → after ≡ before (part names last last_end) (part names at end)
-  pub kept : end < length names → get_or names end 0 ≡ 10 → Kept names at end key (end + 1)
+  pub inside : end < length names
+  pub ended : get_or names end 0 ≡ 10
+  pub ordered : before (part names last last_end) (part names at end) ≡ true
+  pub kept : Kept names at end key (end + 1)
+
+-- the characters at `at` that may stand in a name are none that comes after the last one
+pub record Unnamed (names : List ℕ) (last last_end at : ℕ) : Type 0 where
+  pub end : ℕ
+  pub reached : Spelled names at end
+  pub unordered : end < length names → get_or names end 0 ≡ 10 → before (part names last last_end) (part names at end) ≡ false
+
+-- which of the two it is
+abbrev pub Found : List ℕ → ℕ → ℕ → ℕ → Option Next → Type 0
+Found names last last_end at (Some next) = Named names last last_end at next.end next.key
+Found names last last_end at None = Unnamed names last last_end at

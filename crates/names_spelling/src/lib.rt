@@ -3,7 +3,7 @@
 pub mod utf8;
 
 ghost use Rattle.std.specs.Prelude.{◌≡◌, ◌+◌, length};
-ghost use Rattle.names.specs.Text.{within as textWithin, starts};
+ghost use Rattle.names.specs.Text.{starts};
 ghost use Rattle.names.specs.Name.{name_from};
 ghost use Rattle.names.specs.Utf8.{is_tail};
 ghost use Rattle.names.specs.Spelling.{word_byte, clean_byte, sanitize};
@@ -11,46 +11,28 @@ ghost use Rattle.names.specs.Spelling.{word_byte, clean_byte, sanitize};
 // The byte that ends a name.
 pub const END: u8 = 10;
 
-// Whether a byte lies from `low` to `high`.
-fn within(low: u8, high: u8, b: u8) -> bool
-    ensures { result ≡ textWithin low high b }
-{
-    (low <= b) & (b <= high)
-}
-
 // The index of the byte that ends the name at `at`, or the number of bytes where none does. From behind the bytes it is `at`.
 pub fn name_end(names: &[u8], at: usize) -> usize
     ensures { result ≡ at + length (name_from names.now at) }
 {
-    let mut i = at;
-    while i < names.len() {
+    for i in at..names.len() {
         if names[i] == END {
             return i;
         }
-        i += 1;
     }
-    i
+    at.max(names.len())
 }
 
-// Whether the name at `at` starts with the text.
+// Whether the name at `at` starts with the text, without a search for the name's end: `starts_with` of a slice up to there takes longer.
 pub fn name_starts(names: &[u8], at: usize, text: &[u8]) -> bool
     ensures { result ≡ starts text.now (name_from names.now at) }
 {
-    let mut i: usize = 0;
-    let mut j = at;
-    while i < text.len() {
-        if names.len() <= j {
-            return false;
-        }
-        let b = names[j];
-        if b == END {
-            return false;
-        }
-        if b != text[i] {
+    let mut i = at;
+    for b in text {
+        if names.len() <= i || names[i] == END || names[i] != *b {
             return false;
         }
         i += 1;
-        j += 1;
     }
     true
 }
@@ -59,7 +41,7 @@ pub fn name_starts(names: &[u8], at: usize, text: &[u8]) -> bool
 fn word_byte(b: u8) -> bool
     ensures { result ≡ word_byte b }
 {
-    within(b'0', b'9', b) | within(b'A', b'Z', b) | within(b'a', b'z', b) | (b == b'_')
+    b.is_ascii_alphanumeric() | (b == b'_')
 }
 
 // A byte of a name as it stands in a label: each that is no letter, digit or `_` becomes `_`.
@@ -73,7 +55,7 @@ pub fn clean_byte(b: u8) -> u8
 pub fn is_tail(b: u8) -> bool
     ensures { result ≡ is_tail b }
 {
-    within(0x80, 0xbf, b)
+    matches!(b, 0x80..=0xbf)
 }
 
 // How many bytes a label spells a name with: one for each character.
@@ -81,12 +63,11 @@ pub fn clean_len(name: &[u8]) -> usize
     ensures { result ≡ length (sanitize name.now) }
 {
     let mut n: usize = 0;
-    let mut i: usize = 0;
-    while i < name.len() {
-        if !is_tail(name[i]) {
+    // `filter` and `count` take three times as long.
+    for b in name {
+        if !is_tail(*b) {
             n += 1;
         }
-        i += 1;
     }
     n
 }

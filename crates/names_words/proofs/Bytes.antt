@@ -1,27 +1,12 @@
--- A word put together from its bytes, and cut behind some of them.
-use Prim.Native.Nat.{ℕ, zero, suc, ◌+◌, ◌-◌, ◌*◌, ◌/◌, ◌%◌, ◌^◌, ◌<◌, ◌≤◌}
+-- A word cut behind some of its bytes.
+use Prim.Native.Nat.{ℕ, zero, suc, ◌+◌, ◌-◌, ◌*◌, ◌/◌, ◌%◌, ◌^◌, ◌<◌}
 use mathlib.Core.Path.{◌≡◌, sym, ap, ◌∙◌}
 use mathlib.Core.List.{List, [], ◌∷◌}
 use native.Mathlib.Nat.{mul_assoc, add_comm, add-mul, add-mul-div_right, div-eq_of_lt, zero-div, mod-eq_of_lt}
 use native.Mathlib.Omega.{arith}
-use lib.Bits.{bit_or, or_shifted}
-use lib.Pow.{pow_pos, pow-add, shl_exact}
-use lib.ListN.{length, get_or, take, drop}
-use lib.Seq.{drop-cons, get_or-drop}
+use lib.Pow.{pow_pos, pow-add}
+use lib.ListN.{take}
 use Rattle.names_words.specs.Word.{word, Octets, word_lt, word_none}
-
--- eight bytes and more, of which the one at i is put in front of those behind it, as the code does
-module _ (bs : List ℕ) (o : Octets bs) (n : 8 ≤ length bs) where
-  pub byte_put : (k i v : ℕ) → i + k ≡ 7 → v ≡ word k (drop (suc i) bs) → bit_or (get_or bs i 0 * 2 ^ (8 * k) % 2 ^ 64) v ≡ word (suc k) (drop i bs)
-  unfolding word
-  byte_put k i v l e =
-      let r = drop (suc i) bs in
-      rw (e, drop-cons bs i 0 (omega arith), shl_exact {a = get_or bs i 0} 8 (8 * k) 64 (o i) (omega arith))
-      (or_shifted (get_or bs i 0) (8 * k) (word k r) (word_lt k r (λ j. rw get_or-drop (o (suc i + j)))))
-
-  pub byte_last : get_or bs 7 0 ≡ word 1 (drop 7 bs)
-  unfolding word
-  byte_last = rw (drop-cons bs 7 0 (omega arith)) (omega arith)
 
 -- a word of which k bytes are cleared
 pub word_cut : (m j k : ℕ) (bs : List ℕ) → m ≡ j + k → Octets bs → word m bs / 2 ^ (8 * k) * 2 ^ (8 * k) ≡ word m (take j bs)

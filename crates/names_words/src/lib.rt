@@ -5,19 +5,15 @@ ghost use Rattle.std.specs.Prelude.{◌≡◌, List, ℕ, ◌+◌, ◌<◌, ◌�
 ghost use Rattle.names.specs.Name.{front};
 ghost use Rattle.names_words.specs.Word.{word, Octets};
 
-// The eight bytes from `at` on. Written so, the compiler makes one load of it.
+// The eight bytes from `at` on. The compiler makes one load of it.
 pub fn word_at(names: &[u8], at: usize) -> u64
     requires { at + 8 ≤ length names.now }
     ensures { result ≡ word 8 (drop at names.now) }
 {
-    let part = &names[at..at + 8];
-    ((part[0] as u64) << 56)
-        | (((part[1] as u64) << 48)
-            | (((part[2] as u64) << 40)
-                | (((part[3] as u64) << 32)
-                    | (((part[4] as u64) << 24)
-                        | (((part[5] as u64) << 16)
-                            | (((part[6] as u64) << 8) | (part[7] as u64)))))))
+    let Some(part) = names[at..].first_chunk() else {
+        unreachable!()
+    };
+    u64::from_be_bytes(*part)
 }
 
 // How many bytes of a word are characters of a name by themselves, up to the first that is none. Each byte is tested by its top bit: that of 159 less the
@@ -29,7 +25,7 @@ pub fn word_front(w: u64) -> usize
     let low = w & 0x7f7f_7f7f_7f7f_7f7f;
     let stops = ((0x9f9f_9f9f_9f9f_9f9f - low) | ((low + 0x0101_0101_0101_0101) | w))
         & 0x8080_8080_8080_8080;
-    (u64::leading_zeros(stops) / 8) as usize
+    (stops.leading_zeros() / 8) as usize
 }
 
 // The first `n` bytes of a word and the one behind them, with zeros in place of the others.

@@ -1,6 +1,6 @@
 -- A number's decimal digits, as bytes of text. Assumes nothing.
 use Rattle.std.specs.Prelude.{◌≡◌, ℕ, zero, suc, ◌+◌, ◌-◌, ◌*◌, ◌/◌, ◌%◌, ◌^◌, ◌<◌, ◌≤◌, cond, List, [], ◌∷◌, ◌++◌, length, nat_lt, slice_index, slice_set, refl}
-use Rattle.std.proofs.Common.{ap, sym, ◌∙◌, ⊎_elim, lt_of_lt_of_le, arith, lit≤, length-append, set-set, lt-ltb, le-ltb}
+use Rattle.std.proofs.Common.{ap, sym, ◌∙◌, ⊎_elim, lt_of_lt_of_le, arith, lit≤, pow-suc, length-append, set-set, lt-ltb, le-ltb}
 use Rattle.std.proofs.Math.ListN.{get_or-append}
 use Rattle.std.proofs.lemmas.List.Edits.{sets}
 use Rattle.std.proofs.Math.Seq.{get_or-append_seam}
@@ -70,6 +70,20 @@ pub length_le : (k n : ℕ) → n < 10 ^ suc k → length (decimal n) ≤ suc k
 length_le zero n h = omega (arith, length_small n h)
 length_le (suc k) n h =
     ⊎_elim (λ d. omega (arith, length_small n d)) (λ d. omega (arith, length_more n d, length_le k (n / 10) (omega arith))) (lt_or_le n 10)
+
+ten_pos : (k : ℕ) → 1 ≤ 10 ^ k
+ten_pos zero = omega arith
+ten_pos (suc k) = omega (arith, pow-suc 10 k, ten_pos k)
+
+pub length_ge : (k n : ℕ) → 10 ^ k ≤ n → suc k ≤ length (decimal n)
+length_ge zero n h = omega (arith, length_pos n)
+length_ge (suc k) n h =
+    let t : 10 ≤ n = omega (arith, pow-suc 10 k, ten_pos k) in
+    omega (arith, length_more n t, length_ge k (n / 10) (omega (arith, pow-suc 10 k)))
+
+-- so as many as the powers of ten that n lies between say
+pub length_between : (k n : ℕ) → 10 ^ k ≤ n → n < 10 * 10 ^ k → length (decimal n) ≡ suc k
+length_between k n h g = omega (arith, length_ge k n h, length_le k n (omega (arith, pow-suc 10 k)))
 
 -- of two, three and four digits
 pub length_two : (n : ℕ) → 10 ≤ n → n < 100 → length (decimal n) ≡ 2

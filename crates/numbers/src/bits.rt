@@ -6,11 +6,10 @@ ghost use Rattle.numbers.specs.Bits.{bit_at, set_bit_at};
 pub fn bit(map: &[u64], i: usize) -> bool
     ensures { result ≡ bit_at map.now i }
 {
-    let at = i / 64;
-    if at < map.len() {
-        return (map[at] >> (i % 64)) % 2 == 1;
+    match map.get(i / 64) {
+        Some(word) => (*word >> (i % 64)) % 2 == 1,
+        None => false,
     }
-    false
 }
 
 // Sets the bit i, which the map has.
@@ -18,6 +17,5 @@ pub fn set_bit(map: &mut [u64], i: usize)
     requires { i / 64 < length map.old }
     ensures { map.new ≡ set_bit_at map.old i }
 {
-    let at = i / 64;
-    map[at] = map[at] | (1u64 << (i % 64));
+    map[i / 64] |= 1u64 << (i % 64);
 }

@@ -3,34 +3,15 @@ ghost use Rattle.std.specs.Prelude.{◌≡◌, ◌+◌, ◌<◌, ◌≤◌, leng
 ghost use Rattle.std.proofs.lemmas.List.Edits.{sets};
 ghost use Rattle.numbers.specs.Digits.{decimal};
 
-// How many digits a number below 10,000 has.
-fn few_digits(n: u64) -> usize
-    requires { n < 10000 }
-    ensures { result ≡ length (decimal n) }
-{
-    if n < 10 {
-        return 1;
-    }
-    if n < 100 {
-        return 2;
-    }
-    if n < 1000 { 3 } else { 4 }
-}
-
 // How many digits n has: 1 for 0, and 20 at most. Most numbers are short.
 pub fn decimal_len(n: u64) -> usize
     ensures { result ≡ length (decimal n) }
 {
-    if n < 100 {
-        return few_digits(n);
+    match n {
+        0..=9 => 1,
+        10..=99 => 2,
+        _ => n.ilog10() as usize + 1,
     }
-    let mut rest = n;
-    let mut len: usize = 0;
-    while 10000 <= rest {
-        rest = rest / 10000;
-        len = len + 4;
-    }
-    len + few_digits(rest)
 }
 
 // Writes the digits of a number below 100. It takes no branch: a first digit of 0 is stored too, and the last one over it.
@@ -55,6 +36,7 @@ pub fn put_decimal(n: u64, text: &mut [u8], at: usize) -> usize
     }
     let end = at + decimal_len(n);
     let mut rest = n;
+    // A `for` over the places from behind tests the place and not the rest, which takes longer.
     let mut i = end;
     while 10 <= rest {
         i = i - 1;

@@ -35,8 +35,5 @@ pub fn sign_extend(v: u64, width: u32) -> u64
 pub fn width_ok(w: u64) -> bool
     ensures { result ≡ width_ok w }
 {
-    match w {
-        1 | 8 | 16 | 32 | 64 => true,
-        _ => false,
-    }
+    matches!(w, 1 | 8 | 16 | 32 | 64)
 }

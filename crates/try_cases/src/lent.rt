@@ -6,16 +6,12 @@ ghost use Rattle.try_cases.specs.Lent.{put_end, put_words, name_byte};
 pub fn put_words(from: &[u64], to: &mut [u64], at: usize) -> usize
     ensures { (result ≡ put_end from.now to.old at) × (to.new ≡ put_words from.now to.old at) }
 {
-    if to.len() < at {
+    if to.len() < at || to.len() - at < from.len() {
         return at;
     }
-    if to.len() - at < from.len() {
-        return at;
-    }
-    for i in 0..from.len() {
-        to[at + i] = from[i];
-    }
-    at + from.len()
+    let end = at + from.len();
+    to[at..end].copy_from_slice(from);
+    end
 }
 
 fn name_byte(b: u8) -> u8
@@ -29,7 +25,7 @@ pub fn copy_names(from: &[u8], to: &mut [u8])
     requires { length from.now ≤ length to.old }
     ensures { to.new ≡ map name_byte from.now ++ drop (length from.now) to.old }
 {
-    for i in 0..from.len() {
-        to[i] = name_byte(from[i]);
+    for (i, b) in from.iter().enumerate() {
+        to[i] = name_byte(*b);
     }
 }

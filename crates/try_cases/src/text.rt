@@ -1,36 +1,28 @@
 // Reading the input: how far a byte is, a number, a token.
 ghost use Rattle.std.specs.Prelude.{◌≡◌, length};
-ghost use Rattle.try_cases.specs.Text.{up_to, is_digit, with_digit, number_in, token_in};
+ghost use Rattle.try_cases.specs.Text.{up_to, with_digit, number_in, token_in};
 
 // How many bytes stand before the first that is `wanted`; all of them where none is.
 pub fn before(text: &[u8], wanted: u8) -> usize
     ensures { result ≡ length (up_to wanted text.now) }
 {
-    let mut at: usize = 0;
-    while at < text.len() {
-        if text[at] == wanted {
-            return at;
+    for (i, b) in text.iter().enumerate() {
+        if *b == wanted {
+            return i;
         }
-        at += 1;
     }
-    at
-}
-
-fn is_digit(b: u8) -> bool
-    ensures { result ≡ is_digit b }
-{
-    (b'0' <= b) & (b <= b'9')
+    text.len()
 }
 
 // A number with one digit more, modulo 2^64; a digit's value is the low half of its byte.
 fn with_digit(value: u64, b: u8) -> u64
     ensures { result ≡ with_digit value b }
 {
-    std::num::wrapping_add_u64(numbers::wrap::wrapping_mul(value, 10), (b % 16) as u64)
+    value.wrapping_mul(10).wrapping_add((b % 16) as u64)
 }
 
 // A number and how many digits it has.
-#[derive(Drop)]
+#[derive(Clone, Copy)]
 pub struct Number {
     pub value: u64,
     pub digits: usize,
@@ -41,25 +33,20 @@ fn read_number(text: &[u8]) -> Number
     ensures { result ≡ number_in text.now }
 {
     let mut value: u64 = 0;
-    let mut at: usize = 0;
-    while at < text.len() {
-        if !is_digit(text[at]) {
-            return Number {
-                value: value,
-                digits: at,
-            };
+    for (i, b) in text.iter().enumerate() {
+        if !b.is_ascii_digit() {
+            return Number { value, digits: i };
         }
-        value = with_digit(value, text[at]);
-        at += 1;
+        value = with_digit(value, *b);
     }
     Number {
-        value: value,
-        digits: at,
+        value,
+        digits: text.len(),
     }
 }
 
 // A number, the byte behind it and a number behind that; what is not there is 0.
-#[derive(Drop)]
+#[derive(Clone, Copy)]
 pub struct Token {
     pub first: u64,
     pub mark: u8,
@@ -78,11 +65,10 @@ pub fn read_token(word: &[u8]) -> Token
             second: 0,
         };
     }
-    let mark = word[n];
     let second = read_number(&word[n + 1..]);
     Token {
         first: first.value,
-        mark: mark,
+        mark: word[n],
         second: second.value,
     }
 }

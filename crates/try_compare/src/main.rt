@@ -1,8 +1,8 @@
 #![tactic(auto)]
 // Compares each line of standard input with the one before it, the first with an empty one, and writes a line for each: how the earlier
 // one stands to it (<, = or >), and the steps of the comparison.
-use names_compare::{Ordering, compare};
-use names_spelling::name_end;
+use names_compare::compare;
+use std::cmp::Ordering;
 use std::io;
 use std::io::Read;
 
@@ -16,21 +16,16 @@ fn sign(order: Ordering) -> u8 {
 
 fn report(rt: &impl Print, a: &[u8], b: &[u8]) -> io::Result<()> {
     let compared = compare(a, b);
-    let order = compared.order;
-    rt.write_all(&[sign(order), b' '])?;
+    rt.write_all(&[sign(compared.order), b' '])?;
     println!(rt; "{}", compared.steps)
 }
 
 fn run_lines(rt: &impl Print, text: &[u8]) -> io::Result<()> {
-    let mut last: usize = 0;
-    let mut past: usize = 0;
-    let mut at: usize = 0;
-    while at < text.len() {
-        let end = name_end(text, at);
-        report(rt, &text[last..past], &text[at..end])?;
-        last = at;
-        past = end;
-        at = end + 1;
+    let mut last: &[u8] = &[];
+    for ended in text.split_inclusive(|b| *b == b'\n') {
+        let line = ended.strip_suffix(b"\n").unwrap_or(ended);
+        report(rt, last, line)?;
+        last = line;
     }
     Ok(())
 }

@@ -1,30 +1,21 @@
 use mathlib.Core.Path.{sym, ◌∙◌}
-use borrow.Author.Rules.{rules}
 use Rattle.names_spelling.proofs.Spell.{name_past, name_ended, name_more, starts_over, starts_none, starts_more, starts_differ}
+use Rattle.names_spelling.proofs.name_starts.Goals.{then-names-i-via-then-names-i, then-names-i-via-else-names-i+then-names-i-eq-END, then-names-i-via-else-names-i+else-names-i-eq-END+then-names-i-2}
 use Rattle.names_spelling.proofs.name_starts.Goals as goal
 
-pub returns-then-names-j : goal.returns-then-names-j
-returns-then-names-j c =
-    sym (c.loop-i.invariant.1 ∙ starts_none _ _ c.loop-i-test.true _ (name_past _ _ c.if-names-j.true))
+pub returns-then-names-i : goal.returns-then-names-i
+returns-then-names-i c =
+    let i = c.loop-b.invariant in
+    elim c.then-names-i.branch [
+      | then-names-i-via-then-names-i w ↦ sym (i ∙ starts_none _ _ c.loop-b-test.true _ (name_past _ _ w.if-names-i.true))
+      | then-names-i-via-else-names-i+then-names-i-eq-END w ↦ sym (i ∙ starts_none _ _ c.loop-b-test.true _ (name_ended _ _ w.if-names-i.false w.if-names-i-eq-END.true))
+      | then-names-i-via-else-names-i+else-names-i-eq-END+then-names-i-2 w ↦
+          sym (i ∙ starts_differ _ _ c.loop-b-test.true _ _ _ (name_more _ _ w.if-names-i.false w.if-names-i-eq-END.false) w.if-names-i-2.true)
+    ]
 
-pub returns-then-b-eq-END : goal.returns-then-b-eq-END
-returns-then-b-eq-END c =
-    sym
-    (c.loop-i.invariant.1
-    ∙ starts_none _ _ c.loop-i-test.true _ (name_ended _ _ c.if-names-j.false c.if-b-eq-END.true))
-
-pub returns-then-b-text : goal.returns-then-b-text
-returns-then-b-text c =
-    sym
-    (c.loop-i.invariant.1
-    ∙ starts_differ _ _ c.loop-i-test.true _ _ _ (name_more _ _ c.if-names-j.false c.if-b-eq-END.false) c.if-b-text.true)
-
-pub loop-i-preserved : goal.loop-i-preserved
-loop-i-preserved c = (
-  search rules,
-  c.loop-i.invariant.1
-      ∙ starts_more _ _ c.loop-i-test.true _ _ _ (name_more _ _ c.if-names-j.false c.if-b-eq-END.false) c.if-b-text.false,
-)
+pub loop-b-preserved : goal.loop-b-preserved
+loop-b-preserved c =
+    c.loop-b.invariant ∙ starts_more _ _ c.loop-b-test.true _ _ _ (name_more _ _ c.if-names-i.false c.if-names-i-eq-END.false) c.if-names-i-2.false
 
 pub returns : goal.returns
-returns c = sym (c.loop-i.invariant.1 ∙ starts_over _ _ _ c.loop-i-test.false)
+returns c = sym (c.loop-b.invariant ∙ starts_over _ _ _ c.loop-b-test.false)

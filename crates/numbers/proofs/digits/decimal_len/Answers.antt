@@ -1,24 +1,13 @@
-use Rattle.std.proofs.Common.{arith}
-use mir.Facts.{Fits-lt-pow}
-use Rattle.numbers.specs.Digits.{length_more_four, length_word}
+-- `decimal_len` meets its contract by the powers of ten that n lies between.
+use Rattle.std.proofs.Common.{sym, ◌∙◌, add-one, arith}
+use Rattle.numbers.specs.Digits.{length_small, length_two, length_between}
 use Rattle.numbers.proofs.digits.decimal_len.Goals as goal
 
-pub few_digits-requires : goal.few_digits-requires
-few_digits-requires c = omega arith
+pub returns-in-0-to-9 : goal.returns-in-0-to-9
+returns-in-0-to-9 c = sym (length_small _ (omega arith))
 
-pub loop-rest-init : goal.loop-rest-init
-loop-rest-init c = omega arith
+pub returns-in-10-to-99 : goal.returns-in-10-to-99
+returns-in-10-to-99 c = sym (length_two _ (omega arith) (omega arith))
 
-pub overflow_add-len : goal.overflow_add-len
-overflow_add-len c =
-    omega (arith, length_more_four c.loop-rest.rest c.loop-rest-test.true, length_word c.args.n (Fits-lt-pow c.ranges.n))
-
-pub loop-rest-smaller : goal.loop-rest-smaller
-loop-rest-smaller c = omega arith
-
-pub loop-rest-preserved : goal.loop-rest-preserved
-loop-rest-preserved c = omega (arith, length_more_four c.loop-rest.rest c.loop-rest-test.true)
-
-pub overflow_add-result : goal.overflow_add-result
-overflow_add-result c =
-    omega (arith, length_word c.args.n (Fits-lt-pow c.ranges.n))
+pub returns-in_default : goal.returns-in_default
+returns-in_default c = let p = c.ilog10.ensures in add-one _ ∙ sym (length_between c.ilog10.result c.args.n p.power_le p.next_power_gt)

@@ -1,29 +1,30 @@
-use Rattle.std.proofs.Common.{not, sym, ap, ◌∙◌}
+use Rattle.std.proofs.Common.{◌≡◌, not, length, sym, ap, ◌∙◌, arith}
 use Rattle.try_cases.specs.Text.{no_digit}
 use Rattle.try_cases.proofs.Reading.{reached_first, reached_more, reached_end, digits_past, digits_stop}
 use Rattle.try_cases.proofs.text.read_number.Goals as goal
 
-pub loop-at-init : goal.loop-at-init
-loop-at-init c = reached_first c.args.text.now
+pub loop-i-init : goal.loop-i-init
+loop-i-init c = reached_first c.args.text.now
 
-pub returns-then-not-is_digit : goal.returns-then-not-is_digit
+pub returns-then-not-is_ascii_digit : goal.returns-then-not-is_ascii_digit
 unfolding no_digit
-returns-then-not-is_digit c =
-    let l = c.loop-at in
+returns-then-not-is_ascii_digit c =
+    let l = c.loop-i in
     let t = c.args.text.now in
-    let h = ap not (sym c.is_digit.ensures ∙ c.if-not-is_digit.true) in
-    reached_end t l.value l.at l.invariant (digits_stop t l.value l.at l.invariant c.loop-at-test.true h)
+    let h = ap not (sym c.is_ascii_digit.ensures.value ∙ c.if-not-is_ascii_digit.true) in
+    reached_end t l.value l.i l.invariant (digits_stop t l.value l.i l.invariant c.loop-i-test.true h)
 
-pub loop-at-preserved : goal.loop-at-preserved
+pub loop-i-preserved : goal.loop-i-preserved
 unfolding no_digit
-loop-at-preserved c =
-    let l = c.loop-at in
+loop-i-preserved c =
+    let l = c.loop-i in
     let t = c.args.text.now in
-    let h = ap not (sym c.is_digit.ensures ∙ c.if-not-is_digit.false) in
-    reached_more t l.value l.at l.invariant c.with_digit-value.result c.loop-at-test.true h c.with_digit-value.ensures
+    let h = ap not (sym c.is_ascii_digit.ensures.value ∙ c.if-not-is_ascii_digit.false) in
+    reached_more t l.value l.i l.invariant c.with_digit-value.result c.loop-i-test.true h c.with_digit-value.ensures
 
 pub returns : goal.returns
 returns c =
-    let l = c.loop-at in
+    let l = c.loop-i in
     let t = c.args.text.now in
-    reached_end t l.value l.at l.invariant (digits_past t l.value l.at l.invariant c.loop-at-test.false)
+    let all : length t ≡ l.i = omega (arith, l.invariant.inside) in
+    rw all (reached_end t l.value l.i l.invariant (digits_past t l.value l.i l.invariant c.loop-i-test.false))
