@@ -18,6 +18,7 @@ pub mod AgreeInput
 pub mod Forbidden
 pub mod Check
 pub mod Refusal
+pub mod Ops
 pub mod Open
 pub mod Cases
 pub mod Map

@@ -1,6 +1,8 @@
 -- The refusals by document 01's numbers.
-use Rattle.std.specs.Prelude.{ℕ}
+use Rattle.std.specs.Prelude.{ℕ, ◌≡◌, ◌<◌, ◌⊎◌, Result, MatchResult}
+use Rattle.std.proofs.Common.{arith}
 use Rattle.book.specs.declared.refusal.Refusal.{Refusal}
+use Rattle.book.specs.declared.refusal.UnknownRefusal.{UnknownRefusal}
 use Rattle.book.specs.declared.refusal.Refusal.TheVariants as refusal
 
 abbrev pub number_of : Refusal → ℕ
@@ -25,3 +27,35 @@ number_of refusal.PhiLacksPredecessor = 18
 number_of refusal.NoFalseTarget = 19
 number_of refusal.NoRoom = 20
 number_of refusal.BadLine = 21
+
+-- none is 0
+pub number_positive : (e : Refusal) → 0 < number_of e
+number_positive refusal.Book = omega arith
+number_positive refusal.Names = omega arith
+number_positive refusal.Forbidden = omega arith
+number_positive refusal.Work = omega arith
+number_positive refusal.NoResultName = omega arith
+number_positive refusal.NoSize = omega arith
+number_positive refusal.TooLarge = omega arith
+number_positive refusal.TooManySlots = omega arith
+number_positive refusal.NotInteger = omega arith
+number_positive refusal.UnknownLocal = omega arith
+number_positive refusal.AccessSize = omega arith
+number_positive refusal.AtomicSize = omega arith
+number_positive refusal.SignExtension = omega arith
+number_positive refusal.GepStep = omega arith
+number_positive refusal.Call = omega arith
+number_positive refusal.ExtractValue = omega arith
+number_positive refusal.UnknownBlock = omega arith
+number_positive refusal.PhiLacksPredecessor = omega arith
+number_positive refusal.NoFalseTarget = omega arith
+number_positive refusal.NoRoom = omega arith
+number_positive refusal.BadLine = omega arith
+
+-- no refusal has this number
+abbrev pub Unnumbered : ℕ → Type 0
+Unnumbered n = (n ≡ 0) ⊎ (21 < n)
+
+-- the refusal that has this number, or an error with a number that none has
+abbrev pub Numbered : ℕ → Result Refusal UnknownRefusal → Type 0
+Numbered n r = MatchResult r (λ e. number_of e ≡ n) (λ u. (u.0 ≡ n) × Unnumbered n)

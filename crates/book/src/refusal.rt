@@ -1,6 +1,6 @@
 // The refusals by document 01's numbers.
 ghost use Rattle.std.specs.Prelude.{◌≡◌};
-ghost use Rattle.book.specs.Refusal.{number_of};
+ghost use Rattle.book.specs.Refusal.{number_of, Numbered};
 
 // Why a call was refused: the check's four first, then the translator's and the printer's.
 #[derive(Clone, Copy, Debug, PartialEq, Eq)]
@@ -55,5 +55,42 @@ impl Refusal {
         ensures { result ≡ number_of self }
     {
         self as u64
+    }
+}
+
+// A number that document 01 gives no refusal.
+#[derive(Clone, Copy, Debug, PartialEq, Eq)]
+pub struct UnknownRefusal(pub u64);
+
+impl TryFrom<u64> for Refusal {
+    type Error = UnknownRefusal;
+
+    ghost try_from_gives = { Numbered };
+
+    fn try_from(number: u64) -> Result<Self, UnknownRefusal> {
+        match number {
+            1 => Ok(Refusal::Book),
+            2 => Ok(Refusal::Names),
+            3 => Ok(Refusal::Forbidden),
+            4 => Ok(Refusal::Work),
+            5 => Ok(Refusal::NoResultName),
+            6 => Ok(Refusal::NoSize),
+            7 => Ok(Refusal::TooLarge),
+            8 => Ok(Refusal::TooManySlots),
+            9 => Ok(Refusal::NotInteger),
+            10 => Ok(Refusal::UnknownLocal),
+            11 => Ok(Refusal::AccessSize),
+            12 => Ok(Refusal::AtomicSize),
+            13 => Ok(Refusal::SignExtension),
+            14 => Ok(Refusal::GepStep),
+            15 => Ok(Refusal::Call),
+            16 => Ok(Refusal::ExtractValue),
+            17 => Ok(Refusal::UnknownBlock),
+            18 => Ok(Refusal::PhiLacksPredecessor),
+            19 => Ok(Refusal::NoFalseTarget),
+            20 => Ok(Refusal::NoRoom),
+            21 => Ok(Refusal::BadLine),
+            _ => Err(UnknownRefusal(number)),
+        }
     }
 }

@@ -19,13 +19,10 @@ use Rattle.book.proofs.AgreeTy.{agrees_type}
 use Rattle.book.specs.AgreeInst.{inst_found}
 use Rattle.book.proofs.AgreeInst.{agrees_inst}
 use Rattle.book_types.specs.Length.{len_of, front_of}
-use Rattle.book_types.specs.Found.{found_of, joined, all_test, pair_test, never}
+use Rattle.book_types.specs.Found.{found, found_of, joined, all_test, pair_test, never}
 use Rattle.book_types.specs.Laws.{entries_part, lent_from, len_got, len_bad}
-use Rattle.book_types.specs.declared.Length.{Length}
-use Rattle.book_types.specs.declared.Length.TheVariants as len
-use Rattle.book_types.specs.declared.Found.TheVariants as found
-use Rattle.book_types.specs.declared.Front.{Front}
-use Rattle.book_types.specs.declared.Front.TheVariants as front
+use Rattle.std.specs.Prelude as code
+use Rattle.std.specs.Prelude.{Some, None}
 
 -- the instructions and the terminator of a block
 abbrev pub forbidden_body : (ℕ → Bool) → List Inst × Terminator → Bool
@@ -33,9 +30,9 @@ forbidden_body barred = all_test (forbidden_inst barred) other_term
 
 -- ---- a callee that is no callee, behind a call's return type
 module _ (barred : ℕ → Bool) where
-  abbrev pub callee_barred : Front → Bool
-  callee_barred front.Nothing = false
-  callee_barred (front.Entry k w) = eqb k 31 && barred w
+  abbrev pub callee_barred : code.Option (ℕ × ℕ) → Bool
+  callee_barred None = false
+  callee_barred (Some e) = eqb e.0 31 && barred e.1
 
   abbrev pub behind_type : List Entry → Read Ty → Bool
   behind_type es (got t n) = callee_barred (front_of (drop n es))
@@ -99,18 +96,18 @@ module _ (barred : ℕ → Bool) where
     call_also es = go (inst m es) refl
       where
         go : (r : Read Inst) → inst m es ≡ r → found_of (forbidden_inst barred) r ≡ joined 0 (call_barred barred m es) (found_of other_inst r)
-        go (got i n) e = rw (zero-add n) (ap (found.Entries n) (sym (call_flag es i n e) ∙ or_comm (other_inst i) (call_barred barred m es)))
+        go (got i n) e = rw (zero-add n) (ap (λ b. Some (found n b)) (sym (call_flag es i n e) ∙ or_comm (other_inst i) (call_barred barred m es)))
         go bad e = refl
 
 -- ---- the arms of the code
 module _ (barred : ℕ → Bool) (m : ℕ) where
-  pub behind_bad : (es : List Entry) (r : Length) → r ≡ len_of (type m es) → r ≡ len.Bad → false ≡ behind_call barred m es
-  behind_bad es r er h = sym (rw (len_bad (type m es) (sym er ∙ h)))
+  pub behind_bad : (es : List Entry) → len_of (type m es) ≡ None → false ≡ behind_call barred m es
+  behind_bad es h = sym (rw (len_bad (type m es) h))
 
-  pub behind_arm : (ks ws : List ℕ) (r : Length) (n : ℕ) → r ≡ len_of (type m (entries ks ws)) → r ≡ len.Entries n → (f : Front) (b : Bool)
+  pub behind_arm : (ks ws : List ℕ) (n : ℕ) → len_of (type m (entries ks ws)) ≡ Some n → (f : code.Option (ℕ × ℕ)) (b : Bool)
       → f ≡ front_of (lent_from ks ws n) → b ≡ callee_barred barred f → b ≡ behind_call barred m (entries ks ws)
-  behind_arm ks ws r n er h f b ef eb =
-      let g = len_got (type m (entries ks ws)) n (sym er ∙ h) in
+  behind_arm ks ws n h f b ef eb =
+      let g = len_got (type m (entries ks ws)) n h in
       eb ∙ ap (callee_barred barred) (ef ∙ ap front_of (entries_part n ks ws)) ∙ sym (rw g.1)
 
 -- ---- nothing in a parameter is forbidden

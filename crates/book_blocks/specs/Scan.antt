@@ -2,11 +2,10 @@
 -- the rest of its block, the blocks behind that. One pass over the entries goes by it.
 use Rattle.std.specs.Prelude.{ℕ, zero, suc, ◌+◌, ◌/◌, ◌%◌, ◌≤◌, ◌<◌, ◌^◌, ◌⊎◌, Bool, ◌&&◌, ◌||◌, not, length, get_or, drop, ltb}
 use Rattle.std.proofs.Math.Path.{◌≡◌, refl, ap}
-use Rattle.std.proofs.Common.{sym, ◌∙◌, inl, inr, ⊎_elim, pow-suc, arith, length-drop, drop_of_length-le, drop-drop}
+use Rattle.std.proofs.Common.{sym, ◌∙◌, inl, inr, ⊎_elim, arith, length-drop, drop_of_length-le, drop-drop}
 use Rattle.std.proofs.Math.Bool.{true, false, or-false}
 use Rattle.std.proofs.Math.Option.{none, some}
-use mathlib.Core.List.{List, [], ◌∷◌}
-use Rattle.std.proofs.Math.Nat.{pow-zero}
+use mathlib.Core.List.{List, [], ◌∷◌, map}
 use borrow.Author.Tests.{eqb-true, eqb-false, eq-eqb, ne_eqb, leb-true, leb-false, lt-ltb, le-ltb}
 use Rattle.std.proofs.Math.Dec.{eqb, leb}
 use Rattle.book.specs.Entry.{Entry, entry, entries}
@@ -15,12 +14,14 @@ use Rattle.book.specs.Read.{stops, mapped, both, until, one, word, is_closing, c
 use Rattle.book.specs.Decode.{inst, term, tagged, body, basic_block, name}
 use Rattle.book.specs.Forbidden.{any, other_field, other_term, other_inst, forbidden_inst, forbidden_block}
 use Rattle.book.proofs.AgreeInst.{agrees_field}
-use Rattle.book_types.specs.Found.{found_of, joined, followed_by, all_test, never}
+use Rattle.book_types.specs.Found.{found, found_of, joined, followed_by, all_test, never}
 use Rattle.book_types.specs.Laws.{entry_at, entries_part, length_entries, lent_from}
 use Rattle.book_types.specs.Passes.{joined_joined, joined_none, followed_joined, followed_twice, both_found, mapped_found, many_found, until_end, until_item, found_fits}
+use Rattle.std.specs.Prelude as code
+use Rattle.std.specs.Prelude.{Some, None}
 use Rattle.book_types.specs.declared.Found.{Found}
-use Rattle.book_types.specs.declared.Found.TheVariants as found
-use Rattle.book_insts.specs.Insts.{field_of, fields_to, fields_of, fields_behind}
+use Rattle.book_insts.specs.Insts.{digit_of, field_by, fields_behind}
+use Rattle.book_insts.specs.declared.Field.{Field}
 use Rattle.book_insts.specs.InstLaws as insts
 use Rattle.book_insts.specs.InstLaws.{field_found, fields_found}
 use Rattle.book_insts.specs.Rules.{Alone}
@@ -44,21 +45,21 @@ no_head m e = not (eqb e.kind 7) || leb m e.word
 
 module _ (barred : ℕ → Bool) (m : ℕ) where
   -- ---- what is to come: i and j bound the instructions and the blocks
-  abbrev blocks_from : ℕ → List Entry → Found
+  abbrev blocks_from : ℕ → List Entry → code.Option Found
   blocks_from j es = found_of (all_test (forbidden_block barred) never) (until is_closing (basic_block m) closing j es)
 
-  abbrev body_only : ℕ → List Entry → Found
+  abbrev body_only : ℕ → List Entry → code.Option Found
   body_only i es = found_of (forbidden_body barred) (until (leb 90) (inst m) (term m) i es)
 
-  abbrev body_from : ℕ → ℕ → List Entry → Found
+  abbrev body_from : ℕ → ℕ → List Entry → code.Option Found
   body_from i j es = followed_by (body_only i es) (blocks_from j) es
 
   -- inside a block or not
-  abbrev open_from : Bool → ℕ → ℕ → List Entry → Found
+  abbrev open_from : Bool → ℕ → ℕ → List Entry → code.Option Found
   open_from true i j es = body_from i j es
   open_from false i j es = blocks_from j es
 
-  abbrev rest_from : List book.Field → Bool → ℕ → ℕ → List Entry → Found
+  abbrev rest_from : List book.Field → Bool → ℕ → ℕ → List Entry → code.Option Found
   rest_from fs inside i j es = followed_by (fields_found m fs es) (open_from inside i j) es
 
   -- ---- fields
@@ -70,22 +71,19 @@ module _ (barred : ℕ → Bool) (m : ℕ) where
   rest_next f fs inside i j es =
       ap (λ x. followed_by x (open_from inside i j) es) (insts.fields_next m f fs es) ∙ followed_twice (field_found m f es) (fields_found m fs) (open_from inside i j) es
 
-  rest_of_none : (n r : ℕ) → r ≡ 0 → (inside : Bool) (i j : ℕ) (es : List Entry) → rest_from (fields_to n r) inside i j es ≡ open_from inside i j es
-  rest_of_none n r z inside i j es = ap (λ fs. rest_from fs inside i j es) (ap (fields_to n) z ∙ insts.no_digits n) ∙ rest_none inside i j es
-
   -- ---- where there is no entry
-  rest_end : (fs : List book.Field) (inside : Bool) (i j : ℕ) → rest_from fs inside i j [] ≡ found.Bad
+  rest_end : (fs : List book.Field) (inside : Bool) (i j : ℕ) → rest_from fs inside i j [] ≡ None
   unfolding stops closing word one term mapped tagged
   rest_end [] inside i j = rest_none inside i j [] ∙ go inside
     where
-      go : (inside : Bool) → open_from inside i j [] ≡ found.Bad
+      go : (inside : Bool) → open_from inside i j [] ≡ None
       go true = ap (λ f. followed_by f (blocks_from j) []) (until_end (forbidden_inst barred) other_term (leb 90) (inst m) (term m) i [] refl)
       go false = until_end (forbidden_block barred) never is_closing (basic_block m) closing j [] refl
   rest_end (f ∷ fs) inside i j = rest_next f fs inside i j [] ∙ ap (λ r. followed_by (found_of (other_field f) r) (rest_from fs inside i j) []) (insts.no_field m f)
 
   module _ (e : Entry) (es : List Entry) where
     -- ---- an instruction or a terminator
-    body_item : leb 90 e.kind ≡ false → (i j : ℕ) (x : Found) → found_of other_inst (inst m (e ∷ es)) ≡ x
+    body_item : leb 90 e.kind ≡ false → (i j : ℕ) (x : code.Option Found) → found_of other_inst (inst m (e ∷ es)) ≡ x
         → body_from (suc i) j (e ∷ es) ≡ followed_by (joined 0 (call_barred barred m (e ∷ es)) x) (body_from i j) (e ∷ es)
     unfolding stops
     body_item t i j x h =
@@ -93,7 +91,7 @@ module _ (barred : ℕ → Bool) (m : ℕ) where
         ∙ followed_twice (found_of (forbidden_inst barred) (inst m (e ∷ es))) (body_only i) (blocks_from j) (e ∷ es)
         ∙ ap (λ f. followed_by f (body_from i j) (e ∷ es)) (call_also barred m (e ∷ es) ∙ ap (joined 0 (call_barred barred m (e ∷ es))) h)
 
-    body_last : leb 90 e.kind ≡ true → (i j : ℕ) (x : Found) → found_of other_term (term m (e ∷ es)) ≡ x → body_from i j (e ∷ es) ≡ followed_by x (blocks_from j) (e ∷ es)
+    body_last : leb 90 e.kind ≡ true → (i j : ℕ) (x : code.Option Found) → found_of other_term (term m (e ∷ es)) ≡ x → body_from i j (e ∷ es) ≡ followed_by x (blocks_from j) (e ∷ es)
     unfolding stops
     body_last t i j x h = ap (λ f. followed_by f (blocks_from j) (e ∷ es)) (until_end (forbidden_inst barred) other_term (leb 90) (inst m) (term m) i (e ∷ es) t ∙ h)
 
@@ -121,12 +119,12 @@ module _ (barred : ℕ → Bool) (m : ℕ) where
             ∙ ap (λ b. joined 1 b (fields_found m fs es)) (or-false (call_barred barred m (e ∷ es))))
             ∙ followed_joined 1 (call_barred barred m (e ∷ es)) (fields_found m fs es) (body_from i j) (e ∷ es))
 
-    body_unknown : fields_behind m e.kind e.word ≡ none → (i j : ℕ) → body_from (suc i) j (e ∷ es) ≡ found.Bad
+    body_unknown : fields_behind m e.kind e.word ≡ none → (i j : ℕ) → body_from (suc i) j (e ∷ es) ≡ None
     body_unknown h i j = go (leb 90 e.kind) refl
       where
-        go : (b : Bool) → leb 90 e.kind ≡ b → body_from (suc i) j (e ∷ es) ≡ found.Bad
-        go true t = body_last t (suc i) j found.Bad (insts.term_unknown m e es t h)
-        go false t = body_item t i j found.Bad (insts.inst_unknown m e es t h)
+        go : (b : Bool) → leb 90 e.kind ≡ b → body_from (suc i) j (e ∷ es) ≡ None
+        go true t = body_last t (suc i) j None (insts.term_unknown m e es t h)
+        go false t = body_item t i j None (insts.inst_unknown m e es t h)
 
     -- ---- a block's head, or the end of the list
     block_as : found_of (forbidden_block barred) (basic_block m (e ∷ es)) ≡ followed_by (found_of never (word 7 (name m) (e ∷ es))) (λ xs. found_of (forbidden_body barred) (body m xs)) (e ∷ es)
@@ -135,7 +133,7 @@ module _ (barred : ℕ → Bool) (m : ℕ) where
         mapped_found (forbidden_block barred) _ (both (word 7 (name m)) (body m)) (e ∷ es)
         ∙ both_found (word 7 (name m)) (body m) never (forbidden_body barred) (e ∷ es)
 
-    block_item : (e.kind ≡ 0 → ⊥) → (j : ℕ) (x : Found) → found_of never (word 7 (name m) (e ∷ es)) ≡ x
+    block_item : (e.kind ≡ 0 → ⊥) → (j : ℕ) (x : code.Option Found) → found_of never (word 7 (name m) (e ∷ es)) ≡ x
         → blocks_from (suc j) (e ∷ es) ≡ followed_by (followed_by x (λ xs. found_of (forbidden_body barred) (body m xs)) (e ∷ es)) (blocks_from j) (e ∷ es)
     unfolding stops
     block_item d j x h =
@@ -153,144 +151,125 @@ module _ (barred : ℕ → Bool) (m : ℕ) where
     unfolding word one body
     list_head h j =
         let q = head_of h in
-        block_item (λ z. omega arith) j (found.Entries 1 false) (rw (eq-eqb e.kind 7 q.0, lt-ltb e.word m q.1))
+        block_item (λ z. omega arith) j (Some (found 1 false)) (rw (eq-eqb e.kind 7 q.0, lt-ltb e.word m q.1))
         ∙ followed_joined 1 false (body_only (length es) es) (blocks_from j) (e ∷ es)
 
-    list_closed : closes e ≡ true → (j : ℕ) → blocks_from (suc j) (e ∷ es) ≡ found.Entries 1 false
+    list_closed : closes e ≡ true → (j : ℕ) → blocks_from (suc j) (e ∷ es) ≡ Some (found 1 false)
     unfolding stops word one closing
     list_closed h j = go (eqb e.kind 0) refl (eqb e.word 0) refl h
       where
-        go : (a : Bool) → eqb e.kind 0 ≡ a → (b : Bool) → eqb e.word 0 ≡ b → (a && b) ≡ true → blocks_from (suc j) (e ∷ es) ≡ found.Entries 1 false
+        go : (a : Bool) → eqb e.kind 0 ≡ a → (b : Bool) → eqb e.word 0 ≡ b → (a && b) ≡ true → blocks_from (suc j) (e ∷ es) ≡ Some (found 1 false)
         go true k true w h = until_end (forbidden_block barred) never is_closing (basic_block m) closing (suc j) (e ∷ es) k ∙ rw (k, w)
         go true k false w h = absurd (let z : ◌≡◌ {A = ℕ} 0 1 = cc in omega arith)
         go false k b w h = absurd (let z : ◌≡◌ {A = ℕ} 0 1 = cc in omega arith)
 
-    list_bad : closes e ≡ false → no_head m e ≡ true → (j : ℕ) → blocks_from (suc j) (e ∷ es) ≡ found.Bad
+    list_bad : closes e ≡ false → no_head m e ≡ true → (j : ℕ) → blocks_from (suc j) (e ∷ es) ≡ None
     unfolding stops word one closing
     list_bad h d j = go (eqb e.kind 0) refl h
       where
-        unheaded : (b : Bool) → eqb e.kind 7 ≡ b → (not b || leb m e.word) ≡ true → found_of never (word 7 (name m) (e ∷ es)) ≡ found.Bad
+        unheaded : (b : Bool) → eqb e.kind 7 ≡ b → (not b || leb m e.word) ≡ true → found_of never (word 7 (name m) (e ∷ es)) ≡ None
         unheaded true k d = rw (k, le-ltb e.word m (leb-true m e.word d))
         unheaded false k d = rw k
 
-        go : (a : Bool) → eqb e.kind 0 ≡ a → (a && eqb e.word 0) ≡ false → blocks_from (suc j) (e ∷ es) ≡ found.Bad
+        go : (a : Bool) → eqb e.kind 0 ≡ a → (a && eqb e.word 0) ≡ false → blocks_from (suc j) (e ∷ es) ≡ None
         go true k h = until_end (forbidden_block barred) never is_closing (basic_block m) closing (suc j) (e ∷ es) k ∙ rw (k, h)
-        go false k h = block_item (eqb-false e.kind 0 k) j found.Bad (unheaded (eqb e.kind 7) refl d)
+        go false k h = block_item (eqb-false e.kind 0 k) j None (unheaded (eqb e.kind 7) refl d)
 
--- ---- the pass, on slices: at the place a, with the digits of the fields that are wanted, inside a block or not, and what was seen
+-- ---- the pass, on slices: at the place a, with the fields that are wanted, inside a block or not, and what was seen
 module _ (barred : ℕ → Bool) (m : ℕ) (ks ws : List ℕ) where
-  abbrev whole : Found
+  abbrev whole : code.Option Found
   whole = found_of (any (forbidden_block barred)) (many (basic_block m) (entries ks ws))
 
-  pub record Scan (a need : ℕ) (inside seen : Bool) : Type 0 where
+  pub record Scan (a : ℕ) (need : List Field) (inside seen : Bool) : Type 0 where
     pub there : a ≤ length (entries ks ws)
-    pub digits : ℕ
-    pub small : need < 16 ^ digits
     pub insts : ℕ
     pub blocks : ℕ
     pub insts_room : length (entries ks ws) ≤ a + insts
     pub blocks_room : length (entries ks ws) ≤ a + blocks
-    pub named : (1 ≤ m) ⊎ ((need ≡ 0) × (inside ≡ false))
-    pub goes : whole ≡ joined a seen (rest_from barred m (fields_to digits need) inside insts blocks (drop a (entries ks ws)))
+    pub named : (1 ≤ m) ⊎ ((need ≡ []) × (inside ≡ false))
+    pub goes : whole ≡ joined a seen (rest_from barred m (map field_by need) inside insts blocks (drop a (entries ks ws)))
 
-  pub scan_start : Scan 0 0 false false
+  pub scan_start : Scan 0 [] false false
   scan_start =
       let n = length (entries ks ws) in
       record {
         there = omega arith;
-        digits = 0;
-        small = omega (arith, pow-zero 16);
         insts = n;
         blocks = n;
         insts_room = omega arith;
         blocks_room = omega arith;
         named = inr (refl, refl);
-        goes = many_found (forbidden_block barred) (basic_block m) (entries ks ws) ∙ sym (joined_none _ ∙ rest_of_none barred m 0 0 refl false n n (entries ks ws));
+        goes = many_found (forbidden_block barred) (basic_block m) (entries ks ws) ∙ sym (joined_none _ ∙ rest_none barred m false n n (entries ks ws));
       }
 
-module _ {barred : ℕ → Bool} {m : ℕ} {ks ws : List ℕ} {a need : ℕ} {inside seen : Bool} (l : Scan barred m ks ws a need inside seen) where
+module _ {barred : ℕ → Bool} {m : ℕ} {ks ws : List ℕ} {a : ℕ} {need : List Field} {inside seen : Bool} (l : Scan barred m ks ws a need inside seen) where
   -- the entries from here on, and what is to come of them
   abbrev rest : List Entry
   rest = drop a (entries ks ws)
 
-  abbrev rest_with : List book.Field → List Entry → Found
+  abbrev rest_with : List book.Field → List Entry → code.Option Found
   rest_with fs es = rest_from barred m fs inside l.insts l.blocks es
 
-  abbrev to_come : Found
-  to_come = rest_with (fields_to l.digits need) rest
+  abbrev to_come : code.Option Found
+  to_come = rest_with (map field_by need) rest
 
-  to_bad : to_come ≡ found.Bad → found.Bad ≡ whole barred m ks ws
+  to_bad : to_come ≡ None → None ≡ whole barred m ks ws
   to_bad h = sym (l.goes ∙ ap (joined a seen) h)
 
-  to_next : (n : ℕ) (b : Bool) (f : Found) → to_come ≡ joined n b f → whole barred m ks ws ≡ joined (a + n) (seen || b) f
+  to_next : (n : ℕ) (b : Bool) (f : code.Option Found) → to_come ≡ joined n b f → whole barred m ks ws ≡ joined (a + n) (seen || b) f
   to_next n b f h = l.goes ∙ ap (joined a seen) h ∙ joined_joined a n seen b f
 
   -- the entries end here
-  pub scan_over : length (entries ks ws) ≤ a → found.Bad ≡ whole barred m ks ws
-  scan_over h = to_bad (ap (rest_with (fields_to l.digits need)) (drop_of_length-le (entries ks ws) h) ∙ rest_end barred m (fields_to l.digits need) inside l.insts l.blocks)
+  pub scan_over : length (entries ks ws) ≤ a → None ≡ whole barred m ks ws
+  scan_over h = to_bad (ap (rest_with (map field_by need)) (drop_of_length-le (entries ks ws) h) ∙ rest_end barred m (map field_by need) inside l.insts l.blocks)
 
   -- ---- a field is wanted
-  module _ (z : need ≡ 0 → ⊥) where
-    abbrev front : List Entry → Found
-    front es = field_found m (field_of (need % 16)) es
+  module _ (f : Field) (others : List Field) (z : need ≡ f ∷ others) where
+    abbrev front : List Entry → code.Option Found
+    front es = field_found m (field_by f) es
 
     pub scan_named : 1 ≤ m
-    scan_named = ⊎_elim (λ h. h) (λ h. absurd (z h.0)) l.named
+    scan_named = ⊎_elim (λ h. h) (λ h. absurd (let q : f ∷ others ≡ [] = sym z ∙ h.0 in let p : ◌≡◌ {A = ℕ} 0 1 = cc in omega arith)) l.named
 
     -- it, then the others
-    record Wanted : Type 0 where
-      fewer : ℕ
-      small : need / 16 < 16 ^ fewer
-      is : to_come ≡ followed_by (front rest) (rest_with (fields_to fewer (need / 16))) rest
-
-    wanted : Wanted
-    wanted = go l.digits refl l.small
-      where
-        go : (n : ℕ) → n ≡ l.digits → need < 16 ^ n → Wanted
-        go zero e s = absurd (z (omega (arith, pow-zero 16)))
-        go (suc n) e s =
-            record {
-              fewer = n;
-              small = omega (arith, pow-suc 16 n);
-              is = ap (λ fs. rest_with fs rest) (ap (λ k. fields_to k need) (sym e) ∙ insts.digits n need z)
-                  ∙ rest_next barred m (field_of (need % 16)) (fields_to n (need / 16)) inside l.insts l.blocks rest;
-            }
+    wanted : to_come ≡ followed_by (front rest) (rest_with (map field_by others)) rest
+    wanted = ap (λ fs. rest_with (map field_by fs) rest) z ∙ rest_next barred m (field_by f) (map field_by others) inside l.insts l.blocks rest
 
     -- as the code finds it: read from here on, or an entry by itself
-    pub scan_lent : (x y : Found) → x ≡ front (lent_from ks ws a) → x ≡ y → front rest ≡ y
-    scan_lent x y e h = sym (e ∙ ap front (entries_part a ks ws)) ∙ h
+    pub scan_lent : (x : code.Option Found) → x ≡ front (lent_from ks ws a) → front rest ≡ x
+    scan_lent x e = sym (e ∙ ap front (entries_part a ks ws))
 
-    pub scan_alone : a < length (entries ks ws) → Alone m (get_or ks a 0) (get_or ws a 0) (need % 16) → front rest ≡ found.Entries 1 (eqb (get_or ks a 0) 37)
-    scan_alone t h = ap front (entry_at ks ws a t) ∙ h (drop (a + 1) (entries ks ws))
+    pub scan_alone : a < length (entries ks ws) → Alone m (get_or ks a 0) (get_or ws a 0) (digit_of f) → front rest ≡ Some (found 1 (eqb (get_or ks a 0) 37))
+    scan_alone t h =
+        ap front (entry_at ks ws a t) ∙ ap (λ x. field_found m x (entry (get_or ks a 0) (get_or ws a 0) ∷ drop (a + 1) (entries ks ws))) (sym (insts.by_digit f))
+        ∙ h (drop (a + 1) (entries ks ws))
 
-    pub scan_no_field : front rest ≡ found.Bad → found.Bad ≡ whole barred m ks ws
-    scan_no_field h = to_bad (wanted.is ∙ ap (λ f. followed_by f (rest_with (fields_to wanted.fewer (need / 16))) rest) h)
+    pub scan_no_field : front rest ≡ None → None ≡ whole barred m ks ws
+    scan_no_field h = to_bad (wanted ∙ ap (λ r. followed_by r (rest_with (map field_by others)) rest) h)
 
-    module _ (n : ℕ) (b : Bool) (h : front rest ≡ found.Entries n b) where
-      pub scan_takes : 1 ≤ n
-      scan_takes = insts.field_takes m (field_of (need % 16)) rest n b h
+    module _ (g : Found) (h : front rest ≡ Some g) where
+      pub scan_takes : 1 ≤ g.entries
+      scan_takes = insts.field_takes m (field_by f) rest g h
 
-      pub scan_there : a + n ≤ length (entries ks ws)
-      scan_there = omega (arith, found_fits (other_field (field_of (need % 16))) (agrees_field m (field_of (need % 16))) rest n b h, length-drop a (entries ks ws), l.there)
+      pub scan_there : a + g.entries ≤ length (entries ks ws)
+      scan_there = omega (arith, found_fits (other_field (field_by f)) (agrees_field m (field_by f)) rest g h, length-drop a (entries ks ws), l.there)
 
-      pub scan_field : Scan barred m ks ws (a + n) (need / 16) inside (seen || b)
+      pub scan_field : Scan barred m ks ws (a + g.entries) others inside (seen || g.barred)
       scan_field =
-          let others = rest_with (fields_to wanted.fewer (need / 16)) in
+          let later = rest_with (map field_by others) in
           record {
             there = scan_there;
-            digits = wanted.fewer;
-            small = wanted.small;
             insts = l.insts;
             blocks = l.blocks;
             insts_room = omega (arith, l.insts_room);
             blocks_room = omega (arith, l.blocks_room);
             named = inl scan_named;
-            goes = to_next n b (others (drop n rest)) (wanted.is ∙ ap (λ f. followed_by f others rest) h)
-                ∙ ap (λ es. joined (a + n) (seen || b) (others es)) (drop-drop n a (entries ks ws));
+            goes = to_next g.entries g.barred (later (drop g.entries rest)) (wanted ∙ ap (λ x. followed_by x later rest) h)
+                ∙ ap (λ es. joined (a + g.entries) (seen || g.barred) (later es)) (drop-drop g.entries a (entries ks ws));
           }
 
   -- ---- no field is wanted, and there is an entry
-  module _ (z : need ≡ 0) (t : a < length (entries ks ws)) where
+  module _ (z : need ≡ []) (t : a < length (entries ks ws)) where
     abbrev here : Entry
     here = entry (get_or ks a 0) (get_or ws a 0)
 
@@ -298,7 +277,7 @@ module _ {barred : ℕ → Bool} {m : ℕ} {ks ws : List ℕ} {a need : ℕ} {in
     next = drop (a + 1) (entries ks ws)
 
     open_here_lem : to_come ≡ open_from barred m inside l.insts l.blocks (here ∷ next)
-    open_here_lem = rest_of_none barred m l.digits need z inside l.insts l.blocks rest ∙ ap (open_from barred m inside l.insts l.blocks) (entry_at ks ws a t)
+    open_here_lem = ap (λ fs. rest_with (map field_by fs) rest) z ∙ rest_none barred m inside l.insts l.blocks rest ∙ ap (open_from barred m inside l.insts l.blocks) (entry_at ks ws a t)
 
     -- a number that there is room for has one before it
     record Less (n : ℕ) : Type 0 where
@@ -318,7 +297,7 @@ module _ {barred : ℕ → Bool} {m : ℕ} {ks ws : List ℕ} {a need : ℕ} {in
       open_body : to_come ≡ body_from barred m (suc insts_left.one) l.blocks (here ∷ next)
       open_body = open_here_lem ∙ ap (λ b. open_from barred m b l.insts l.blocks (here ∷ next)) o ∙ ap (λ k. body_from barred m k l.blocks (here ∷ next)) insts_left.is
 
-      pub scan_unknown : none ≡ fields_behind m (get_or ks a 0) (get_or ws a 0) → found.Bad ≡ whole barred m ks ws
+      pub scan_unknown : none ≡ fields_behind m (get_or ks a 0) (get_or ws a 0) → None ≡ whole barred m ks ws
       scan_unknown h = to_bad (open_body ∙ body_unknown barred m here next (sym h) insts_left.one l.blocks)
 
       -- what was seen with it
@@ -328,20 +307,18 @@ module _ {barred : ℕ → Bool} {m : ℕ} {ks ws : List ℕ} {a need : ℕ} {in
       pub scan_no_call : (get_or ks a 0 ≡ 76 → ⊥) → seen ≡ (seen || call_barred barred m (here ∷ next))
       scan_no_call d = sym (ap (λ x. seen || x) (not_call barred m here next d) ∙ or-false seen)
 
-      pub scan_known : (c : ℕ) → c < 2 ^ 64 → some (fields_of c) ≡ fields_behind m (get_or ks a 0) (get_or ws a 0) → (s : Bool) → s ≡ (seen || call_barred barred m (here ∷ next))
+      pub scan_known : (c : List Field) → some (map field_by c) ≡ fields_behind m (get_or ks a 0) (get_or ws a 0) → (s : Bool) → s ≡ (seen || call_barred barred m (here ∷ next))
           → Scan barred m ks ws (a + 1) c (ltb (get_or ks a 0) 90) s
-      scan_known c f h s es =
+      scan_known c h s es =
           record {
             there = omega arith;
-            digits = 16;
-            small = omega arith;
             insts = insts_left.one;
             blocks = l.blocks;
             insts_room = insts_left.room;
             blocks_room = omega (arith, l.blocks_room);
             named = ⊎_elim inl (λ y. absurd (let q : true ≡ false = sym o ∙ y.1 in let p : ◌≡◌ {A = ℕ} 0 1 = cc in omega arith)) l.named;
-            goes = rw es (to_next 1 (call_barred barred m (here ∷ next)) (rest_from barred m (fields_of c) (ltb (get_or ks a 0) 90) insts_left.one l.blocks next)
-                (open_body ∙ body_known barred m here next (fields_of c) (sym h) insts_left.one l.blocks));
+            goes = rw es (to_next 1 (call_barred barred m (here ∷ next)) (rest_from barred m (map field_by c) (ltb (get_or ks a 0) 90) insts_left.one l.blocks next)
+                (open_body ∙ body_known barred m here next (map field_by c) (sym h) insts_left.one l.blocks));
           }
 
     -- ---- between blocks: a block's head, or the end of the list
@@ -358,19 +335,17 @@ module _ {barred : ℕ → Bool} {m : ℕ} {ks ws : List ℕ} {a need : ℕ} {in
           let opened = body_from barred m (length next) blocks_left.one next in
           record {
             there = omega arith;
-            digits = l.digits;
-            small = l.small;
             insts = length next;
             blocks = blocks_left.one;
             insts_room = omega (arith, length-drop (a + 1) (entries ks ws));
             blocks_room = blocks_left.room;
             named = inl (omega arith);
             goes = to_next 1 false opened (open_list ∙ list_head barred m here next h blocks_left.one) ∙ ap (λ b. joined (a + 1) b opened) (or-false seen)
-                ∙ ap (joined (a + 1) seen) (sym (rest_of_none barred m l.digits need z true (length next) blocks_left.one next));
+                ∙ ap (joined (a + 1) seen) (sym (ap (λ fs. rest_from barred m (map field_by fs) true (length next) blocks_left.one next) z ∙ rest_none barred m true (length next) blocks_left.one next));
           }
 
-      pub scan_closed : closes here ≡ true → found.Entries (a + 1) seen ≡ whole barred m ks ws
-      scan_closed h = sym (l.goes ∙ ap (joined a seen) (open_list ∙ list_closed barred m here next h blocks_left.one) ∙ ap (found.Entries (a + 1)) (or-false seen))
+      pub scan_closed : closes here ≡ true → Some (found (a + 1) seen) ≡ whole barred m ks ws
+      scan_closed h = sym (l.goes ∙ ap (joined a seen) (open_list ∙ list_closed barred m here next h blocks_left.one) ∙ ap (λ b. Some (found (a + 1) b)) (or-false seen))
 
-      pub scan_bad : closes here ≡ false → no_head m here ≡ true → found.Bad ≡ whole barred m ks ws
+      pub scan_bad : closes here ≡ false → no_head m here ≡ true → None ≡ whole barred m ks ws
       scan_bad h d = to_bad (open_list ∙ list_bad barred m here next h d blocks_left.one)

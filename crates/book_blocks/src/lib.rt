@@ -15,108 +15,103 @@ ghost use Rattle.book_insts.specs.Rules.{rules_of};
 
 use crate::calls::call_barred;
 use book::entry;
-use book_insts::{Shape, field_len, fields_behind, one_entry, rules};
-use book_types::types::type_len;
-use book_types::{Found, first_entry, join_found, plain, shorter};
+use book_insts::{Field, field_len, fields_behind, one_entry, rules};
+use book_types::types::{LEVELS, type_len};
+use book_types::{Found, shorter};
 use book_values::{Item, list_len, word_len};
 
-// The list of blocks, its closing entry with it, in one loop over the entries. `need` has the digits of the fields that the last
+// The list of blocks, its closing entry with it, in one loop over the entries. `need` has the fields that the last
 // instruction or terminator still wants, `inside` says whether a block still lacks its terminator.
-fn scan_blocks(kinds: &[u64], words: &[u64], names: u64, barred: &[u64], rule: &[u64]) -> Found
+fn scan_blocks(
+    kinds: &[u64],
+    words: &[u64],
+    names: u64,
+    barred: &[u64],
+    rule: &[u64],
+) -> Option<Found>
     requires { rule.now ≡ rules_of names }
     ensures { result ≡ found_of (any (forbidden_block (bit_at barred.now))) (many (basic_block names) (entries kinds.now words.now)) }
 {
     let end = shorter(kinds, words);
     let mut at: usize = 0;
-    let mut need: u64 = 0;
+    let mut need: &[Field] = &[];
     let mut inside = false;
     let mut seen = false;
     while at < end {
         let kind = kinds[at];
         let word = words[at];
-        if need != 0 {
-            let digit = need % 16;
-            need = need / 16;
-            if one_entry(kind, word, digit, rule) {
-                seen = seen | (kind == entry::OTHER);
-                at = at + 1;
+        if let Some((field, rest)) = need.split_first() {
+            need = rest;
+            if one_entry(kind, word, *field, rule) {
+                seen |= kind == entry::OTHER;
+                at += 1;
                 continue;
             }
-            let Found::Entries(n, other) = field_len(&kinds[at..], &words[at..], names, digit)
-            else {
-                return Found::Bad;
-            };
-            seen = seen | other;
-            at = at + n;
+            let found = field_len(&kinds[at..], &words[at..], names, *field)?;
+            seen |= found.barred;
+            at += found.entries;
             continue;
         }
         if inside {
-            let Shape::Known(fields) = fields_behind(kind, word, names) else {
-                return Found::Bad;
-            };
-            need = fields;
+            need = fields_behind(kind, word, names)?;
             inside = kind < entry::RET;
-            at = at + 1;
+            at += 1;
             if kind == entry::CALL {
-                seen = seen | call_barred(&kinds[at..], &words[at..], names, barred);
+                seen |= call_barred(&kinds[at..], &words[at..], names, barred);
             }
             continue;
         }
         if (kind == entry::END) & (word == 0) {
-            return Found::Entries(at + 1, seen);
+            return Some(Found {
+                entries: at + 1,
+                barred: seen,
+            });
         }
         if (kind != entry::BLOCK) | (names <= word) {
-            return Found::Bad;
+            return None;
         }
         inside = true;
-        at = at + 1;
+        at += 1;
     }
-    Found::Bad
+    None
 }
 
 // The list of blocks, its closing entry with it.
-fn blocks_len(kinds: &[u64], words: &[u64], names: u64, barred: &[u64]) -> Found
+fn blocks_len(kinds: &[u64], words: &[u64], names: u64, barred: &[u64]) -> Option<Found>
     ensures { result ≡ found_of (any (forbidden_block (bit_at barred.now))) (many (basic_block names) (entries kinds.now words.now)) }
 {
     scan_blocks(kinds, words, names, barred, &rules(names))
 }
 
 // A function's parameters and blocks.
-fn params_and_blocks_len(kinds: &[u64], words: &[u64], names: u64, barred: &[u64]) -> Found
+fn params_and_blocks_len(kinds: &[u64], words: &[u64], names: u64, barred: &[u64]) -> Option<Found>
     ensures { result ≡ found_of (pair_test (any (other_item BookItem.param)) (any (forbidden_block (bit_at barred.now)))) (both (many (item names BookItem.param)) (many (basic_block names)) (entries kinds.now words.now)) }
 {
-    let Found::Entries(n, seen) = list_len(kinds, words, names, Item::Param, shorter(kinds, words))
-    else {
-        return Found::Bad;
-    };
-    join_found(n, seen, blocks_len(&kinds[n..], &words[n..], names, barred))
+    let params = list_len(kinds, words, names, Item::Param, shorter(kinds, words))?;
+    let n = params.entries;
+    let blocks = blocks_len(&kinds[n..], &words[n..], names, barred)?;
+    Some(params.then(blocks))
 }
 
 // A function's return type, parameters and blocks.
-fn signature_and_blocks_len(kinds: &[u64], words: &[u64], names: u64, barred: &[u64]) -> Found
+fn signature_and_blocks_len(
+    kinds: &[u64],
+    words: &[u64],
+    names: u64,
+    barred: &[u64],
+) -> Option<Found>
     ensures { result ≡ found_of (pair_test never (pair_test (any (other_item BookItem.param)) (any (forbidden_block (bit_at barred.now))))) (both (typeReader names) (both (many (item names BookItem.param)) (many (basic_block names))) (entries kinds.now words.now)) }
 {
-    let Found::Entries(n, seen) = plain(type_len(kinds, words, names, 64)) else {
-        return Found::Bad;
-    };
-    join_found(
-        n,
-        seen,
-        params_and_blocks_len(&kinds[n..], &words[n..], names, barred),
-    )
+    let n = type_len(kinds, words, names, LEVELS)?;
+    let rest = params_and_blocks_len(&kinds[n..], &words[n..], names, barred)?;
+    Some(Found::plain(n).then(rest))
 }
 
 // The function at the front.
-pub fn function_len(kinds: &[u64], words: &[u64], names: u64, barred: &[u64]) -> Found
+pub fn function_len(kinds: &[u64], words: &[u64], names: u64, barred: &[u64]) -> Option<Found>
     ensures { result ≡ found_of (forbidden_function (bit_at barred.now)) (function names (entries kinds.now words.now)) }
 {
-    let Found::Entries(n, seen) = plain(word_len(first_entry(kinds, words), entry::FUNCTION, names))
-    else {
-        return Found::Bad;
-    };
-    join_found(
-        n,
-        seen,
-        signature_and_blocks_len(&kinds[n..], &words[n..], names, barred),
-    )
+    let n = word_len(kinds, words, entry::FUNCTION, names)?;
+    let rest = signature_and_blocks_len(&kinds[n..], &words[n..], names, barred)?;
+    Some(Found::plain(n).then(rest))
 }

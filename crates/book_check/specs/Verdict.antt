@@ -1,7 +1,7 @@
 -- The answer of the whole check, and the laws that lead to it.
 use Rattle.std.specs.Prelude.{ℕ, ◌-◌, ◌/◌, ◌≤◌, ◌<◌, ◌^◌, Bool, ◌&&◌, ◌||◌, replicate, get_or, leb}
 use Rattle.std.proofs.Math.Path.{◌≡◌, refl, ap, sym, fun_ext}
-use Rattle.std.proofs.Common.{◌∙◌, arith}
+use Rattle.std.proofs.Common.{◌∙◌, subst, arith}
 use Rattle.std.proofs.Math.Bool.{true, false, and-false, or-false}
 use Rattle.std.proofs.Math.Option.{Option, none, some}
 use mathlib.Core.List.{List, [], ◌∷◌}
@@ -15,10 +15,9 @@ use Rattle.names.specs.Spelling.{is_intrinsic}
 use Rattle.names.specs.Prefix.{first_with, past_with}
 use Rattle.names.specs.Lines.{accepted_iff, names_lines}
 use Rattle.names.specs.Ranges.{range_test, range_order}
-use Rattle.names_check.specs.Read.{names_read, sorted_read, bad_read}
+use Rattle.names_check.specs.Read.{Names, names_read, sorted_read, bad_read}
+use Rattle.names_check.specs.Read as names
 use Rattle.names_check.specs.Nexts.{Noted}
-use Rattle.names_check.specs.declared.Names.{Names}
-use Rattle.names_check.specs.declared.Names.TheVariants as names
 use Rattle.book.specs.Ast.{Book}
 use Rattle.book.specs.Decode.{member}
 use Rattle.book.specs.Result.{bind, ok_or, given, require}
@@ -27,31 +26,33 @@ use Rattle.book.specs.Forbidden.{any, reserved_by, uncallable, forbidden_functio
 use Rattle.book.specs.Check.{work_for, checked, refusal_of}
 use Rattle.book_marks.specs.Range.{bit_range}
 use Rattle.book_check.specs.Whole.{there, barred_with, barred_range, reading_in, Holds, slice_holds}
-use Rattle.book_check.specs.declared.Reading.{Reading}
-use Rattle.book_check.specs.declared.Reading.TheVariants as reading
-use Rattle.book_check.specs.declared.Verdict.{Verdict}
-use Rattle.book_check.specs.declared.Verdict.TheVariants as verdict
+use Rattle.std.specs.Prelude as code
+use Rattle.std.specs.Prelude.{Some, None, Result, Ok, Err, IsOk}
+use Rattle.book.specs.Refusal.{number_of}
+use Rattle.book.specs.declared.refusal.Refusal.{Refusal}
+use Rattle.book.specs.declared.refusal.Refusal.TheVariants as refusal
+
+-- the answer of a check
+abbrev pub Answer : Type 0
+Answer = Result (Unit {0}) Refusal
 
 -- document 01's number of an answer; 0 is a sound book
-abbrev pub number_of : Verdict → ℕ
-number_of verdict.Sound = 0
-number_of verdict.BadBook = 1
-number_of verdict.BadNames = 2
-number_of verdict.Barred = 3
-number_of verdict.ShortWork = 4
+abbrev pub answer_number : Answer → ℕ
+answer_number (Ok u) = 0
+answer_number (Err e) = number_of e
 
 -- the answer to what was read, in document 01's order
-abbrev pub pick_verdict : Bool → Verdict → Verdict → Verdict
+abbrev pub pick_verdict : Bool → Answer → Answer → Answer
 pick_verdict true a b = a
 pick_verdict false a b = b
 
-abbrev pub names_verdict : Bool → Bool → ℕ → ℕ → Verdict
-names_verdict false x m work = verdict.BadNames
-names_verdict true x m work = pick_verdict x verdict.Barred (pick_verdict (leb (work_for m) work) verdict.Sound verdict.ShortWork)
+abbrev pub names_verdict : Bool → Bool → ℕ → ℕ → Answer
+names_verdict false x m work = Err refusal.Names
+names_verdict true x m work = pick_verdict x (Err refusal.Forbidden) (pick_verdict (leb (work_for m) work) (Ok tt) (Err refusal.Work))
 
-abbrev pub verdict_of : Reading → Bool → ℕ → ℕ → ℕ → Verdict
-verdict_of reading.Bad named counter m work = verdict.BadBook
-verdict_of (reading.Book x) named counter m work = pick_verdict (leb counter (2 ^ 32)) (names_verdict named x m work) verdict.BadBook
+abbrev pub verdict_of : code.Option Bool → Bool → ℕ → ℕ → ℕ → Answer
+verdict_of None named counter m work = Err refusal.Book
+verdict_of (Some x) named counter m work = pick_verdict (leb counter (2 ^ 32)) (names_verdict named x m work) (Err refusal.Book)
 
 -- the bytes of `llvm.`
 abbrev pub intrinsic : List ℕ
@@ -137,13 +138,13 @@ module _ (s bs : List ℕ) (counter work : ℕ) where
     holds = slice_holds s c ec
 
     sized : (ns : List (List ℕ)) → names_of bs ≡ some ns → length ns ≡ c.count → (v : Bool) → forbidden ns c.book ≡ v → (t : Bool) → leb (work_for (get_or s 1 0)) work ≡ t
-        → says s bs counter work (number_of (pick_verdict v verdict.Barred (pick_verdict t verdict.Sound verdict.ShortWork)))
+        → says s bs counter work (answer_number (pick_verdict v (Err refusal.Forbidden) (pick_verdict t (Ok tt) (Err refusal.Work))))
     sized ns en el true ev t et = says_barred s bs counter work c ec fits ns en el ev
     sized ns en el false ev true et = says_sound s bs counter work c ec fits ns en el ev (rw holds.count (leb-true _ _ et))
     sized ns en el false ev false et = says_work s bs counter work c ec fits ns en el ev (rw holds.count (leb-false _ _ et))
 
     listed : accepted bs (get_or s 1 0) ≡ true
-        → says s bs counter work (number_of (names_verdict true (any (forbidden_function (barred_with (barred_range (first_with intrinsic (lines bs)) (past_with intrinsic (lines bs))) c.book)) c.book.functions) (get_or s 1 0) work))
+        → says s bs counter work (answer_number (names_verdict true (any (forbidden_function (barred_with (barred_range (first_with intrinsic (lines bs)) (past_with intrinsic (lines bs))) c.book)) c.book.functions) (get_or s 1 0) work))
     listed eu =
         let n = (accepted_iff bs (get_or s 1 0)).0 eu in
         let el : length n.0 ≡ c.count = n.2 ∙ sym holds.count in
@@ -155,15 +156,15 @@ module _ (s bs : List ℕ) (counter work : ℕ) where
 
   -- a book or none, with a counter or another
   by_book : (named : Bool) (from to : ℕ)
-      → ((c : Counted) → book_in s ≡ some c → counter ≤ 2 ^ 32 → says s bs counter work (number_of (names_verdict named (any (forbidden_function (barred_with (barred_range from to) c.book)) c.book.functions) (get_or s 1 0) work)))
-      → says s bs counter work (number_of (verdict_of (reading_in (barred_range from to) (book_in s)) named counter (get_or s 1 0) work))
+      → ((c : Counted) → book_in s ≡ some c → counter ≤ 2 ^ 32 → says s bs counter work (answer_number (names_verdict named (any (forbidden_function (barred_with (barred_range from to) c.book)) c.book.functions) (get_or s 1 0) work)))
+      → says s bs counter work (answer_number (verdict_of (reading_in (barred_range from to) (book_in s)) named counter (get_or s 1 0) work))
   by_book named from to next = book (book_in s) refl
     where
-      book : (o : Option Counted) → book_in s ≡ o → says s bs counter work (number_of (verdict_of (reading_in (barred_range from to) o) named counter (get_or s 1 0) work))
+      book : (o : Option Counted) → book_in s ≡ o → says s bs counter work (answer_number (verdict_of (reading_in (barred_range from to) o) named counter (get_or s 1 0) work))
       book none e = says_book s bs counter work (ap there e)
       book (some c) e = counted (leb counter (2 ^ 32)) refl
         where
-          counted : (t : Bool) → leb counter (2 ^ 32) ≡ t → says s bs counter work (number_of (pick_verdict t (names_verdict named (any (forbidden_function (barred_with (barred_range from to) c.book)) c.book.functions) (get_or s 1 0) work) verdict.BadBook))
+          counted : (t : Bool) → leb counter (2 ^ 32) ≡ t → says s bs counter work (answer_number (pick_verdict t (names_verdict named (any (forbidden_function (barred_with (barred_range from to) c.book)) c.book.functions) (get_or s 1 0) work) (Err refusal.Book)))
           counted true et = next c e (leb-true counter (2 ^ 32) et)
           counted false et = says_counter s bs counter work c e (leb-false counter (2 ^ 32) et)
 
@@ -185,11 +186,11 @@ no_count (n ∷ []) h = refl
 no_count (n ∷ (m ∷ es)) h = absurd (omega arith)
 
 -- bytes that are no list of names are not sound
-never_sound : (rd : Reading) (counter m work : ℕ) → verdict_of rd false counter m work ≡ verdict.Sound → ⊥
-never_sound reading.Bad counter m work e = let z : ◌≡◌ {A = ℕ} 0 1 = cc in omega arith
-never_sound (reading.Book x) counter m work e = go (leb counter (2 ^ 32)) e
+never_sound : (rd : code.Option Bool) (counter m work : ℕ) → IsOk (verdict_of rd false counter m work) → ⊥
+never_sound None counter m work e = let z : ◌≡◌ {A = ℕ} 0 1 = cc in omega arith
+never_sound (Some x) counter m work e = go (leb counter (2 ^ 32)) e
   where
-    go : (t : Bool) → pick_verdict t verdict.BadNames verdict.BadBook ≡ verdict.Sound → ⊥
+    go : (t : Bool) → IsOk (pick_verdict t (Err refusal.Names) (Err refusal.Book)) → ⊥
     go true f = let z : ◌≡◌ {A = ℕ} 0 1 = cc in omega arith
     go false f = let z : ◌≡◌ {A = ℕ} 0 1 = cc in omega arith
 
@@ -199,19 +200,19 @@ module _ (s bs : List ℕ) (counter work count : ℕ) (ec : count ≡ get_or s 1
   named : nm ≡ names_read (accepted bs (get_or s 1 0)) (first_with intrinsic (lines bs)) (past_with intrinsic (lines bs))
   named = en ∙ ap (λ n. names_read (accepted bs n) (first_with intrinsic (lines bs)) (past_with intrinsic (lines bs))) ec
 
-  at_count : (r : Reading) (b : Bool) (v : Verdict) → v ≡ verdict_of r b counter count work → v ≡ verdict_of r b counter (get_or s 1 0) work
+  at_count : (r : code.Option Bool) (b : Bool) (v : Answer) → v ≡ verdict_of r b counter count work → v ≡ verdict_of r b counter (get_or s 1 0) work
   at_count r b v ev = ev ∙ ap (λ n. verdict_of r b counter n work) ec
 
-  pub check_sorted : (from to : ℕ) → nm ≡ names.Sorted from to → (rd : Reading) → rd ≡ reading_in (barred_range from to) (book_in s) → (v : Verdict) → v ≡ verdict_of rd true counter count work → says s bs counter work (number_of v)
+  pub check_sorted : (from to : ℕ) → nm ≡ names.Sorted from to → (rd : code.Option Bool) → rd ≡ reading_in (barred_range from to) (book_in s) → (v : Answer) → v ≡ verdict_of rd true counter count work → says s bs counter work (answer_number v)
   check_sorted from to h rd er v ev =
       let l = sorted_read (accepted bs (get_or s 1 0)) (first_with intrinsic (lines bs)) (past_with intrinsic (lines bs)) from to (sym named ∙ h) in
       let r : rd ≡ reading_in (barred_range (first_with intrinsic (lines bs)) (past_with intrinsic (lines bs))) (book_in s) = er ∙ ap (λ x. reading_in (barred_range x to) (book_in s)) l.1.0 ∙ ap (λ x. reading_in (barred_range (first_with intrinsic (lines bs)) x) (book_in s)) l.1.1 in
-      ap number_of (at_count rd true v ev ∙ ap (λ x. verdict_of x true counter (get_or s 1 0) work) r)
+      ap answer_number (at_count rd true v ev ∙ ap (λ x. verdict_of x true counter (get_or s 1 0) work) r)
       ∙ by_book s bs counter work true (first_with intrinsic (lines bs)) (past_with intrinsic (lines bs)) (λ c e f. listed s bs counter work c e f l.0)
 
-  pub check_bad : nm ≡ names.Bad → (rd : Reading) → rd ≡ reading_in (barred_range 0 0) (book_in s) → (v : Verdict) → v ≡ verdict_of rd false counter count work → says s bs counter work (number_of v)
+  pub check_bad : nm ≡ names.Bad → (rd : code.Option Bool) → rd ≡ reading_in (barred_range 0 0) (book_in s) → (v : Answer) → v ≡ verdict_of rd false counter count work → says s bs counter work (answer_number v)
   check_bad h rd er v ev =
-      ap number_of (at_count rd false v ev ∙ ap (λ x. verdict_of x false counter (get_or s 1 0) work) er)
+      ap answer_number (at_count rd false v ev ∙ ap (λ x. verdict_of x false counter (get_or s 1 0) work) er)
       ∙ by_book s bs counter work false 0 0 (λ c e f. not_listed s bs counter work c e f (bad_read (accepted bs (get_or s 1 0)) (first_with intrinsic (lines bs)) (past_with intrinsic (lines bs)) (sym named ∙ h)))
 
   -- what was noted of a list of names
@@ -219,5 +220,5 @@ module _ (s bs : List ℕ) (counter work count : ℕ) (ec : count ≡ get_or s 1
       → Noted 8 5 bs (get_or s 1 0) nexts nexts'
   noted_sorted from to h noted = rw ec at (noted (sorted_read (accepted bs count) (first_with intrinsic (lines bs)) (past_with intrinsic (lines bs)) from to (sym en ∙ h)).0)
 
-  pub unnamed : (rd : Reading) → rd ≡ reading_in (barred_range 0 0) (book_in s) → (v : Verdict) → v ≡ verdict_of rd false counter count work → v ≡ verdict.Sound → ⊥
-  unnamed rd er v ev sound = never_sound rd counter count work (sym ev ∙ sound)
+  pub unnamed : (rd : code.Option Bool) → rd ≡ reading_in (barred_range 0 0) (book_in s) → (v : Answer) → v ≡ verdict_of rd false counter count work → IsOk v → ⊥
+  unnamed rd er v ev sound = never_sound rd counter count work (subst IsOk ev sound)

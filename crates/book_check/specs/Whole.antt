@@ -20,20 +20,21 @@ use Rattle.book.specs.AgreeInput.{slice, entries_back, length_kinds, length_word
 use Rattle.book.proofs.AgreeInput.{slice_sound}
 use Rattle.book.specs.Input.{Counted, counted, book_in}
 use Rattle.book_marks.specs.Range.{marked_range, length_range}
+use Rattle.book_types.specs.Found.{found}
 use Rattle.book_types.specs.declared.Found.{Found}
-use Rattle.book_types.specs.declared.Found.TheVariants as found
 use Rattle.book_parts.specs.Reading.{answered, parts_found}
 use Rattle.book_parts.specs.Maps.{barred_by, parts_answer}
-use Rattle.book_check.specs.declared.Reading.{Reading}
-use Rattle.book_check.specs.declared.Reading.TheVariants as reading
+use Rattle.std.specs.Bool.{then_some}
+use Rattle.std.specs.Prelude as code
+use Rattle.std.specs.Prelude.{Some, None, is_some}
 
 -- ---- a book, and whether something in it is forbidden where the names of a map may not be called
 abbrev pub barred_with : List ℕ → Book → ℕ → Bool
 barred_with barred b = barred_by (bit_at barred) b.marks
 
-abbrev pub reading_of : List ℕ → Option Book → Reading
-reading_of barred none = reading.Bad
-reading_of barred (some b) = reading.Book (any (forbidden_function (barred_with barred b)) b.functions)
+abbrev pub reading_of : List ℕ → Option Book → code.Option Bool
+reading_of barred none = None
+reading_of barred (some b) = Some (any (forbidden_function (barred_with barred b)) b.functions)
 
 -- the map of the names from one number to another, with a bit for each of 131,072
 abbrev pub barred_range : ℕ → ℕ → List ℕ
@@ -48,21 +49,17 @@ there none = false
 there (some a) = true
 
 -- the same of a book with the number of its names
-abbrev pub reading_in : List ℕ → Option Counted → Reading
-reading_in barred none = reading.Bad
+abbrev pub reading_in : List ℕ → Option Counted → code.Option Bool
+reading_in barred none = None
 reading_in barred (some c) = reading_of barred (some c.book)
 
-abbrev pub is_book : Reading → Bool
-is_book reading.Bad = false
-is_book (reading.Book x) = true
-
-pub book_there : (barred : List ℕ) (o : Option Counted) → is_book (reading_in barred o) ≡ there o
+pub book_there : (barred : List ℕ) (o : Option Counted) → is_some (reading_in barred o) ≡ there o
 book_there barred none = refl
 book_there barred (some c) = refl
 
 -- ---- what the pass finds, by the definition
 module _ (m : ℕ) (few : m ≤ 131072) where
-  module _ (barred : List ℕ) (size : length barred ≡ 2048) (es : List Entry) (f : Found) (ef : f ≡ parts_found barred (parts m es)) where
+  module _ (barred : List ℕ) (size : length barred ≡ 2048) (es : List Entry) (f : code.Option Found) (ef : f ≡ parts_found barred (parts m es)) where
     -- what was read, as a book
     book_read : (b : Book) (n : ℕ) → mapped book_of (parts m) es ≡ got b n → f ≡ answered n (when (once_each b) (any (forbidden_function (barred_with barred b)) b.functions))
     unfolding mapped
@@ -82,56 +79,51 @@ module _ (m : ℕ) (few : m ≤ 131072) where
             ∙ ap (λ i. answered i (when (once_each b) (any (forbidden_function (barred_with barred b)) b.functions))) fk
         go bad h = absurd (let z : bad ≡ got b n = sym (ap (λ r. and_then r (λ a n. got (book_of a) n)) h) ∙ e in let y : ◌≡◌ {A = ℕ} 0 1 = cc in omega arith)
 
-    none_read : mapped book_of (parts m) es ≡ bad → parts_found barred (parts m es) ≡ found.Bad
+    none_read : mapped book_of (parts m) es ≡ bad → parts_found barred (parts m es) ≡ None
     unfolding mapped
     none_read e = by (parts m es) refl
       where
-        by : (r : Read (List Mark × (List StructType × List Function))) → parts m es ≡ r → parts_found barred r ≡ found.Bad
+        by : (r : Read (List Mark × (List StructType × List Function))) → parts m es ≡ r → parts_found barred r ≡ None
         by (got p k) z = absurd (let y : got (book_of p) k ≡ bad = sym (ap (λ r. and_then r (λ a n. got (book_of a) n)) z) ∙ e in let w : ◌≡◌ {A = ℕ} 0 1 = cc in omega arith)
         by bad z = refl
 
     -- the answer by what the definition reads
-    reads : (q : Reading) → ((r : Read Book) → mapped book_of (parts m) es ≡ r → q ≡ reading_of barred (whole es r)) → q ≡ reading_of barred (decode m es)
+    reads : (q : code.Option Bool) → ((r : Read Book) → mapped book_of (parts m) es ≡ r → q ≡ reading_of barred (whole es r)) → q ≡ reading_of barred (decode m es)
     unfolding decode
     reads q h = h (mapped book_of (parts m) es) refl
 
-    pub reading_bad : f ≡ found.Bad → reading.Bad ≡ reading_of barred (decode m es)
-    reading_bad h = reads reading.Bad go
+    pub reading_bad : f ≡ None → None ≡ reading_of barred (decode m es)
+    reading_bad h = reads None go
       where
-        go : (r : Read Book) → mapped book_of (parts m) es ≡ r → reading.Bad ≡ reading_of barred (whole es r)
+        go : (r : Read Book) → mapped book_of (parts m) es ≡ r → None ≡ reading_of barred (whole es r)
         go (got b n) e = once (once_each b) (sym h ∙ book_read b n e)
           where
-            once : (t : Bool) → found.Bad ≡ answered n (when t (any (forbidden_function (barred_with barred b)) b.functions)) → reading.Bad ≡ reading_of barred (when (eqb n (length es) && t) b)
+            once : (t : Bool) → None ≡ answered n (when t (any (forbidden_function (barred_with barred b)) b.functions)) → None ≡ reading_of barred (when (eqb n (length es) && t) b)
             once true z = absurd (let y : ◌≡◌ {A = ℕ} 0 1 = cc in omega arith)
             once false z = last (eqb n (length es))
               where
-                last : (u : Bool) → reading.Bad ≡ reading_of barred (when (u && false) b)
+                last : (u : Bool) → None ≡ reading_of barred (when (u && false) b)
                 last true = refl
                 last false = refl
         go bad e = refl
 
-    module _ (n : ℕ) (x : Bool) (h : f ≡ found.Entries n x) where
-      pub reading_short : (n ≡ length es → ⊥) → reading.Bad ≡ reading_of barred (decode m es)
-      reading_short d = reads reading.Bad go
-        where
-          go : (r : Read Book) → mapped book_of (parts m) es ≡ r → reading.Bad ≡ reading_of barred (whole es r)
-          go (got b k) e = once (once_each b) (sym h ∙ book_read b k e)
-            where
-              once : (t : Bool) → found.Entries n x ≡ answered k (when t (any (forbidden_function (barred_with barred b)) b.functions)) → reading.Bad ≡ reading_of barred (when (eqb k (length es) && t) b)
-              once true z = let y : n ≡ k = cc in rw (ne_eqb k (length es) (λ q. d (y ∙ q)))
-              once false z = absurd (let y : ◌≡◌ {A = ℕ} 0 1 = cc in omega arith)
-          go bad e = refl
-
-      pub reading_book : n ≡ length es → reading.Book x ≡ reading_of barred (decode m es)
-      reading_book l = reads (reading.Book x) go
-        where
-          go : (r : Read Book) → mapped book_of (parts m) es ≡ r → reading.Book x ≡ reading_of barred (whole es r)
-          go (got b k) e = once (once_each b) (sym h ∙ book_read b k e)
-            where
-              once : (t : Bool) → found.Entries n x ≡ answered k (when t (any (forbidden_function (barred_with barred b)) b.functions)) → reading.Book x ≡ reading_of barred (when (eqb k (length es) && t) b)
-              once true z = let y : n ≡ k = cc in let v : x ≡ any (forbidden_function (barred_with barred b)) b.functions = cc in rw (eq-eqb k (length es) (sym y ∙ l)) (ap reading.Book v)
-              once false z = absurd (let y : ◌≡◌ {A = ℕ} 0 1 = cc in omega arith)
-          go bad e = absurd (let y : found.Entries n x ≡ found.Bad = sym h ∙ ef ∙ none_read e in let w : ◌≡◌ {A = ℕ} 0 1 = cc in omega arith)
+    pub reading_whole : (g : Found) → f ≡ Some g → then_some (eqb g.entries (length es)) g.barred ≡ reading_of barred (decode m es)
+    reading_whole g h = reads (then_some (eqb g.entries (length es)) g.barred) go
+      where
+        go : (r : Read Book) → mapped book_of (parts m) es ≡ r → then_some (eqb g.entries (length es)) g.barred ≡ reading_of barred (whole es r)
+        go (got b k) e = once (once_each b) (sym h ∙ book_read b k e)
+          where
+            once : (t : Bool) → Some g ≡ answered k (when t (any (forbidden_function (barred_with barred b)) b.functions))
+                → then_some (eqb g.entries (length es)) g.barred ≡ reading_of barred (when (eqb k (length es) && t) b)
+            once true z =
+                let y : g ≡ found k (any (forbidden_function (barred_with barred b)) b.functions) = cc in
+                ap (λ x. then_some (eqb x.entries (length es)) x.barred) y ∙ last (eqb k (length es))
+              where
+                last : (u : Bool) → then_some u (any (forbidden_function (barred_with barred b)) b.functions) ≡ reading_of barred (when (u && true) b)
+                last true = refl
+                last false = refl
+            once false z = absurd (let y : ◌≡◌ {A = ℕ} 0 1 = cc in omega arith)
+        go bad e = absurd (let y : Some g ≡ None = sym h ∙ ef ∙ none_read e in let w : ◌≡◌ {A = ℕ} 0 1 = cc in omega arith)
 
 -- ---- the slice
 -- the kinds and words of a book slice, by its entry count
@@ -149,22 +141,22 @@ slice_at [] h = absurd (omega arith)
 slice_at (n ∷ []) h = absurd (omega arith)
 slice_at (n ∷ (m ∷ es)) h = refl
 
-pub slice_short : (barred s : List ℕ) → length s < 2 → reading.Bad ≡ reading_in barred (book_in s)
+pub slice_short : (barred s : List ℕ) → length s < 2 → None ≡ reading_in barred (book_in s)
 unfolding book_in
 slice_short barred [] h = refl
 slice_short barred (n ∷ []) h = refl
 slice_short barred (n ∷ (m ∷ es)) h = absurd (omega arith)
 
 module _ (barred s : List ℕ) (two : 2 ≤ length s) where
-  pub slice_entries : 1048576 < get_or s 0 0 → reading.Bad ≡ reading_in barred (book_in s)
+  pub slice_entries : 1048576 < get_or s 0 0 → None ≡ reading_in barred (book_in s)
   slice_entries h = sym (rw (slice_at s two, lt-leb (get_or s 0 0) 1048576 h))
 
   module _ (n : get_or s 0 0 ≤ 1048576) where
-    pub slice_names : 131072 < get_or s 1 0 → reading.Bad ≡ reading_in barred (book_in s)
+    pub slice_names : 131072 < get_or s 1 0 → None ≡ reading_in barred (book_in s)
     slice_names h = sym (rw (slice_at s two, le-leb (get_or s 0 0) 1048576 n, lt-leb (get_or s 1 0) 131072 h))
 
     module _ (m : get_or s 1 0 ≤ 131072) where
-      pub slice_long : (length s ≡ 2 + 2 * get_or s 0 0 → ⊥) → reading.Bad ≡ reading_in barred (book_in s)
+      pub slice_long : (length s ≡ 2 + 2 * get_or s 0 0 → ⊥) → None ≡ reading_in barred (book_in s)
       slice_long h =
           sym (rw (slice_at s two, le-leb (get_or s 0 0) 1048576 n, le-leb (get_or s 1 0) 131072 m, ne_eqb (length (drop 2 s)) (2 * get_or s 0 0) (λ z. h (omega (arith, length-drop 2 s)))))
 
@@ -179,7 +171,7 @@ module _ (barred s : List ℕ) (two : 2 ≤ length s) where
             let e : 2 + get_or s 0 0 - 2 ≡ get_or s 0 0 = omega arith in
             rw (e, take_all (length s - (2 + get_or s 0 0)) (drop (2 + get_or s 0 0) s) (le_of_eq (length-drop (2 + get_or s 0 0) s)), ← drop-drop (get_or s 0 0) 2 s)
 
-        pub slice_ok : (r : Reading) → r ≡ reading_of barred (decode (get_or s 1 0) (entries (kinds_in s) (words_in s))) → r ≡ reading_in barred (book_in s)
+        pub slice_ok : (r : code.Option Bool) → r ≡ reading_of barred (decode (get_or s 1 0) (entries (kinds_in s) (words_in s))) → r ≡ reading_in barred (book_in s)
         unfolding counted
         slice_ok r e = e ∙ sym (rw slice_book (go (decode (get_or s 1 0) (entries (kinds_in s) (words_in s)))))
           where

@@ -1,11 +1,10 @@
 -- Laws on instructions, terminators and their fields.
-use Prim.Native.Nat.{ℕ, zero, suc, ◌+◌, ◌-◌, ◌/◌, ◌%◌, ◌≤◌}
+use Prim.Native.Nat.{ℕ, zero, suc, ◌+◌, ◌-◌, ◌≤◌, ◌<◌}
 use Rattle.std.proofs.Math.Path.{◌≡◌, refl, ap}
-use Rattle.std.proofs.Common.{sym, ◌∙◌, arith, ne_eqb, leb-false, ltb-true, ltb-false}
+use Rattle.std.proofs.Common.{sym, ◌∙◌, arith, ne_eqb, leb-false}
 use Rattle.std.specs.Prelude.{Bool, List, [], ◌∷◌, ◌++◌, length, eqb, leb, ltb}
 use Rattle.std.proofs.Math.Bool.{true, false}
 use Rattle.std.proofs.Math.Option.{Option, none, some}
-use Rattle.std.proofs.Math.ListN.{get_or-eq_default}
 use Rattle.book.specs.Entry.{Entry}
 use Rattle.book.specs.Rule.{when, pick, unmentioned}
 use Rattle.book.specs.Kinds.{InstTag, TermTag, inst_tag, term_tag}
@@ -17,48 +16,54 @@ use Rattle.book.specs.Open.{open_book}
 use Rattle.book.specs.Forbidden.{other_field, other_fields, other_inst, other_term}
 use Rattle.book.specs.Agree.{no_got}
 use Rattle.book.proofs.AgreeInst.{agrees_field}
-use Rattle.book_types.specs.Found.{found_of, joined, followed_by}
-use Rattle.book_types.specs.Tables.{in_range_lem}
+use Rattle.book_types.specs.Found.{found, found_of, joined, followed_by}
 use Rattle.book_types.specs.Passes.{both_found, found_got}
-use Rattle.book_insts.specs.Insts.{inst_group_of, term_group_of, inst_shape, term_shape, digit_fields, field_of, fields_to, tag_fields, fields_behind}
+use Rattle.book_insts.specs.Insts.{inst_group_of, term_group_of, inst_shape, term_shape, digit_fields, field_of, digit_of, field_by, tag_fields, fields_behind}
+use Rattle.book_insts.specs.declared.Field.{Field}
+use Rattle.book_insts.specs.declared.Field.TheVariants as variant
 use Rattle.book_types.specs.declared.Found.{Found}
-use Rattle.book_types.specs.declared.Found.TheVariants as found
+use Rattle.std.specs.Prelude as code
+use Rattle.std.specs.Prelude.{Some, None}
 
--- ---- a digit that is none of a field's
-abbrev pub NoField : ℕ → Type 0
-NoField d = ((((((((((Unit {0} × (d ≡ 2 → ⊥)) × (d ≡ 3 → ⊥)) × (d ≡ 4 → ⊥)) × (d ≡ 5 → ⊥)) × (d ≡ 6 → ⊥)) × (d ≡ 7 → ⊥)) × (d ≡ 8 → ⊥)) × (d ≡ 9 → ⊥)) × (d ≡ 10 → ⊥)) × (d ≡ 11 → ⊥)) × (d ≡ 12 → ⊥)
-
-pub other_digit : (d : ℕ) → NoField d → field_of d ≡ book.Field.plain book.Item.type
+-- ---- fields by their numbers
+pub by_digit : (f : Field) → field_of (digit_of f) ≡ field_by f
 unfolding digit_fields
-other_digit d r = go (ltb d 13) refl
-  where
-    go : (t : Bool) → ltb d 13 ≡ t → field_of d ≡ book.Field.plain book.Item.type
-    go true e =
-        in_range_lem (λ d. NoField d → field_of d ≡ book.Field.plain book.Item.type) 0 13
-        (λ r. refl, (λ r. refl, (λ r. absurd (r.0.0.0.0.0.0.0.0.0.0.1 refl), (λ r. absurd (r.0.0.0.0.0.0.0.0.0.1 refl), (λ r. absurd (r.0.0.0.0.0.0.0.0.1 refl), (λ r. absurd (r.0.0.0.0.0.0.0.1 refl), (λ r. absurd (r.0.0.0.0.0.0.1 refl), (λ r. absurd (r.0.0.0.0.0.1 refl), (λ r. absurd (r.0.0.0.0.1 refl), (λ r. absurd (r.0.0.0.1 refl), (λ r. absurd (r.0.0.1 refl), (λ r. absurd (r.0.1 refl), (λ r. absurd (r.1 refl), tt)))))))))))))
-        d (omega arith) (omega (arith, ltb-true d 13 e)) r
-    go false e = get_or-eq_default digit_fields (book.Field.plain book.Item.type) (ltb-false d 13 e)
+by_digit variant.Type = refl
+by_digit variant.Value = refl
+by_digit variant.Block = refl
+by_digit variant.Index = refl
+by_digit variant.Align = refl
+by_digit variant.SomeTyped = refl
+by_digit variant.SomeValue = refl
+by_digit variant.SomeBlock = refl
+by_digit variant.GepIndices = refl
+by_digit variant.Incoming = refl
+by_digit variant.Arguments = refl
+by_digit variant.Cases = refl
 
--- ---- fields one after the other
--- a number that is not 0 has a last digit, and the fields of the others follow
-pub digits : (n r : ℕ) → (r ≡ 0 → ⊥) → fields_to (suc n) r ≡ field_of (r % 16) ∷ fields_to n (r / 16)
-unfolding fields_to
-digits n r d = rw (ne_eqb r 0 d)
-
-pub no_digits : (n : ℕ) → fields_to n 0 ≡ []
-unfolding fields_to
-no_digits zero = refl
-no_digits (suc n) = refl
+pub digit_small : (f : Field) → digit_of f < 16
+digit_small variant.Type = omega arith
+digit_small variant.Value = omega arith
+digit_small variant.Block = omega arith
+digit_small variant.Index = omega arith
+digit_small variant.Align = omega arith
+digit_small variant.SomeTyped = omega arith
+digit_small variant.SomeValue = omega arith
+digit_small variant.SomeBlock = omega arith
+digit_small variant.GepIndices = omega arith
+digit_small variant.Incoming = omega arith
+digit_small variant.Arguments = omega arith
+digit_small variant.Cases = omega arith
 
 module _ (m : ℕ) where
   -- the answers for a field and for fields
-  abbrev pub field_found : book.Field → List Entry → Found
+  abbrev pub field_found : book.Field → List Entry → code.Option Found
   field_found f es = found_of (other_field f) (field m f es)
 
-  abbrev pub fields_found : List book.Field → List Entry → Found
+  abbrev pub fields_found : List book.Field → List Entry → code.Option Found
   fields_found fs es = found_of (other_fields fs) (fields m fs es)
 
-  pub fields_none : (es : List Entry) → fields_found [] es ≡ found.Entries 0 false
+  pub fields_none : (es : List Entry) → fields_found [] es ≡ Some (found 0 false)
   unfolding fields other_fields
   fields_none es = refl
 
@@ -94,13 +99,13 @@ module _ (m : ℕ) where
   no_field (book.Field.up_to n i) = no_list n (item m i)
 
   -- so a field takes an entry at least
-  pub field_takes : (f : book.Field) (es : List Entry) (n : ℕ) (b : Bool) → field_found f es ≡ found.Entries n b → 1 ≤ n
-  field_takes f es n b h =
-      let g = found_got (other_field f) (field m f es) n b h in
-      let s = (agrees_field m f).sound es g.0 n g.1.0 in
+  pub field_takes : (f : book.Field) (es : List Entry) (x : Found) → field_found f es ≡ Some x → 1 ≤ x.entries
+  field_takes f es x h =
+      let g = found_got (other_field f) (field m f es) x h in
+      let s = (agrees_field m f).sound es g.0 x.entries g.1.0 in
       go (enc_field f g.0) s.size ((agrees_field m f).complete g.0 [] s.keeps)
     where
-      go : {a : book.Meaning f} (w : List Entry) → n ≡ length w → field m f (w ++ []) ≡ got a (length w) → 1 ≤ n
+      go : {a : book.Meaning f} (w : List Entry) → x.entries ≡ length w → field m f (w ++ []) ≡ got a (length w) → 1 ≤ x.entries
       go {a} [] z e = no_got a 0 (sym (no_field f) ∙ e)
       go (e ∷ w) z h = omega arith
 
@@ -137,7 +142,7 @@ module _ (m : ℕ) {Tag D C : Type 0} (tagFieldsOf : Tag → List book.Field) (t
   abbrev node : Reader C
   node = mapped f (tagged m tagFieldsOf tag rule)
 
-  abbrev read : Option D → Option Tag → Found
+  abbrev read : Option D → Option Tag → code.Option Found
   read d t = found_of test (and_then (behind 1 (tagged_as m tagFieldsOf d t es)) (λ a n. got (f a) n))
 
   node_as : found_of test (node (e ∷ es)) ≡ read (rule e.word) (tag e.kind)
@@ -150,10 +155,10 @@ module _ (m : ℕ) {Tag D C : Type 0} (tagFieldsOf : Tag → List book.Field) (t
     where
       go : (r : Read (book.Meanings (tagFieldsOf t)))
           → found_of test (and_then (behind 1 (and_then r (λ p n. got (d, (t, p)) n))) (λ a n. got (f a) n)) ≡ joined 1 false (found_of (other_fields (tagFieldsOf t)) r)
-      go (got p n) = ap (found.Entries (1 + n)) (same d t p)
+      go (got p n) = ap (λ b. Some (found (1 + n) b)) (same d t p)
       go bad = refl
 
-  unknown : (d : Option D) (t : Option Tag) → tag_fields tagFieldsOf t ≡ none → read d t ≡ found.Bad
+  unknown : (d : Option D) (t : Option Tag) → tag_fields tagFieldsOf t ≡ none → read d t ≡ None
   unfolding tagged_as
   unknown d none h = refl
   unknown d (some t) h = absurd (let z : ◌≡◌ {A = ℕ} 0 1 = cc in omega arith)
@@ -168,12 +173,12 @@ module _ (m : ℕ) {Tag D C : Type 0} (tagFieldsOf : Tag → List book.Field) (t
       go (some t) h = let z : tagFieldsOf t ≡ fs = cc in known (r refl).0 t ∙ ap (λ x. joined 1 false (fields_found m x es)) z
   node_known false r fs h = absurd (let z : ◌≡◌ {A = ℕ} 0 1 = cc in omega arith)
 
-  pub node_unknown : (ok : Bool) → (ok ≡ false → rule e.word ≡ none) → pick ok (tag_fields tagFieldsOf (tag e.kind)) none ≡ none → found_of test (node (e ∷ es)) ≡ found.Bad
+  pub node_unknown : (ok : Bool) → (ok ≡ false → rule e.word ≡ none) → pick ok (tag_fields tagFieldsOf (tag e.kind)) none ≡ none → found_of test (node (e ∷ es)) ≡ None
   unfolding tagged_as
   node_unknown true r h = node_as ∙ unknown (rule e.word) (tag e.kind) h
   node_unknown false r h = node_as ∙ rw (r refl) (go (tag e.kind))
     where
-      go : (t : Option Tag) → read none t ≡ found.Bad
+      go : (t : Option Tag) → read none t ≡ None
       go none = refl
       go (some t) = refl
 
@@ -228,7 +233,7 @@ module _ (m : ℕ) (e : Entry) (es : List Entry) where
       node_known m book.inst_fields inst_tag (maybe_name m) (λ x. record { dest = x.0; kind = book.inst_of x.1.0 x.1.1 }) other_inst same_inst e es
       (leb e.word m) (maybe_some m e.word) fs (sym (ap (λ b. pick b behind_term behind_inst) t) ∙ h)
 
-  pub inst_unknown : leb 90 e.kind ≡ false → fields_behind m e.kind e.word ≡ none → found_of other_inst (inst m (e ∷ es)) ≡ found.Bad
+  pub inst_unknown : leb 90 e.kind ≡ false → fields_behind m e.kind e.word ≡ none → found_of other_inst (inst m (e ∷ es)) ≡ None
   unfolding inst
   inst_unknown t h =
       node_unknown m book.inst_fields inst_tag (maybe_name m) (λ x. record { dest = x.0; kind = book.inst_of x.1.0 x.1.1 }) other_inst same_inst e es
@@ -241,7 +246,7 @@ module _ (m : ℕ) (e : Entry) (es : List Entry) where
       node_known m book.term_fields term_tag unmentioned (λ x. book.term_of x.1.0 x.1.1) other_term same_term e es
       (eqb e.word 0) (λ z. (tt, rw z)) fs (sym (ap (λ b. pick b behind_term behind_inst) t) ∙ h)
 
-  pub term_unknown : leb 90 e.kind ≡ true → fields_behind m e.kind e.word ≡ none → found_of other_term (term m (e ∷ es)) ≡ found.Bad
+  pub term_unknown : leb 90 e.kind ≡ true → fields_behind m e.kind e.word ≡ none → found_of other_term (term m (e ∷ es)) ≡ None
   unfolding term
   term_unknown t h =
       node_unknown m book.term_fields term_tag unmentioned (λ x. book.term_of x.1.0 x.1.1) other_term same_term e es

@@ -1,22 +1,26 @@
 -- The groups of instructions and terminators, and the fields of each.
-use Rattle.std.specs.Prelude.{ℕ, zero, suc, ◌-◌, ◌/◌, ◌%◌, Bool, true, false, List, [], ◌∷◌, get_or, eqb, leb}
+use Rattle.std.specs.Prelude.{ℕ, zero, suc, ◌/◌, ◌%◌, Bool, true, false, List, [], ◌∷◌, get_or, eqb, leb}
 use Rattle.std.proofs.Math.Option.{Option, none, some}
+use Rattle.std.specs.Prelude as code
+use Rattle.std.specs.Prelude.{map}
+use Rattle.book_insts.specs.declared.Field.{Field}
+use Rattle.book_insts.specs.declared.Field.TheVariants as field
+use Rattle.std.specs.Prelude.{Some, None}
 use Rattle.book.specs.Rule.{pick}
-use Rattle.book.specs.Kinds.{InstTag, TermTag, inst_kind, inst_tag, term_tag}
+use Rattle.book.specs.Kinds.{InstTag, TermTag, inst_tag, term_tag}
 use Rattle.book.specs.Ast.{BinOp, ConvOp, ICmpPred}
 use Rattle.book.specs.Fields as book
+use Rattle.book.specs.Ops.{bin_is, conv_is, icmp_is}
 use Rattle.book_insts.specs.declared.InstGroup.{InstGroup}
 use Rattle.book_insts.specs.declared.InstGroup.TheVariants as inst
 use Rattle.book_insts.specs.declared.TermGroup.{TermGroup}
 use Rattle.book_insts.specs.declared.TermGroup.TheVariants as term
-use Rattle.book_insts.specs.declared.Shape.{Shape}
-use Rattle.book_insts.specs.declared.Shape.TheVariants as shape
 
 abbrev pub inst_group_of : Option InstTag → InstGroup
 inst_group_of none = inst.Other
-inst_group_of (some (InstTag.bin op)) = inst.Bin (inst_kind (InstTag.bin op) - 40)
-inst_group_of (some (InstTag.conv op)) = inst.Conv (inst_kind (InstTag.conv op) - 53)
-inst_group_of (some (InstTag.icmp p)) = inst.ICmp (inst_kind (InstTag.icmp p) - 60)
+inst_group_of (some (InstTag.bin op)) = inst.Bin (bin_is op)
+inst_group_of (some (InstTag.conv op)) = inst.Conv (conv_is op)
+inst_group_of (some (InstTag.icmp p)) = inst.ICmp (icmp_is p)
 inst_group_of (some InstTag.select) = inst.Select
 inst_group_of (some InstTag.load) = inst.Load
 inst_group_of (some InstTag.store) = inst.Store
@@ -31,6 +35,26 @@ inst_group_of (some InstTag.cmpxchg) = inst.Cmpxchg
 inst_group_of (some InstTag.extract_value) = inst.ExtractValue
 inst_group_of (some InstTag.fence) = inst.Fence
 
+-- the kinds that are a group of their own; other for the rest
+abbrev pub single_of : Option InstTag → InstGroup
+single_of none = inst.Other
+single_of (some (InstTag.bin op)) = inst.Other
+single_of (some (InstTag.conv op)) = inst.Other
+single_of (some (InstTag.icmp p)) = inst.Other
+single_of (some InstTag.select) = inst.Select
+single_of (some InstTag.load) = inst.Load
+single_of (some InstTag.store) = inst.Store
+single_of (some InstTag.alloca) = inst.Alloca
+single_of (some InstTag.get_element_ptr) = inst.GetElementPtr
+single_of (some InstTag.phi) = inst.Phi
+single_of (some InstTag.call) = inst.Call
+single_of (some InstTag.freeze) = inst.Freeze
+single_of (some InstTag.atomic_load) = inst.AtomicLoad
+single_of (some InstTag.atomic_store) = inst.AtomicStore
+single_of (some InstTag.cmpxchg) = inst.Cmpxchg
+single_of (some InstTag.extract_value) = inst.ExtractValue
+single_of (some InstTag.fence) = inst.Fence
+
 abbrev pub term_group_of : Option TermTag → TermGroup
 term_group_of none = term.Other
 term_group_of (some TermTag.ret) = term.Ret
@@ -38,7 +62,7 @@ term_group_of (some TermTag.br) = term.Br
 term_group_of (some TermTag.switch) = term.Switch
 term_group_of (some TermTag.unreachable) = term.Unreachable
 
--- the fields that digits stand for, from 0 on; any other digit is a type's
+-- the fields by their numbers, from 0 on; any other number is a type's
 unfoldable pub digit_fields : List book.Field
 digit_fields =
     book.Field.plain book.Item.type
@@ -59,21 +83,40 @@ digit_fields =
 abbrev pub field_of : ℕ → book.Field
 field_of d = get_or digit_fields d (book.Field.plain book.Item.type)
 
-abbrev pick_fields : Bool → List book.Field → List book.Field → List book.Field
-pick_fields true a b = a
-pick_fields false a b = b
+-- the number of a field
+abbrev pub digit_of : Field → ℕ
+digit_of field.Type = 1
+digit_of field.Value = 2
+digit_of field.Block = 3
+digit_of field.Index = 4
+digit_of field.Align = 5
+digit_of field.SomeTyped = 6
+digit_of field.SomeValue = 7
+digit_of field.SomeBlock = 8
+digit_of field.GepIndices = 9
+digit_of field.Incoming = 10
+digit_of field.Arguments = 11
+digit_of field.Cases = 12
 
--- the fields of a number: a digit to the base 16 for each, the first field in the last digit
-unfoldable pub fields_to : ℕ → ℕ → List book.Field
-fields_to zero r = []
-fields_to (suc n) r = pick_fields (eqb r 0) [] (field_of (r % 16) ∷ fields_to n (r / 16))
+-- the field that it is
+abbrev pub field_by : Field → book.Field
+field_by field.Type = book.Field.plain book.Item.type
+field_by field.Value = book.Field.plain book.Item.value
+field_by field.Block = book.Field.plain book.Item.block
+field_by field.Index = book.Field.plain book.Item.index
+field_by field.Align = book.Field.optional book.Item.align
+field_by field.SomeTyped = book.Field.optional book.Item.typed
+field_by field.SomeValue = book.Field.optional book.Item.value
+field_by field.SomeBlock = book.Field.optional book.Item.block
+field_by field.GepIndices = book.Field.up_to 32 book.Item.gep_index
+field_by field.Incoming = book.Field.list book.Item.incoming
+field_by field.Arguments = book.Field.list book.Item.typed
+field_by field.Cases = book.Field.list book.Item.case
 
-abbrev pub fields_of : ℕ → List book.Field
-fields_of r = fields_to 16 r
-
-abbrev pub shape_fields : Shape → Option (List book.Field)
-shape_fields (shape.Known c) = some (fields_of c)
-shape_fields shape.Unknown = none
+-- the fields that a kind has
+abbrev pub shape_fields : code.Option (List Field) → Option (List book.Field)
+shape_fields (Some c) = some (map field_by c)
+shape_fields None = none
 
 -- the fields of a group are those of its tags
 abbrev pub inst_shape : InstGroup → Option (List book.Field)

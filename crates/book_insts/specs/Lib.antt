@@ -1,3 +1,4 @@
 pub mod Insts
+pub mod Groups
 pub mod InstLaws
 pub mod Rules

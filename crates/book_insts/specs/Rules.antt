@@ -13,15 +13,15 @@ use Rattle.book.specs.Read.{Read, got, bad, optional, and_then}
 use Rattle.book.specs.Decode.{item, field}
 use Rattle.book.specs.Forbidden.{other_item, any_there}
 use Rattle.book.specs.Open.{open_book}
-use Rattle.book_types.specs.Found.{found_of}
+use Rattle.book_types.specs.Found.{found, found_of}
 use Rattle.book_types.specs.Tables.{From, in_range_lem}
-use Rattle.book_types.specs.declared.Found.TheVariants as found
+use Rattle.std.specs.Prelude.{Some}
 use Rattle.book_insts.specs.Insts.{digit_fields, field_of}
 use Rattle.book_insts.specs.InstLaws.{field_found}
 
 -- the entry is the field of the digit by itself, whatever follows; kind 37 is the forbidden value
 abbrev pub Alone : ℕ → ℕ → ℕ → ℕ → Type 0
-Alone m k w d = (es : List Entry) → field_found m (field_of d) (entry k w ∷ es) ≡ found.Entries 1 (eqb k 37)
+Alone m k w d = (es : List Entry) → field_found m (field_of d) (entry k w ∷ es) ≡ Some (found 1 (eqb k 37))
 
 -- by the kinds below 40 the largest word, and behind these the digits, a bit for each; m is the number of names
 unfoldable pub rules_of : ℕ → List ℕ
@@ -80,12 +80,12 @@ module _ (m w : ℕ) where
   types k a = tt & a & tt & tt & tt & tt & tt & tt & tt & tt & tt & tt & tt & tt & tt & tt & tt
 
   -- an item that may be absent
-  there : (i : book.Item) (k : ℕ) (b : Bool) → eqb k 21 ≡ false → (es : List Entry) → field_found m (book.Field.plain i) (entry k w ∷ es) ≡ found.Entries 1 b
-      → field_found m (book.Field.optional i) (entry k w ∷ es) ≡ found.Entries 1 b
+  there : (i : book.Item) (k : ℕ) (b : Bool) → eqb k 21 ≡ false → (es : List Entry) → field_found m (book.Field.plain i) (entry k w ∷ es) ≡ Some (found 1 b)
+      → field_found m (book.Field.optional i) (entry k w ∷ es) ≡ Some (found 1 b)
   unfolding field optional any_there
   there i k b d es h = rw d (go (item m i (entry k w ∷ es)) h)
     where
-      go : (r : Read (book.ItemMeaning i)) → found_of (other_item i) r ≡ found.Entries 1 b → found_of (any_there (other_item i)) (and_then r (λ a n. got (some a) n)) ≡ found.Entries 1 b
+      go : (r : Read (book.ItemMeaning i)) → found_of (other_item i) r ≡ Some (found 1 b) → found_of (any_there (other_item i)) (and_then r (λ a n. got (some a) n)) ≡ Some (found 1 b)
       go (got a n) h = h
       go bad h = h
 

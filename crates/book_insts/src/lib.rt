@@ -1,25 +1,27 @@
 #![tactic(auto)]
 // Instructions, kinds 40 to 82, and terminators, kinds 90 to 93: an entry and the fields of its kind.
-ghost use Rattle.std.specs.Prelude.{◌≡◌, ◌-◌, ◌≤◌, ◌<◌, length};
+ghost use Rattle.std.specs.Option.{option_copied};
+ghost use Rattle.std.specs.Prelude.{◌≡◌, ◌≤◌, ◌<◌, length};
 ghost use Rattle.book.specs.Entry.{entries};
 ghost use Rattle.book.specs.Kinds.{inst_tag, term_tag};
 ghost use Rattle.book.specs.Decode.{field as fieldReader};
 ghost use Rattle.book.specs.Forbidden.{other_field};
 ghost use Rattle.book_types.specs.Found.{found_of};
-ghost use Rattle.book_insts.specs.Insts.{inst_group_of, term_group_of, inst_shape, term_shape, shape_fields, field_of, fields_behind};
+ghost use Rattle.book_insts.specs.Insts.{inst_group_of, single_of, term_group_of, inst_shape, term_shape, shape_fields, field_by, digit_of, fields_behind};
 ghost use Rattle.book_insts.specs.Rules.{rules_of, alone_by};
 
 use book::entry;
-use book_types::types::type_len;
-use book_types::{Found, first_entry, plain, shorter};
+use book::ops::{BinOp, ConvOp, ICmpPred};
+use book_types::types::{LEVELS, type_len};
+use book_types::{Found, shorter};
 use book_values::{Atom, Item, atom_len, item_len, list_len, optional_len};
 
-// The group of an instruction's kind; the operations and predicates are numbered from 0 in the order of ast.rs.
+// The group of an instruction's kind.
 #[derive(Clone, Copy)]
 pub enum InstGroup {
-    Bin(u64),
-    Conv(u64),
-    ICmp(u64),
+    Bin(BinOp),
+    Conv(ConvOp),
+    ICmp(ICmpPred),
     Select,
     Load,
     Store,
@@ -39,20 +41,21 @@ pub enum InstGroup {
 pub fn inst_group(kind: u64) -> InstGroup
     ensures { result ≡ inst_group_of (inst_tag kind) }
 {
-    match kind {
-        entry::ADD..=entry::ASHR => InstGroup::Bin(kind - entry::ADD),
-        entry::TRUNC..=entry::BIT_CAST => InstGroup::Conv(kind - entry::TRUNC),
-        entry::EQ..=entry::SLE => InstGroup::ICmp(kind - entry::EQ),
-        entry::SELECT..=entry::FENCE => single_group(kind),
-        _ => InstGroup::Other,
+    if let Ok(op) = BinOp::try_from(kind) {
+        return InstGroup::Bin(op);
     }
+    if let Ok(op) = ConvOp::try_from(kind) {
+        return InstGroup::Conv(op);
+    }
+    if let Ok(pred) = ICmpPred::try_from(kind) {
+        return InstGroup::ICmp(pred);
+    }
+    single_group(kind)
 }
 
 // The kinds that are a group of their own.
 fn single_group(kind: u64) -> InstGroup
-    requires le_kind { 70 ≤ kind }
-    requires kind_bound { kind ≤ 82 }
-    ensures { result ≡ inst_group_of (inst_tag kind) }
+    ensures { result ≡ single_of (inst_tag kind) }
 {
     match kind {
         entry::SELECT => InstGroup::Select,
@@ -67,11 +70,12 @@ fn single_group(kind: u64) -> InstGroup
         entry::ATOMIC_STORE => InstGroup::AtomicStore,
         entry::CMPXCHG => InstGroup::Cmpxchg,
         entry::EXTRACT_VALUE => InstGroup::ExtractValue,
-        _ => InstGroup::Fence,
+        entry::FENCE => InstGroup::Fence,
+        _ => InstGroup::Other,
     }
 }
 
-// The group of a terminator's kind.
+// The group of a terminator's kind. `Other` is one arm more where the groups are told apart; an `Option` around them is no plainer.
 #[derive(Clone, Copy)]
 pub enum TermGroup {
     Ret,
@@ -98,101 +102,118 @@ pub fn term_group(kind: u64) -> TermGroup
     }
 }
 
-// The fields of a kind: a number with a digit to the base 16 for each, the first field in the last digit.
-// 1 a type, 2 a value, 3 a block's name, 4 an index, 5 an align or none, 6 a typed value or none, 7 a value or none,
-// 8 a block's name or none, 9 the indices of a getelementptr, 10 a phi's values, 11 arguments, 12 the cases of a switch.
+// A field of an instruction or a terminator. The table of `rules` has a bit for each, by its number.
 #[derive(Clone, Copy)]
-pub enum Shape {
-    Known(u64),
-    Unknown,
+pub enum Field {
+    Type = 1,
+    Value = 2,
+    Block = 3,
+    Index = 4,
+    // An align, a typed value, a value or a block's name, each or none.
+    Align = 5,
+    SomeTyped = 6,
+    SomeValue = 7,
+    SomeBlock = 8,
+    // The indices of a getelementptr, a phi's values, arguments, the cases of a switch.
+    GepIndices = 9,
+    Incoming = 10,
+    Arguments = 11,
+    Cases = 12,
 }
 
-pub fn inst_fields(group: InstGroup) -> Shape
-    ensures { shape_fields result ≡ inst_shape group }
-{
-    match group {
-        InstGroup::Bin(_) => Shape::Known(0x221),
-        InstGroup::Conv(_) => Shape::Known(0x121),
-        InstGroup::ICmp(_) => Shape::Known(0x221),
-        InstGroup::Select => Shape::Known(0x2212),
-        InstGroup::Load => Shape::Known(0x521),
-        InstGroup::Store => Shape::Known(0x5221),
-        InstGroup::Alloca => Shape::Known(0x561),
-        InstGroup::GetElementPtr => Shape::Known(0x921),
-        InstGroup::Phi => Shape::Known(0xA1),
-        InstGroup::Call => Shape::Known(0xB21),
-        InstGroup::Freeze => Shape::Known(0x21),
-        InstGroup::AtomicLoad => Shape::Known(0x21),
-        InstGroup::AtomicStore => Shape::Known(0x221),
-        InstGroup::Cmpxchg => Shape::Known(0x2221),
-        InstGroup::ExtractValue => Shape::Known(0x42),
-        InstGroup::Fence => Shape::Known(0),
-        InstGroup::Other => Shape::Unknown,
+impl Field {
+    // Its bit in the table.
+    fn bit(self) -> u64
+        ensures value { result ≡ digit_of self }
+        ensures small { result < 16 }
+    {
+        self as u64
     }
 }
 
-pub fn term_fields(group: TermGroup) -> Shape
-    ensures { shape_fields result ≡ term_shape group }
+// The fields of a kind, if it is an instruction's.
+pub fn inst_fields(group: InstGroup) -> Option<&'static [Field]>
+    ensures { shape_fields (option_copied result) ≡ inst_shape group }
 {
     match group {
-        TermGroup::Ret => Shape::Known(0x6),
-        TermGroup::Br => Shape::Known(0x837),
-        TermGroup::Switch => Shape::Known(0xC321),
-        TermGroup::Unreachable => Shape::Known(0),
-        TermGroup::Other => Shape::Unknown,
+        InstGroup::Bin(_) => Some(&[Field::Type, Field::Value, Field::Value]),
+        InstGroup::Conv(_) => Some(&[Field::Type, Field::Value, Field::Type]),
+        InstGroup::ICmp(_) => Some(&[Field::Type, Field::Value, Field::Value]),
+        InstGroup::Select => Some(&[Field::Value, Field::Type, Field::Value, Field::Value]),
+        InstGroup::Load => Some(&[Field::Type, Field::Value, Field::Align]),
+        InstGroup::Store => Some(&[Field::Type, Field::Value, Field::Value, Field::Align]),
+        InstGroup::Alloca => Some(&[Field::Type, Field::SomeTyped, Field::Align]),
+        InstGroup::GetElementPtr => Some(&[Field::Type, Field::Value, Field::GepIndices]),
+        InstGroup::Phi => Some(&[Field::Type, Field::Incoming]),
+        InstGroup::Call => Some(&[Field::Type, Field::Value, Field::Arguments]),
+        InstGroup::Freeze => Some(&[Field::Type, Field::Value]),
+        InstGroup::AtomicLoad => Some(&[Field::Type, Field::Value]),
+        InstGroup::AtomicStore => Some(&[Field::Type, Field::Value, Field::Value]),
+        InstGroup::Cmpxchg => Some(&[Field::Type, Field::Value, Field::Value, Field::Value]),
+        InstGroup::ExtractValue => Some(&[Field::Value, Field::Index]),
+        InstGroup::Fence => Some(&[]),
+        InstGroup::Other => None,
     }
 }
 
-// The field of a digit; a digit that is none of these stands for a type. Types and values, which most fields are, are read without a
-// call of `item_len`.
-pub fn field_len(kinds: &[u64], words: &[u64], names: u64, digit: u64) -> Found
-    ensures { result ≡ found_of (other_field (field_of digit)) (fieldReader names (field_of digit) (entries kinds.now words.now)) }
+// The same of a terminator.
+pub fn term_fields(group: TermGroup) -> Option<&'static [Field]>
+    ensures { shape_fields (option_copied result) ≡ term_shape group }
 {
-    match digit {
-        2 => atom_len(first_entry(kinds, words), names, Atom::Value),
-        3 => item_len(kinds, words, names, Item::Block),
-        4 => item_len(kinds, words, names, Item::Index),
-        5 => optional_len(kinds, words, names, Item::Align),
-        6 => optional_len(kinds, words, names, Item::Typed),
-        7 => optional_len(kinds, words, names, Item::Value),
-        8 => optional_len(kinds, words, names, Item::Block),
-        9 => list_len(kinds, words, names, Item::GepIndex, 32),
-        10 => list_len(kinds, words, names, Item::Incoming, shorter(kinds, words)),
-        11 => list_len(kinds, words, names, Item::Typed, shorter(kinds, words)),
-        12 => list_len(kinds, words, names, Item::Case, shorter(kinds, words)),
-        _ => plain(type_len(kinds, words, names, 64)),
+    match group {
+        TermGroup::Ret => Some(&[Field::SomeTyped]),
+        TermGroup::Br => Some(&[Field::SomeValue, Field::Block, Field::SomeBlock]),
+        TermGroup::Switch => Some(&[Field::Type, Field::Value, Field::Block, Field::Cases]),
+        TermGroup::Unreachable => Some(&[]),
+        TermGroup::Other => None,
+    }
+}
+
+// The most indices of a getelementptr.
+const GEP_INDICES: usize = 32;
+
+// The field in front. Types and values, which most fields are, are read without a call of `item_len`.
+pub fn field_len(kinds: &[u64], words: &[u64], names: u64, field: Field) -> Option<Found>
+    ensures { result ≡ found_of (other_field (field_by field)) (fieldReader names (field_by field) (entries kinds.now words.now)) }
+{
+    match field {
+        Field::Type => Some(Found::plain(type_len(kinds, words, names, LEVELS)?)),
+        Field::Value => atom_len(kinds, words, names, Atom::Value),
+        Field::Block => item_len(kinds, words, names, Item::Block),
+        Field::Index => item_len(kinds, words, names, Item::Index),
+        Field::Align => optional_len(kinds, words, names, Item::Align),
+        Field::SomeTyped => optional_len(kinds, words, names, Item::Typed),
+        Field::SomeValue => optional_len(kinds, words, names, Item::Value),
+        Field::SomeBlock => optional_len(kinds, words, names, Item::Block),
+        Field::GepIndices => list_len(kinds, words, names, Item::GepIndex, GEP_INDICES),
+        Field::Incoming => list_len(kinds, words, names, Item::Incoming, shorter(kinds, words)),
+        Field::Arguments => list_len(kinds, words, names, Item::Typed, shorter(kinds, words)),
+        Field::Cases => list_len(kinds, words, names, Item::Case, shorter(kinds, words)),
     }
 }
 
 // The fields that follow an entry in a block: those of an instruction, whose word is a name + 1 or 0, or of a terminator, whose word is 0.
-pub fn fields_behind(kind: u64, word: u64, names: u64) -> Shape
-    ensures { shape_fields result ≡ fields_behind names kind word }
+pub fn fields_behind(kind: u64, word: u64, names: u64) -> Option<&'static [Field]>
+    ensures { shape_fields (option_copied result) ≡ fields_behind names kind word }
 {
     if entry::RET <= kind {
         if word != 0 {
-            return Shape::Unknown;
+            return None;
         }
         return term_fields(term_group(kind));
     }
     if names < word {
-        return Shape::Unknown;
+        return None;
     }
     inst_fields(inst_group(kind))
 }
 
-// The last of so many names, 0 if there is none.
-fn last_name(names: u64) -> u64
-    ensures { result ≡ names - 1 }
-{
-    if names == 0 { 0 } else { names - 1 }
-}
-
-// For each kind below 40 the largest word that an entry of it has where it is a field by itself, and behind these the digits of such
-// fields, a bit for each. The table is made once in a call and lent on.
+// For each kind below 40 the largest word that an entry of it has where it is a field by itself, and behind these such fields, a bit
+// for each by its number. The table is made once in a call and lent on.
 pub fn rules(names: u64) -> [u64; 80]
     ensures { result ≡ rules_of names }
 {
-    let last = last_name(names);
+    let last = names.saturating_sub(1);
     let mut rule = [0u64; 80];
     // The largest words; of any other kind it is 0.
     rule[11] = 64;
@@ -202,7 +223,7 @@ pub fn rules(names: u64) -> [u64; 80]
     rule[30] = last;
     rule[31] = last;
     rule[32] = 0xFFFF_FFFF_FFFF_FFFF;
-    // The digits of types, of what is absent, of an index, a block's name and values.
+    // The fields of types, of what is absent, of an index, a block's name and values.
     rule[50] = 0x2;
     rule[51] = 0x2;
     rule[52] = 0x2;
@@ -224,18 +245,17 @@ pub fn rules(names: u64) -> [u64; 80]
     rule
 }
 
-// Whether the entry is the field of the digit by itself. A list, an align and what is more than an entry are left to `field_len`. The
+// Whether the entry is the field by itself. A list, an align and what is more than an entry are left to `field_len`. The
 // parts are put together without a branch, since which kind comes next is hard to foresee.
-pub fn one_entry(kind: u64, word: u64, digit: u64, rule: &[u64]) -> bool
-    requires rule_len { length rule.now ≡ 80 }
-    requires digit_bound { digit < 16 }
-    ensures { result ≡ alone_by rule.now kind word digit }
+pub fn one_entry(kind: u64, word: u64, field: Field, rule: &[u64]) -> bool
+    requires { length rule.now ≡ 80 }
+    ensures { result ≡ alone_by rule.now kind word (digit_of field) }
 {
     if entry::ADD <= kind {
         return false;
     }
     let k = kind as usize;
     (word <= rule[k])
-        & ((rule[k + 40] >> digit) % 2 == 1)
+        & ((rule[k + 40] >> field.bit()) % 2 == 1)
         & ((kind != entry::INT) | numbers::width::width_ok(word))
 }

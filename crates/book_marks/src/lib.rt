@@ -33,13 +33,10 @@ pub fn mark_bit(map: &mut [u64], x: usize)
 pub fn mark_range(map: &mut [u64], from: u64, to: u64)
     ensures { map.new ≡ marked_range map.old from to }
 {
-    let end = to as usize;
-    let mut x = from as usize;
-    while x < end {
+    for x in from as usize..to as usize {
         if map.len() <= x / 64 {
             return;
         }
         numbers::bits::set_bit(map, x);
-        x += 1;
     }
 }

@@ -2,7 +2,7 @@
 use Prim.Native.Nat.{ℕ, zero, suc, ◌+◌, ◌-◌, ◌≤◌}
 use Rattle.std.specs.Prelude.{◌≡◌, Bool, true, List, [], ◌∷◌, ◌++◌, length, get_or, drop}
 use Rattle.std.proofs.Math.Path.{refl}
-use Rattle.std.proofs.Common.{ap, sym, ◌∙◌, sub-one, add_assoc, zero-add, arith, length-append, length-drop, drop-drop}
+use Rattle.std.proofs.Common.{ap, sym, ◌∙◌, sub-one, arith, length-append, length-drop, drop-drop}
 use Rattle.std.proofs.Math.Bool.{false}
 use Rattle.std.proofs.Math.Option.{Option, none, some}
 use Rattle.book.specs.Entry.{Entry, entry, entries}
@@ -10,21 +10,14 @@ use Rattle.book.specs.Read.{Read, got, bad, Reader, and_then, stops, mapped, unt
 use Rattle.book.specs.Agree.{Begins, Agrees}
 use Rattle.book_types.specs.Laws.{entry_at, entries_part, within_kinds, within_words, lent_from}
 use Rattle.book_types.specs.Found.{found_of, joined}
-use Rattle.book_types.specs.Passes.{found_got, found_bad}
+use Rattle.book_types.specs.Passes.{joined_joined, joined_none, found_got, found_bad}
 use Rattle.book_types.specs.declared.Found.{Found}
-use Rattle.book_types.specs.declared.Found.TheVariants as found
+use Rattle.std.specs.Prelude as code
+use Rattle.std.specs.Prelude.{Some, None}
 use Rattle.book_parts.specs.Reading.{goes, answered, folded, end_found, all_found}
 
-behind_behind : (a b : ℕ) (f : Found) → joined a false (joined b false f) ≡ joined (a + b) false f
-behind_behind a b (found.Entries n r) = ap (λ k. found.Entries k r) (sym (add_assoc a b n))
-behind_behind a b found.Bad = refl
-
-behind_none : (f : Found) → joined 0 false f ≡ f
-behind_none (found.Entries n r) = ap (λ k. found.Entries k r) (zero-add n)
-behind_none found.Bad = refl
-
 module _ {S A B : Type 0} (taken : S → A → Option S) (ended : S → B → Option Bool) (stop : ℕ → Bool) (item : Reader A) (end : Reader B) where
-  abbrev all : S → ℕ → List Entry → Found
+  abbrev all : S → ℕ → List Entry → code.Option Found
   all s n es = all_found taken ended s (until stop item end n es)
 
   -- the end
@@ -42,28 +35,28 @@ module _ {S A B : Type 0} (taken : S → A → Option S) (ended : S → B → Op
 
   -- an item
   module _ (s : S) (n : ℕ) (es : List Entry) (t : stops stop es ≡ false) where
-    pub all_bad : item es ≡ bad → all s n es ≡ found.Bad
+    pub all_bad : item es ≡ bad → all s n es ≡ None
     unfolding until
     all_bad e = go n
       where
-        go : (n : ℕ) → all s n es ≡ found.Bad
+        go : (n : ℕ) → all s n es ≡ None
         go zero = rw t
         go (suc n) = rw (t, e)
 
-    pub all_full : n ≡ 0 → all s n es ≡ found.Bad
+    pub all_full : n ≡ 0 → all s n es ≡ None
     unfolding until
     all_full z = rw (z, t)
 
     module _ (a : A) (k : ℕ) (e : item es ≡ got a k) where
-      pub all_refused : taken s a ≡ none → all s n es ≡ found.Bad
+      pub all_refused : taken s a ≡ none → all s n es ≡ None
       unfolding until folded
       all_refused r = go n
         where
-          later : (q : Read (List A × B)) → all_found taken ended s (and_then q (λ y m. got (a ∷ y.0, y.1) (k + m))) ≡ found.Bad
+          later : (q : Read (List A × B)) → all_found taken ended s (and_then q (λ y m. got (a ∷ y.0, y.1) (k + m))) ≡ None
           later (got y m) = rw r
           later bad = refl
 
-          go : (n : ℕ) → all s n es ≡ found.Bad
+          go : (n : ℕ) → all s n es ≡ None
           go zero = rw t
           go (suc n) = rw (t, e) (later (until stop item end n (drop k es)))
 
@@ -95,27 +88,27 @@ module _ {S A B : Type 0} (taken : S → A → Option S) (ended : S → B → Op
     fold a left s f e = record { kinds = within_kinds a ks ws f; words = within_words a ks ws f; there = f; whole = e }
 
     pub fold_start : (left : ℕ) → left ≡ n → Fold 0 left s₀
-    fold_start left e = fold 0 left s₀ (omega arith) (rw e (sym (behind_none _)))
+    fold_start left e = fold 0 left s₀ (omega arith) (rw e (sym (joined_none _)))
 
     module _ (a left : ℕ) (s : S) (l : Fold a left s) where
-      pub fold_end : stops stop (drop a (entries ks ws)) ≡ true → (r x : Found) → r ≡ end_found ended s (end (drop a (entries ks ws))) → x ≡ joined a false r → x ≡ all s₀ n (entries ks ws)
+      pub fold_end : stops stop (drop a (entries ks ws)) ≡ true → (r x : code.Option Found) → r ≡ end_found ended s (end (drop a (entries ks ws))) → x ≡ joined a false r → x ≡ all s₀ n (entries ks ws)
       fold_end t r x er ex = ex ∙ ap (joined a false) (er ∙ sym (all_end s left (drop a (entries ks ws)) t)) ∙ sym l.whole
 
       module _ (t : stops stop (drop a (entries ks ws)) ≡ false) where
-        pub fold_bad : item (drop a (entries ks ws)) ≡ bad → found.Bad ≡ all s₀ n (entries ks ws)
+        pub fold_bad : item (drop a (entries ks ws)) ≡ bad → None ≡ all s₀ n (entries ks ws)
         fold_bad e = sym (l.whole ∙ ap (joined a false) (all_bad s left (drop a (entries ks ws)) t e))
 
-        pub fold_full : left ≡ 0 → found.Bad ≡ all s₀ n (entries ks ws)
+        pub fold_full : left ≡ 0 → None ≡ all s₀ n (entries ks ws)
         fold_full z = sym (l.whole ∙ ap (joined a false) (all_full s left (drop a (entries ks ws)) t z))
 
         module _ (x : A) (k : ℕ) (e : item (drop a (entries ks ws)) ≡ got x k) where
-          pub fold_refused : taken s x ≡ none → found.Bad ≡ all s₀ n (entries ks ws)
+          pub fold_refused : taken s x ≡ none → None ≡ all s₀ n (entries ks ws)
           fold_refused r = sym (l.whole ∙ ap (joined a false) (all_refused s left (drop a (entries ks ws)) t x k e r))
 
           pub fold_next : (u : S) → taken s x ≡ some u → (left ≡ 0 → ⊥) → a + k ≤ length (entries ks ws) → Fold (a + k) (left - 1) u
           fold_next u r z f =
               fold (a + k) (left - 1) u f
-              (l.whole ∙ ap (joined a false) (all_taken s left (drop a (entries ks ws)) t x k e u r z) ∙ behind_behind a k (all u (left - 1) (drop k (drop a (entries ks ws)))) ∙ ap (λ q. joined (a + k) false (all u (left - 1) q)) (drop-drop k a (entries ks ws)))
+              (l.whole ∙ ap (joined a false) (all_taken s left (drop a (entries ks ws)) t x k e u r z) ∙ joined_joined a k false false (all u (left - 1) (drop k (drop a (entries ks ws)))) ∙ ap (λ q. joined (a + k) false (all u (left - 1) q)) (drop-drop k a (entries ks ws)))
 
 -- ---- items that begin with their name
 abbrev pub NameFirst : List Entry → ℕ → Type 0
@@ -135,23 +128,23 @@ front_word xs ys {x} {y} q = let z : x ≡ y = cc in ap (λ e. e.word) z
 
 -- from what the code found there
 module _ {A : Type 0} {item : Reader A} {write : A → List Entry} {Keeps : A → Type 0} (agrees : Agrees item write Keeps) (test : A → Bool) (name_of : A → ℕ)
-    (first : (x : A) → NameFirst (write x) (name_of x)) (ks ws : List ℕ) (a : ℕ) (in_book : a ≤ length (entries ks ws)) (f : Found) (ef : f ≡ found_of test (item (lent_from ks ws a))) where
+    (first : (x : A) → NameFirst (write x) (name_of x)) (ks ws : List ℕ) (a : ℕ) (in_book : a ≤ length (entries ks ws)) (f : code.Option Found) (ef : f ≡ found_of test (item (lent_from ks ws a))) where
   abbrev rest : List Entry
   rest = drop a (entries ks ws)
 
   at_rest : f ≡ found_of test (item rest)
   at_rest = rw (entries_part a ks ws) at ef
 
-  pub item_none : f ≡ found.Bad → item rest ≡ bad
+  pub item_none : f ≡ None → item rest ≡ bad
   item_none h = found_bad test (item rest) (sym at_rest ∙ h)
 
-  pub item_at : (k : ℕ) (b : Bool) → f ≡ found.Entries k b → ItemAt item test name_of ks ws a k b
-  item_at k b h =
-      let r = found_got test (item rest) k b (sym at_rest ∙ h) in
+  pub item_at : (g : Found) → f ≡ Some g → ItemAt item test name_of ks ws a g.entries g.barred
+  item_at g h =
+      let r = found_got test (item rest) g (sym at_rest ∙ h) in
       let x = r.0 in
-      let s : Begins write Keeps rest x k = agrees.sound rest x k r.1.0 in
+      let s : Begins write Keeps rest x g.entries = agrees.sound rest x g.entries r.1.0 in
       let q = (first x).1.1 in
-      let long : 1 ≤ k = omega (arith, s.size, ap length q) in
-      let there : a + k ≤ length (entries ks ws) = omega (arith, s.size, ap length s.here, length-append (write x) (drop k rest), length-drop a (entries ks ws)) in
-      let name = front_word _ _ (sym (entry_at ks ws a (omega arith)) ∙ s.here ∙ ap (λ es. es ++ drop k rest) q) in
+      let long : 1 ≤ g.entries = omega (arith, s.size, ap length q) in
+      let there : a + g.entries ≤ length (entries ks ws) = omega (arith, s.size, ap length s.here, length-append (write x) (drop g.entries rest), length-drop a (entries ks ws)) in
+      let name = front_word _ _ (sym (entry_at ks ws a (omega arith)) ∙ s.here ∙ ap (λ es. es ++ drop g.entries rest) q) in
       record { value = x; read = r.1.0; tested = r.1.1; name = sym name; long = long; there = there }

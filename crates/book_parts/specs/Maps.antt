@@ -20,6 +20,7 @@ use Rattle.book.specs.Forbidden.{any, reserved_by, forbidden_function}
 use Rattle.book.proofs.AgreeBook.{PartsLimits, agrees_book}
 use Rattle.book_marks.specs.Range.{marked_range, length_range, bit_range}
 use Rattle.book_marks.specs.Once.{is_new, all_new, AllBelow, new_distinct, bit_set}
+use Rattle.std.specs.Prelude as code
 use Rattle.book_types.specs.declared.Found.{Found}
 use Rattle.book_parts.specs.Reading.{goes, answered, folded, function_taken, functions_closed, functions_ended, struct_taken, now_barred, marked_by, structs_ended, marks_found}
 
@@ -165,7 +166,7 @@ parts_answer m words fits barred e b n k =
     go false q r x = refl
 
 -- ---- maps of fewer words: what is found with maps of so many
-abbrev words_found : (words from to : ℕ) → Read (List Mark × (List StructType × List Function)) → Found
+abbrev pub words_found : (words from to : ℕ) → Read (List Mark × (List StructType × List Function)) → code.Option Found
 words_found words from to = marks_found (replicate words 0) (replicate words 0) (replicate words 0) (marked_range (replicate words 0) from to)
 
 module _ (m : ℕ) (few : m ≤ 2048) (es : List Entry) (from to : ℕ) (short : to ≤ 2048) where

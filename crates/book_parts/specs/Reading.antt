@@ -8,29 +8,31 @@ use Rattle.book.specs.Read.{Read, got, bad}
 use Rattle.book.specs.Decode.{mark_name}
 use Rattle.book.specs.Forbidden.{forbidden_function}
 use Rattle.book_marks.specs.Once.{is_new}
+use Rattle.book_types.specs.Found.{found}
 use Rattle.book_types.specs.declared.Found.{Found}
-use Rattle.book_types.specs.declared.Found.TheVariants as found
+use Rattle.std.specs.Prelude as code
+use Rattle.std.specs.Prelude.{Some, None}
 
 abbrev pub goes : {A B : Type 0} → Option A → (A → Option B) → Option B
 goes none k = none
 goes (some a) k = k a
 
 -- so many entries, forbidden or not, or refused
-abbrev pub answered : ℕ → Option Bool → Found
-answered n none = found.Bad
-answered n (some f) = found.Entries n f
+abbrev pub answered : ℕ → Option Bool → code.Option Found
+answered n none = None
+answered n (some f) = Some (found n f)
 
 unfoldable pub folded : {S A : Type 0} → (S → A → Option S) → S → List A → Option S
 folded taken s [] = some s
 folded taken s (a ∷ as') = goes (taken s a) (λ t. folded taken t as')
 
-abbrev pub end_found : {S B : Type 0} → (S → B → Option Bool) → S → Read B → Found
+abbrev pub end_found : {S B : Type 0} → (S → B → Option Bool) → S → Read B → code.Option Found
 end_found ended s (got b n) = answered n (ended s b)
-end_found ended s bad = found.Bad
+end_found ended s bad = None
 
-abbrev pub all_found : {S A B : Type 0} → (S → A → Option S) → (S → B → Option Bool) → S → Read (List A × B) → Found
+abbrev pub all_found : {S A B : Type 0} → (S → A → Option S) → (S → B → Option Bool) → S → Read (List A × B) → code.Option Found
 all_found taken ended s (got r n) = answered n (goes (folded taken s r.0) (λ t. ended t r.1))
-all_found taken ended s bad = found.Bad
+all_found taken ended s bad = None
 
 -- ---- functions: the state is the map of the names that occurred, whether there was one, and whether something in them is forbidden
 module _ (barred : List ℕ) where
@@ -44,7 +46,7 @@ module _ (barred : List ℕ) where
   abbrev pub functions_ended : List ℕ → List Function → Option Bool
   functions_ended defined fs = goes (folded function_taken (defined, (false, false)) fs) (λ s. functions_closed s tt)
 
-  abbrev pub functions_found : List ℕ → Read (List Function) → Found
+  abbrev pub functions_found : List ℕ → Read (List Function) → code.Option Found
   functions_found = end_found functions_ended
 
 -- ---- named structs: the state is the map of the names that occurred
@@ -55,7 +57,7 @@ module _ (barred defined : List ℕ) where
   abbrev pub structs_closed : List ℕ → List Function → Option Bool
   structs_closed named fs = functions_ended barred defined fs
 
-  abbrev pub named_found : List ℕ → Read (List StructType × List Function) → Found
+  abbrev pub named_found : List ℕ → Read (List StructType × List Function) → code.Option Found
   named_found = all_found struct_taken structs_closed
 
 -- ---- marks: the state is the map of the marked names, and that of the names that may not be called
@@ -70,11 +72,11 @@ module _ (named defined : List ℕ) where
   abbrev pub structs_ended : List ℕ × List ℕ → List StructType × List Function → Option Bool
   structs_ended s r = goes (folded struct_taken named r.0) (λ t. structs_closed s.1 defined t r.1)
 
-  abbrev pub marks_found : List ℕ → List ℕ → Read (List Mark × (List StructType × List Function)) → Found
+  abbrev pub marks_found : List ℕ → List ℕ → Read (List Mark × (List StructType × List Function)) → code.Option Found
   marks_found marked barred = all_found marked_by structs_ended (marked, barred)
 
 -- no name is marked at first; maps have a bit for each of 131,072 names
-abbrev pub parts_found : List ℕ → Read (List Mark × (List StructType × List Function)) → Found
+abbrev pub parts_found : List ℕ → Read (List Mark × (List StructType × List Function)) → code.Option Found
 parts_found barred = marks_found (replicate 2048 0) (replicate 2048 0) (replicate 2048 0) barred
 
 -- whether the entry is a name's first mark

@@ -1,15 +1,11 @@
 -- Laws that the readers' proofs cite: entries of slices and of their parts, and lists of items.
-use Rattle.std.specs.Prelude.{ℕ, zero, suc, ◌+◌, ◌-◌, ◌≤◌, ◌<◌, ◌^◌, min, ◌≡◌, refl, Bool, true, false, List, [], ◌∷◌, length, get_or, drop, take}
-use Rattle.std.proofs.Common.{ap, ◌∙◌, le_of_eq, add-one, arith, length-append, length-drop, take_all}
+use Rattle.std.specs.Prelude.{ℕ, zero, suc, ◌+◌, ◌-◌, ◌≤◌, ◌<◌, min, ◌≡◌, refl, List, [], ◌∷◌, length, get_or, drop, take}
+use Rattle.std.proofs.Common.{ap, sym, ◌∙◌, le_of_eq, add-one, arith, length-append, length-drop, take_all}
 use Rattle.book.specs.Entry.{Entry, entry, entries}
-use Rattle.book.specs.Read.{Read, got, bad, Reader, stops}
+use Rattle.book.specs.Read.{Read, got, bad, Reader}
 use Rattle.book.specs.Agree.{Agrees, Begins}
-use Rattle.book_types.specs.Length.{len_of, step_of, step_of_length, last_of_length, pick_step, front_of}
-use Rattle.book_types.specs.Fit.{Room}
-use Rattle.book_types.specs.declared.Length.{Length}
-use Rattle.book_types.specs.declared.Length.TheVariants as len
-use Rattle.book_types.specs.declared.Step.TheVariants as step
-use Rattle.book_types.specs.declared.Front.TheVariants as front
+use Rattle.book_types.specs.Length.{len_of, front_of}
+use Rattle.std.specs.Prelude.{Some, None}
 
 -- ---- entries of two slices
 pub entries_front : (ks ws : List ℕ) → (length ks ≡ 0 → ⊥) → (length ws ≡ 0 → ⊥) → entries ks ws ≡ entry (get_or ks 0 0) (get_or ws 0 0) ∷ entries (drop 1 ks) (drop 1 ws)
@@ -71,73 +67,51 @@ pub within_words : (a : ℕ) (ks ws : List ℕ) → a ≤ length (entries ks ws)
 within_words a ks ws h = omega (arith, length_entries ks ws)
 
 -- the entry in front
-pub front_of_lem : (ks ws : List ℕ) → (length ks ≡ 0 → ⊥) → (length ws ≡ 0 → ⊥) → front.Entry (get_or ks 0 0) (get_or ws 0 0) ≡ front_of (entries ks ws)
+pub front_of_lem : (ks ws : List ℕ) → (length ks ≡ 0 → ⊥) → (length ws ≡ 0 → ⊥) → Some (get_or ks 0 0, get_or ws 0 0) ≡ front_of (entries ks ws)
 unfolding front_of
 front_of_lem ks ws p q = rw (entries_front ks ws p q)
 
-pub front_none : (es : List Entry) → es ≡ [] → front.Nothing ≡ front_of es
+pub front_none : (es : List Entry) → es ≡ [] → None ≡ front_of es
 unfolding front_of
 front_none es h = rw h
+
+-- there is an entry in front
+pub front_there : (es : List Entry) (e : ℕ × ℕ) → Some e ≡ front_of es → 1 ≤ length es
+unfolding front_of
+front_there [] e h = absurd (let z : ◌≡◌ {A = ℕ} 0 1 = cc in omega arith)
+front_there (x ∷ es) e h = omega arith
+
+-- the entries from a on, as a loop lends them
+abbrev pub lent_from : List ℕ → List ℕ → ℕ → List Entry
+lent_from ks ws a = entries (take (length ks - a) (drop a ks)) (take (length ws - a) (drop a ws))
+
+-- of the entries from a on, one in front stands before the end of both slices
+pub front_within : (ks ws : List ℕ) (a : ℕ) (e : ℕ × ℕ) → Some e ≡ front_of (lent_from ks ws a) → a + 1 ≤ length (entries ks ws)
+front_within ks ws a e h =
+    let there : 1 ≤ length (drop a (entries ks ws)) = front_there _ e (h ∙ ap front_of (entries_part a ks ws)) in
+    omega (arith, length-drop a (entries ks ws))
 
 -- ---- lengths
 module _ {A : Type 0} where
   -- from an answer to what was read
-  pub len_got : (r : Read A) (n : ℕ) → len_of r ≡ len.Entries n → (a : A) × (r ≡ got a n)
+  pub len_got : (r : Read A) (n : ℕ) → len_of r ≡ Some n → (a : A) × (r ≡ got a n)
   len_got (got a k) n e = (a, ap (got a) (cc))
   len_got bad n e = absurd (let z : ◌≡◌ {A = ℕ} 0 1 = cc in omega arith)
 
-  pub len_bad : (r : Read A) → len_of r ≡ len.Bad → r ≡ bad
+  pub len_bad : (r : Read A) → len_of r ≡ None → r ≡ bad
   len_bad (got a k) e = absurd (let z : ◌≡◌ {A = ℕ} 0 1 = cc in omega arith)
   len_bad bad e = refl
 
   module _ {p : Reader A} {w : A → List Entry} {K : A → Type 0} (s : Agrees p w K) where
     -- what is read is there
-    pub len_fits : (es : List Entry) (n : ℕ) → len_of (p es) ≡ len.Entries n → n ≤ length es
+    pub len_fits : (es : List Entry) (n : ℕ) → len_of (p es) ≡ Some n → n ≤ length es
     len_fits es n e =
         let g = len_got (p es) n e in
         let b : Begins w K es g.0 n = s.sound es g.0 n g.1 in
         omega (arith, b.size, ap length b.here, length-append (w g.0) (drop n es))
 
-    pub len_room : (a : ℕ) (es : List Entry) → a + length es < 2 ^ 64 → Room a (len_of (p es))
-    len_room a es h = go (len_of (p es)) refl
-      where
-        go : (l : Length) → len_of (p es) ≡ l → Room a l
-        go (len.Entries n) e = omega (arith, len_fits es n e)
-        go len.Bad e = tt
-
--- ---- items and an end: what comes next is there
-module _ {A B : Type 0} (stop : ℕ → Bool) (item : Reader A) (end : Reader B) {w : A → List Entry} {K : A → Type 0} {v : B → List Entry} {L : B → Type 0} (s : Agrees item w K) (t : Agrees end v L) where
-  step_cases : (es : List Entry) (b : Bool) → stops stop es ≡ b → (k : ℕ) → pick_step b (last_of_length (len_of (end es))) (step_of_length (len_of (item es))) ≡ step.Next k → k ≤ length es
-  step_cases es true e k h = absurd (last (len_of (end es)) h)
-    where
-      last : (l : Length) → last_of_length l ≡ step.Next k → ⊥
-      last (len.Entries n) h = let z : ◌≡◌ {A = ℕ} 0 1 = cc in omega arith
-      last len.Bad h = let z : ◌≡◌ {A = ℕ} 0 1 = cc in omega arith
-  step_cases es false e k h = len_fits s es k (next (len_of (item es)) h)
-    where
-      next : (l : Length) → step_of_length l ≡ step.Next k → l ≡ len.Entries k
-      next (len.Entries n) h = ap len.Entries (cc)
-      next len.Bad h = absurd (let z : ◌≡◌ {A = ℕ} 0 1 = cc in omega arith)
-
-  done_cases : (es : List Entry) (b : Bool) → stops stop es ≡ b → (k : ℕ) → pick_step b (last_of_length (len_of (end es))) (step_of_length (len_of (item es))) ≡ step.Done k → k ≤ length es
-  done_cases es true e k h = len_fits t es k (last (len_of (end es)) h)
-    where
-      last : (l : Length) → last_of_length l ≡ step.Done k → l ≡ len.Entries k
-      last (len.Entries n) h = ap len.Entries (cc)
-      last len.Bad h = absurd (let z : ◌≡◌ {A = ℕ} 0 1 = cc in omega arith)
-  done_cases es false e k h = absurd (next (len_of (item es)) h)
-    where
-      next : (l : Length) → step_of_length l ≡ step.Done k → ⊥
-      next (len.Entries n) h = let z : ◌≡◌ {A = ℕ} 0 1 = cc in omega arith
-      next len.Bad h = let z : ◌≡◌ {A = ℕ} 0 1 = cc in omega arith
-
-  -- what comes next is there
-  pub next_fits : (es : List Entry) (a k : ℕ) → a ≤ length es → step_of stop item end (drop a es) ≡ step.Next k → a + k ≤ length es
-  next_fits es a k f h = omega (arith, step_cases (drop a es) (stops stop (drop a es)) refl k h, length-drop a es)
-
-  pub done_fits : (es : List Entry) (a k : ℕ) → a ≤ length es → step_of stop item end (drop a es) ≡ step.Done k → a + k ≤ length es
-  done_fits es a k f h = omega (arith, done_cases (drop a es) (stops stop (drop a es)) refl k h, length-drop a es)
-
--- the entries from a on, as a loop lends them
-abbrev pub lent_from : List ℕ → List ℕ → ℕ → List Entry
-lent_from ks ws a = entries (take (length ks - a) (drop a ks)) (take (length ws - a) (drop a ws))
+    -- and ends within the slices
+    pub lent_fits : (ks ws : List ℕ) (a n : ℕ) → a ≤ length (entries ks ws) → Some n ≡ len_of (p (lent_from ks ws a)) → a + n ≤ length (entries ks ws)
+    lent_fits ks ws a n h e =
+        let fits : n ≤ length (drop a (entries ks ws)) = len_fits (drop a (entries ks ws)) n (ap (λ es. len_of (p es)) (sym (entries_part a ks ws)) ∙ sym e) in
+        omega (arith, length-drop a (entries ks ws))

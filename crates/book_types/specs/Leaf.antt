@@ -8,29 +8,30 @@ use Rattle.book.specs.Entry.{entries}
 use Rattle.book.specs.Rule.{find}
 use Rattle.book.specs.Kinds.{ty_tag, ty_tags, ty_kind}
 use Rattle.book.specs.Decode.{type_to}
-use Rattle.book_types.specs.Groups.{type_group_of, leaf_if, struct_if, group_head}
+use Rattle.std.specs.Bool.{then_some}
+use Rattle.std.specs.Prelude.{Option, Some, None}
+use Rattle.book_types.specs.Groups.{type_group_of, group_head}
 use Rattle.book_types.specs.Length.{len_of}
 use Rattle.book_types.specs.Laws.{front_of_lem}
 use Rattle.book_types.specs.Tables.{find_below, in_range_lem}
-use Rattle.book_types.specs.TypeLaws.{leaf_arm}
-use Rattle.book_types.specs.declared.Length.TheVariants as len
+use Rattle.book_types.specs.TypeLaws.{type_arm}
 use Rattle.book_types.specs.declared.types.TypeHead.{TypeHead}
 use Rattle.book_types.specs.declared.types.TypeHead.TheVariants as head
 
-abbrev pub is_leaf : TypeHead → Bool
-is_leaf head.Leaf = true
-is_leaf head.Array = false
-is_leaf head.Struct = false
-is_leaf head.Bad = false
+abbrev pub is_leaf : Option TypeHead → Bool
+is_leaf (Some head.Leaf) = true
+is_leaf (Some head.Array) = false
+is_leaf (Some head.Struct) = false
+is_leaf None = false
 
 abbrev pub leaf_ok : ℕ → ℕ → ℕ → Bool
 leaf_ok m k w = is_leaf (group_head m w (type_group_of (ty_tag k)))
 
-leaf_if_lem : (b : Bool) → b ≡ is_leaf (leaf_if b)
+leaf_if_lem : (b : Bool) → b ≡ is_leaf (then_some b head.Leaf)
 leaf_if_lem true = refl
 leaf_if_lem false = refl
 
-struct_if_lem : (b : Bool) → false ≡ is_leaf (struct_if b)
+struct_if_lem : (b : Bool) → false ≡ is_leaf (then_some b head.Struct)
 struct_if_lem true = refl
 struct_if_lem false = refl
 
@@ -124,11 +125,11 @@ leaf_not_other m k w h = go (eqb k 37) refl
 
 -- the type at the front is then one entry
 pub leaf_one : (m l : ℕ) (ks ws : List ℕ) → (l ≡ 0 → ⊥) → (length ks ≡ 0 → ⊥) → (length ws ≡ 0 → ⊥) → leaf_ok m (get_or ks 0 0) (get_or ws 0 0) ≡ true
-    → len.Entries 1 ≡ len_of (type_to m l (entries ks ws))
-leaf_one m l ks ws d p q h = leaf_arm m l ks ws _ _ (front_of_lem ks ws p q) refl d (go _ h)
+    → Some 1 ≡ len_of (type_to m l (entries ks ws))
+leaf_one m l ks ws d p q h = sym (type_arm m l ks ws _ _ (front_of_lem ks ws p q) d (Some head.Leaf) (go _ h))
   where
-    go : (t : TypeHead) → is_leaf t ≡ true → t ≡ head.Leaf
-    go head.Leaf e = refl
-    go head.Array e = absurd (let z : ◌≡◌ {A = ℕ} 0 1 = cc in omega arith)
-    go head.Struct e = absurd (let z : ◌≡◌ {A = ℕ} 0 1 = cc in omega arith)
-    go head.Bad e = absurd (let z : ◌≡◌ {A = ℕ} 0 1 = cc in omega arith)
+    go : (t : Option TypeHead) → is_leaf t ≡ true → Some head.Leaf ≡ t
+    go (Some head.Leaf) e = refl
+    go (Some head.Array) e = absurd (let z : ◌≡◌ {A = ℕ} 0 1 = cc in omega arith)
+    go (Some head.Struct) e = absurd (let z : ◌≡◌ {A = ℕ} 0 1 = cc in omega arith)
+    go None e = absurd (let z : ◌≡◌ {A = ℕ} 0 1 = cc in omega arith)

@@ -1,5 +1,4 @@
 pub mod Length
-pub mod Fit
 pub mod Groups
 pub mod Found
 pub mod Tables

@@ -1,77 +1,79 @@
 -- Laws on parts one after the other and on lists of items, with what a test says of them.
-use Prim.Native.Nat.{ℕ, zero, suc, ◌+◌, ◌-◌, ◌≤◌, ◌<◌, ◌^◌}
-use Rattle.std.specs.Prelude.{◌≡◌, Bool, ◌||◌, length, drop, take, eqb}
+use Prim.Native.Nat.{ℕ, zero, suc, ◌+◌, ◌-◌, ◌≤◌}
+use Rattle.std.specs.Prelude.{◌≡◌, Bool, ◌||◌, length, drop, eqb}
 use Rattle.std.proofs.Math.Path.{refl, ap}
-use Rattle.std.proofs.Common.{sym, ◌∙◌, sub-one, add_assoc, zero-add, arith, length-take, drop-drop}
+use Rattle.std.proofs.Common.{sym, ◌∙◌, sub-one, add_assoc, zero-add, arith, length-drop, drop-drop, ne_eqb}
+use Rattle.std.specs.Bool.{then_some}
 use Rattle.std.proofs.Math.Bool.{true, false, or-false}
-use Rattle.std.proofs.Math.Option.{none}
+use Rattle.std.specs.Prelude.{Option, Some, None}
 use mathlib.Core.List.{List, [], ◌∷◌}
 use Rattle.book.specs.Entry.{Entry, entries}
-use Rattle.book.specs.Rule.{when, pick}
-use Rattle.book.specs.Read.{Read, got, bad, Reader, and_then, taking, choose, one, stops, mapped, both, until, word, is_closing, closing, list_of, many}
+use Rattle.book.specs.Rule.{when}
+use Rattle.book.specs.Read.{Read, got, bad, Reader, and_then, taking, one, stops, mapped, both, until, word, is_closing, closing, list_of, many}
 use Rattle.book.specs.Agree.{Agrees}
 use Rattle.book.specs.Forbidden.{any}
-use Rattle.book_types.specs.Length.{len_of, step_of, step_of_length, last_of_length, pick_step, front_of, head_of, pick_head}
-use Rattle.book_types.specs.Laws.{length_entries, entries_part, within_kinds, within_words, lent_from, len_fits, next_fits, done_fits}
-use Rattle.book_types.specs.declared.Length.{Length}
-use Rattle.book_types.specs.declared.Length.TheVariants as len
-use Rattle.book_types.specs.declared.Step.{Step}
-use Rattle.book_types.specs.declared.Step.TheVariants as step
-use Rattle.book_types.specs.declared.Front.{Front}
-use Rattle.book_types.specs.declared.ListHead.{ListHead}
-use Rattle.book_types.specs.declared.ListHead.TheVariants as head
-use Rattle.book_types.specs.Found.{found_of, joined, followed_by, plain_of, FoundRoom, next_of, last_of, pick_pass, pass_of, all_test, pair_test, never}
+use Rattle.book_types.specs.Length.{len_of, front_of}
+use Rattle.book_types.specs.Laws.{entries_part, within_kinds, within_words, lent_from, len_fits, lent_fits}
+use Rattle.book_types.specs.TypeLaws.{many_len}
+use Rattle.book_types.specs.Found.{found, plain, found_of, joined, followed_by, all_test, pair_test, never}
 use Rattle.book_types.specs.declared.Found.{Found}
-use Rattle.book_types.specs.declared.Found.TheVariants as found
-use Rattle.book_types.specs.declared.Pass.{Pass}
-use Rattle.book_types.specs.declared.Pass.TheVariants as pass
 
 or_assoc : (a b c : Bool) → (a || (b || c)) ≡ ((a || b) || c)
 or_assoc true b c = refl
 or_assoc false b c = refl
 
 -- ---- answers
-pub joined_joined : (a b : ℕ) (p q : Bool) (f : Found) → joined a p (joined b q f) ≡ joined (a + b) (p || q) f
-joined_joined a b p q (found.Entries n r) = rw (or_assoc p q r, add_assoc a b n)
-joined_joined a b p q found.Bad = refl
+pub joined_joined : (a b : ℕ) (p q : Bool) (f : Option Found) → joined a p (joined b q f) ≡ joined (a + b) (p || q) f
+joined_joined a b p q (Some f) = rw (or_assoc p q f.barred, add_assoc a b f.entries)
+joined_joined a b p q None = refl
 
-pub joined_none : (f : Found) → joined 0 false f ≡ f
-joined_none (found.Entries n b) = ap (λ k. found.Entries k b) (zero-add n)
-joined_none found.Bad = refl
+pub joined_none : (f : Option Found) → joined 0 false f ≡ f
+joined_none (Some f) = rw (zero-add f.entries)
+joined_none None = refl
 
 -- an answer without its test
-abbrev size_of : Found → Length
-size_of (found.Entries n b) = len.Entries n
-size_of found.Bad = len.Bad
+abbrev pub size_of : Option Found → Option ℕ
+size_of (Some f) = Some f.entries
+size_of None = None
 
-size_of_lem : {A : Type 0} (t : A → Bool) (r : Read A) → size_of (found_of t r) ≡ len_of r
+-- an answer in which nothing is forbidden
+abbrev pub plainly : Option ℕ → Option Found
+plainly (Some n) = Some (plain n)
+plainly None = None
+
+pub size_of_lem : {A : Type 0} (t : A → Bool) (r : Read A) → size_of (found_of t r) ≡ len_of r
 size_of_lem t (got a n) = refl
 size_of_lem t bad = refl
 
 module _ {A : Type 0} (t : A → Bool) {p : Reader A} {w : A → List Entry} {K : A → Type 0} (s : Agrees p w K) where
-  pub found_fits : (es : List Entry) (n : ℕ) (b : Bool) → found_of t (p es) ≡ found.Entries n b → n ≤ length es
-  found_fits es n b e = len_fits s es n (sym (size_of_lem t (p es)) ∙ ap size_of e)
+  pub found_fits : (es : List Entry) (f : Found) → found_of t (p es) ≡ Some f → f.entries ≤ length es
+  found_fits es f e = len_fits s es f.entries (sym (size_of_lem t (p es)) ∙ ap size_of e)
+
+  pub found_lent : (ks ws : List ℕ) (a : ℕ) (f : Found) → a ≤ length (entries ks ws) → Some f ≡ found_of t (p (lent_from ks ws a)) → a + f.entries ≤ length (entries ks ws)
+  found_lent ks ws a f h e = lent_fits s ks ws a f.entries h (ap size_of e ∙ size_of_lem t (p (lent_from ks ws a)))
 
 -- a length in which nothing is forbidden
-pub plain_found : {A : Type 0} (r : Read A) → plain_of (len_of r) ≡ found_of never r
+pub plain_found : {A : Type 0} (r : Read A) → plainly (len_of r) ≡ found_of never r
 plain_found (got a n) = refl
 plain_found bad = refl
 
-pub plain_is : {A : Type 0} (r : Read A) (l : Length) (f : Found) → l ≡ len_of r → f ≡ plain_of l → f ≡ found_of never r
-plain_is r l f el ef = ef ∙ ap plain_of el ∙ plain_found r
+pub plain_is : {A : Type 0} (r : Read A) (l : Option ℕ) → l ≡ len_of r → plainly l ≡ found_of never r
+plain_is r l e = ap plainly e ∙ plain_found r
 
 -- the same test gives the same answer
 pub found_ext : {A : Type 0} (t u : A → Bool) → ((a : A) → t a ≡ u a) → (r : Read A) → found_of t r ≡ found_of u r
-found_ext t u e (got a n) = ap (found.Entries n) (e a)
+found_ext t u e (got a n) = ap (λ b. Some (found n b)) (e a)
 found_ext t u e bad = refl
 
 -- from an answer to what was read
 module _ {A : Type 0} (t : A → Bool) where
-  pub found_got : (r : Read A) (n : ℕ) (b : Bool) → found_of t r ≡ found.Entries n b → (a : A) × ((r ≡ got a n) × (t a ≡ b))
-  found_got (got a k) n b e = (a, (ap (got a) (cc), cc))
-  found_got bad n b e = absurd (let z : ◌≡◌ {A = ℕ} 0 1 = cc in omega arith)
+  pub found_got : (r : Read A) (f : Found) → found_of t r ≡ Some f → (a : A) × ((r ≡ got a f.entries) × (t a ≡ f.barred))
+  found_got (got a k) f e =
+      let same : found k (t a) ≡ f = cc in
+      (a, (ap (λ x. got a x.entries) same, ap (λ x. x.barred) same))
+  found_got bad f e = absurd (let z : ◌≡◌ {A = ℕ} 0 1 = cc in omega arith)
 
-  pub found_bad : (r : Read A) → found_of t r ≡ found.Bad → r ≡ bad
+  pub found_bad : (r : Read A) → found_of t r ≡ None → r ≡ bad
   found_bad (got a k) e = absurd (let z : ◌≡◌ {A = ℕ} 0 1 = cc in omega arith)
   found_bad bad e = refl
 
@@ -85,13 +87,13 @@ mapped_found {A} {B} t f p es = go (p es)
     go bad = refl
 
 -- ---- one part after the other
-pub followed_joined : (n : ℕ) (b : Bool) (f : Found) (k : List Entry → Found) (es : List Entry) → followed_by (joined n b f) k es ≡ joined n b (followed_by f k (drop n es))
-followed_joined n b (found.Entries i c) k es = rw (drop-drop i n es) (sym (joined_joined n i b c (k (drop (n + i) es))))
-followed_joined n b found.Bad k es = refl
+pub followed_joined : (n : ℕ) (b : Bool) (f : Option Found) (k : List Entry → Option Found) (es : List Entry) → followed_by (joined n b f) k es ≡ joined n b (followed_by f k (drop n es))
+followed_joined n b (Some f) k es = rw (drop-drop f.entries n es) (sym (joined_joined n f.entries b f.barred (k (drop (n + f.entries) es))))
+followed_joined n b None k es = refl
 
-pub followed_twice : (f : Found) (g k : List Entry → Found) (es : List Entry) → followed_by (followed_by f g es) k es ≡ followed_by f (λ xs. followed_by (g xs) k xs) es
-followed_twice (found.Entries n b) g k es = followed_joined n b (g (drop n es)) k es
-followed_twice found.Bad g k es = refl
+pub followed_twice : (f : Option Found) (g k : List Entry → Option Found) (es : List Entry) → followed_by (followed_by f g es) k es ≡ followed_by f (λ xs. followed_by (g xs) k xs) es
+followed_twice (Some f) g k es = followed_joined f.entries f.barred (g (drop f.entries es)) k es
+followed_twice None g k es = refl
 
 pub both_found : {A B : Type 0} (p : Reader A) (q : Reader B) (ta : A → Bool) (tb : B → Bool) (es : List Entry)
     → found_of (pair_test ta tb) (both p q es) ≡ followed_by (found_of ta (p es)) (λ xs. found_of tb (q xs)) es
@@ -107,110 +109,62 @@ both_found {A} {B} p q ta tb es = go (p es)
     go bad = refl
 
 -- what an answer counts is there
-abbrev pub Within : List Entry → Found → Type 0
-Within es f = (n : ℕ) (b : Bool) → f ≡ found.Entries n b → n ≤ length es
+abbrev pub Within : List Entry → Option Found → Type 0
+Within es r = (f : Found) → r ≡ Some f → f.entries ≤ length es
 
-pub within : {A : Type 0} (t : A → Bool) {p : Reader A} {w : A → List Entry} {K : A → Type 0} → Agrees p w K → (es : List Entry) (f : Found) → f ≡ found_of t (p es) → Within es f
-within t s es f e n b h = found_fits t s es n b (sym e ∙ h)
+pub within : {A : Type 0} (t : A → Bool) {p : Reader A} {w : A → List Entry} {K : A → Type 0} → Agrees p w K → (es : List Entry) (r : Option Found) → r ≡ found_of t (p es) → Within es r
+within t s es r e f h = found_fits t s es f (sym e ∙ h)
 
-module _ {A B : Type 0} (p : Reader A) (q : Reader B) (ta : A → Bool) (tb : B → Bool) (ks ws : List ℕ) (r : Found) (er : r ≡ found_of ta (p (entries ks ws))) where
-  pub both_bad : r ≡ found.Bad → found.Bad ≡ found_of (pair_test ta tb) (both p q (entries ks ws))
-  both_bad h = sym (both_found p q ta tb (entries ks ws) ∙ ap (λ f. followed_by f (λ es. found_of tb (q es)) (entries ks ws)) (sym er ∙ h))
+-- the first part, as found at the front, and the second, as found in the entries behind it
+module _ {A B : Type 0} (p : Reader A) (q : Reader B) (ta : A → Bool) (tb : B → Bool) (ks ws : List ℕ) where
+  pub first_none : None ≡ found_of ta (p (entries ks ws)) → None ≡ found_of (pair_test ta tb) (both p q (entries ks ws))
+  first_none h = sym (both_found p q ta tb (entries ks ws) ∙ ap (λ f. followed_by f (λ es. found_of tb (q es)) (entries ks ws)) (sym h))
 
-  module _ (n : ℕ) (b : Bool) (h : r ≡ found.Entries n b) where
-    pub both_arm : (x y : Found) → x ≡ found_of tb (q (lent_from ks ws n)) → y ≡ joined n b x → y ≡ found_of (pair_test ta tb) (both p q (entries ks ws))
-    both_arm x y ex ey =
-        ey ∙ ap (joined n b) (ex ∙ ap (λ es. found_of tb (q es)) (entries_part n ks ws))
-        ∙ sym (both_found p q ta tb (entries ks ws) ∙ ap (λ f. followed_by f (λ es. found_of tb (q es)) (entries ks ws)) (sym er ∙ h))
-
-    -- the first part is there, and the second leaves room for it
-    module _ (w : Within (entries ks ws) r) where
-      pub both_kinds : n ≤ length ks
-      both_kinds = within_kinds n ks ws (w n b h)
-
-      pub both_words : n ≤ length ws
-      both_words = within_words n ks ws (w n b h)
-
-      pub both_room : length ks < 2 ^ 64 → (x : Found) → Within (lent_from ks ws n) x → FoundRoom n x
-      both_room f x v = go x refl
-        where
-          go : (y : Found) → x ≡ y → FoundRoom n y
-          go (found.Entries k c) e = omega (arith, f, both_kinds, v k c e, length_entries (take (length ks - n) (drop n ks)) (take (length ws - n) (drop n ws)), length-take (length ks - n) (drop n ks))
-          go found.Bad e = tt
+  module _ (f : Found) (h : Some f ≡ found_of ta (p (entries ks ws))) where
+    pub then_is : (r : Option Found) → r ≡ found_of tb (q (lent_from ks ws f.entries)) → joined f.entries f.barred r ≡ found_of (pair_test ta tb) (both p q (entries ks ws))
+    then_is r e =
+        ap (joined f.entries f.barred) (e ∙ ap (λ es. found_of tb (q es)) (entries_part f.entries ks ws))
+        ∙ sym (both_found p q ta tb (entries ks ws) ∙ ap (λ f. followed_by f (λ es. found_of tb (q es)) (entries ks ws)) (sym h))
 
 -- ---- items and an end
 module _ {A B : Type 0} (ta : A → Bool) (tb : B → Bool) (stop : ℕ → Bool) (item : Reader A) (end : Reader B) where
-  abbrev all : ℕ → List Entry → Found
+  abbrev all : ℕ → List Entry → Option Found
   all n es = found_of (all_test ta tb) (until stop item end n es)
-
-  abbrev passed : ℕ → List Entry → Pass → Found
-  passed n es (pass.Done m b) = found.Entries m b
-  passed zero es (pass.Next k b) = found.Bad
-  passed (suc n) es (pass.Next k b) = joined k b (all n (drop k es))
-  passed n es pass.Bad = found.Bad
 
   shifted : (a : A) (k : ℕ) (r : Read (List A × B)) → found_of (all_test ta tb) (and_then r (λ y m. got (a ∷ y.0, y.1) (k + m))) ≡ joined k (ta a) (found_of (all_test ta tb) r)
   unfolding any
-  shifted a k (got y m) = ap (found.Entries (k + m)) (sym (or_assoc (ta a) (any ta y.0) (tb y.1)))
+  shifted a k (got y m) = ap (λ b. Some (found (k + m) b)) (sym (or_assoc (ta a) (any ta y.0) (tb y.1)))
   shifted a k bad = refl
 
-  -- a list goes on by its next step
-  until_pass : (n : ℕ) (es : List Entry) → all n es ≡ passed n es (pass_of ta tb stop item end es)
-  unfolding until mapped any
-  until_pass zero es = go (stops stop es) (end es) (item es)
-    where
-      go : (b : Bool) (r : Read B) (q : Read A)
-          → found_of {A = List A × B} (all_test ta tb) (choose b (and_then r (λ b m. got ([], b) m)) bad) ≡ passed zero es (pick_pass b (last_of (found_of tb r)) (next_of (found_of ta q)))
-      go true (got b m) q = refl
-      go true bad q = refl
-      go false r (got a k) = refl
-      go false r bad = refl
-  until_pass (suc n) es = go (stops stop es) (end es) (item es)
-    where
-      go : (b : Bool) (r : Read B) (q : Read A)
-          → found_of {A = List A × B} (all_test ta tb) (choose b (and_then r (λ b m. got ([], b) m)) (and_then q (λ a k. and_then (until stop item end n (drop k es)) (λ y m. got (a ∷ y.0, y.1) (k + m)))))
-          ≡ passed (suc n) es (pick_pass b (last_of (found_of tb r)) (next_of (found_of ta q)))
-      go true (got b m) q = refl
-      go true bad q = refl
-      go false r (got a k) = shifted a k (until stop item end n (drop k es))
-      go false r bad = refl
-
-  -- the same by the entry in front: an end, or an item and then the others
+  -- a list by the entry in front: an end, or an item and then the others
   pub until_end : (n : ℕ) (es : List Entry) → stops stop es ≡ true → all n es ≡ found_of tb (end es)
-  until_end n es t = until_pass n es ∙ ap (λ b. passed n es (pick_pass b (last_of (found_of tb (end es))) (next_of (found_of ta (item es))))) t ∙ go n (found_of tb (end es))
+  unfolding until mapped any
+  until_end zero es t = rw t (last (end es))
     where
-      go : (n : ℕ) (f : Found) → passed n es (last_of f) ≡ f
-      go zero (found.Entries k b) = refl
-      go zero found.Bad = refl
-      go (suc n) (found.Entries k b) = refl
-      go (suc n) found.Bad = refl
+      last : (r : Read B) → found_of {A = List A × B} (all_test ta tb) (and_then r (λ b m. got ([], b) m)) ≡ found_of tb r
+      last (got b m) = refl
+      last bad = refl
+  until_end (suc n) es t = rw t (last (end es))
+    where
+      last : (r : Read B) → found_of {A = List A × B} (all_test ta tb) (and_then r (λ b m. got ([], b) m)) ≡ found_of tb r
+      last (got b m) = refl
+      last bad = refl
 
   pub until_item : (n : ℕ) (es : List Entry) → stops stop es ≡ false → all (suc n) es ≡ followed_by (found_of ta (item es)) (all n) es
-  until_item n es t =
-      until_pass (suc n) es ∙ ap (λ b. passed (suc n) es (pick_pass b (last_of (found_of tb (end es))) (next_of (found_of ta (item es))))) t ∙ go (found_of ta (item es))
+  unfolding until
+  until_item n es t = rw t (go (item es))
     where
-      go : (f : Found) → passed (suc n) es (next_of f) ≡ followed_by f (all n) es
-      go (found.Entries k b) = refl
-      go found.Bad = refl
+      go : (q : Read A) → found_of {A = List A × B} (all_test ta tb) (and_then q (λ a k. and_then (until stop item end n (drop k es)) (λ y m. got (a ∷ y.0, y.1) (k + m)))) ≡ followed_by (found_of ta q) (all n) es
+      go (got a k) = shifted a k (until stop item end n (drop k es))
+      go bad = refl
 
-  -- the same step without its test
-  abbrev step_of_pass : Pass → Step
-  step_of_pass (pass.Done m b) = step.Done m
-  step_of_pass (pass.Next k b) = step.Next k
-  step_of_pass pass.Bad = step.Bad
-
-  plain_step : (es : List Entry) → step_of_pass (pass_of ta tb stop item end es) ≡ step_of stop item end es
-  plain_step es = go (stops stop es) (end es) (item es)
-    where
-      go : (b : Bool) (r : Read B) (q : Read A) → step_of_pass (pick_pass b (last_of (found_of tb r)) (next_of (found_of ta q))) ≡ pick_step b (last_of_length (len_of r)) (step_of_length (len_of q))
-      go true (got b m) q = refl
-      go true bad q = refl
-      go false r (got a k) = refl
-      go false r bad = refl
+  pub until_full : (es : List Entry) → stops stop es ≡ false → all 0 es ≡ None
+  unfolding until
+  until_full es t = rw t
 
   -- ---- a loop over a list, on slices: at the place a, with so many items left and o found so far
   module _ (n : ℕ) (ks ws : List ℕ) where
-    abbrev rest : ℕ → ℕ → Bool → Found
+    abbrev rest : ℕ → ℕ → Bool → Option Found
     rest left a o = joined a o (all left (drop a (entries ks ws)))
 
     pub record Loop (a left : ℕ) (o : Bool) : Type 0 where
@@ -225,70 +179,48 @@ module _ {A B : Type 0} (ta : A → Bool) (tb : B → Bool) (stop : ℕ → Bool
     pub loop_start : (left : ℕ) → left ≡ n → Loop 0 left false
     loop_start left e = loop 0 left false (omega arith) (rw e (sym (joined_none _)))
 
-    module _ (a left : ℕ) (o : Bool) (l : Loop a left o) (s : Pass) (e : s ≡ pass_of ta tb stop item end (lent_from ks ws a)) where
-      pass_is : (t : Pass) → s ≡ t → pass_of ta tb stop item end (drop a (entries ks ws)) ≡ t
-      pass_is t h = sym (rw (entries_part a ks ws) at e) ∙ h
-
-      stepped : (left : ℕ) (t : Pass) → s ≡ t → rest left a o ≡ joined a o (passed left (drop a (entries ks ws)) t)
-      stepped left t h = ap (joined a o) (until_pass left (drop a (entries ks ws)) ∙ ap (passed left (drop a (entries ks ws))) (pass_is t h))
-
-      pub loop_done : (k : ℕ) (b : Bool) → s ≡ pass.Done k b → found.Entries (a + k) (o || b) ≡ all n (entries ks ws)
-      loop_done k b h = sym (l.goes ∙ stepped left (pass.Done k b) h ∙ go left)
+    module _ (a left : ℕ) (o : Bool) (l : Loop a left o) where
+      -- the loop goes on behind an item
+      pub loop_next : {w : A → List Entry} {K : A → Type 0} → Agrees item w K → stops stop (drop a (entries ks ws)) ≡ false
+          → (f : Found) → Some f ≡ found_of ta (item (lent_from ks ws a)) → (left ≡ 0 → ⊥) → Loop (a + f.entries) (left - 1) (o || f.barred)
+      loop_next p t f h z =
+          let here : found_of ta (item (drop a (entries ks ws))) ≡ Some f = ap (λ es. found_of ta (item es)) (sym (entries_part a ks ws)) ∙ sym h in
+          let fits : f.entries ≤ length (drop a (entries ks ws)) = found_fits ta p (drop a (entries ks ws)) f here in
+          loop (a + f.entries) (left - 1) (o || f.barred) (omega (arith, l.there, length-drop a (entries ks ws))) (l.goes ∙ go left z here)
         where
-          go : (left : ℕ) → joined a o (passed left (drop a (entries ks ws)) (pass.Done k b)) ≡ found.Entries (a + k) (o || b)
-          go zero = refl
-          go (suc left) = refl
+          go : (left : ℕ) → (left ≡ 0 → ⊥) → found_of ta (item (drop a (entries ks ws))) ≡ Some f → rest left a o ≡ rest (left - 1) (a + f.entries) (o || f.barred)
+          go zero z here = absurd (z refl)
+          go (suc left) z here =
+              ap (joined a o) (until_item left (drop a (entries ks ws)) t ∙ ap (λ r. followed_by r (all left) (drop a (entries ks ws))) here)
+              ∙ rw (sub-one (suc left), drop-drop f.entries a (entries ks ws)) (joined_joined a f.entries o f.barred (all left (drop (a + f.entries) (entries ks ws))))
 
-      pub loop_bad : s ≡ pass.Bad → found.Bad ≡ all n (entries ks ws)
-      loop_bad h = sym (l.goes ∙ stepped left pass.Bad h ∙ go left)
+      -- it finds nothing where an item is none, or where none may stand any more
+      pub loop_none : stops stop (drop a (entries ks ws)) ≡ false → None ≡ found_of ta (item (lent_from ks ws a)) → None ≡ all n (entries ks ws)
+      loop_none t h = sym (l.goes ∙ go left)
         where
-          go : (left : ℕ) → joined a o (passed left (drop a (entries ks ws)) pass.Bad) ≡ found.Bad
-          go zero = refl
-          go (suc left) = refl
+          here : found_of ta (item (drop a (entries ks ws))) ≡ None
+          here = ap (λ es. found_of ta (item es)) (sym (entries_part a ks ws)) ∙ sym h
 
-      pub loop_full : (k : ℕ) (b : Bool) → s ≡ pass.Next k b → left ≡ 0 → found.Bad ≡ all n (entries ks ws)
-      loop_full k b h z = sym (l.goes ∙ stepped left (pass.Next k b) h ∙ ap (λ i. joined a o (passed i (drop a (entries ks ws)) (pass.Next k b))) z)
+          go : (left : ℕ) → rest left a o ≡ None
+          go zero = ap (joined a o) (until_full (drop a (entries ks ws)) t)
+          go (suc left) = ap (joined a o) (until_item left (drop a (entries ks ws)) t ∙ ap (λ r. followed_by r (all left) (drop a (entries ks ws))) here)
 
-      module _ {w : A → List Entry} {K : A → Type 0} {v : B → List Entry} {L : B → Type 0} (p : Agrees item w K) (q : Agrees end v L) where
-        step_is : (t : Pass) → s ≡ t → step_of stop item end (drop a (entries ks ws)) ≡ step_of_pass t
-        step_is t h = sym (plain_step (drop a (entries ks ws))) ∙ ap step_of_pass (pass_is t h)
+      pub loop_full : stops stop (drop a (entries ks ws)) ≡ false → left ≡ 0 → None ≡ all n (entries ks ws)
+      loop_full t z = sym (l.goes ∙ ap (λ i. rest i a o) z ∙ ap (joined a o) (until_full (drop a (entries ks ws)) t))
 
-        pub done_there : (k : ℕ) (b : Bool) → s ≡ pass.Done k b → a + k ≤ length ks
-        done_there k b h = within_kinds (a + k) ks ws (done_fits stop item end p q (entries ks ws) a k l.there (step_is (pass.Done k b) h))
-
-        pub loop_next : (k : ℕ) (b : Bool) → s ≡ pass.Next k b → (left ≡ 0 → ⊥) → Loop (a + k) (left - 1) (o || b)
-        loop_next k b h z =
-            loop (a + k) (left - 1) (o || b) (next_fits stop item end p q (entries ks ws) a k l.there (step_is (pass.Next k b) h))
-            (l.goes ∙ stepped left (pass.Next k b) h ∙ go left z)
-          where
-            go : (left : ℕ) → (left ≡ 0 → ⊥) → joined a o (passed left (drop a (entries ks ws)) (pass.Next k b)) ≡ rest (left - 1) (a + k) (o || b)
-            go zero z = absurd (z refl)
-            go (suc left) z = rw (sub-one (suc left), drop-drop k a (entries ks ws)) (joined_joined a k o b (all left (drop (a + k) (entries ks ws))))
+      -- and what the end is where that stands
+      pub loop_end : stops stop (drop a (entries ks ws)) ≡ true → joined a o (found_of tb (end (drop a (entries ks ws)))) ≡ all n (entries ks ws)
+      loop_end t = sym (l.goes ∙ ap (joined a o) (until_end left (drop a (entries ks ws)) t))
 
 -- ---- lists that close with kind 0
-abbrev list_pass : ListHead → Pass → Pass
-list_pass head.Closing s = pass.Done 1 false
-list_pass head.Item s = s
-list_pass head.Bad s = pass.Bad
-
 module _ {A : Type 0} (ta : A → Bool) (item : Reader A) where
-  list_pass_lem : (es : List Entry) → pass_of ta never is_closing item closing es ≡ list_pass (head_of (front_of es)) (next_of (found_of ta (item es)))
-  unfolding stops closing word one front_of
-  list_pass_lem [] = refl
-  list_pass_lem (e ∷ es) = go (eqb e.kind 0) (eqb e.word 0) (next_of (found_of ta (item (e ∷ es))))
-    where
-      go : (a b : Bool) (s : Pass) → pick_pass a (last_of (found_of {A = Unit {0}} never (taking {A = Unit {0}} 1 (pick a (when b tt) none)))) s ≡ list_pass (pick_head a (pick_head b head.Closing head.Bad) head.Item) s
-      go true true s = refl
-      go true false s = refl
-      go false b s = refl
-
   -- the length of a list is that of the items and the closing entry
   pub list_found : (n : ℕ) (es : List Entry) → found_of (any ta) (list_of n item es) ≡ found_of (all_test ta never) (until is_closing item closing n es)
   unfolding list_of mapped
   list_found n es = go (until is_closing item closing n es)
     where
       go : (r : Read (List A × Unit {0})) → found_of (any ta) (and_then r (λ a n. got a.0 n)) ≡ found_of (all_test ta never) r
-      go (got a n) = ap (found.Entries n) (sym (or-false (any ta a.0)))
+      go (got a n) = ap (λ b. Some (found n b)) (sym (or-false (any ta a.0)))
       go bad = refl
 
   pub many_found : (es : List Entry) → found_of (any ta) (many item es) ≡ found_of (all_test ta never) (until is_closing item closing (length es) es)
@@ -296,68 +228,76 @@ module _ {A : Type 0} (ta : A → Bool) (item : Reader A) where
   many_found es = list_found (length es) es
 
   -- a list bounded by the entries that there are
-  pub listed : (es : List Entry) (n : ℕ) (r : Found) → r ≡ found_of (any ta) (list_of n item es) → n ≡ length es → r ≡ found_of (any ta) (many item es)
+  pub listed : (es : List Entry) (n : ℕ) (r : Option Found) → r ≡ found_of (any ta) (list_of n item es) → n ≡ length es → r ≡ found_of (any ta) (many item es)
   unfolding many
   listed es n r e h = e ∙ ap (λ k. found_of (any ta) (list_of k item es)) h
 
-  module _ (ks ws : List ℕ) (f : Front) (h : ListHead) (ef : f ≡ front_of (entries ks ws)) (eh : h ≡ head_of f) where
-    next_is : pass_of ta never is_closing item closing (entries ks ws) ≡ list_pass h (next_of (found_of ta (item (entries ks ws))))
-    next_is = list_pass_lem (entries ks ws) ∙ ap (λ x. list_pass x (next_of (found_of ta (item (entries ks ws))))) (sym (eh ∙ ap head_of ef))
-
-    pub closing_arm : h ≡ head.Closing → pass.Done 1 false ≡ pass_of ta never is_closing item closing (entries ks ws)
-    closing_arm e = sym (next_is ∙ rw e)
-
-    pub none_arm : h ≡ head.Bad → pass.Bad ≡ pass_of ta never is_closing item closing (entries ks ws)
-    none_arm e = sym (next_is ∙ rw e)
-
-    pub item_arm : h ≡ head.Item → (r : Found) (s : Pass) → r ≡ found_of ta (item (entries ks ws)) → s ≡ next_of r → s ≡ pass_of ta never is_closing item closing (entries ks ws)
-    item_arm e r s er es = es ∙ ap next_of er ∙ sym (next_is ∙ rw e)
-
--- ---- the loop over a list in which nothing can be forbidden, as types are
-module _ {A B : Type 0} (stop : ℕ → Bool) (item : Reader A) (end : Reader B) where
-  abbrev pass_of_step : Step → Pass
-  pass_of_step (step.Done m) = pass.Done m false
-  pass_of_step (step.Next k) = pass.Next k false
-  pass_of_step step.Bad = pass.Bad
-
-  plain_pass : (es : List Entry) → pass_of_step (step_of stop item end es) ≡ pass_of never never stop item end es
-  plain_pass es = go (stops stop es) (end es) (item es)
-    where
-      go : (b : Bool) (r : Read B) (q : Read A) → pass_of_step (pick_step b (last_of_length (len_of r)) (step_of_length (len_of q))) ≡ pick_pass b (last_of (found_of never r)) (next_of (found_of never q))
-      go true (got b m) q = refl
-      go true bad q = refl
-      go false r (got a k) = refl
-      go false r bad = refl
-
   module _ (n : ℕ) (ks ws : List ℕ) where
-    abbrev pub PlainLoop : ℕ → ℕ → Type 0
-    PlainLoop a left = Loop never never stop item end n ks ws a left false
+    -- a list and its loop, at the entry in front of what is left
+    abbrev pub Listing : ℕ → ℕ → Bool → Type 0
+    Listing a left o = Loop ta never is_closing item closing n ks ws a left o
 
-    abbrev plain_whole : Length
-    plain_whole = len_of (until stop item end n (entries ks ws))
+    abbrev pub whole : Option Found
+    whole = found_of (all_test ta never) (until is_closing item closing n (entries ks ws))
 
-    sized : (f : Found) → f ≡ found_of (all_test never never) (until stop item end n (entries ks ws)) → size_of f ≡ plain_whole
-    sized f e = ap size_of e ∙ size_of_lem (all_test never never) (until stop item end n (entries ks ws))
+    pub list_start : (left : ℕ) → left ≡ n → Listing 0 left false
+    list_start left e = loop_start ta never is_closing item closing n ks ws left e
 
-    pub plain_start : (left : ℕ) → left ≡ n → PlainLoop 0 left
-    plain_start left e = loop_start never never stop item end n ks ws left e
+    module _ (a left : ℕ) (o : Bool) (l : Listing a left o) where
+      pub list_none : None ≡ front_of (lent_from ks ws a) → None ≡ whole
+      unfolding front_of stops closing word one
+      list_none h = go (drop a (entries ks ws)) (h ∙ ap front_of (entries_part a ks ws)) (loop_end ta never is_closing item closing n ks ws a left o l)
+        where
+          go : (es : List Entry) → None ≡ front_of es → (stops is_closing es ≡ true → joined a o (found_of never (closing es)) ≡ whole) → None ≡ whole
+          go [] e g = g refl
+          go (x ∷ es) e g = absurd (let z : ◌≡◌ {A = ℕ} 0 1 = cc in omega arith)
 
-    module _ (a left : ℕ) (l : PlainLoop a left) (s : Step) (e : s ≡ step_of stop item end (lent_from ks ws a)) where
-      as_pass : pass_of_step s ≡ pass_of never never stop item end (lent_from ks ws a)
-      as_pass = ap pass_of_step e ∙ plain_pass (lent_from ks ws a)
+      module _ (k w : ℕ) (h : Some (k, w) ≡ front_of (lent_from ks ws a)) where
+        front_here : Some (k, w) ≡ front_of (drop a (entries ks ws))
+        front_here = h ∙ ap front_of (entries_part a ks ws)
 
-      pub plain_done : (k : ℕ) → s ≡ step.Done k → len.Entries (a + k) ≡ plain_whole
-      plain_done k h = sized (found.Entries (a + k) false) (loop_done never never stop item end n ks ws a left false l (pass_of_step s) as_pass k false (ap pass_of_step h))
+        pub list_end : k ≡ 0 → then_some (eqb w 0) (found (a + 1) o) ≡ whole
+        unfolding front_of stops closing word one
+        list_end z = go (drop a (entries ks ws)) front_here (loop_end ta never is_closing item closing n ks ws a left o l)
+          where
+            last : (b : Bool) → then_some b (found (a + 1) o) ≡ joined a o (found_of {A = Unit {0}} never (taking 1 (when b tt)))
+            last true = ap (λ b. Some (found (a + 1) b)) (sym (or-false o))
+            last false = refl
 
-      pub plain_bad : s ≡ step.Bad → len.Bad ≡ plain_whole
-      plain_bad h = sized found.Bad (loop_bad never never stop item end n ks ws a left false l (pass_of_step s) as_pass (ap pass_of_step h))
+            go : (es : List Entry) → Some (k, w) ≡ front_of es → (stops is_closing es ≡ true → joined a o (found_of never (closing es)) ≡ whole) → then_some (eqb w 0) (found (a + 1) o) ≡ whole
+            go [] e g = absurd (let z : ◌≡◌ {A = ℕ} 0 1 = cc in omega arith)
+            go (x ∷ es) e g =
+                let same : ◌≡◌ {A = ℕ × ℕ} (k, w) (x.kind, x.word) = cc in
+                let kind : x.kind ≡ 0 = sym (ap (λ p. p.0) same) ∙ z in
+                ap (λ j. then_some (eqb j 0) (found (a + 1) o)) (ap (λ p. p.1) same) ∙ last (eqb x.word 0) ∙ (rw (ap (λ j. eqb j 0) kind) at (g (ap (λ j. eqb j 0) kind)))
 
-      pub plain_full : (k : ℕ) → s ≡ step.Next k → left ≡ 0 → len.Bad ≡ plain_whole
-      plain_full k h z = sized found.Bad (loop_full never never stop item end n ks ws a left false l (pass_of_step s) as_pass k false (ap pass_of_step h) z)
+        module _ (d : k ≡ 0 → ⊥) where
+          goes_on : stops is_closing (drop a (entries ks ws)) ≡ false
+          unfolding front_of stops
+          goes_on = go (drop a (entries ks ws)) front_here
+            where
+              go : (es : List Entry) → Some (k, w) ≡ front_of es → stops is_closing es ≡ false
+              go [] e = absurd (let z : ◌≡◌ {A = ℕ} 0 1 = cc in omega arith)
+              go (x ∷ es) e =
+                  let same : ◌≡◌ {A = ℕ × ℕ} (k, w) (x.kind, x.word) = cc in
+                  ne_eqb x.kind 0 (λ z. d (ap (λ p. p.0) same ∙ z))
 
-      module _ {w : A → List Entry} {K : A → Type 0} {v : B → List Entry} {L : B → Type 0} (p : Agrees item w K) (q : Agrees end v L) where
-        pub plain_there : (k : ℕ) → s ≡ step.Done k → a + k ≤ length ks
-        plain_there k h = done_there never never stop item end n ks ws a left false l (pass_of_step s) as_pass p q k false (ap pass_of_step h)
+          pub list_full : left ≡ 0 → None ≡ whole
+          list_full z = loop_full ta never is_closing item closing n ks ws a left o l goes_on z
 
-        pub plain_next : (k : ℕ) → s ≡ step.Next k → (left ≡ 0 → ⊥) → PlainLoop (a + k) (left - 1)
-        plain_next k h z = loop_next never never stop item end n ks ws a left false l (pass_of_step s) as_pass p q k false (ap pass_of_step h) z
+          pub list_bad : None ≡ found_of ta (item (lent_from ks ws a)) → None ≡ whole
+          list_bad e = loop_none ta never is_closing item closing n ks ws a left o l goes_on e
+
+          pub list_next : {w : A → List Entry} {K : A → Type 0} → Agrees item w K → (f : Found) → Some f ≡ found_of ta (item (lent_from ks ws a)) → (left ≡ 0 → ⊥) → Listing (a + f.entries) (left - 1) (o || f.barred)
+          list_next p f e z = loop_next ta never is_closing item closing n ks ws a left o l p goes_on f e z
+
+-- ---- a list in which nothing can be forbidden, as types are
+pub size_then : (b : Bool) (f : Found) → then_some b f.entries ≡ size_of (then_some b f)
+size_then true f = refl
+size_then false f = refl
+
+module _ {A : Type 0} (item : Reader A) (ks ws : List ℕ) where
+  pub sized : (f : Option Found) → f ≡ whole never item (length (entries ks ws)) ks ws → size_of f ≡ len_of (many item (entries ks ws))
+  sized f e =
+      ap size_of e ∙ size_of_lem (all_test never never) (until is_closing item closing (length (entries ks ws)) (entries ks ws))
+      ∙ sym (many_len item (entries ks ws))

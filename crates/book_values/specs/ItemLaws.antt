@@ -1,13 +1,13 @@
 -- Laws on values and items: what the entry in front says, and items as parts one after the other.
 use Rattle.std.specs.Prelude.{ℕ, ◌+◌, ◌-◌, ◌≤◌, ◌^◌, Bool, ◌&&◌, ◌||◌, length, drop, eqb, ltb, leb}
 use Rattle.std.proofs.Math.Path.{◌≡◌, refl, ap, sym}
-use Rattle.std.proofs.Common.{◌∙◌, eqb-true, eq-eqb, ne_eqb, le-leb}
+use Rattle.std.proofs.Common.{◌∙◌, length-drop, eqb-true, eq-eqb, ne_eqb, le-leb}
 use Rattle.std.proofs.Math.Bool.{true, false, and-true, or-false}
 use Rattle.std.proofs.Math.Option.{Option, none, some}
 use mathlib.Core.List.{List, [], ◌∷◌}
 use native.Mathlib.Omega.{arith}
 use Rattle.numbers.specs.Align.{is_align}
-use Rattle.book.specs.Entry.{Entry}
+use Rattle.book.specs.Entry.{Entry, entries}
 use Rattle.book.specs.Ast.{Zero, Ty, Value, TypedVal}
 use Rattle.book.specs.Rule.{when, pick}
 use Rattle.book.specs.Kinds.{ValTag, val_tag, val_kind}
@@ -15,45 +15,43 @@ use Rattle.book.specs.Read.{Read, got, bad, Reader, and_then, taking, one, word,
 use Rattle.book.specs.Decode.{type, maybe_name, index_fits, block, index, align, value, value_as, typed_val, gep_index, incoming, case, param}
 use Rattle.book.specs.Forbidden.{is_other, any_there}
 use Rattle.book.specs.AgreeTy.{val_is}
-use Rattle.book_types.specs.Length.{len_of, len_if, front_of}
-use Rattle.book_types.specs.Found.{found_of, plain_of, one_if, pair_test, never}
-use Rattle.book_values.specs.Items as items
-use Rattle.book_values.specs.Items.{value_group_of, value_ok, pick_len, word_front, atom_ok, atom_front, atom_reader, atom_test}
-use Rattle.book_types.specs.Passes.{found_ext, mapped_found, Within}
-use Rattle.book_types.specs.declared.Length.{Length}
-use Rattle.book_types.specs.declared.Length.TheVariants as len
+use Rattle.std.specs.Prelude.{Some, None}
+use Rattle.std.specs.Bool.{then_some}
+use Rattle.book_types.specs.Length.{len_of, front_of}
+use Rattle.book_types.specs.Laws.{lent_from, entries_part}
+use Rattle.book_types.specs.Found.{found, plain, found_of, one_if, pair_test, never}
+use Rattle.book_types.specs.Passes.{found_ext, mapped_found}
 use Rattle.book_types.specs.declared.Found.{Found}
-use Rattle.book_types.specs.declared.Found.TheVariants as found
-use Rattle.book_types.specs.declared.Front.{Front}
-use Rattle.book_types.specs.declared.Front.TheVariants as front
+use Rattle.book_values.specs.Items as items
+use Rattle.book_values.specs.Items.{value_group_of, value_ok, word_below, atom_ok, atom_front, atom_reader, atom_test}
 use Rattle.book_values.specs.declared.Atom.{Atom}
 use Rattle.book_values.specs.declared.Atom.TheVariants as atom
 
 -- ---- one entry
-when_len : {A : Type 0} (b : Bool) (a : A) → len_of (taking 1 (when b a)) ≡ len_if b
-when_len true a = refl
-when_len false a = refl
+module _ (k b : ℕ) where
+  pub word_none : (es : List Entry) → None ≡ front_of es → None ≡ len_of (word_below k b es)
+  unfolding front_of word one
+  word_none [] h = refl
+  word_none (e ∷ es) h = absurd (let z : ◌≡◌ {A = ℕ} 0 1 = cc in omega arith)
 
--- an entry of kind k whose word passes a test
-word_len : (k : ℕ) (test : ℕ → Bool) (e : Entry) (es : List Entry) → len_of (word k (λ w. when (test w) w) (e ∷ es)) ≡ pick_len (eqb e.kind k) (len_if (test e.word)) len.Bad
-unfolding word one
-word_len k test e es = go (eqb e.kind k)
-  where
-    go : (b : Bool) → len_of (taking 1 (pick b (when (test e.word) e.word) none)) ≡ pick_len b (len_if (test e.word)) len.Bad
-    go true = when_len (test e.word) e.word
-    go false = refl
-
-pub word_front_lem : (k b : ℕ) (es : List Entry) → len_of (word k (λ w. when (ltb w b) w) es) ≡ word_front k b (front_of es)
-unfolding front_of word one
-word_front_lem k b [] = refl
-word_front_lem k b (e ∷ es) = word_len k (λ w. ltb w b) e es
+  pub word_is : (es : List Entry) (j w : ℕ) → Some (j, w) ≡ front_of es → then_some (eqb j k && ltb w b) 1 ≡ len_of (word_below k b es)
+  unfolding front_of word one
+  word_is [] j w h = absurd (let z : ◌≡◌ {A = ℕ} 0 1 = cc in omega arith)
+  word_is (e ∷ es) j w h =
+      let same : ◌≡◌ {A = ℕ × ℕ} (j, w) (e.kind, e.word) = cc in
+      rw (ap (λ p. p.0) same, ap (λ p. p.1) same) (go (eqb e.kind k) (ltb e.word b))
+    where
+      go : (x y : Bool) → then_some (x && y) 1 ≡ len_of (taking 1 (pick x (when y e.word) none))
+      go true true = refl
+      go true false = refl
+      go false y = refl
 
 -- ---- atoms
 pub both_are : (x y p q : Bool) → x ≡ p → y ≡ q → (x && y) ≡ (p && q)
 both_are x y p q e f = rw (e, f)
 
 when_one : {A : Type 0} (t : A → Bool) (b : Bool) (a : A) (x : Bool) → t a ≡ x → found_of t (taking 1 (when b a)) ≡ one_if b x
-when_one t true a x e = ap (found.Entries 1) e
+when_one t true a x e = ap (λ b. Some (found 1 b)) e
 when_one t false a x e = refl
 
 -- a value is any other exactly where its kind is 37
@@ -68,7 +66,7 @@ value_one m k w = go (val_tag k) refl
     go none e = refl
     go (some ValTag.local) e = when_one is_other (ltb w m) (Value.local w) (eqb k 37) (not_other ValTag.local e (λ z. omega arith))
     go (some ValTag.global) e = when_one is_other (ltb w m) (Value.global w) (eqb k 37) (not_other ValTag.global e (λ z. omega arith))
-    go (some ValTag.int) e = ap (found.Entries 1) (not_other ValTag.int e (λ z. omega arith))
+    go (some ValTag.int) e = ap (λ b. Some (found 1 b)) (not_other ValTag.int e (λ z. omega arith))
     go (some (ValTag.zero Zero.null)) e = when_one is_other (eqb w 0) (Value.zero Zero.null) (eqb k 37) (not_other (ValTag.zero Zero.null) e (λ z. omega arith))
     go (some (ValTag.zero Zero.undef)) e = when_one is_other (eqb w 0) (Value.zero Zero.undef) (eqb k 37) (not_other (ValTag.zero Zero.undef) e (λ z. omega arith))
     go (some (ValTag.zero Zero.poison)) e = when_one is_other (eqb w 0) (Value.zero Zero.poison) (eqb k 37) (not_other (ValTag.zero Zero.poison) e (λ z. omega arith))
@@ -135,22 +133,24 @@ atom_front_lem m atom.Case (e ∷ es) = word_one 32 (λ z. omega arith) some (λ
 atom_front_lem m atom.Param [] = refl
 atom_front_lem m atom.Param (e ∷ es) = word_one 6 (λ z. omega arith) (maybe_name m) (λ w. leb w m) (maybe_one m) e
 
--- the atom that the code finds
-module _ (m : ℕ) (a : Atom) (es : List Entry) (f : Front) (x : Found) (ef : f ≡ front_of es) (ex : x ≡ atom_front m a f) where
-  pub atom_is : x ≡ found_of (atom_test a) (atom_reader m a es)
-  atom_is = ex ∙ ap (atom_front m a) ef ∙ sym (atom_front_lem m a es)
-
-  pub atom_within : Within es x
+-- an atom is there
+module _ (m : ℕ) (a : Atom) where
+  pub atom_fits : (es : List Entry) (f : Found) → Some f ≡ found_of (atom_test a) (atom_reader m a es) → f.entries ≤ length es
   unfolding front_of
-  atom_within n b h = go es (sym (ex ∙ ap (atom_front m a) ef) ∙ h)
+  atom_fits es f h = go es (h ∙ atom_front_lem m a es)
     where
-      one_is : (t u : Bool) (es : List Entry) → one_if t u ≡ found.Entries n b → n ≤ 1
-      one_is true u es e = let z : 1 ≡ n = cc in omega arith
-      one_is false u es e = absurd (let z : ◌≡◌ {A = ℕ} 0 1 = cc in omega arith)
+      one_is : (t u : Bool) → Some f ≡ one_if t u → f.entries ≤ 1
+      one_is true u e = let z : f ≡ found 1 u = cc in omega (arith, ap (λ g. g.entries) z)
+      one_is false u e = absurd (let z : ◌≡◌ {A = ℕ} 0 1 = cc in omega arith)
 
-      go : (es : List Entry) → atom_front m a (front_of es) ≡ found.Entries n b → n ≤ length es
+      go : (es : List Entry) → Some f ≡ atom_front m a (front_of es) → f.entries ≤ length es
       go [] e = absurd (let z : ◌≡◌ {A = ℕ} 0 1 = cc in omega arith)
-      go (e ∷ es) i = omega (arith, one_is (atom_ok m e.kind e.word a) (eqb e.kind 37) es i)
+      go (e ∷ es) i = omega (arith, one_is (atom_ok m e.kind e.word a) (eqb e.kind 37) i)
+
+  pub atom_lent : (ks ws : List ℕ) (i : ℕ) (f : Found) → i ≤ length (entries ks ws) → Some f ≡ found_of (atom_test a) (atom_reader m a (lent_from ks ws i)) → i + f.entries ≤ length (entries ks ws)
+  atom_lent ks ws i f h e =
+      let fits : f.entries ≤ length (drop i (entries ks ws)) = atom_fits (drop i (entries ks ws)) f (e ∙ ap (λ es. found_of (atom_test a) (atom_reader m a es)) (entries_part i ks ws)) in
+      omega (arith, length-drop i (entries ks ws))
 
 -- ---- items as parts one after the other
 module _ (m : ℕ) (es : List Entry) where
@@ -193,41 +193,31 @@ module _ (m : ℕ) (es : List Entry) where
   param_pair = sym (mapped_found never (λ p. record { ty = p.1; name = p.0 }) (both (word 6 (maybe_name m)) (type m)) es)
 
 -- ---- an item or none
-module _ {A : Type 0} (t : A → Bool) (p : Reader A) (es : List Entry) (f : Front) (ef : f ≡ front_of es) where
-  pub absent_none : f ≡ front.Nothing → found.Bad ≡ found_of (any_there t) (optional p es)
+module _ {A : Type 0} (t : A → Bool) (p : Reader A) where
+  pub absent_none : (es : List Entry) → None ≡ front_of es → None ≡ found_of (any_there t) (optional p es)
   unfolding optional front_of
-  absent_none h = go es (sym ef ∙ h)
-    where
-      go : (es : List Entry) → front_of es ≡ front.Nothing → found.Bad ≡ found_of (any_there t) (optional p es)
-      go [] e = refl
-      go (e ∷ es) i = absurd (let z : ◌≡◌ {A = ℕ} 0 1 = cc in omega arith)
+  absent_none [] h = refl
+  absent_none (e ∷ es) h = absurd (let z : ◌≡◌ {A = ℕ} 0 1 = cc in omega arith)
 
-  module _ (k w : ℕ) (h : f ≡ front.Entry k w) where
-    pub absent_is : k ≡ 21 → (l : Length) (r : Found) → l ≡ len_if (eqb w 0) → r ≡ plain_of l → r ≡ found_of (any_there t) (optional p es)
+  module _ (k w : ℕ) where
+    pub absent_is : (es : List Entry) → Some (k, w) ≡ front_of es → k ≡ 21 → then_some (eqb w 0) (plain 1) ≡ found_of (any_there t) (optional p es)
     unfolding optional front_of any_there
-    absent_is h21 l r el er = er ∙ ap plain_of el ∙ go es (sym ef ∙ h)
+    absent_is [] h z = absurd (let z : ◌≡◌ {A = ℕ} 0 1 = cc in omega arith)
+    absent_is (e ∷ es) h z =
+        let same : ◌≡◌ {A = ℕ × ℕ} (k, w) (e.kind, e.word) = cc in
+        rw (ap (λ p. p.1) same, sym (ap (λ p. p.0) same) ∙ z) (none_len (eqb e.word 0))
       where
-        none_len : (b : Bool) → plain_of (len_if b) ≡ found_of (any_there t) (taking {A = Option A} 1 (when b none))
+        none_len : (b : Bool) → then_some b (plain 1) ≡ found_of (any_there t) (taking {A = Option A} 1 (when b none))
         none_len true = refl
         none_len false = refl
 
-        go : (es : List Entry) → front_of es ≡ front.Entry k w → plain_of (len_if (eqb w 0)) ≡ found_of (any_there t) (optional p es)
-        go [] e = absurd (let z : ◌≡◌ {A = ℕ} 0 1 = cc in omega arith)
-        go (e ∷ es) i =
-            let ik : e.kind ≡ 21 = let z : e.kind ≡ k = cc in z ∙ h21 in
-            let iw : e.word ≡ w = cc in
-            rw (ik, iw) (none_len (eqb w 0))
-
-    pub absent_not : (k ≡ 21 → ⊥) → (r : Found) → r ≡ found_of t (p es) → r ≡ found_of (any_there t) (optional p es)
+    pub absent_not : (es : List Entry) → Some (k, w) ≡ front_of es → (k ≡ 21 → ⊥) → found_of t (p es) ≡ found_of (any_there t) (optional p es)
     unfolding optional front_of any_there
-    absent_not d r er = er ∙ go es (sym ef ∙ h)
+    absent_not [] h d = absurd (let z : ◌≡◌ {A = ℕ} 0 1 = cc in omega arith)
+    absent_not (e ∷ es) h d =
+        let same : ◌≡◌ {A = ℕ × ℕ} (k, w) (e.kind, e.word) = cc in
+        rw (ne_eqb e.kind 21 (λ q. d (ap (λ p. p.0) same ∙ q))) (some_len (p (e ∷ es)))
       where
         some_len : (r : Read A) → found_of t r ≡ found_of (any_there t) (and_then r (λ a n. got (some a) n))
         some_len (got a n) = refl
         some_len bad = refl
-
-        go : (es : List Entry) → front_of es ≡ front.Entry k w → found_of t (p es) ≡ found_of (any_there t) (optional p es)
-        go [] e = absurd (let z : ◌≡◌ {A = ℕ} 0 1 = cc in omega arith)
-        go (e ∷ es) i =
-            let ik : e.kind ≡ k = cc in
-            rw (ne_eqb e.kind 21 (λ q. d (sym ik ∙ q))) (some_len (p (e ∷ es)))

@@ -4,19 +4,16 @@ use Rattle.std.proofs.Math.Option.{Option, none, some}
 use Rattle.numbers.specs.Align.{is_align}
 use Rattle.book.specs.Ast as ast
 use Rattle.book.specs.Kinds.{ValTag, val_tag}
+use Rattle.book.specs.Rule.{when}
 use Rattle.book.specs.Fields as book
 use Rattle.book.specs.Read.{Reader, word, filtered}
 use Rattle.book.specs.Decode.{value, block, index, align, maybe_name}
 use Rattle.book.specs.Decode as decode
 use Rattle.book.specs.Forbidden.{is_other}
-use Rattle.book_types.specs.Length.{len_if}
+use Rattle.std.specs.Prelude.{Some, None}
+use Rattle.std.specs.Prelude as code
 use Rattle.book_types.specs.Found.{one_if, never}
-use Rattle.book_types.specs.declared.Length.{Length}
-use Rattle.book_types.specs.declared.Length.TheVariants as len
 use Rattle.book_types.specs.declared.Found.{Found}
-use Rattle.book_types.specs.declared.Found.TheVariants as found
-use Rattle.book_types.specs.declared.Front.{Front}
-use Rattle.book_types.specs.declared.Front.TheVariants as front
 use Rattle.book_values.specs.declared.ValueGroup.{ValueGroup}
 use Rattle.book_values.specs.declared.ValueGroup.TheVariants as group
 use Rattle.book_values.specs.declared.Atom.{Atom}
@@ -41,14 +38,9 @@ value_ok m w group.Zero = eqb w 0
 value_ok m w group.Other = eqb w 0
 value_ok m w group.Bad = false
 
-abbrev pub pick_len : Bool → Length → Length → Length
-pick_len true a b = a
-pick_len false a b = b
-
 -- an entry of kind k, its word below b
-abbrev pub word_front : ℕ → ℕ → Front → Length
-word_front k b front.Nothing = len.Bad
-word_front k b (front.Entry j w) = pick_len (eqb j k) (len_if (ltb w b)) len.Bad
+abbrev pub word_below : ℕ → ℕ → Reader ℕ
+word_below k b = word k (λ w. when (ltb w b) w)
 
 -- ---- what may stand in one entry
 abbrev pub index_fits : ℕ → ℕ → Bool
@@ -63,9 +55,10 @@ atom_ok m k w atom.Align = eqb k 22 && is_align w
 atom_ok m k w atom.Case = eqb k 32
 atom_ok m k w atom.Param = eqb k 6 && leb w m
 
-abbrev pub atom_front : ℕ → Atom → Front → Found
-atom_front m a front.Nothing = found.Bad
-atom_front m a (front.Entry k w) = one_if (atom_ok m k w a) (eqb k 37)
+-- by the entry in front
+abbrev pub atom_front : ℕ → Atom → code.Option (ℕ × ℕ) → code.Option Found
+atom_front m a None = None
+atom_front m a (Some e) = one_if (atom_ok m e.0 e.1 a) (eqb e.0 37)
 
 -- by the definition
 abbrev pub AtomMeaning : Atom → Type 0

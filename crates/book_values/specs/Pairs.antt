@@ -9,12 +9,12 @@ use Rattle.book.specs.Read.{Reader, both}
 use Rattle.book.specs.Decode.{type, item}
 use Rattle.book.specs.Forbidden.{other_item}
 use Rattle.names.specs.Tests as tests
-use Rattle.book_types.specs.Found.{found_of, plain_of, pair_test, never}
+use Rattle.book_types.specs.Found.{found, found_of, pair_test, never}
 use Rattle.book_types.specs.Laws.{entries_drop, front_of_lem}
 use Rattle.book_types.specs.Leaf.{leaf_ok, leaf_one, leaf_not_other}
-use Rattle.book_types.specs.Passes.{plain_found, found_got}
+use Rattle.book_types.specs.Passes.{plain_found, plainly, found_got}
 use Rattle.book_types.specs.Tables.{find_below, find_above, in_range_lem}
-use Rattle.book_types.specs.declared.Found.TheVariants as found
+use Rattle.std.specs.Prelude.{Some}
 use Rattle.book_values.specs.Items.{value_group_of, value_ok, atom_ok, atom_front, atom_reader, atom_test, item_of}
 use Rattle.book_values.specs.ItemLaws.{atom_front_lem, typed_pair, index_pair, incoming_pair, case_pair, param_pair}
 use Rattle.book_values.specs.declared.Atom.{Atom}
@@ -61,11 +61,11 @@ two_ok m k w l v Param = atom_ok m k w atom.Param && leaf_ok m l v
 
 -- two parts of one entry each
 both_ones : {A B : Type 0} (ta : A → Bool) (tb : B → Bool) (p : Reader A) (q : Reader B) (es : List Entry) (x y : Bool)
-    → found_of ta (p es) ≡ found.Entries 1 x → found_of tb (q (drop 1 es)) ≡ found.Entries 1 y → found_of (pair_test ta tb) (both p q es) ≡ found.Entries 2 (x || y)
+    → found_of ta (p es) ≡ Some (found 1 x) → found_of tb (q (drop 1 es)) ≡ Some (found 1 y) → found_of (pair_test ta tb) (both p q es) ≡ Some (found 2 (x || y))
 unfolding both
 both_ones ta tb p q es x y hp hq =
-    let g = found_got ta (p es) 1 x hp in
-    let h = found_got tb (q (drop 1 es)) 1 y hq in
+    let g = found_got ta (p es) (found 1 x) hp in
+    let h = found_got tb (q (drop 1 es)) (found 1 y) hq in
     rw (g.1.0, h.1.0, g.1.1, h.1.1)
 
 module _ (m : ℕ) (ks ws : List ℕ) (i : ℕ) (p : i < length ks) (q : i < length ws) where
@@ -82,25 +82,25 @@ module _ (m : ℕ) (ks ws : List ℕ) (i : ℕ) (p : i < length ks) (q : i < len
   word_at_lem = get_or-drop i ws 0 0 ∙ ap (λ j. get_or ws j 0) (add-zero i)
 
   -- the entry at a place is an atom
-  atom_at : (a : Atom) → atom_ok m kind_at word_at a ≡ true → found_of (atom_test a) (atom_reader m a (drop i (entries ks ws))) ≡ found.Entries 1 (eqb kind_at 37)
+  atom_at : (a : Atom) → atom_ok m kind_at word_at a ≡ true → found_of (atom_test a) (atom_reader m a (drop i (entries ks ws))) ≡ Some (found 1 (eqb kind_at 37))
   atom_at a h =
       ap (λ es. found_of (atom_test a) (atom_reader m a es)) (sym (entries_drop i ks ws)) ∙ atom_front_lem m a (entries (drop i ks) (drop i ws))
       ∙ ap (atom_front m a) (sym (front_of_lem (drop i ks) (drop i ws) (λ z. omega (arith, length-drop i ks)) (λ z. omega (arith, length-drop i ws))))
       ∙ rw (kind_at_lem, word_at_lem, h)
 
   -- the entry at a place is a type
-  type_at : leaf_ok m kind_at word_at ≡ true → found_of never (type m (drop i (entries ks ws))) ≡ found.Entries 1 (eqb kind_at 37)
+  type_at : leaf_ok m kind_at word_at ≡ true → found_of never (type m (drop i (entries ks ws))) ≡ Some (found 1 (eqb kind_at 37))
   type_at h =
       ap (λ es. found_of never (type m es)) (sym (entries_drop i ks ws)) ∙ sym (plain_found (type m (entries (drop i ks) (drop i ws))))
-      ∙ ap plain_of (sym (leaf_one m 64 (drop i ks) (drop i ws) (λ z. omega arith) (λ z. omega (arith, length-drop i ks)) (λ z. omega (arith, length-drop i ws)) (rw (kind_at_lem, word_at_lem) h)))
-      ∙ ap (found.Entries 1) (sym (leaf_not_other m kind_at word_at h))
+      ∙ ap plainly (sym (leaf_one m 64 (drop i ks) (drop i ws) (λ z. omega arith) (λ z. omega (arith, length-drop i ks)) (λ z. omega (arith, length-drop i ws)) (rw (kind_at_lem, word_at_lem) h)))
+      ∙ ap (λ b. Some (found 1 b)) (sym (leaf_not_other m kind_at word_at h))
 
 module _ (m : ℕ) (ks ws : List ℕ) (p : 1 < length ks) (q : 1 < length ws) where
   abbrev here : List Entry
   here = entries ks ws
 
   pub two_found : (i : Item) → two_ok m (get_or ks 0 0) (get_or ws 0 0) (get_or ks 1 0) (get_or ws 1 0) i ≡ true
-      → found.Entries 2 (eqb (get_or ks 0 0) 37 || eqb (get_or ks 1 0) 37) ≡ found_of (other_item (item_of i)) (item m (item_of i) here)
+      → Some (found 2 (eqb (get_or ks 0 0) 37 || eqb (get_or ks 1 0) 37)) ≡ found_of (other_item (item_of i)) (item m (item_of i) here)
   unfolding item
   two_found «Type» h = absurd (let z : ◌≡◌ {A = ℕ} 0 1 = cc in omega arith)
   two_found Value h = absurd (let z : ◌≡◌ {A = ℕ} 0 1 = cc in omega arith)

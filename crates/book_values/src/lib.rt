@@ -3,22 +3,21 @@
 ghost use Rattle.std.specs.Prelude.{◌≡◌};
 ghost use Rattle.book.specs.Entry.{entries};
 ghost use Rattle.book.specs.Kinds.{val_tag};
-ghost use Rattle.book.specs.Read.{closing, is_closing, optional, list_of, both};
+ghost use Rattle.book.specs.Read.{optional, list_of, both};
 ghost use Rattle.book.specs.Decode.{type as typeReader, item as itemReader};
 ghost use Rattle.book.specs.Forbidden.{any, any_there, other_item};
-ghost use Rattle.book_types.specs.Found.{found_of, pass_of, never, pair_test};
+ghost use Rattle.book_types.specs.Length.{len_of};
+ghost use Rattle.book_types.specs.Found.{found_of, never, pair_test};
 ghost use Rattle.book_values.specs.declared.Atom.TheVariants.{Block as AtomBlock, Param as AtomParam};
-ghost use Rattle.book_values.specs.Items.{value_group_of, value_ok, word_front, index_fits, atom_ok, atom_front, atom_reader, atom_test, item_of};
+ghost use Rattle.book_values.specs.Items.{value_group_of, value_ok, word_below, index_fits, atom_ok, atom_reader, atom_test, item_of};
 ghost use Rattle.book_values.specs.Pairs.{two_ok};
 
 use book::entry;
-use book_types::types::{leaf, type_len};
-use book_types::{
-    Found, Front, Length, ListHead, Pass, entry_if, first_entry, join_found, list_head, next_pass,
-    plain,
-};
+use book_types::types::{LEVELS, leaf, type_len};
+use book_types::{Found, first_entry};
 
-// The group of a value's kind: null, undef, poison and zeroinitializer are zeros.
+// The group of a value's kind: null, undef, poison and zeroinitializer are zeros. `Bad` is one arm more where the groups are told apart;
+// an `Option` around them is no plainer.
 #[derive(Clone, Copy)]
 pub enum ValueGroup {
     Local,
@@ -58,17 +57,11 @@ fn value_fits(kind: u64, word: u64, names: u64) -> bool
 }
 
 // An entry of one kind, its word below a limit: the name of a block, a function or a struct.
-pub fn word_len(entry: Front, kind: u64, below: u64) -> Length
-    ensures { result ≡ word_front kind below entry }
+pub fn word_len(kinds: &[u64], words: &[u64], kind: u64, below: u64) -> Option<usize>
+    ensures { result ≡ len_of (word_below kind below (entries kinds.now words.now)) }
 {
-    let Front::Entry(k, w) = entry else {
-        return Length::Bad;
-    };
-    if k == kind {
-        entry_if(w < below)
-    } else {
-        Length::Bad
-    }
+    let (k, word) = first_entry(kinds, words)?;
+    ((k == kind) & (word < below)).then_some(1)
 }
 
 // What may stand in one entry: a value, a getelementptr's index, a block's name, an index, an align, a case's integer,
@@ -106,59 +99,44 @@ fn atom_ok(kind: u64, word: u64, names: u64, atom: Atom) -> bool
 }
 
 // The atom in front.
-pub fn atom_len(entry: Front, names: u64, atom: Atom) -> Found
-    ensures { result ≡ atom_front names atom entry }
+pub fn atom_len(kinds: &[u64], words: &[u64], names: u64, atom: Atom) -> Option<Found>
+    ensures { result ≡ found_of (atom_test atom) (atom_reader names atom (entries kinds.now words.now)) }
 {
-    let Front::Entry(kind, word) = entry else {
-        return Found::Bad;
+    let (kind, word) = first_entry(kinds, words)?;
+    let one = Found {
+        entries: 1,
+        barred: kind == entry::OTHER,
     };
-    if atom_ok(kind, word, names, atom) {
-        Found::Entries(1, kind == book::entry::OTHER)
-    } else {
-        Found::Bad
-    }
+    atom_ok(kind, word, names, atom).then_some(one)
 }
 
 // A type, then an atom.
-fn typed_len(kinds: &[u64], words: &[u64], names: u64, atom: Atom) -> Found
+fn typed_len(kinds: &[u64], words: &[u64], names: u64, atom: Atom) -> Option<Found>
     ensures { result ≡ found_of (pair_test never (atom_test atom)) (both (typeReader names) (atom_reader names atom) (entries kinds.now words.now)) }
 {
-    let Found::Entries(n, barred) = plain(type_len(kinds, words, names, 64)) else {
-        return Found::Bad;
-    };
-    join_found(
-        n,
-        barred,
-        atom_len(first_entry(&kinds[n..], &words[n..]), names, atom),
-    )
+    let n = type_len(kinds, words, names, LEVELS)?;
+    let value = atom_len(&kinds[n..], &words[n..], names, atom)?;
+    Some(Found::plain(n).then(value))
 }
 
 // An atom, then a block's name.
-fn pair_len(kinds: &[u64], words: &[u64], names: u64, atom: Atom) -> Found
+fn pair_len(kinds: &[u64], words: &[u64], names: u64, atom: Atom) -> Option<Found>
     ensures { result ≡ found_of (pair_test (atom_test atom) (atom_test AtomBlock)) (both (atom_reader names atom) (atom_reader names AtomBlock) (entries kinds.now words.now)) }
 {
-    let Found::Entries(n, barred) = atom_len(first_entry(kinds, words), names, atom) else {
-        return Found::Bad;
-    };
-    join_found(
-        n,
-        barred,
-        atom_len(first_entry(&kinds[n..], &words[n..]), names, Atom::Block),
-    )
+    let first = atom_len(kinds, words, names, atom)?;
+    let n = first.entries;
+    let block = atom_len(&kinds[n..], &words[n..], names, Atom::Block)?;
+    Some(first.then(block))
 }
 
 // A parameter: its name and its type.
-fn param_len(kinds: &[u64], words: &[u64], names: u64) -> Found
+fn param_len(kinds: &[u64], words: &[u64], names: u64) -> Option<Found>
     ensures { result ≡ found_of (pair_test (atom_test AtomParam) never) (both (atom_reader names AtomParam) (typeReader names) (entries kinds.now words.now)) }
 {
-    let Found::Entries(n, barred) = atom_len(first_entry(kinds, words), names, Atom::Param) else {
-        return Found::Bad;
-    };
-    join_found(
-        n,
-        barred,
-        plain(type_len(&kinds[n..], &words[n..], names, 64)),
-    )
+    let name = atom_len(kinds, words, names, Atom::Param)?;
+    let n = name.entries;
+    let ty = type_len(&kinds[n..], &words[n..], names, LEVELS)?;
+    Some(name.then(Found::plain(ty)))
 }
 
 // What may stand in a field or a list.
@@ -176,15 +154,15 @@ pub enum Item {
     Param,
 }
 
-pub fn item_len(kinds: &[u64], words: &[u64], names: u64, item: Item) -> Found
+pub fn item_len(kinds: &[u64], words: &[u64], names: u64, item: Item) -> Option<Found>
     ensures { result ≡ found_of (other_item (item_of item)) (itemReader names (item_of item) (entries kinds.now words.now)) }
 {
     match item {
-        Item::Type => plain(type_len(kinds, words, names, 64)),
-        Item::Value => atom_len(first_entry(kinds, words), names, Atom::Value),
-        Item::Block => atom_len(first_entry(kinds, words), names, Atom::Block),
-        Item::Index => atom_len(first_entry(kinds, words), names, Atom::Index),
-        Item::Align => atom_len(first_entry(kinds, words), names, Atom::Align),
+        Item::Type => Some(Found::plain(type_len(kinds, words, names, LEVELS)?)),
+        Item::Value => atom_len(kinds, words, names, Atom::Value),
+        Item::Block => atom_len(kinds, words, names, Atom::Block),
+        Item::Index => atom_len(kinds, words, names, Atom::Index),
+        Item::Align => atom_len(kinds, words, names, Atom::Align),
         Item::Typed => typed_len(kinds, words, names, Atom::Value),
         Item::GepIndex => typed_len(kinds, words, names, Atom::GepValue),
         Item::Incoming => pair_len(kinds, words, names, Atom::Value),
@@ -194,17 +172,14 @@ pub fn item_len(kinds: &[u64], words: &[u64], names: u64, item: Item) -> Found
 }
 
 // An item, or kind 21 for none.
-pub fn optional_len(kinds: &[u64], words: &[u64], names: u64, item: Item) -> Found
+pub fn optional_len(kinds: &[u64], words: &[u64], names: u64, item: Item) -> Option<Found>
     ensures { result ≡ found_of (any_there (other_item (item_of item))) (optional (itemReader names (item_of item)) (entries kinds.now words.now)) }
 {
-    let Front::Entry(k, w) = first_entry(kinds, words) else {
-        return Found::Bad;
-    };
-    if k == entry::ABSENT {
-        plain(entry_if(w == 0))
-    } else {
-        item_len(kinds, words, names, item)
+    let (kind, word) = first_entry(kinds, words)?;
+    if kind == entry::ABSENT {
+        return (word == 0).then_some(Found::plain(1));
     }
+    item_len(kinds, words, names, item)
 }
 
 // Whether two entries are the item. Types of more entries are not looked at here.
@@ -221,58 +196,49 @@ fn two_entries(kind: u64, word: u64, kind2: u64, word2: u64, names: u64, item: I
             atom_ok(kind, word, names, Atom::Case) & atom_ok(kind2, word2, names, Atom::Block)
         }
         Item::Param => atom_ok(kind, word, names, Atom::Param) & leaf(kind2, word2, names),
-        Item::Type => false,
-        Item::Value => false,
-        Item::Block => false,
-        Item::Index => false,
-        Item::Align => false,
+        Item::Type | Item::Value | Item::Block | Item::Index | Item::Align => false,
     }
 }
 
 // An item of a list. Most are two entries, which are told without a call.
-fn listed_len(kinds: &[u64], words: &[u64], names: u64, item: Item) -> Found
+fn listed_len(kinds: &[u64], words: &[u64], names: u64, item: Item) -> Option<Found>
     ensures { result ≡ found_of (other_item (item_of item)) (itemReader names (item_of item) (entries kinds.now words.now)) }
 {
     if 1 < kinds.len() {
         if 1 < words.len() {
             if two_entries(kinds[0], words[0], kinds[1], words[1], names, item) {
-                return Found::Entries(2, (kinds[0] == entry::OTHER) | (kinds[1] == entry::OTHER));
+                return Some(Found {
+                    entries: 2,
+                    barred: (kinds[0] == entry::OTHER) | (kinds[1] == entry::OTHER),
+                });
             }
         }
     }
     item_len(kinds, words, names, item)
 }
 
-// What comes next in a list of items.
-fn item_step(kinds: &[u64], words: &[u64], names: u64, item: Item) -> Pass
-    ensures { result ≡ pass_of (other_item (item_of item)) never is_closing (itemReader names (item_of item)) closing (entries kinds.now words.now) }
-{
-    match list_head(first_entry(kinds, words)) {
-        ListHead::Closing => Pass::Done(1, false),
-        ListHead::Item => next_pass(listed_len(kinds, words, names, item)),
-        ListHead::Bad => Pass::Bad,
-    }
-}
-
-// A list of at most so many items, its closing entry with it.
-pub fn list_len(kinds: &[u64], words: &[u64], names: u64, item: Item, most: usize) -> Found
+// A list of at most so many items, its closing entry with it. `left` is that bound, and no index.
+pub fn list_len(kinds: &[u64], words: &[u64], names: u64, item: Item, most: usize) -> Option<Found>
     ensures { result ≡ found_of (any (other_item (item_of item))) (list_of most (itemReader names (item_of item)) (entries kinds.now words.now)) }
 {
     let mut at: usize = 0;
     let mut left: usize = most;
     let mut seen = false;
     loop {
-        match item_step(&kinds[at..], &words[at..], names, item) {
-            Pass::Done(n, last) => return Found::Entries(at + n, seen | last),
-            Pass::Bad => return Found::Bad,
-            Pass::Next(n, barred) => {
-                if left == 0 {
-                    return Found::Bad;
-                }
-                at = at + n;
-                left = left - 1;
-                seen = seen | barred;
-            }
+        let (kinds, words) = (&kinds[at..], &words[at..]);
+        let (kind, word) = first_entry(kinds, words)?;
+        if kind == entry::END {
+            return (word == 0).then_some(Found {
+                entries: at + 1,
+                barred: seen,
+            });
         }
+        if left == 0 {
+            return None;
+        }
+        let found = listed_len(kinds, words, names, item)?;
+        at += found.entries;
+        left -= 1;
+        seen |= found.barred;
     }
 }

@@ -3,6 +3,7 @@
 // number, 0 where the book is sound. The top of the input says what its lines are.
 ghost use Rattle.std.specs.Prelude.{◌≡◌, ◌≤◌, length, IfOk, vec_len};
 
+use book::refusal::Refusal;
 use std::io;
 use std::io::Read;
 use try_cases::lent::{copy_names, put_words};
@@ -26,34 +27,24 @@ struct Loan {
     work: u64,
 }
 
-// The smaller of two numbers.
-fn least(a: usize, b: usize) -> usize
-    ensures { result ≤ b }
-{
-    if a < b { a } else { b }
-}
-
 // The number of an answer, as a digit.
-fn digit(verdict: book_check::Verdict) -> u8 {
-    match verdict {
-        book_check::Verdict::Sound => b'0',
-        book_check::Verdict::BadBook => b'1',
-        book_check::Verdict::BadNames => b'2',
-        book_check::Verdict::Barred => b'3',
-        book_check::Verdict::ShortWork => b'4',
+fn digit(answer: Result<(), Refusal>) -> u8 {
+    match answer {
+        Ok(()) => b'0',
+        Err(refusal) => b'0' + (refusal.number() % 10) as u8,
     }
 }
 
 // Writes a case's name and an answer.
-fn report(rt: &impl Print, name: &[u8], verdict: book_check::Verdict) -> io::Result<()> {
+fn report(rt: &impl Print, name: &[u8], answer: Result<(), Refusal>) -> io::Result<()> {
     rt.write_all(name)?;
-    rt.write_all(&[b' ', digit(verdict), b'\n'])
+    rt.write_all(&[b' ', digit(answer), b'\n'])
 }
 
 // The answer to what is lent.
-fn answer(book: &[u64], names: &[u8], loan: Loan) -> book_check::Verdict {
-    let words = least(loan.words, book.len());
-    let bytes = least(loan.bytes, names.len());
+fn answer(book: &[u64], names: &[u8], loan: Loan) -> Result<(), Refusal> {
+    let words = loan.words.min(book.len());
+    let bytes = loan.bytes.min(names.len());
     book_check::check(
         &book[0..words],
         &names[0..bytes],

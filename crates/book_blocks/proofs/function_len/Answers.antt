@@ -1,6 +1,8 @@
 -- `book_blocks::function_len` meets its contract: the rest is read behind the function's entry.
 use mathlib.Core.Path.{◌∙◌, sym, ap}
 use native.Mathlib.Omega.{arith}
+use Prim.Native.Nat.{◌+◌}
+use Rattle.std.specs.Prelude.{Some, None}
 use Rattle.numbers.specs.Bits.{bit_at}
 use Rattle.book.specs.Entry.{entries}
 use Rattle.book.specs.Read.{word, many, both}
@@ -9,24 +11,17 @@ use Rattle.book.specs.Decode.{name, type, item, basic_block, function}
 use Rattle.book.specs.Forbidden.{any, other_item, forbidden_block, forbidden_function}
 use Rattle.book.proofs.AgreeInst.{agrees_name}
 use Rattle.book.proofs.AgreeBook.{agrees_signature_and_blocks}
-use Rattle.book_types.specs.Laws.{lent_from}
-use Rattle.book_types.specs.Found.{pair_test, never}
-use Rattle.book_values.specs.Items.{word_front}
-use Rattle.book_values.specs.ItemLaws as items
+use Rattle.book_types.specs.Found.{plain, after, pair_test, never}
+use Rattle.book_types.specs.Laws as laws
 use Rattle.book_types.specs.Passes as passes
 use Rattle.book_blocks.specs.Calls as calls
 use Rattle.book_blocks.proofs.function_len.Goals as goal
 
-pub returns-in_default : goal.returns-in_default
+pub returns-in_err-n : goal.returns-in_err-n
 unfolding function
-returns-in_default c =
+returns-in_err-n c =
     let a = c.args in
-    passes.both_bad (word 5 (name a.names)) (both (type a.names) (both (many (item a.names Item.param)) (many (basic_block a.names))))
-    never (pair_test never (pair_test (any (other_item Item.param)) (any (forbidden_block (bit_at a.barred.now))))) a.kinds.now a.words.now
-    _
-    (passes.plain_is (word 5 (name a.names) (entries a.kinds.now a.words.now)) _ _
-    (c.word_len.ensures ∙ ap (word_front _ _) c.first_entry.ensures ∙ sym (items.word_front_lem 5 _ _))
-    c.plain.ensures) c.in_default.is ∙ passes.found_ext
+    c.from_residual.ensures ∙ passes.first_none (word 5 (name a.names)) (both (type a.names) (both (many (item a.names Item.param)) (many (basic_block a.names)))) never (pair_test never (pair_test (any (other_item Item.param)) (any (forbidden_block (bit_at a.barred.now))))) a.kinds.now a.words.now (passes.plain_is _ None c.in_err-n.ensures) ∙ passes.found_ext
     (pair_test never (pair_test never (pair_test (any (other_item Item.param)) (any (forbidden_block (bit_at a.barred.now))))))
     (λ p. any (forbidden_block (bit_at a.barred.now)) p.1.1.1) (calls.no_param (bit_at a.barred.now))
     ((both (word 5 (name a.names)) (both (type a.names) (both (many (item a.names Item.param)) (many (basic_block a.names)))))
@@ -37,125 +32,48 @@ returns-in_default c =
     (entries a.kinds.now a.words.now))
 
 pub offset_bounds-kinds-n : goal.offset_bounds-kinds-n
-offset_bounds-kinds-n c =
-    let a = c.args in
-    omega (
-      arith,
-      passes.both_kinds (word 5 (name a.names))
-          (both (type a.names) (both (many (item a.names Item.param)) (many (basic_block a.names)))) never
-          (pair_test never (pair_test (any (other_item Item.param)) (any (forbidden_block (bit_at a.barred.now))))) a.kinds.now a.words.now _
-          (passes.plain_is (word 5 (name a.names) (entries a.kinds.now a.words.now)) _ _
-          (c.word_len.ensures ∙ ap (word_front _ _) c.first_entry.ensures ∙ sym (items.word_front_lem 5 _ _))
-          c.plain.ensures) _ _ c.in-Entries.is
-          (passes.within never (agrees_name _ 5) (entries a.kinds.now a.words.now) _
-          (passes.plain_is (word 5 (name a.names) (entries a.kinds.now a.words.now)) _ _
-          (c.word_len.ensures ∙ ap (word_front _ _) c.first_entry.ensures ∙ sym (items.word_front_lem 5 _ _))
-          c.plain.ensures)),
-      c.well_formed,
-    )
+offset_bounds-kinds-n c = omega (arith, laws.within_kinds c.in_ok-n.n _ _ (laws.len_fits (agrees_name _ 5) _ _ (sym c.in_ok-n.ensures)), c.well_formed)
 
 pub slice_bounds-signature_and_blocks_len-count : goal.slice_bounds-signature_and_blocks_len-count
-slice_bounds-signature_and_blocks_len-count c =
-    let a = c.args in
-    passes.both_kinds (word 5 (name a.names)) (both (type a.names) (both (many (item a.names Item.param)) (many (basic_block a.names))))
-    never (pair_test never (pair_test (any (other_item Item.param)) (any (forbidden_block (bit_at a.barred.now))))) a.kinds.now a.words.now
-    _
-    (passes.plain_is (word 5 (name a.names) (entries a.kinds.now a.words.now)) _ _
-    (c.word_len.ensures ∙ ap (word_front _ _) c.first_entry.ensures ∙ sym (items.word_front_lem 5 _ _))
-    c.plain.ensures) _ _ c.in-Entries.is
-    (passes.within never (agrees_name _ 5) (entries a.kinds.now a.words.now) _
-    (passes.plain_is (word 5 (name a.names) (entries a.kinds.now a.words.now)) _ _
-    (c.word_len.ensures ∙ ap (word_front _ _) c.first_entry.ensures ∙ sym (items.word_front_lem 5 _ _))
-    c.plain.ensures))
+slice_bounds-signature_and_blocks_len-count c = laws.within_kinds c.in_ok-n.n _ _ (laws.len_fits (agrees_name _ 5) _ _ (sym c.in_ok-n.ensures))
 
 pub slice_bounds-signature_and_blocks_len-start : goal.slice_bounds-signature_and_blocks_len-start
-slice_bounds-signature_and_blocks_len-start c =
-    let a = c.args in
-    passes.both_kinds (word 5 (name a.names)) (both (type a.names) (both (many (item a.names Item.param)) (many (basic_block a.names))))
-    never (pair_test never (pair_test (any (other_item Item.param)) (any (forbidden_block (bit_at a.barred.now))))) a.kinds.now a.words.now
-    _
-    (passes.plain_is (word 5 (name a.names) (entries a.kinds.now a.words.now)) _ _
-    (c.word_len.ensures ∙ ap (word_front _ _) c.first_entry.ensures ∙ sym (items.word_front_lem 5 _ _))
-    c.plain.ensures) _ _ c.in-Entries.is
-    (passes.within never (agrees_name _ 5) (entries a.kinds.now a.words.now) _
-    (passes.plain_is (word 5 (name a.names) (entries a.kinds.now a.words.now)) _ _
-    (c.word_len.ensures ∙ ap (word_front _ _) c.first_entry.ensures ∙ sym (items.word_front_lem 5 _ _))
-    c.plain.ensures))
+slice_bounds-signature_and_blocks_len-start c = laws.within_kinds c.in_ok-n.n _ _ (laws.len_fits (agrees_name _ 5) _ _ (sym c.in_ok-n.ensures))
 
 pub offset_bounds-words-n : goal.offset_bounds-words-n
-offset_bounds-words-n c =
-    let a = c.args in
-    omega (
-      arith,
-      passes.both_words (word 5 (name a.names))
-          (both (type a.names) (both (many (item a.names Item.param)) (many (basic_block a.names)))) never
-          (pair_test never (pair_test (any (other_item Item.param)) (any (forbidden_block (bit_at a.barred.now))))) a.kinds.now a.words.now _
-          (passes.plain_is (word 5 (name a.names) (entries a.kinds.now a.words.now)) _ _
-          (c.word_len.ensures ∙ ap (word_front _ _) c.first_entry.ensures ∙ sym (items.word_front_lem 5 _ _))
-          c.plain.ensures) _ _ c.in-Entries.is
-          (passes.within never (agrees_name _ 5) (entries a.kinds.now a.words.now) _
-          (passes.plain_is (word 5 (name a.names) (entries a.kinds.now a.words.now)) _ _
-          (c.word_len.ensures ∙ ap (word_front _ _) c.first_entry.ensures ∙ sym (items.word_front_lem 5 _ _))
-          c.plain.ensures)),
-      c.well_formed,
-    )
+offset_bounds-words-n c = omega (arith, laws.within_words c.in_ok-n.n _ _ (laws.len_fits (agrees_name _ 5) _ _ (sym c.in_ok-n.ensures)), c.well_formed)
 
 pub slice_bounds-signature_and_blocks_len-count-2 : goal.slice_bounds-signature_and_blocks_len-count-2
-slice_bounds-signature_and_blocks_len-count-2 c =
-    let a = c.args in
-    passes.both_words (word 5 (name a.names)) (both (type a.names) (both (many (item a.names Item.param)) (many (basic_block a.names))))
-    never (pair_test never (pair_test (any (other_item Item.param)) (any (forbidden_block (bit_at a.barred.now))))) a.kinds.now a.words.now
-    _
-    (passes.plain_is (word 5 (name a.names) (entries a.kinds.now a.words.now)) _ _
-    (c.word_len.ensures ∙ ap (word_front _ _) c.first_entry.ensures ∙ sym (items.word_front_lem 5 _ _))
-    c.plain.ensures) _ _ c.in-Entries.is
-    (passes.within never (agrees_name _ 5) (entries a.kinds.now a.words.now) _
-    (passes.plain_is (word 5 (name a.names) (entries a.kinds.now a.words.now)) _ _
-    (c.word_len.ensures ∙ ap (word_front _ _) c.first_entry.ensures ∙ sym (items.word_front_lem 5 _ _))
-    c.plain.ensures))
+slice_bounds-signature_and_blocks_len-count-2 c = laws.within_words c.in_ok-n.n _ _ (laws.len_fits (agrees_name _ 5) _ _ (sym c.in_ok-n.ensures))
 
 pub slice_bounds-signature_and_blocks_len-start-2 : goal.slice_bounds-signature_and_blocks_len-start-2
-slice_bounds-signature_and_blocks_len-start-2 c =
-    let a = c.args in
-    passes.both_words (word 5 (name a.names)) (both (type a.names) (both (many (item a.names Item.param)) (many (basic_block a.names))))
-    never (pair_test never (pair_test (any (other_item Item.param)) (any (forbidden_block (bit_at a.barred.now))))) a.kinds.now a.words.now
-    _
-    (passes.plain_is (word 5 (name a.names) (entries a.kinds.now a.words.now)) _ _
-    (c.word_len.ensures ∙ ap (word_front _ _) c.first_entry.ensures ∙ sym (items.word_front_lem 5 _ _))
-    c.plain.ensures) _ _ c.in-Entries.is
-    (passes.within never (agrees_name _ 5) (entries a.kinds.now a.words.now) _
-    (passes.plain_is (word 5 (name a.names) (entries a.kinds.now a.words.now)) _ _
-    (c.word_len.ensures ∙ ap (word_front _ _) c.first_entry.ensures ∙ sym (items.word_front_lem 5 _ _))
-    c.plain.ensures))
+slice_bounds-signature_and_blocks_len-start-2 c = laws.within_words c.in_ok-n.n _ _ (laws.len_fits (agrees_name _ 5) _ _ (sym c.in_ok-n.ensures))
 
-pub join_found-requires : goal.join_found-requires
-join_found-requires c =
+pub returns-in_err-rest : goal.returns-in_err-rest
+unfolding function
+returns-in_err-rest c =
     let a = c.args in
-    passes.both_room (word 5 (name a.names)) (both (type a.names) (both (many (item a.names Item.param)) (many (basic_block a.names))))
-    never (pair_test never (pair_test (any (other_item Item.param)) (any (forbidden_block (bit_at a.barred.now))))) a.kinds.now a.words.now
-    _
-    (passes.plain_is (word 5 (name a.names) (entries a.kinds.now a.words.now)) _ _
-    (c.word_len.ensures ∙ ap (word_front _ _) c.first_entry.ensures ∙ sym (items.word_front_lem 5 _ _))
-    c.plain.ensures) _ _ c.in-Entries.is
-    (passes.within never (agrees_name _ 5) (entries a.kinds.now a.words.now) _
-    (passes.plain_is (word 5 (name a.names) (entries a.kinds.now a.words.now)) _ _
-    (c.word_len.ensures ∙ ap (word_front _ _) c.first_entry.ensures ∙ sym (items.word_front_lem 5 _ _))
-    c.plain.ensures)) (omega arith) _
-    (passes.within (pair_test never (pair_test (any (other_item Item.param)) (any (forbidden_block (bit_at a.barred.now)))))
-    (agrees_signature_and_blocks _) (lent_from a.kinds.now a.words.now c.in-Entries.n) _
-    c.signature_and_blocks_len.ensures)
+    c.from_residual-in_err-rest.ensures ∙ passes.then_is (word 5 (name a.names)) (both (type a.names) (both (many (item a.names Item.param)) (many (basic_block a.names)))) never (pair_test never (pair_test (any (other_item Item.param)) (any (forbidden_block (bit_at a.barred.now))))) a.kinds.now a.words.now (plain c.in_ok-n.n) (passes.plain_is _ (Some c.in_ok-n.n) c.in_ok-n.ensures) None c.in_err-rest.ensures ∙ passes.found_ext
+    (pair_test never (pair_test never (pair_test (any (other_item Item.param)) (any (forbidden_block (bit_at a.barred.now))))))
+    (λ p. any (forbidden_block (bit_at a.barred.now)) p.1.1.1) (calls.no_param (bit_at a.barred.now))
+    ((both (word 5 (name a.names)) (both (type a.names) (both (many (item a.names Item.param)) (many (basic_block a.names)))))
+    (entries a.kinds.now a.words.now)) ∙ sym
+    (passes.mapped_found (forbidden_function (bit_at a.barred.now))
+    (λ p. record { name = p.0; ret_ty = p.1.0; params = p.1.1.0; blocks = p.1.1.1 })
+    (both (word 5 (name a.names)) (both (type a.names) (both (many (item a.names Item.param)) (many (basic_block a.names)))))
+    (entries a.kinds.now a.words.now))
+
+pub then-requires : goal.then-requires
+then-requires c =
+    let a = c.args in
+    omega (arith, ap (λ f. f.entries) c.plain.ensures, laws.within_kinds (c.in_ok-n.n + c.in_ok-rest.rest.entries) _ _ (passes.found_lent (pair_test never (pair_test (any (other_item Item.param)) (any (forbidden_block (bit_at a.barred.now))))) (agrees_signature_and_blocks _) a.kinds.now a.words.now _ _ (laws.len_fits (agrees_name _ 5) _ _ (sym c.in_ok-n.ensures)) c.in_ok-rest.ensures))
 
 pub returns : goal.returns
 unfolding function
 returns c =
     let a = c.args in
-    passes.both_arm (word 5 (name a.names)) (both (type a.names) (both (many (item a.names Item.param)) (many (basic_block a.names))))
-    never (pair_test never (pair_test (any (other_item Item.param)) (any (forbidden_block (bit_at a.barred.now))))) a.kinds.now a.words.now
-    _
-    (passes.plain_is (word 5 (name a.names) (entries a.kinds.now a.words.now)) _ _
-    (c.word_len.ensures ∙ ap (word_front _ _) c.first_entry.ensures ∙ sym (items.word_front_lem 5 _ _))
-    c.plain.ensures) _ _ c.in-Entries.is _ _ c.signature_and_blocks_len.ensures c.join_found.ensures ∙
-    passes.found_ext (pair_test never (pair_test never (pair_test (any (other_item Item.param)) (any (forbidden_block (bit_at a.barred.now))))))
+    ap Some (c.then.ensures ∙ ap (λ f. after f c.in_ok-rest.rest) c.plain.ensures) ∙ passes.then_is (word 5 (name a.names)) (both (type a.names) (both (many (item a.names Item.param)) (many (basic_block a.names)))) never (pair_test never (pair_test (any (other_item Item.param)) (any (forbidden_block (bit_at a.barred.now))))) a.kinds.now a.words.now (plain c.in_ok-n.n) (passes.plain_is _ (Some c.in_ok-n.n) c.in_ok-n.ensures) (Some c.in_ok-rest.rest) c.in_ok-rest.ensures ∙ passes.found_ext
+    (pair_test never (pair_test never (pair_test (any (other_item Item.param)) (any (forbidden_block (bit_at a.barred.now))))))
     (λ p. any (forbidden_block (bit_at a.barred.now)) p.1.1.1) (calls.no_param (bit_at a.barred.now))
     ((both (word 5 (name a.names)) (both (type a.names) (both (many (item a.names Item.param)) (many (basic_block a.names)))))
     (entries a.kinds.now a.words.now)) ∙ sym

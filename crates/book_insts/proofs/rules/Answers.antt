@@ -4,4 +4,4 @@ use Rattle.book_insts.proofs.rules.Goals as goal
 
 pub returns : goal.returns
 unfolding rules_of
-returns c = rw c.last_name-last.ensures
+returns c = rw c.saturating_sub-last.ensures

@@ -1,5 +1,6 @@
 use mathlib.Core.Path.{refl, ◌∙◌}
 use native.Mathlib.Omega.{arith}
+use Rattle.std.specs.Prelude.{Some, None}
 use Rattle.book_types.specs.Laws.{length_entries}
 use Rattle.book_parts.specs.Parts as parts
 use Rattle.book_parts.proofs.functions_len.Goals as goal
@@ -70,14 +71,14 @@ slice_bounds-function_len-count-in-loop-at c = c.loop-at.invariant.0.words
 pub slice_bounds-function_len-start-in-loop-at : goal.slice_bounds-function_len-start-in-loop-at
 slice_bounds-function_len-start-in-loop-at c = c.loop-at.invariant.0.words
 
-pub shape_of-defined-in_default : goal.shape_of-defined-in_default
-shape_of-defined-in_default c = c.loop-at.invariant.1
+pub shape_of-defined-in_err-function : goal.shape_of-defined-in_err-function
+shape_of-defined-in_err-function c = c.loop-at.invariant.1
 
-pub returns-in_default : goal.returns-in_default
-returns-in_default c =
+pub returns-in_err-function : goal.returns-in_err-function
+returns-in_err-function c =
     let a = c.args in
-    parts.functions_bad a.barred.now a.defined.now a.names a.kinds.now a.words.now _ _ _ _ c.loop-at.invariant.0
-    (omega (arith, c.loop-at-test.true, c.shorter-end.ensures)) c.if-kinds-at-eq-END.false _ c.function_len.ensures c.in_default.is
+    c.from_residual.ensures ∙ parts.functions_bad a.barred.now a.defined.now a.names a.kinds.now a.words.now _ _ _ _ c.loop-at.invariant.0
+    (omega (arith, c.loop-at-test.true, c.shorter-end.ensures)) c.if-kinds-at-eq-END.false None c.in_err-function.ensures refl
 
 pub shape_of-defined-then-left-eq0 : goal.shape_of-defined-then-left-eq0
 shape_of-defined-then-left-eq0 c = c.loop-at.invariant.1
@@ -86,7 +87,7 @@ pub returns-then-left-eq0 : goal.returns-then-left-eq0
 returns-then-left-eq0 c =
     let a = c.args in
     parts.functions_full a.barred.now a.defined.now a.names a.kinds.now a.words.now _ _ _ _ c.loop-at.invariant.0
-    (omega (arith, c.loop-at-test.true, c.shorter-end.ensures)) c.if-kinds-at-eq-END.false _ c.function_len.ensures c.if-left-eq0.true
+    (omega (arith, c.loop-at-test.true, c.shorter-end.ensures)) c.if-kinds-at-eq-END.false (Some c.in_ok-function.function) c.in_ok-function.ensures c.if-left-eq0.true
 
 pub offset_bounds-words-at-in-loop-at-2 : goal.offset_bounds-words-at-in-loop-at-2
 offset_bounds-words-at-in-loop-at-2 c =
@@ -106,14 +107,14 @@ pub returns-then-not-mark_new : goal.returns-then-not-mark_new
 returns-then-not-mark_new c =
     let a = c.args in
     parts.functions_repeated a.barred.now a.defined.now a.names a.kinds.now a.words.now _ _ _ _ c.loop-at.invariant.0
-    (omega (arith, c.loop-at-test.true, c.shorter-end.ensures)) c.if-kinds-at-eq-END.false _ c.function_len.ensures _ _ c.in-Entries.is _
+    (omega (arith, c.loop-at-test.true, c.shorter-end.ensures)) c.if-kinds-at-eq-END.false (Some c.in_ok-function.function) c.in_ok-function.ensures _ refl _
     c.mark_new.ensures.value c.if-not-mark_new.true
 
 pub overflow_add-at : goal.overflow_add-at
 overflow_add-at c =
     let a = c.args in
     let f = parts.function_at a.barred.now a.defined.now a.names a.kinds.now a.words.now _ _ _ _ c.loop-at.invariant.0
-    (omega (arith, c.loop-at-test.true, c.shorter-end.ensures)) c.if-kinds-at-eq-END.false _ c.function_len.ensures _ _ c.in-Entries.is in
+    (omega (arith, c.loop-at-test.true, c.shorter-end.ensures)) c.if-kinds-at-eq-END.false (Some c.in_ok-function.function) c.in_ok-function.ensures _ refl in
     omega (arith, f.there, length_entries a.kinds.now a.words.now, c.well_formed)
 
 pub loop-at-smaller : goal.loop-at-smaller
@@ -123,7 +124,7 @@ pub loop-at-preserved : goal.loop-at-preserved
 loop-at-preserved c =
     let a = c.args in (
       parts.functions_next a.barred.now a.defined.now a.names a.kinds.now a.words.now _ _ _ _ c.loop-at.invariant.0
-          (omega (arith, c.loop-at-test.true, c.shorter-end.ensures)) c.if-kinds-at-eq-END.false _ c.function_len.ensures _ _ c.in-Entries.is _
+          (omega (arith, c.loop-at-test.true, c.shorter-end.ensures)) c.if-kinds-at-eq-END.false (Some c.in_ok-function.function) c.in_ok-function.ensures _ refl _
           c.mark_new.ensures.value c.if-not-mark_new.false _ c.mark_new.ensures.map_after c.if-left-eq0.false,
       c.mark_new.auto.map ∙ c.loop-at.invariant.1,
     )

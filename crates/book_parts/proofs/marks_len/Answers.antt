@@ -5,6 +5,8 @@ use lib.ListN.{length}
 use lib.Dec.{leb}
 use Rattle.book.specs.Entry.{entries}
 use Rattle.book.specs.Decode.{mark, structs_and_functions}
+use Rattle.std.specs.Prelude.{Some, None}
+use Rattle.book_types.specs.Found.{after}
 use Rattle.book_types.specs.Laws.{length_entries, lent_from}
 use Rattle.book_parts.specs.Reading.{named_found, marked_by, structs_ended}
 use Rattle.book_parts.specs.Folds.{fold_start}
@@ -53,11 +55,38 @@ slice_bounds-named_len-count-then-kinds-at-ge-NAMED_STRUCT c = c.loop-at.invaria
 pub slice_bounds-named_len-start-then-kinds-at-ge-NAMED_STRUCT : goal.slice_bounds-named_len-start-then-kinds-at-ge-NAMED_STRUCT
 slice_bounds-named_len-start-then-kinds-at-ge-NAMED_STRUCT c = c.loop-at.invariant.0.words
 
-pub join_found-requires : goal.join_found-requires
-join_found-requires c =
+pub then-requires : goal.then-requires
+then-requires c =
     let a = c.args in
-    parts.structs_room c.loop-at.named c.loop-at.defined c.loop-at.barred a.names a.kinds.now a.words.now _ _ c.named_len.ensures
-    c.loop-at.invariant.0.kinds (omega (arith, c.well_formed))
+    omega (
+      arith,
+      ap (λ f. f.entries) c.plain.ensures,
+      parts.structs_behind c.loop-at.named c.loop-at.defined c.loop-at.barred a.names a.kinds.now a.words.now _ _ c.in_ok-rest.ensures c.loop-at.invariant.0.there,
+      length_entries a.kinds.now a.words.now,
+    )
+
+pub shape_of-marked-in_err-rest : goal.shape_of-marked-in_err-rest
+shape_of-marked-in_err-rest c = c.loop-at.invariant.1
+
+pub shape_of-barred-in_err-rest : goal.shape_of-barred-in_err-rest
+shape_of-barred-in_err-rest c = c.loop-at.invariant.2
+
+pub shape_of-named-in_err-rest : goal.shape_of-named-in_err-rest
+shape_of-named-in_err-rest c = c.named_len.auto.named ∙ ap length c.loop-at.invariant.3
+
+pub shape_of-defined-in_err-rest : goal.shape_of-defined-in_err-rest
+shape_of-defined-in_err-rest c = c.named_len.auto.defined ∙ ap length c.loop-at.invariant.4
+
+pub returns-in_err-rest : goal.returns-in_err-rest
+returns-in_err-rest c =
+    let a = c.args in
+    let rest = structs_and_functions a.names (lent_from a.kinds.now a.words.now c.loop-at.at) in
+    parts.marks_end a.named.now a.defined.now a.marked.now a.barred.now a.names a.kinds.now a.words.now _ _ c.loop-at.invariant.0
+    (omega (arith, c.loop-at-test.true, c.shorter-n.ensures)) c.if-kinds-at-ge-NAMED_STRUCT.true None _
+    (c.in_err-rest.ensures
+    ∙ ap (λ x. named_found c.loop-at.barred c.loop-at.defined x rest) c.loop-at.invariant.3
+    ∙ ap (λ x. named_found c.loop-at.barred x a.named.now rest) c.loop-at.invariant.4)
+    c.from_residual.ensures
 
 pub shape_of-marked-then-kinds-at-ge-NAMED_STRUCT : goal.shape_of-marked-then-kinds-at-ge-NAMED_STRUCT
 shape_of-marked-then-kinds-at-ge-NAMED_STRUCT c =
@@ -80,11 +109,11 @@ returns-then-kinds-at-ge-NAMED_STRUCT c =
     let a = c.args in
     let rest = structs_and_functions a.names (lent_from a.kinds.now a.words.now c.loop-at.at) in
     parts.marks_end a.named.now a.defined.now a.marked.now a.barred.now a.names a.kinds.now a.words.now _ _ c.loop-at.invariant.0
-    (omega (arith, c.loop-at-test.true, c.shorter-n.ensures)) c.if-kinds-at-ge-NAMED_STRUCT.true _ _
-    (c.named_len.ensures
+    (omega (arith, c.loop-at-test.true, c.shorter-n.ensures)) c.if-kinds-at-ge-NAMED_STRUCT.true (Some c.in_ok-rest.rest) _
+    (c.in_ok-rest.ensures
     ∙ ap (λ x. named_found c.loop-at.barred c.loop-at.defined x rest) c.loop-at.invariant.3
     ∙ ap (λ x. named_found c.loop-at.barred x a.named.now rest) c.loop-at.invariant.4)
-    c.join_found.ensures
+    (ap Some (c.then.ensures ∙ ap (λ f. after f c.in_ok-rest.rest) c.plain.ensures))
 
 pub offset_bounds-kinds-at-in-loop-at : goal.offset_bounds-kinds-at-in-loop-at
 offset_bounds-kinds-at-in-loop-at c =
@@ -128,14 +157,6 @@ returns-then-not-mark c =
     parts.marks_refused a.named.now a.defined.now a.marked.now a.barred.now a.names a.kinds.now a.words.now _ _ c.loop-at.invariant.0
     (omega (arith, c.loop-at-test.true, c.shorter-n.ensures)) c.if-kinds-at-ge-NAMED_STRUCT.false _ c.mark.ensures.value
     c.if-not-mark.true
-
-pub overflow_add-at : goal.overflow_add-at
-overflow_add-at c =
-    let a = c.args in
-    omega (arith, c.loop-at-test.true, c.shorter-n.ensures, length_entries a.kinds.now a.words.now, c.well_formed)
-
-pub loop-at-smaller : goal.loop-at-smaller
-loop-at-smaller c = omega (arith, c.loop-at-test.true)
 
 pub loop-at-preserved : goal.loop-at-preserved
 loop-at-preserved c =

@@ -13,6 +13,3 @@ abbrev pub invariant-loop-at : goal.invariant-loop-at
 invariant-loop-at l =
     Fold marked_by (structs_ended l.initial.named l.initial.defined) (leb 3) (mark l.names) (structs_and_functions l.names) (l.initial.marked, l.initial.barred) (length (entries l.kinds l.words)) l.kinds l.words l.at
     (length (entries l.kinds l.words) - l.at) (l.marked, l.barred) × (length l.marked ≡ length l.initial.marked) × (length l.barred ≡ length l.initial.barred) × (l.named ≡ l.initial.named) × (l.defined ≡ l.initial.defined)
-
-abbrev pub decreases-loop-at : goal.decreases-loop-at
-decreases-loop-at l = l.n - l.at

@@ -2,6 +2,9 @@ use mathlib.Core.Path.{refl, ap, ◌∙◌}
 use native.Mathlib.Omega.{arith}
 use lib.ListN.{length}
 use Rattle.book.specs.Decode.{functions}
+use Rattle.std.specs.Prelude.{Some, None}
+use Rattle.book_types.specs.Found.{plain, after}
+use Rattle.book_types.specs.Passes.{plain_is}
 use Rattle.book_types.specs.Laws.{length_entries, lent_from}
 use Rattle.book_parts.specs.Reading.{functions_found}
 use Rattle.book_parts.specs.Parts as parts
@@ -43,11 +46,30 @@ slice_bounds-functions_len-count-then-kinds-at-ge-OPAQUE c = c.loop-at.invariant
 pub slice_bounds-functions_len-start-then-kinds-at-ge-OPAQUE : goal.slice_bounds-functions_len-start-then-kinds-at-ge-OPAQUE
 slice_bounds-functions_len-start-then-kinds-at-ge-OPAQUE c = c.loop-at.invariant.0.words
 
-pub join_found-requires : goal.join_found-requires
-join_found-requires c =
+pub then-requires : goal.then-requires
+then-requires c =
     let a = c.args in
-    parts.functions_room a.barred.now _ a.names a.kinds.now a.words.now _ _ c.functions_len.ensures
-    c.loop-at.invariant.0.kinds (omega (arith, c.well_formed))
+    omega (
+      arith,
+      ap (λ f. f.entries) c.plain.ensures,
+      parts.functions_behind a.barred.now _ a.names a.kinds.now a.words.now _ _ c.in_ok-rest.ensures c.loop-at.invariant.0.there,
+      length_entries a.kinds.now a.words.now,
+    )
+
+pub shape_of-named-in_err-rest : goal.shape_of-named-in_err-rest
+shape_of-named-in_err-rest c = c.loop-at.invariant.1
+
+pub shape_of-defined-in_err-rest : goal.shape_of-defined-in_err-rest
+shape_of-defined-in_err-rest c = c.functions_len.auto.defined ∙ ap length c.loop-at.invariant.2
+
+pub returns-in_err-rest : goal.returns-in_err-rest
+returns-in_err-rest c =
+    let a = c.args in
+    parts.named_end a.barred.now a.defined.now a.named.now a.names a.kinds.now a.words.now _ _ _ c.loop-at.invariant.0
+    (omega (arith, c.loop-at-test.true, c.shorter-end.ensures)) c.if-kinds-at-ge-OPAQUE.true None _
+    (c.in_err-rest.ensures
+    ∙ ap (λ x. functions_found a.barred.now x (functions a.names (lent_from a.kinds.now a.words.now c.loop-at.at))) c.loop-at.invariant.2)
+    c.from_residual.ensures
 
 pub shape_of-named-then-kinds-at-ge-OPAQUE : goal.shape_of-named-then-kinds-at-ge-OPAQUE
 shape_of-named-then-kinds-at-ge-OPAQUE c =
@@ -61,10 +83,10 @@ pub returns-then-kinds-at-ge-OPAQUE : goal.returns-then-kinds-at-ge-OPAQUE
 returns-then-kinds-at-ge-OPAQUE c =
     let a = c.args in
     parts.named_end a.barred.now a.defined.now a.named.now a.names a.kinds.now a.words.now _ _ _ c.loop-at.invariant.0
-    (omega (arith, c.loop-at-test.true, c.shorter-end.ensures)) c.if-kinds-at-ge-OPAQUE.true _ _
-    (c.functions_len.ensures
+    (omega (arith, c.loop-at-test.true, c.shorter-end.ensures)) c.if-kinds-at-ge-OPAQUE.true (Some c.in_ok-rest.rest) _
+    (c.in_ok-rest.ensures
     ∙ ap (λ x. functions_found a.barred.now x (functions a.names (lent_from a.kinds.now a.words.now c.loop-at.at))) c.loop-at.invariant.2)
-    c.join_found.ensures
+    (ap Some (c.then.ensures ∙ ap (λ f. after f c.in_ok-rest.rest) c.plain.ensures))
 
 pub offset_bounds-kinds-at-in-loop-at : goal.offset_bounds-kinds-at-in-loop-at
 offset_bounds-kinds-at-in-loop-at c = omega (arith, c.loop-at.invariant.0.kinds, c.well_formed)
@@ -84,17 +106,17 @@ slice_bounds-struct_len-count-in-loop-at c = c.loop-at.invariant.0.words
 pub slice_bounds-struct_len-start-in-loop-at : goal.slice_bounds-struct_len-start-in-loop-at
 slice_bounds-struct_len-start-in-loop-at c = c.loop-at.invariant.0.words
 
-pub shape_of-named-in_default : goal.shape_of-named-in_default
-shape_of-named-in_default c = c.loop-at.invariant.1
+pub shape_of-named-in_err-n : goal.shape_of-named-in_err-n
+shape_of-named-in_err-n c = c.loop-at.invariant.1
 
-pub shape_of-defined-in_default : goal.shape_of-defined-in_default
-shape_of-defined-in_default c = ap length c.loop-at.invariant.2
+pub shape_of-defined-in_err-n : goal.shape_of-defined-in_err-n
+shape_of-defined-in_err-n c = ap length c.loop-at.invariant.2
 
-pub returns-in_default : goal.returns-in_default
-returns-in_default c =
+pub returns-in_err-n : goal.returns-in_err-n
+returns-in_err-n c =
     let a = c.args in
-    parts.named_bad a.barred.now a.defined.now a.named.now a.names a.kinds.now a.words.now _ _ _ c.loop-at.invariant.0
-    (omega (arith, c.loop-at-test.true, c.shorter-end.ensures)) c.if-kinds-at-ge-OPAQUE.false _ c.struct_len.ensures c.in_default.is
+    c.from_residual-in_err-n.ensures ∙ parts.named_bad a.barred.now a.defined.now a.named.now a.names a.kinds.now a.words.now _ _ _ c.loop-at.invariant.0
+    (omega (arith, c.loop-at-test.true, c.shorter-end.ensures)) c.if-kinds-at-ge-OPAQUE.false None (plain_is _ None c.in_err-n.ensures) refl
 
 pub shape_of-named-then-left-eq0 : goal.shape_of-named-then-left-eq0
 shape_of-named-then-left-eq0 c = c.loop-at.invariant.1
@@ -106,7 +128,7 @@ pub returns-then-left-eq0 : goal.returns-then-left-eq0
 returns-then-left-eq0 c =
     let a = c.args in
     parts.named_full a.barred.now a.defined.now a.named.now a.names a.kinds.now a.words.now _ _ _ c.loop-at.invariant.0
-    (omega (arith, c.loop-at-test.true, c.shorter-end.ensures)) c.if-kinds-at-ge-OPAQUE.false _ c.struct_len.ensures c.if-left-eq0.true
+    (omega (arith, c.loop-at-test.true, c.shorter-end.ensures)) c.if-kinds-at-ge-OPAQUE.false (Some (plain c.in_ok-n.n)) (plain_is _ (Some c.in_ok-n.n) c.in_ok-n.ensures) c.if-left-eq0.true
 
 pub offset_bounds-words-at-in-loop-at-2 : goal.offset_bounds-words-at-in-loop-at-2
 offset_bounds-words-at-in-loop-at-2 c =
@@ -129,14 +151,14 @@ pub returns-then-not-mark_new : goal.returns-then-not-mark_new
 returns-then-not-mark_new c =
     let a = c.args in
     parts.named_repeated a.barred.now a.defined.now a.named.now a.names a.kinds.now a.words.now _ _ _ c.loop-at.invariant.0
-    (omega (arith, c.loop-at-test.true, c.shorter-end.ensures)) c.if-kinds-at-ge-OPAQUE.false _ c.struct_len.ensures _ _ c.in-Entries.is _
+    (omega (arith, c.loop-at-test.true, c.shorter-end.ensures)) c.if-kinds-at-ge-OPAQUE.false (Some (plain c.in_ok-n.n)) (plain_is _ (Some c.in_ok-n.n) c.in_ok-n.ensures) _ refl _
     c.mark_new.ensures.value c.if-not-mark_new.true
 
 pub overflow_add-at : goal.overflow_add-at
 overflow_add-at c =
     let a = c.args in
     let s = parts.struct_at a.barred.now a.defined.now a.named.now a.names a.kinds.now a.words.now _ _ _ c.loop-at.invariant.0
-    (omega (arith, c.loop-at-test.true, c.shorter-end.ensures)) c.if-kinds-at-ge-OPAQUE.false _ c.struct_len.ensures _ _ c.in-Entries.is in
+    (omega (arith, c.loop-at-test.true, c.shorter-end.ensures)) c.if-kinds-at-ge-OPAQUE.false (Some (plain c.in_ok-n.n)) (plain_is _ (Some c.in_ok-n.n) c.in_ok-n.ensures) _ refl in
     omega (arith, s.there, length_entries a.kinds.now a.words.now, c.well_formed)
 
 pub loop-at-smaller : goal.loop-at-smaller
@@ -146,7 +168,7 @@ pub loop-at-preserved : goal.loop-at-preserved
 loop-at-preserved c =
     let a = c.args in (
       parts.named_next a.barred.now a.defined.now a.named.now a.names a.kinds.now a.words.now _ _ _ c.loop-at.invariant.0
-          (omega (arith, c.loop-at-test.true, c.shorter-end.ensures)) c.if-kinds-at-ge-OPAQUE.false _ c.struct_len.ensures _ _ c.in-Entries.is _
+          (omega (arith, c.loop-at-test.true, c.shorter-end.ensures)) c.if-kinds-at-ge-OPAQUE.false (Some (plain c.in_ok-n.n)) (plain_is _ (Some c.in_ok-n.n) c.in_ok-n.ensures) _ refl _
           c.mark_new.ensures.value c.if-not-mark_new.false _ c.mark_new.ensures.map_after c.if-left-eq0.false,
       c.mark_new.auto.map ∙ c.loop-at.invariant.1,
       c.loop-at.invariant.2,

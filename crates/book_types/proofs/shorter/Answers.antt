@@ -3,8 +3,5 @@ use native.Mathlib.Omega.{arith}
 use Rattle.book_types.specs.Laws.{length_entries}
 use Rattle.book_types.proofs.shorter.Goals as goal
 
-pub returns-then-kinds-words : goal.returns-then-kinds-words
-returns-then-kinds-words c = omega (arith, length_entries c.args.kinds.now c.args.words.now)
-
-pub returns-else-kinds-words : goal.returns-else-kinds-words
-returns-else-kinds-words c = omega (arith, length_entries c.args.kinds.now c.args.words.now)
+pub returns : goal.returns
+returns c = omega (arith, length_entries c.args.kinds.now c.args.words.now)

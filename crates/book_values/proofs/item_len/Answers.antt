@@ -1,5 +1,6 @@
 -- `book_values::item_len` meets its contract: each arm reads what its item is.
 use mathlib.Core.Path.{◌∙◌, sym, ap}
+use Rattle.std.specs.Prelude.{Some, None}
 use Rattle.book.specs.Entry.{entries}
 use Rattle.book.specs.Decode.{type, item}
 use Rattle.book.specs.Forbidden.{other_item}
@@ -7,14 +8,21 @@ use Rattle.book_types.specs.Found.{found_of}
 use Rattle.book_values.specs.Items.{item_of}
 use Rattle.book_types.specs.Passes as passes
 use Rattle.book_values.specs.ItemLaws as items
-use Rattle.book_values.specs.declared.Atom.TheVariants as atom
 use Rattle.book_values.proofs.item_len.Goals as goal
 
-pub returns-in-Type : goal.returns-in-Type
+pub returns-in_err-type_len-in-Type : goal.returns-in_err-type_len-in-Type
 unfolding item
-returns-in-Type c =
+returns-in_err-type_len-in-Type c =
     let a = c.args in
-    passes.plain_is (type a.names (entries a.kinds.now a.words.now)) _ _ c.type_len.ensures c.plain.ensures ∙ ap
+    c.from_residual.ensures ∙ passes.plain_is (type a.names (entries a.kinds.now a.words.now)) None c.in_err-type_len-in-Type.ensures ∙ ap
+    (λ i. found_of (other_item (item_of i)) (item a.names (item_of i) (entries a.kinds.now a.words.now)))
+    (sym c.in-Type.is)
+
+pub returns-in_ok-type_len-in-Type : goal.returns-in_ok-type_len-in-Type
+unfolding item
+returns-in_ok-type_len-in-Type c =
+    let a = c.args in
+    ap Some c.plain.ensures ∙ passes.plain_is (type a.names (entries a.kinds.now a.words.now)) (Some c.in_ok-type_len-in-Type.field-0) c.in_ok-type_len-in-Type.ensures ∙ ap
     (λ i. found_of (other_item (item_of i)) (item a.names (item_of i) (entries a.kinds.now a.words.now)))
     (sym c.in-Type.is)
 
@@ -22,7 +30,7 @@ pub returns-in-Value : goal.returns-in-Value
 unfolding item
 returns-in-Value c =
     let a = c.args in
-    items.atom_is a.names atom.Value (entries a.kinds.now a.words.now) _ _ c.first_entry.ensures c.atom_len.ensures ∙ ap
+    c.atom_len.ensures ∙ ap
     (λ i. found_of (other_item (item_of i)) (item a.names (item_of i) (entries a.kinds.now a.words.now)))
     (sym c.in-Value.is)
 
@@ -30,7 +38,7 @@ pub returns-in-Block : goal.returns-in-Block
 unfolding item
 returns-in-Block c =
     let a = c.args in
-    items.atom_is a.names atom.Block (entries a.kinds.now a.words.now) _ _ c.first_entry-in-Block.ensures c.atom_len-in-Block.ensures ∙ ap
+    c.atom_len-in-Block.ensures ∙ ap
     (λ i. found_of (other_item (item_of i)) (item a.names (item_of i) (entries a.kinds.now a.words.now)))
     (sym c.in-Block.is)
 
@@ -38,7 +46,7 @@ pub returns-in-Index : goal.returns-in-Index
 unfolding item
 returns-in-Index c =
     let a = c.args in
-    items.atom_is a.names atom.Index (entries a.kinds.now a.words.now) _ _ c.first_entry-in-Index.ensures c.atom_len-in-Index.ensures ∙ ap
+    c.atom_len-in-Index.ensures ∙ ap
     (λ i. found_of (other_item (item_of i)) (item a.names (item_of i) (entries a.kinds.now a.words.now)))
     (sym c.in-Index.is)
 
@@ -46,7 +54,7 @@ pub returns-in-Align : goal.returns-in-Align
 unfolding item
 returns-in-Align c =
     let a = c.args in
-    items.atom_is a.names atom.Align (entries a.kinds.now a.words.now) _ _ c.first_entry-in-Align.ensures c.atom_len-in-Align.ensures ∙ ap
+    c.atom_len-in-Align.ensures ∙ ap
     (λ i. found_of (other_item (item_of i)) (item a.names (item_of i) (entries a.kinds.now a.words.now)))
     (sym c.in-Align.is)
 

@@ -1,102 +1,49 @@
 -- `book_values::param_len` meets its contract: the type is read behind the name.
+use mathlib.Core.Path.{◌∙◌, ap}
 use native.Mathlib.Omega.{arith}
-use Rattle.book.specs.Entry.{entries}
+use Rattle.std.specs.Prelude.{Some, None}
 use Rattle.book.specs.Decode.{type}
 use Rattle.book.proofs.AgreeTy.{agrees_type}
-use Rattle.book_types.specs.Laws.{lent_from}
-use Rattle.book_types.specs.Found.{never}
-use Rattle.book_values.specs.Items.{atom_reader, atom_test}
+use Rattle.book_types.specs.Found.{plain, after, never}
+use Rattle.book_types.specs.Laws as laws
 use Rattle.book_types.specs.Passes as passes
+use Rattle.book_values.specs.Items.{atom_reader, atom_test}
 use Rattle.book_values.specs.ItemLaws as items
 use Rattle.book_values.specs.declared.Atom.TheVariants.{Param}
 use Rattle.book_values.proofs.param_len.Goals as goal
 
-pub returns-in_default : goal.returns-in_default
-returns-in_default c =
+pub returns-in_err-name : goal.returns-in_err-name
+returns-in_err-name c =
     let a = c.args in
-    passes.both_bad (atom_reader a.names Param) (type a.names) (atom_test Param) never a.kinds.now a.words.now _
-    (items.atom_is a.names Param (entries a.kinds.now a.words.now) _ _ c.first_entry.ensures
-    c.atom_len.ensures) c.in_default.is
+    c.from_residual.ensures ∙ passes.first_none (atom_reader a.names Param) (type a.names) (atom_test Param) never a.kinds.now a.words.now c.in_err-name.ensures
 
 pub offset_bounds-kinds-n : goal.offset_bounds-kinds-n
-offset_bounds-kinds-n c =
-    let a = c.args in
-    omega (
-      arith,
-      passes.both_kinds (atom_reader a.names Param) (type a.names) (atom_test Param) never a.kinds.now a.words.now _
-          (items.atom_is a.names Param (entries a.kinds.now a.words.now) _ _ c.first_entry.ensures
-          c.atom_len.ensures) _ _ c.in-Entries.is
-          (items.atom_within a.names Param (entries a.kinds.now a.words.now) _ _ c.first_entry.ensures
-          c.atom_len.ensures),
-      c.well_formed,
-    )
+offset_bounds-kinds-n c = omega (arith, laws.within_kinds c.in_ok-name.name.entries _ _ (items.atom_fits c.args.names Param _ _ c.in_ok-name.ensures), c.well_formed)
 
 pub slice_bounds-type_len-count : goal.slice_bounds-type_len-count
-slice_bounds-type_len-count c =
-    let a = c.args in
-    passes.both_kinds (atom_reader a.names Param) (type a.names) (atom_test Param) never a.kinds.now a.words.now _
-    (items.atom_is a.names Param (entries a.kinds.now a.words.now) _ _ c.first_entry.ensures
-    c.atom_len.ensures) _ _ c.in-Entries.is
-    (items.atom_within a.names Param (entries a.kinds.now a.words.now) _ _ c.first_entry.ensures
-    c.atom_len.ensures)
+slice_bounds-type_len-count c = laws.within_kinds c.in_ok-name.name.entries _ _ (items.atom_fits c.args.names Param _ _ c.in_ok-name.ensures)
 
 pub slice_bounds-type_len-start : goal.slice_bounds-type_len-start
-slice_bounds-type_len-start c =
-    let a = c.args in
-    passes.both_kinds (atom_reader a.names Param) (type a.names) (atom_test Param) never a.kinds.now a.words.now _
-    (items.atom_is a.names Param (entries a.kinds.now a.words.now) _ _ c.first_entry.ensures
-    c.atom_len.ensures) _ _ c.in-Entries.is
-    (items.atom_within a.names Param (entries a.kinds.now a.words.now) _ _ c.first_entry.ensures
-    c.atom_len.ensures)
+slice_bounds-type_len-start c = laws.within_kinds c.in_ok-name.name.entries _ _ (items.atom_fits c.args.names Param _ _ c.in_ok-name.ensures)
 
 pub offset_bounds-words-n : goal.offset_bounds-words-n
-offset_bounds-words-n c =
-    let a = c.args in
-    omega (
-      arith,
-      passes.both_words (atom_reader a.names Param) (type a.names) (atom_test Param) never a.kinds.now a.words.now _
-          (items.atom_is a.names Param (entries a.kinds.now a.words.now) _ _ c.first_entry.ensures
-          c.atom_len.ensures) _ _ c.in-Entries.is
-          (items.atom_within a.names Param (entries a.kinds.now a.words.now) _ _ c.first_entry.ensures
-          c.atom_len.ensures),
-      c.well_formed,
-    )
+offset_bounds-words-n c = omega (arith, laws.within_words c.in_ok-name.name.entries _ _ (items.atom_fits c.args.names Param _ _ c.in_ok-name.ensures), c.well_formed)
 
 pub slice_bounds-type_len-count-2 : goal.slice_bounds-type_len-count-2
-slice_bounds-type_len-count-2 c =
-    let a = c.args in
-    passes.both_words (atom_reader a.names Param) (type a.names) (atom_test Param) never a.kinds.now a.words.now _
-    (items.atom_is a.names Param (entries a.kinds.now a.words.now) _ _ c.first_entry.ensures
-    c.atom_len.ensures) _ _ c.in-Entries.is
-    (items.atom_within a.names Param (entries a.kinds.now a.words.now) _ _ c.first_entry.ensures
-    c.atom_len.ensures)
+slice_bounds-type_len-count-2 c = laws.within_words c.in_ok-name.name.entries _ _ (items.atom_fits c.args.names Param _ _ c.in_ok-name.ensures)
 
 pub slice_bounds-type_len-start-2 : goal.slice_bounds-type_len-start-2
-slice_bounds-type_len-start-2 c =
-    let a = c.args in
-    passes.both_words (atom_reader a.names Param) (type a.names) (atom_test Param) never a.kinds.now a.words.now _
-    (items.atom_is a.names Param (entries a.kinds.now a.words.now) _ _ c.first_entry.ensures
-    c.atom_len.ensures) _ _ c.in-Entries.is
-    (items.atom_within a.names Param (entries a.kinds.now a.words.now) _ _ c.first_entry.ensures
-    c.atom_len.ensures)
+slice_bounds-type_len-start-2 c = laws.within_words c.in_ok-name.name.entries _ _ (items.atom_fits c.args.names Param _ _ c.in_ok-name.ensures)
 
-pub join_found-requires : goal.join_found-requires
-join_found-requires c =
+pub returns-in_err-ty : goal.returns-in_err-ty
+returns-in_err-ty c =
     let a = c.args in
-    passes.both_room (atom_reader a.names Param) (type a.names) (atom_test Param) never a.kinds.now a.words.now _
-    (items.atom_is a.names Param (entries a.kinds.now a.words.now) _ _ c.first_entry.ensures
-    c.atom_len.ensures) _ _ c.in-Entries.is
-    (items.atom_within a.names Param (entries a.kinds.now a.words.now) _ _ c.first_entry.ensures
-    c.atom_len.ensures) (omega arith) _
-    (passes.within never (agrees_type _) (lent_from a.kinds.now a.words.now c.in-Entries.n) _
-    (passes.plain_is (type a.names (lent_from a.kinds.now a.words.now c.in-Entries.n)) _ _ c.type_len.ensures
-    c.plain.ensures))
+    c.from_residual-in_err-ty.ensures ∙ passes.then_is (atom_reader a.names Param) (type a.names) (atom_test Param) never a.kinds.now a.words.now c.in_ok-name.name c.in_ok-name.ensures None (passes.plain_is _ None c.in_err-ty.ensures)
+
+pub then-requires : goal.then-requires
+then-requires c = omega (arith, ap (λ f. f.entries) c.plain.ensures, laws.within_kinds _ _ _ (laws.lent_fits (agrees_type _) c.args.kinds.now c.args.words.now c.in_ok-name.name.entries _ (items.atom_fits c.args.names Param _ _ c.in_ok-name.ensures) c.in_ok-ty.ensures))
 
 pub returns : goal.returns
 returns c =
     let a = c.args in
-    passes.both_arm (atom_reader a.names Param) (type a.names) (atom_test Param) never a.kinds.now a.words.now _
-    (items.atom_is a.names Param (entries a.kinds.now a.words.now) _ _ c.first_entry.ensures
-    c.atom_len.ensures) _ _ c.in-Entries.is _ _
-    (passes.plain_is (type a.names (lent_from a.kinds.now a.words.now c.in-Entries.n)) _ _
-    c.type_len.ensures c.plain.ensures) c.join_found.ensures
+    ap Some (c.then.ensures ∙ ap (after c.in_ok-name.name) c.plain.ensures) ∙ passes.then_is (atom_reader a.names Param) (type a.names) (atom_test Param) never a.kinds.now a.words.now c.in_ok-name.name c.in_ok-name.ensures (Some (plain c.in_ok-ty.ty)) (passes.plain_is _ (Some c.in_ok-ty.ty) c.in_ok-ty.ensures)

@@ -1,10 +1,10 @@
--- `book_values::word_len` meets its contract: the two tests are the definition's.
-use mathlib.Core.Path.{◌∙◌, sym}
-use borrow.Author.Tests.{eq-eqb, ne_eqb}
+-- `book_values::word_len` meets its contract: the entry in front decides.
+use mathlib.Core.Path.{◌∙◌}
+use Rattle.book_values.specs.ItemLaws as items
 use Rattle.book_values.proofs.word_len.Goals as goal
 
-pub returns-then-k-kind : goal.returns-then-k-kind
-returns-then-k-kind c = c.entry_if.ensures ∙ sym (rw (c.in-Entry.is, eq-eqb _ _ c.if-k-kind.true))
+pub returns-in_err-k : goal.returns-in_err-k
+returns-in_err-k c = c.from_residual.ensures ∙ items.word_none c.args.kind c.args.below _ c.in_err-k.ensures
 
-pub returns-else-k-kind : goal.returns-else-k-kind
-returns-else-k-kind c = sym (rw (c.in-Entry.is, ne_eqb _ _ c.if-k-kind.false))
+pub returns : goal.returns
+returns c = c.then_some.ensures ∙ items.word_is c.args.kind c.args.below _ _ _ c.in_ok-k.ensures
