@@ -3,7 +3,9 @@ use Rattle.std.specs.Prelude.{ℕ, ◌+◌, ◌≤◌, max, ◌≡◌, Bool, tru
 use Rattle.std.proofs.Common.{arith}
 use Rattle.book.specs.Entry.{Entry, entries}
 use Rattle.book.specs.Ast.{StructType}
-use Rattle.layout_memo.specs.Measured.{Measures}
+use Rattle.std.specs.Prelude.{Err}
+use Rattle.book.specs.declared.refusal.Refusal.{Refusal}
+use Rattle.layout_memo.specs.Measured.{Measured, bytes_of, Measures}
 use Rattle.layout_memo.specs.Front.{ty_of, tys_of, ty_len}
 use Rattle.layout_memo.specs.Work.{structs_in, aligns, After, Outcome, outcome, Ask, AskFields, after_none, after_then}
 use Rattle.layout_memo.specs.Arms.{field_aligns}
@@ -15,8 +17,6 @@ use Rattle.layout_memo.specs.Scalars.{Scalar, Passes, none, more, RunFrom, all_f
 use Rattle.layout_memo.specs.declared.scalars.Run.{Run}
 use Rattle.layout_align.specs.Loop as loops
 use Rattle.layout_align.specs.Loop.{AlignLoop}
-use Rattle.layout_memo.specs.declared.Measured.{Measured}
-use Rattle.layout_memo.specs.declared.Measured.TheVariants.{Bytes, Refused}
 
 -- ---- alignment
 module _ (m : ℕ) (ks ws : List ℕ) (bs : List Entry) (work₀ : List ℕ) (level : ℕ) (packed : Bool) where
@@ -26,14 +26,14 @@ module _ (m : ℕ) (ks ws : List ℕ) (bs : List Entry) (work₀ : List ℕ) (le
   abbrev pub AlignInv : (work : List ℕ) (a al h : ℕ) → Type 0
   AlignInv work a al h = AlignLoop structs m ks ws level a al h × After m bs work₀ work
 
-  pub align_packed : AskFields m (entries ks ws) bs work₀ level → packed ≡ true → Outcome m bs work₀ work₀ (field_aligns structs packed (tys_of m (entries ks ws))) level (Bytes 1 0)
+  pub align_packed : AskFields m (entries ks ws) bs work₀ level → packed ≡ true → Outcome m bs work₀ work₀ (field_aligns structs packed (tys_of m (entries ks ws))) level (bytes_of 1 0)
   align_packed k e = rw e (outcome (loops.packed_align structs m ks ws level) (after_none k.ready))
 
   pub align_start : AskFields m (entries ks ws) bs work₀ level → AlignInv work₀ 0 1 0
   align_start k = (loops.align_start structs m ks ws level k.front, after_none k.ready)
 
   module _ {work : List ℕ} {a al h : ℕ} (i : AlignInv work a al h) where
-    pub align_done : packed ≡ false → get_or ks a 0 ≡ 0 → Outcome m bs work₀ work (field_aligns structs packed (tys_of m (entries ks ws))) level (Bytes al h)
+    pub align_done : packed ≡ false → get_or ks a 0 ≡ 0 → Outcome m bs work₀ work (field_aligns structs packed (tys_of m (entries ks ws))) level (bytes_of al h)
     align_done e z = rw e (outcome (loops.align_done structs m ks ws level i.0 z) i.1)
 
     module _ (z : get_or ks a 0 ≡ 0 → ⊥) where
@@ -44,11 +44,11 @@ module _ (m : ℕ) (ks ws : List ℕ) (bs : List Entry) (work₀ : List ℕ) (le
         says : Measures (aligns structs (ty_of m (drop a (entries ks ws)))) level r
         says = part_type (aligns structs) m ks ws a level r o.says
 
-        pub align_refused : packed ≡ false → (x : ℕ) → r ≡ Refused x → Outcome m bs work₀ work' (field_aligns structs packed (tys_of m (entries ks ws))) level (Refused x)
+        pub align_refused : packed ≡ false → (x : Refusal) → r ≡ Err x → Outcome m bs work₀ work' (field_aligns structs packed (tys_of m (entries ks ws))) level (Err x)
         align_refused e x q =
             rw e (outcome (loops.align_refused structs m ks ws level i.0 z (refused_at r _ level q says)) (after_then i.1 o.after))
 
-        pub align_next : (b hb : ℕ) → r ≡ Bytes b hb → (n : ℕ) → n ≡ ty_len m (lent ks ws a) → (al' h' : ℕ) → al' ≡ max al b → h' ≡ max h hb → AlignInv work' (a + n) al' h'
+        pub align_next : (b hb : ℕ) → r ≡ bytes_of b hb → (n : ℕ) → n ≡ ty_len m (lent ks ws a) → (al' h' : ℕ) → al' ≡ max al b → h' ≡ max h hb → AlignInv work' (a + n) al' h'
         align_next b hb q n en al' h' ea eh =
             rw (skipped m ks ws a i.0.place z n en, ea, eh) (loops.align_next structs m ks ws level i.0 z (gives_at r q _ level says), after_then i.1 o.after)
 

@@ -6,6 +6,10 @@ use Rattle.std.proofs.Common.{◌∙◌, subst, sub-one}
 use Rattle.std.proofs.Math.Option.{some}
 use Rattle.std.proofs.Math.Option as option
 use native.Mathlib.Omega.{arith}
+use Rattle.std.specs.Prelude.{Option, Some, None, Result as Answer, Ok, Err}
+use Rattle.book.specs.declared.refusal.Refusal.{Refusal}
+use Rattle.book.specs.declared.refusal.Refusal.TheVariants as refusal
+use Rattle.book.specs.Refusal.{number_of}
 use Rattle.book.specs.Entry.{Entry, entries}
 use Rattle.book.specs.Ast.{Ty, Tys, StructType}
 use Rattle.book.specs.Result.{Result, ok, err, bind}
@@ -22,17 +26,16 @@ use Rattle.layout_size.specs.Sums.{SmallSum, placed_most}
 use Rattle.layout_memo.specs.FieldCalls.{skipped}
 use Rattle.layout_memo.specs.Scalars.{Scalar, ScalarType, Passes, none, more, RunFrom, passes_on, scalar_kind, scalar_type, scalar_next}
 use Rattle.layout_memo.specs.declared.scalars.Run.{Run}
-use Rattle.layout_memo.specs.declared.Measured.{Measured}
-use Rattle.layout_memo.specs.declared.Measured.TheVariants.{Bytes, Refused}
-use Rattle.layout_field.specs.declared.Offset.{Offset}
-use Rattle.layout_field.specs.declared.Offset.TheVariants as offset
-use Rattle.layout_field.specs.declared.Place.{Place}
-use Rattle.layout_field.specs.declared.Place.TheVariants as place
+use Rattle.layout_memo.specs.Measured.{Measured, bytes_of}
+
+-- where something starts, or why there is no answer
+abbrev pub Offset : Type 0
+Offset = Answer ℕ Refusal
 
 -- document 01's answer
 abbrev pub offset_result : Offset → Result ℕ
-offset_result (offset.At n) = ok n
-offset_result (offset.Refused e) = err e
+offset_result (Ok n) = ok n
+offset_result (Err e) = err (number_of e)
 
 -- so many fields are to be passed from a place on
 abbrev pub left_from : (at left offset : ℕ) → Run
@@ -47,9 +50,9 @@ pub record FieldPlace (m : ℕ) (es : List Entry) (i n : ℕ) : Type 0 where
   pub front : Starts m (drop n es)
   pub there : n < length es
 
-abbrev pub FieldFound : (m : ℕ) (es : List Entry) (i : ℕ) → Place → Type 0
-FieldFound m es i (place.At n) = FieldPlace m es i n
-FieldFound m es i place.Nothing = field_at (tys_of m es) i ≡ option.none
+abbrev pub FieldFound : (m : ℕ) (es : List Entry) (i : ℕ) → Option ℕ → Type 0
+FieldFound m es i (Some n) = FieldPlace m es i n
+FieldFound m es i None = field_at (tys_of m es) i ≡ option.none
 
 field_later : (k : ℕ) → (k ≡ 0 → ⊥) → (t : Ty) (ts : Tys) → field_at (Tys.cons t ts) k ≡ field_at ts (k - 1)
 unfolding field_at
@@ -112,8 +115,8 @@ pub record AskStart (m : ℕ) (es bs : List Entry) (work : List ℕ) (off : ℕ)
   pub small : off ≤ 2 ^ 46
 
 abbrev pub StartsBy : ℕ → Offset → Type 0
-StartsBy most (offset.At n) = n ≤ most
-StartsBy most (offset.Refused e) = Unit {0}
+StartsBy most (Ok n) = n ≤ most
+StartsBy most (Err e) = Unit {0}
 
 pub record StartOutcome (m : ℕ) (bs : List Entry) (work work' : List ℕ) (off : ℕ) (res : Result ℕ) (r : Offset) : Type 0 where
   pub answer : offset_result r ≡ res
@@ -125,24 +128,24 @@ pub record OffsetOutcome (m : ℕ) (bs : List Entry) (work work' : List ℕ) (re
   pub after : After m bs work work'
 
 module _ (m : ℕ) (es bs : List Entry) (work : List ℕ) (packed : Bool) (off : ℕ) (k : AskStart m es bs work off) where
-  pub start_packed : packed ≡ true → StartOutcome m bs work work off (start_of (structs_in m bs) packed (ty_of m es) off) (offset.At off)
+  pub start_packed : packed ≡ true → StartOutcome m bs work work off (start_of (structs_in m bs) packed (ty_of m es) off) (Ok off)
   unfolding start_of align_in placed bind
   start_packed e = record { answer = rw e refl; most = omega arith; after = after_none k.ask.ready }
 
   module _ (e : packed ≡ false) {work' : List ℕ} (r : Measured) (o : Outcome m bs work work' (aligns (structs_in m bs) (ty_of m es)) 64 r) where
-    pub start_refused : (x : ℕ) → r ≡ Refused x → StartOutcome m bs work work' off (start_of (structs_in m bs) packed (ty_of m es) off) (offset.Refused x)
+    pub start_refused : (x : Refusal) → r ≡ Err x → StartOutcome m bs work work' off (start_of (structs_in m bs) packed (ty_of m es) off) (Err x)
     unfolding start_of align_in placed bind align_of
     start_refused x q =
-        let s : aligns (structs_in m bs) (ty_of m es) 64 ≡ err x = refused_at r _ 64 q o.says in
+        let s : aligns (structs_in m bs) (ty_of m es) 64 ≡ err (number_of x) = refused_at r _ 64 q o.says in
         record { answer = rw (e, s) refl; most = tt; after = o.after }
 
-    pub start_align : (a h : ℕ) → r ≡ Bytes a h → a ≤ 8
+    pub start_align : (a h : ℕ) → r ≡ bytes_of a h → a ≤ 8
     start_align a h q = let g = gives_at r q _ 64 o.says in (align_small (structs_in m bs) (ty_of m es) g.within g.known).1
 
-    pub start_small : (a h : ℕ) → r ≡ Bytes a h → SmallSum off a
+    pub start_small : (a h : ℕ) → r ≡ bytes_of a h → SmallSum off a
     start_small a h q = (k.small, start_align a h q)
 
-    pub start_at : (a h : ℕ) → r ≡ Bytes a h → (n : ℕ) → n ≡ placed packed off a → StartOutcome m bs work work' off (start_of (structs_in m bs) packed (ty_of m es) off) (offset.At n)
+    pub start_at : (a h : ℕ) → r ≡ bytes_of a h → (n : ℕ) → n ≡ placed packed off a → StartOutcome m bs work work' off (start_of (structs_in m bs) packed (ty_of m es) off) (Ok n)
     unfolding start_of align_in bind align_of
     start_at a h q n en =
         let g = gives_at r q _ 64 o.says in
@@ -186,7 +189,7 @@ module _ (m : ℕ) (ks ws : List ℕ) (bs : List Entry) (work₀ : List ℕ) (pa
   offset_start k = record { place = at_start_lem m ks ws k.ask.front; goes = refl; small = omega (arith, k.small); after = after_none k.ask.ready }
 
   module _ {work : List ℕ} {a off left : ℕ} (l : OffsetLoop work a off left) where
-    pub offset_none : get_or ks a 0 ≡ 0 → OffsetOutcome m bs work₀ work (offset_of structs packed (tys_of m (entries ks ws)) i off₀) (offset.Refused 14)
+    pub offset_none : get_or ks a 0 ≡ 0 → OffsetOutcome m bs work₀ work (offset_of structs packed (tys_of m (entries ks ws)) i off₀) (Err refusal.GepStep)
     unfolding offset_from
     offset_none z = record { answer = sym (l.goes ∙ rw (at_nil l.place z) refl); after = l.after }
 
@@ -212,16 +215,16 @@ module _ (m : ℕ) (ks ws : List ℕ) (bs : List Entry) (work₀ : List ℕ) (pa
         start_is : offset_result r ≡ start_of structs packed field off
         start_is = o.answer ∙ ap (λ (es : List Entry). start_of structs packed (ty_of m es) off) (entries_part a ks ws)
 
-        refused_from : (x : ℕ) → r ≡ offset.Refused x → (k : ℕ) → left ≡ k → from a left off ≡ err x
+        refused_from : (x : Refusal) → r ≡ Err x → (k : ℕ) → left ≡ k → from a left off ≡ err (number_of x)
         unfolding bind
         refused_from x q zero e = from_zero e ∙ sym start_is ∙ ap offset_result q
-        refused_from x q (suc k) e = from_suc k e (err x) (sym (ap offset_result q) ∙ start_is)
+        refused_from x q (suc k) e = from_suc k e (err (number_of x)) (sym (ap offset_result q) ∙ start_is)
 
-        pub offset_refused : (x : ℕ) → r ≡ offset.Refused x → OffsetOutcome m bs work₀ work' (offset_of structs packed (tys_of m (entries ks ws)) i off₀) (offset.Refused x)
+        pub offset_refused : (x : Refusal) → r ≡ Err x → OffsetOutcome m bs work₀ work' (offset_of structs packed (tys_of m (entries ks ws)) i off₀) (Err x)
         offset_refused x q = record { answer = sym (l.goes ∙ refused_from x q left refl); after = after_then l.after o.after }
 
-        module _ (n : ℕ) (q : r ≡ offset.At n) where
-          pub offset_here : left ≡ 0 → OffsetOutcome m bs work₀ work' (offset_of structs packed (tys_of m (entries ks ws)) i off₀) (offset.At n)
+        module _ (n : ℕ) (q : r ≡ Ok n) where
+          pub offset_here : left ≡ 0 → OffsetOutcome m bs work₀ work' (offset_of structs packed (tys_of m (entries ks ws)) i off₀) (Ok n)
           offset_here e = record { answer = sym (l.goes ∙ from_zero e ∙ sym start_is ∙ ap offset_result q); after = after_then l.after o.after }
 
           pub start_most : n ≤ off + 8
@@ -244,13 +247,13 @@ module _ (m : ℕ) (ks ws : List ℕ) (bs : List Entry) (work₀ : List ℕ) (pa
             size_says : Measures (sizes structs field) 64 s
             size_says = part_type (sizes structs) m ks ws a 64 s u.says
 
-            pub offset_size_refused : (x : ℕ) → s ≡ Refused x → OffsetOutcome m bs work₀ work'' (offset_of structs packed (tys_of m (entries ks ws)) i off₀) (offset.Refused x)
+            pub offset_size_refused : (x : Refusal) → s ≡ Err x → OffsetOutcome m bs work₀ work'' (offset_of structs packed (tys_of m (entries ks ws)) i off₀) (Err x)
             unfolding bind
             offset_size_refused x p =
-                let g : sizes structs field 64 ≡ err x = refused_at s _ 64 p size_says in
+                let g : sizes structs field 64 ≡ err (number_of x) = refused_at s _ 64 p size_says in
                 record { answer = sym (l.goes ∙ later w ∙ rw g refl); after = after_then l.after (after_then o.after u.after) }
 
-            module _ (c h : ℕ) (p : s ≡ Bytes c h) where
+            module _ (c h : ℕ) (p : s ≡ bytes_of c h) where
               pub size_most : c ≤ 16777216
               size_most = let g = gives_at s p _ 64 size_says in size_small structs field g.within g.known
 

@@ -6,25 +6,11 @@ ghost use Rattle.layout_memo.specs.Front.{StartsFields, ty_of, tys_of};
 ghost use Rattle.layout_memo.specs.Work.{Ask, structs_in};
 ghost use Rattle.layout_field.specs.Offsets.{left_from, FieldFound, AskStart, AskOffset, StartOutcome, OffsetOutcome, start_of, offset_of};
 
+use book::refusal::Refusal;
 use layout_align::align_of;
-use layout_memo::Measured;
 use layout_memo::ends::type_end;
 use layout_memo::scalars::{Run, pass_scalars};
 use layout_size::{placed, size_of};
-
-// Where something starts, or the number of a refusal.
-#[derive(Drop)]
-pub enum Offset {
-    At(u64),
-    Refused(u64),
-}
-
-// The place of a field's type among the entries from the first field on.
-#[derive(Drop)]
-pub enum Place {
-    At(usize),
-    Nothing,
-}
 
 // So many fields are to be passed from the place on.
 pub fn fields_left(at: usize, left: u64, offset: u64) -> Run
@@ -40,7 +26,7 @@ pub fn fields_left(at: usize, left: u64, offset: u64) -> Run
 }
 
 // The place of the field with this index.
-pub fn field_at(kinds: &[u64], words: &[u64], names: u64, index: u64) -> Place
+pub fn field_at(kinds: &[u64], words: &[u64], names: u64, index: u64) -> Option<usize>
     requires { StartsFields names (entries kinds.now words.now) }
     ensures { FieldFound names (entries kinds.now words.now) index result }
 {
@@ -48,7 +34,7 @@ pub fn field_at(kinds: &[u64], words: &[u64], names: u64, index: u64) -> Place
     let mut left = index;
     while kinds[at] != book::entry::END {
         if left == 0 {
-            return Place::At(at);
+            return Some(at);
         }
         let behind = at + type_end(&kinds[at..], &words[at..], names);
         let next = fields_left(behind, left - 1, 0);
@@ -56,7 +42,7 @@ pub fn field_at(kinds: &[u64], words: &[u64], names: u64, index: u64) -> Place
         at = run.at;
         left = run.left;
     }
-    Place::Nothing
+    None
 }
 
 // Where the field at the front starts, behind so many bytes.
@@ -69,21 +55,19 @@ pub fn field_start(
     names: u64,
     packed: bool,
     offset: u64,
-) -> Offset
+) -> Result<u64, Refusal>
     requires { AskStart names (entries kinds.now words.now) (entries book_kinds.now book_words.now) work.old offset }
     ensures { StartOutcome names (entries book_kinds.now book_words.now) work.old work.new offset
         (start_of (structs_in names (entries book_kinds.now book_words.now)) packed (ty_of names (entries kinds.now words.now)) offset) result }
 {
     if packed {
-        return Offset::At(offset);
+        return Ok(offset);
     }
-    match align_of(kinds, words, book_kinds, book_words, work, names, 64) {
-        Measured::Refused(e) => Offset::Refused(e),
-        Measured::Bytes(a, _) => Offset::At(placed(packed, offset, a)),
-    }
+    let align = align_of(kinds, words, book_kinds, book_words, work, names, 64)?;
+    Ok(placed(packed, offset, align.bytes))
 }
 
-// The offset of the field with this index among those at the front, behind so many bytes; 14 where there is none.
+// The offset of the field with this index among those at the front, behind so many bytes; a refusal where there is none.
 pub fn field_offset(
     kinds: &[u64],
     words: &[u64],
@@ -94,7 +78,7 @@ pub fn field_offset(
     packed: bool,
     index: u64,
     offset: u64,
-) -> Offset
+) -> Result<u64, Refusal>
     requires { AskOffset names (entries kinds.now words.now) (entries book_kinds.now book_words.now) work.old offset }
     ensures { OffsetOutcome names (entries book_kinds.now book_words.now) work.old work.new
         (offset_of (structs_in names (entries book_kinds.now book_words.now)) packed (tys_of names (entries kinds.now words.now)) index offset) result }
@@ -105,20 +89,12 @@ pub fn field_offset(
     while kinds[at] != book::entry::END {
         let ks = &kinds[at..];
         let ws = &words[at..];
-        match field_start(ks, ws, book_kinds, book_words, work, names, packed, taken) {
-            Offset::Refused(e) => return Offset::Refused(e),
-            Offset::At(start) => {
-                if left == 0 {
-                    return Offset::At(start);
-                }
-                match size_of(ks, ws, book_kinds, book_words, work, names, 64) {
-                    Measured::Refused(e) => return Offset::Refused(e),
-                    Measured::Bytes(size, _) => {
-                        taken = start + size;
-                    }
-                }
-            }
+        let start = field_start(ks, ws, book_kinds, book_words, work, names, packed, taken)?;
+        if left == 0 {
+            return Ok(start);
         }
+        let size = size_of(ks, ws, book_kinds, book_words, work, names, 64)?;
+        taken = start + size.bytes;
         let behind = at + type_end(ks, ws, names);
         let next = fields_left(behind, left - 1, taken);
         let run = pass_scalars(kinds, words, names, packed, kinds.len(), next);
@@ -126,5 +102,5 @@ pub fn field_offset(
         taken = run.offset;
         left = run.left;
     }
-    Offset::Refused(14)
+    Err(Refusal::GepStep)
 }

@@ -7,28 +7,28 @@ use Rattle.book.specs.Entry.{Entry}
 use Rattle.book.specs.Ast.{Ty, Tys, Sizeless, StructType}
 use Rattle.book.specs.Result.{Result, err, bind, given}
 use Rattle.layout.specs.Layout.{limit, int_size, struct_align, struct_size, align_at, size_at}
-use Rattle.layout_memo.specs.Measured.{Gives, Measures, one_more, leaf_known, leaf_refused, measures_up}
+use Rattle.std.specs.Prelude.{Ok, Err}
+use Rattle.book.specs.declared.refusal.Refusal.TheVariants as refusal
+use Rattle.layout_memo.specs.Measured.{Measured, bytes_of, Gives, Measures, one_more, leaf_known, leaf_refused, measures_up}
 use Rattle.layout_memo.specs.Front.{ty_of}
 use Rattle.layout_memo.specs.Work.{BodyAt, Placed, sizes, aligns, pick_measured}
-use Rattle.layout_memo.specs.declared.Measured.{Measured}
-use Rattle.layout_memo.specs.declared.Measured.TheVariants.{Bytes, Refused}
 
 -- as many as so often the bytes, at most 2^24
 abbrev pub times_of : ℕ → Measured → Measured
-times_of n (Bytes s h) = pick_measured (leb (n * s) 16777216) (Bytes (n * s) h) (Refused 7)
-times_of n (Refused e) = Refused e
+times_of n (Ok m) = pick_measured (leb (n * m.bytes) 16777216) (bytes_of (n * m.bytes) m.levels) (Err refusal.TooLarge)
+times_of n (Err e) = Err e
 
 -- bytes up to 2^24
 abbrev pub SmallBytes : Measured → Type 0
-SmallBytes (Bytes n h) = n ≤ 16777216
-SmallBytes (Refused e) = Unit {0}
+SmallBytes (Ok m) = m.bytes ≤ 16777216
+SmallBytes (Err e) = Unit {0}
 
 pub times_measures : (f : ℕ → Result ℕ) (n level : ℕ) (r : Measured) → Measures f level r → Measures (λ k. bind (f k) (λ s. limit (n * s))) level (times_of n r)
 unfolding bind limit given
-times_measures f n level (Refused e) m = rw m refl
-times_measures f n level (Bytes s h) m = go (leb (n * s) (2 ^ 24)) refl
+times_measures f n level (Err e) m = rw m refl
+times_measures f n level (Ok a) m = go (leb (n * a.bytes) (2 ^ 24)) refl
   where
-    go : (b : Bool) → leb (n * s) (2 ^ 24) ≡ b → Measures (λ k. bind (f k) (λ s. limit (n * s))) level (pick_measured b (Bytes (n * s) h) (Refused 7))
+    go : (b : Bool) → leb (n * a.bytes) (2 ^ 24) ≡ b → Measures (λ k. bind (f k) (λ s. limit (n * s))) level (pick_measured b (bytes_of (n * a.bytes) a.levels) (Err refusal.TooLarge))
     go true e = record { known = record { low = λ k l. rw (m.known.low k l) refl; high = λ k l. rw (m.known.high k l, e) refl }; within = m.within }
     go false e = rw (m.known.high level m.within, e) refl
 

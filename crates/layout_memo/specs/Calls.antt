@@ -12,14 +12,15 @@ use Rattle.book_types.specs.Groups.{type_group_of}
 use Rattle.book_types.specs.Laws.{entries_part, within_kinds, within_words}
 use Rattle.book_types.specs.declared.types.TypeGroup.{TypeGroup}
 use Rattle.book_types.specs.declared.types.TypeGroup.TheVariants as group
-use Rattle.layout_memo.specs.Measured.{Measures, one_more, Few, measures_few}
+use Rattle.std.specs.Prelude.{Ok, Err}
+use Rattle.book.specs.declared.refusal.Refusal.TheVariants as refusal
+use Rattle.layout_memo.specs.Measured.{Measured, bytes_of, Measures, one_more, Few, measures_few}
 use Rattle.layout_memo.specs.Front.{Starts, StartsFields, ty_of, tys_of, ShapeOf, shape, enc_pos}
 use Rattle.layout_memo.specs.Work.{structs_in, BodyAt, size_part, align_part, sizes, aligns, Ready, Outcome, outcome, Ask, AskFields, AskName, after_none, after_then, after_set, with_size, with_align, recalled, recalls, pick_measured, size_remembered, align_remembered}
 use Rattle.layout_memo.specs.Arms as arms
 use Rattle.layout_memo.specs.Arms.{times_of, SmallBytes, field_sizes, field_aligns}
 use Rattle.layout_memo.specs.Helpers.{size_bytes, align_bytes}
-use Rattle.layout_memo.specs.declared.Measured.{Measured}
-use Rattle.layout_memo.specs.declared.Measured.TheVariants.{Bytes, Refused}
+use Rattle.layout_memo.specs.declared.Measure.{Measure}
 
 -- the entries from a on, as the logic has them
 abbrev pub lent : List ℕ → List ℕ → ℕ → List Entry
@@ -58,10 +59,10 @@ module _ (m : ℕ) (ks ws : List ℕ) (bs : List Entry) (work : List ℕ) (level
   abbrev structs : List StructType
   structs = structs_in m bs
 
-  pub align_none : level ≡ 0 → Outcome m bs work work (aligns structs front) level (Refused 7)
+  pub align_none : level ≡ 0 → Outcome m bs work work (aligns structs front) level (Err refusal.TooLarge)
   align_none z = outcome (arms.align_zero structs front level z) (after_none k.ready)
 
-  pub size_none : level ≡ 0 → Outcome m bs work work (sizes structs front) level (Refused 7)
+  pub size_none : level ≡ 0 → Outcome m bs work work (sizes structs front) level (Err refusal.TooLarge)
   size_none z = outcome (arms.size_zero structs front level z) (after_none k.ready)
 
   module _ (g : TypeGroup) (eg : g ≡ type_group_of (ty_tag (get_or ks 0 0))) where
@@ -85,28 +86,28 @@ module _ (m : ℕ) (ks ws : List ℕ) (bs : List Entry) (work : List ℕ) (level
     int_width_lem e = (width_bounds (get_or ws 0 0) (at_group group.Int e).1).1
 
     module _ (z : level ≡ 0 → ⊥) where
-      pub align_void : g ≡ group.Void → Outcome m bs work work (aligns structs front) level (Bytes 1 1)
+      pub align_void : g ≡ group.Void → Outcome m bs work work (aligns structs front) level (bytes_of 1 1)
       align_void e = outcome (arms.align_void structs front level z (at_group group.Void e)) (after_none k.ready)
 
-      pub size_void : g ≡ group.Void → Outcome m bs work work (sizes structs front) level (Bytes 0 1)
+      pub size_void : g ≡ group.Void → Outcome m bs work work (sizes structs front) level (bytes_of 0 1)
       size_void e = outcome (arms.size_void structs front level z (at_group group.Void e)) (after_none k.ready)
 
-      pub align_ptr : g ≡ group.Ptr → Outcome m bs work work (aligns structs front) level (Bytes 8 1)
+      pub align_ptr : g ≡ group.Ptr → Outcome m bs work work (aligns structs front) level (bytes_of 8 1)
       align_ptr e = outcome (arms.align_ptr structs front level z (at_group group.Ptr e)) (after_none k.ready)
 
-      pub size_ptr : g ≡ group.Ptr → Outcome m bs work work (sizes structs front) level (Bytes 8 1)
+      pub size_ptr : g ≡ group.Ptr → Outcome m bs work work (sizes structs front) level (bytes_of 8 1)
       size_ptr e = outcome (arms.size_ptr structs front level z (at_group group.Ptr e)) (after_none k.ready)
 
-      pub align_int : g ≡ group.Int → Outcome m bs work work (aligns structs front) level (Bytes ((get_or ws 0 0 + 7) / 8) 1)
+      pub align_int : g ≡ group.Int → Outcome m bs work work (aligns structs front) level (bytes_of ((get_or ws 0 0 + 7) / 8) 1)
       align_int e = outcome (arms.align_int structs front level z (get_or ws 0 0) (at_group group.Int e)) (after_none k.ready)
 
-      pub size_int : g ≡ group.Int → Outcome m bs work work (sizes structs front) level (Bytes ((get_or ws 0 0 + 7) / 8) 1)
+      pub size_int : g ≡ group.Int → Outcome m bs work work (sizes structs front) level (bytes_of ((get_or ws 0 0 + 7) / 8) 1)
       size_int e = outcome (arms.size_int structs front level z (get_or ws 0 0) (at_group group.Int e)) (after_none k.ready)
 
-      pub align_sizeless : g ≡ group.Sizeless → Outcome m bs work work (aligns structs front) level (Refused 6)
+      pub align_sizeless : g ≡ group.Sizeless → Outcome m bs work work (aligns structs front) level (Err refusal.NoSize)
       align_sizeless e = outcome (arms.align_sizeless structs front level z (at_group group.Sizeless e)) (after_none k.ready)
 
-      pub size_sizeless : g ≡ group.Sizeless → Outcome m bs work work (sizes structs front) level (Refused 6)
+      pub size_sizeless : g ≡ group.Sizeless → Outcome m bs work work (sizes structs front) level (Err refusal.NoSize)
       size_sizeless e = outcome (arms.size_sizeless structs front level z (at_group group.Sizeless e)) (after_none k.ready)
 
       pub other : {X : Type 0} → g ≡ group.Other → X
@@ -144,19 +145,16 @@ module _ {m : ℕ} {bs : List Entry} {work work' : List ℕ} {level : ℕ} {r : 
   pub outcome_few : {f : ℕ → Result ℕ} → Outcome m bs work work' f level r → Few r
   outcome_few {f} o = measures_few f level r l o.says
 
-  pub size_outcome_small : (t : Ty) → Outcome m bs work work' (sizes (structs_in m bs) t) level r → SmallBytes r
-  size_outcome_small t o = size_bytes (structs_in m bs) t level r l o.says
-
 pub times_few : (n : ℕ) (r q : Measured) → q ≡ times_of n r → Few r → Few q
 times_few n r q e f = rw e (go r f)
   where
-    pick : (b : Bool) (n h : ℕ) → h ≤ 64 → Few (pick_measured b (Bytes n h) (Refused 7))
+    pick : (b : Bool) (n h : ℕ) → h ≤ 64 → Few (pick_measured b (bytes_of n h) (Err refusal.TooLarge))
     pick true n h l = l
     pick false n h l = tt
 
     go : (r : Measured) → Few r → Few (times_of n r)
-    go (Bytes s h) l = pick (leb (n * s) 16777216) (n * s) h l
-    go (Refused x) l = tt
+    go (Ok b) l = pick (leb (n * b.bytes) 16777216) (n * b.bytes) b.levels l
+    go (Err x) l = tt
 
 -- ---- a named struct
 module _ (m x : ℕ) (bk bw : List ℕ) (work : List ℕ) (level : ℕ) (k : AskName m x (entries bk bw) work level) where
@@ -171,10 +169,10 @@ module _ (m x : ℕ) (bk bw : List ℕ) (work : List ℕ) (level : ℕ) (k : Ask
       → Outcome m (entries bk bw) work work (sizes named (Ty.named_struct x)) level r
   size_recalled z r e = rw e (outcome (recalls (sizes named (Ty.named_struct x)) _ level z (k.ready.known x k.name).size) (after_none k.ready))
 
-  pub align_absent : get_or work (body_at x) 0 ≡ 0 → Outcome m (entries bk bw) work work (aligns named (Ty.named_struct x)) level (Refused 6)
+  pub align_absent : get_or work (body_at x) 0 ≡ 0 → Outcome m (entries bk bw) work work (aligns named (Ty.named_struct x)) level (Err refusal.NoSize)
   align_absent z = outcome (arms.align_absent named m x level (entries bk bw) k.some_level _ (k.ready.bodies x k.name) z) (after_none k.ready)
 
-  pub size_absent : get_or work (body_at x) 0 ≡ 0 → Outcome m (entries bk bw) work work (sizes named (Ty.named_struct x)) level (Refused 6)
+  pub size_absent : get_or work (body_at x) 0 ≡ 0 → Outcome m (entries bk bw) work work (sizes named (Ty.named_struct x)) level (Err refusal.NoSize)
   size_absent z = outcome (arms.size_absent named m x level (entries bk bw) k.some_level _ (k.ready.bodies x k.name) z) (after_none k.ready)
 
   module _ (z : get_or work (body_at x) 0 ≡ 0 → ⊥) where
@@ -197,20 +195,33 @@ module _ (m x : ℕ) (bk bw : List ℕ) (work : List ℕ) (level : ℕ) (k : Ask
       size_says : Outcome m (entries bk bw) work work' (sizes named (ty_of m (lent bk bw (get_or work (body_at x) 0 - 1)))) (level - 1) r → Measures (sizes named (Ty.named_struct x)) level s
       size_says o = arms.size_body named m x level (entries bk bw) k.some_level _ body r s es (part_type (sizes named) m bk bw _ (level - 1) r o.says)
 
-      pub align_body_small : Outcome m (entries bk bw) work work' (aligns named (ty_of m (lent bk bw (get_or work (body_at x) 0 - 1)))) (level - 1) r → SmallBytes s × Few s
-      align_body_small o = (align_bytes named (Ty.named_struct x) level s k.levels (align_says o), measures_few _ level s k.levels (align_says o))
+      -- a refusal leaves the word
+      pub align_kept : Outcome m (entries bk bw) work work' (aligns named (ty_of m (lent bk bw (get_or work (body_at x) 0 - 1)))) (level - 1) r
+          → Outcome m (entries bk bw) work work' (aligns named (Ty.named_struct x)) level s
+      align_kept o = outcome (align_says o) o.after
 
-      pub size_body_small : Outcome m (entries bk bw) work work' (sizes named (ty_of m (lent bk bw (get_or work (body_at x) 0 - 1)))) (level - 1) r → SmallBytes s × Few s
-      size_body_small o = (size_bytes named (Ty.named_struct x) level s k.levels (size_says o), measures_few _ level s k.levels (size_says o))
+      pub size_kept : Outcome m (entries bk bw) work work' (sizes named (ty_of m (lent bk bw (get_or work (body_at x) 0 - 1)))) (level - 1) r
+          → Outcome m (entries bk bw) work work' (sizes named (Ty.named_struct x)) level s
+      size_kept o = outcome (size_says o) o.after
 
-      pub align_stored : Outcome m (entries bk bw) work work' (aligns named (ty_of m (lent bk bw (get_or work (body_at x) 0 - 1)))) (level - 1) r → (v : ℕ) → v ≡ with_align (get_or work' (measured_at x) 0) s
-          → Outcome m (entries bk bw) work (set work' (measured_at x) v) (aligns named (Ty.named_struct x)) level s
-      align_stored o v ev =
-          outcome (align_says o)
-          (after_then o.after (after_set x v o.after.ready k.name (rw ev (align_remembered named x _ level s k.levels (align_says o) (o.after.ready.known x k.name)))))
+      -- a measure is stored
+      module _ (b : Measure) (is : s ≡ Ok b) where
+        pub align_body_small : Outcome m (entries bk bw) work work' (aligns named (ty_of m (lent bk bw (get_or work (body_at x) 0 - 1)))) (level - 1) r → (b.bytes ≤ 16777216) × (b.levels ≤ 64)
+        align_body_small o = (rw is at (align_bytes named (Ty.named_struct x) level s k.levels (align_says o)), rw is at (measures_few _ level s k.levels (align_says o)))
 
-      pub size_stored : Outcome m (entries bk bw) work work' (sizes named (ty_of m (lent bk bw (get_or work (body_at x) 0 - 1)))) (level - 1) r → (v : ℕ) → v ≡ with_size (get_or work' (measured_at x) 0) s
-          → Outcome m (entries bk bw) work (set work' (measured_at x) v) (sizes named (Ty.named_struct x)) level s
-      size_stored o v ev =
-          outcome (size_says o)
-          (after_then o.after (after_set x v o.after.ready k.name (rw ev (size_remembered named x _ level s k.levels (size_says o) (o.after.ready.known x k.name)))))
+        pub size_body_small : Outcome m (entries bk bw) work work' (sizes named (ty_of m (lent bk bw (get_or work (body_at x) 0 - 1)))) (level - 1) r → (b.bytes ≤ 16777216) × (b.levels ≤ 64)
+        size_body_small o = (rw is at (size_bytes named (Ty.named_struct x) level s k.levels (size_says o)), rw is at (measures_few _ level s k.levels (size_says o)))
+
+        pub align_stored : Outcome m (entries bk bw) work work' (aligns named (ty_of m (lent bk bw (get_or work (body_at x) 0 - 1)))) (level - 1) r → (v : ℕ) → v ≡ with_align (get_or work' (measured_at x) 0) b
+            → Outcome m (entries bk bw) work (set work' (measured_at x) v) (aligns named (Ty.named_struct x)) level (Ok b)
+        align_stored o v ev =
+            let says : Measures (aligns named (Ty.named_struct x)) level (Ok b) = rw is at (align_says o) in
+            outcome says
+            (after_then o.after (after_set x v o.after.ready k.name (rw ev (align_remembered named x _ level b k.levels says (o.after.ready.known x k.name)))))
+
+        pub size_stored : Outcome m (entries bk bw) work work' (sizes named (ty_of m (lent bk bw (get_or work (body_at x) 0 - 1)))) (level - 1) r → (v : ℕ) → v ≡ with_size (get_or work' (measured_at x) 0) b
+            → Outcome m (entries bk bw) work (set work' (measured_at x) v) (sizes named (Ty.named_struct x)) level (Ok b)
+        size_stored o v ev =
+            let says : Measures (sizes named (Ty.named_struct x)) level (Ok b) = rw is at (size_says o) in
+            outcome says
+            (after_then o.after (after_set x v o.after.ready k.name (rw ev (size_remembered named x _ level b k.levels says (o.after.ready.known x k.name)))))

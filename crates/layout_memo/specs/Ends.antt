@@ -1,7 +1,7 @@
 -- Where a type of a sound book ends: behind its last open list.
 use Rattle.std.specs.Prelude.{ℕ, zero, suc, ◌+◌, ◌-◌, ◌≤◌, Bool, ◌||◌, eqb, get_or}
 use Rattle.std.proofs.Math.Path.{◌≡◌, refl, sym, ap}
-use Rattle.std.proofs.Common.{◌∙◌, arith, ne_eqb, drop-drop}
+use Rattle.std.proofs.Common.{◌∙◌, arith, drop-drop}
 use Rattle.std.proofs.Math.Bool.{true, false}
 use mathlib.Core.List.{List, [], ◌∷◌, ◌++◌, append_assoc}
 use Rattle.std.proofs.Math.ListN.{length, drop, length-append, length-drop}
@@ -21,28 +21,6 @@ opens_by kind lists = pickℕ (eqb kind 0) (lists - 1) (pickℕ (eqb kind 16) (l
 
 abbrev pub array_kind : ℕ → Bool
 array_kind kind = eqb kind 13 || eqb kind 14
-
-module _ (kind lists : ℕ) where
-  pub opens_end : kind ≡ 0 → lists - 1 ≡ opens_by kind lists
-  opens_end e = rw e refl
-
-  pub opens_struct : kind ≡ 16 → lists + 1 ≡ opens_by kind lists
-  opens_struct e = rw e refl
-
-  pub opens_packed : kind ≡ 17 → lists + 1 ≡ opens_by kind lists
-  opens_packed e = rw e refl
-
-  pub opens_none : (kind ≡ 0 → ⊥) → (kind ≡ 16 → ⊥) → (kind ≡ 17 → ⊥) → lists ≡ opens_by kind lists
-  opens_none a b c = rw (ne_eqb kind 0 a, ne_eqb kind 16 b, ne_eqb kind 17 c) refl
-
-  pub array_plain : kind ≡ 13 → true ≡ array_kind kind
-  array_plain e = rw e refl
-
-  pub array_packed : kind ≡ 14 → true ≡ array_kind kind
-  array_packed e = rw e refl
-
-  pub array_none : (kind ≡ 13 → ⊥) → (kind ≡ 14 → ⊥) → false ≡ array_kind kind
-  array_none a b = rw (ne_eqb kind 13 a, ne_eqb kind 14 b) refl
 
 -- lists that are open, the innermost first, and what stands behind them
 unfoldable pub pending : List Tys → List Entry → List Entry

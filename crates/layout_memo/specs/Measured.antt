@@ -3,14 +3,24 @@ use Rattle.std.specs.Prelude.{ℕ, zero, suc, ◌+◌, ◌-◌, ◌<◌, ◌≤�
 use Rattle.std.proofs.Common.{sym, ◌∙◌, arith, sub-one}
 use Rattle.std.proofs.Math.Logic.{⊎_elim}
 use Rattle.numbers.specs.Tests.{lt_or_le}
+use Rattle.std.specs.Prelude.{Result as Answer, Ok, Err}
+use Rattle.book.specs.Refusal.{number_of}
 use Rattle.book.specs.Result.{Result, ok, err, bind}
-use Rattle.layout_memo.specs.declared.Measured.{Measured}
-use Rattle.layout_memo.specs.declared.Measured.TheVariants.{Bytes, Refused}
+use Rattle.book.specs.declared.refusal.Refusal.{Refusal}
+use Rattle.layout_memo.specs.declared.Measure.{Measure}
+
+-- a measure, or why there is none
+abbrev pub Measured : Type 0
+Measured = Answer Measure Refusal
+
+-- so many bytes, with the levels that they take
+abbrev pub bytes_of : ℕ → ℕ → Measured
+bytes_of n h = Ok (record { bytes = n; levels = h })
 
 -- document 01's answer: the bytes, or the refusal's number
 abbrev pub result_of : Measured → Result ℕ
-result_of (Bytes n h) = ok n
-result_of (Refused e) = err e
+result_of (Ok m) = ok m.bytes
+result_of (Err e) = err (number_of e)
 
 -- n, from h levels on; 7 with fewer
 pub record Known (f : ℕ → Result ℕ) (n h : ℕ) : Type 0 where
@@ -24,26 +34,26 @@ pub record Gives (f : ℕ → Result ℕ) (level n h : ℕ) : Type 0 where
 
 -- the answer r is the measure f with so many levels
 abbrev pub Measures : (f : ℕ → Result ℕ) → ℕ → Measured → Type 0
-Measures f level (Bytes n h) = Gives f level n h
-Measures f level (Refused e) = f level ≡ err e
+Measures f level (Ok m) = Gives f level m.bytes m.levels
+Measures f level (Err e) = f level ≡ err (number_of e)
 
 pub measures_result : (f : ℕ → Result ℕ) (level : ℕ) (r : Measured) → Measures f level r → result_of r ≡ f level
-measures_result f level (Bytes n h) g = sym (g.known.high level g.within)
-measures_result f level (Refused e) g = sym g
+measures_result f level (Ok m) g = sym (g.known.high level g.within)
+measures_result f level (Err e) g = sym g
 
 -- one level more
 abbrev pub one_more : Measured → Measured
-one_more (Bytes n h) = Bytes n (h + 1)
-one_more (Refused e) = Refused e
+one_more (Ok m) = bytes_of m.bytes (m.levels + 1)
+one_more (Err e) = Err e
 
 -- levels that leave room for one more
 abbrev pub Few : Measured → Type 0
-Few (Bytes n h) = h ≤ 64
-Few (Refused e) = Unit {0}
+Few (Ok m) = m.levels ≤ 64
+Few (Err e) = Unit {0}
 
 pub measures_few : (f : ℕ → Result ℕ) (level : ℕ) (r : Measured) → level ≤ 64 → Measures f level r → Few r
-measures_few f level (Bytes n h) l g = omega (arith, g.within)
-measures_few f level (Refused e) l g = tt
+measures_few f level (Ok m) l g = omega (arith, g.within)
+measures_few f level (Err e) l g = tt
 
 -- ---- a type of one level
 module _ (f : ℕ → Result ℕ) (n : ℕ) (none : f 0 ≡ err 7) (all : (k : ℕ) → f (suc k) ≡ ok n) where
@@ -78,9 +88,9 @@ module _ (f g : ℕ → Result ℕ) (none : f 0 ≡ err 7) (part : (k : ℕ) →
 
   pub measures_up : (level : ℕ) → (level ≡ 0 → ⊥) → (r : Measured) → Measures g (level - 1) r → Measures f level (one_more r)
   measures_up zero z r m = absurd (z refl)
-  measures_up (suc l) z (Bytes n h) m =
-      record { known = record { low = up_low h m.known.low; high = up_high n h m.known.high }; within = omega (arith, m.within) }
-  measures_up (suc l) z (Refused e) m = part l ∙ rw (sub-one (suc l)) at m
+  measures_up (suc l) z (Ok b) m =
+      record { known = record { low = up_low b.levels m.known.low; high = up_high b.bytes b.levels m.known.high }; within = omega (arith, m.within) }
+  measures_up (suc l) z (Err e) m = part l ∙ rw (sub-one (suc l)) at m
 
 -- ---- measures one after the other: what is left to measure, and the levels taken so far
 pub record Progress (whole rest : ℕ → Result ℕ) (h level : ℕ) : Type 0 where

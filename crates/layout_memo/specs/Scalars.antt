@@ -20,11 +20,10 @@ use Rattle.layout_memo.specs.Arms as arms
 use Rattle.layout_memo.specs.Fields.{AtFields, at_field, at_next}
 use Rattle.layout_memo.specs.declared.scalars.Run.{Run}
 
--- the bytes of an integer or a pointer, by its entry; 0 for any other
+-- the bytes of an integer or a pointer, by its entry
 pub data Scalar (kind word : ℕ) : ℕ → Type 0 where
   int : kind ≡ 11 → Scalar kind word ((word + 7) / 8)
   ptr : kind ≡ 12 → Scalar kind word 8
-  other : Scalar kind word 0
 
 -- what is known of a type of so many bytes
 pub record ScalarType (m : ℕ) (es : List Entry) (b : ℕ) : Type 0 where
@@ -90,7 +89,11 @@ module _ {m : ℕ} {ks ws : List ℕ} {a : ℕ} (f : AtFields m ks ws a) where
   scalar_both : {b : ℕ} → (b ≡ 0 → ⊥) → Scalar (get_or ks a 0) (get_or ws a 0) b → (get_or ks a 0 ≡ 0 → ⊥) × ScalarType m (drop a (entries ks ws)) b
   scalar_both nz (int e) = (some_kind e, int_type e)
   scalar_both nz (ptr e) = (ptr_kind e, ptr_type e)
-  scalar_both nz other = absurd (nz refl)
+
+  -- an integer or a pointer has bytes
+  pub scalar_some : {b : ℕ} → Scalar (get_or ks a 0) (get_or ws a 0) b → b ≡ 0 → ⊥
+  scalar_some (int e) z = let h = (align_bounds _ (int_type e).align).0 in omega arith
+  scalar_some (ptr e) z = omega arith
 
   module _ {b : ℕ} (nz : b ≡ 0 → ⊥) (s : Scalar (get_or ks a 0) (get_or ws a 0) b) where
     pub scalar_kind : get_or ks a 0 ≡ 0 → ⊥

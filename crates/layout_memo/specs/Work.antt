@@ -18,10 +18,11 @@ use Rattle.layout.specs.Layout.{as_type, resolve, align_at, size_at, align_of, s
 use Rattle.layout.specs.Step.{field_at}
 use Rattle.layout.specs.Natural.{Natural, one, two, four, eight, align_of_natural}
 use Rattle.layout.proofs.Limit.{size_of_limit}
-use Rattle.layout_memo.specs.Measured.{result_of, Known, Measures, measures_result}
+use Rattle.std.specs.Prelude.{Ok, Err}
+use Rattle.book.specs.declared.refusal.Refusal.TheVariants as refusal
+use Rattle.layout_memo.specs.Measured.{Measured, bytes_of, result_of, Known, Measures, measures_result}
 use Rattle.layout_memo.specs.Front.{Starts, StartsFields, ty_of, tys_of}
-use Rattle.layout_memo.specs.declared.Measured.{Measured}
-use Rattle.layout_memo.specs.declared.Measured.TheVariants.{Bytes, Refused}
+use Rattle.layout_memo.specs.declared.Measure.{Measure}
 
 -- the structs of the book
 abbrev pub structs_or : Option Book → List StructType
@@ -198,13 +199,11 @@ module _ {m : ℕ} {es : List Entry} {work work' : List ℕ} (a : After m es wor
 abbrev pub part_of : ℕ → ℕ → ℕ
 part_of n h = n * 128 + h
 
-abbrev pub with_size : ℕ → Measured → ℕ
-with_size w (Bytes n h) = part_of n h * 2 ^ 32 + w % 2 ^ 32
-with_size w (Refused e) = w
+abbrev pub with_size : ℕ → Measure → ℕ
+with_size w m = part_of m.bytes m.levels * 2 ^ 32 + w % 2 ^ 32
 
-abbrev pub with_align : ℕ → Measured → ℕ
-with_align w (Bytes n h) = w / 2 ^ 32 * 2 ^ 32 + part_of n h
-with_align w (Refused e) = w
+abbrev pub with_align : ℕ → Measure → ℕ
+with_align w m = w / 2 ^ 32 * 2 ^ 32 + part_of m.bytes m.levels
 
 abbrev pub pick_measured : Bool → Measured → Measured → Measured
 pick_measured true a b = a
@@ -212,12 +211,12 @@ pick_measured false a b = b
 
 -- the answer that a part remembers
 abbrev pub recalled : ℕ → ℕ → Measured
-recalled part level = pick_measured (leb (part % 128) level) (Bytes (part / 128) (part % 128)) (Refused 7)
+recalled part level = pick_measured (leb (part % 128) level) (bytes_of (part / 128) (part % 128)) (Err refusal.TooLarge)
 
 pub recalls : (f : ℕ → Result ℕ) (part level : ℕ) → (part ≡ 0 → ⊥) → Recalls f part → Measures f level (recalled part level)
 recalls f part level z r = go (leb (part % 128) level) refl
   where
-    go : (b : Bool) → leb (part % 128) level ≡ b → Measures f level (pick_measured b (Bytes (part / 128) (part % 128)) (Refused 7))
+    go : (b : Bool) → leb (part % 128) level ≡ b → Measures f level (pick_measured b (bytes_of (part / 128) (part % 128)) (Err refusal.TooLarge))
     go true e = record { known = r.right z; within = leb-true _ _ e }
     go false e = (r.right z).low level (leb-false _ _ e)
 
@@ -253,24 +252,22 @@ module _ (structs : List StructType) where
   unfolding align_of
   align_small t l k = aligned_small t (k.high 64 l)
 
-  pub size_remembered : (x w level : ℕ) (r : Measured) → level ≤ 64 → Measures (sizes structs (Ty.named_struct x)) level r → Remembered structs x w → Remembered structs x (with_size w r)
-  size_remembered x w level (Refused e) l m k = k
-  size_remembered x w level (Bytes n h) l m k =
-      let q : h ≤ 64 = omega (arith, m.within) in
+  pub size_remembered : (x w level : ℕ) (b : Measure) → level ≤ 64 → Measures (sizes structs (Ty.named_struct x)) level (Ok b) → Remembered structs x w → Remembered structs x (with_size w b)
+  size_remembered x w level b l m k =
+      let q : b.levels ≤ 64 = omega (arith, m.within) in
       let s = size_small (Ty.named_struct x) q m.known in
-      let a : align_part (with_size w (Bytes n h)) ≡ align_part w = omega arith in
-      let b : size_part (with_size w (Bytes n h)) ≡ part_of n h = omega arith in
-      record { align = rw a k.align; size = known_recalls (sizes structs (Ty.named_struct x)) n h _ b q m.known }
+      let e : align_part (with_size w b) ≡ align_part w = omega arith in
+      let f : size_part (with_size w b) ≡ part_of b.bytes b.levels = omega arith in
+      record { align = rw e k.align; size = known_recalls (sizes structs (Ty.named_struct x)) b.bytes b.levels _ f q m.known }
 
-  pub align_remembered : (x w level : ℕ) (r : Measured) → level ≤ 64 → Measures (aligns structs (Ty.named_struct x)) level r → Remembered structs x w → Remembered structs x (with_align w r)
-  align_remembered x w level (Refused e) l m k = k
-  align_remembered x w level (Bytes n h) l m k =
-      let q : h ≤ 64 = omega (arith, m.within) in
+  pub align_remembered : (x w level : ℕ) (b : Measure) → level ≤ 64 → Measures (aligns structs (Ty.named_struct x)) level (Ok b) → Remembered structs x w → Remembered structs x (with_align w b)
+  align_remembered x w level b l m k =
+      let q : b.levels ≤ 64 = omega (arith, m.within) in
       let s = align_small (Ty.named_struct x) q m.known in
-      let t : n ≤ 8 = s.1 in
-      let a : align_part (with_align w (Bytes n h)) ≡ part_of n h = omega arith in
-      let b : size_part (with_align w (Bytes n h)) ≡ size_part w = omega arith in
-      record { align = known_recalls (aligns structs (Ty.named_struct x)) n h _ a q m.known; size = rw b k.size }
+      let t : b.bytes ≤ 8 = s.1 in
+      let e : align_part (with_align w b) ≡ part_of b.bytes b.levels = omega arith in
+      let f : size_part (with_align w b) ≡ size_part w = omega arith in
+      record { align = known_recalls (aligns structs (Ty.named_struct x)) b.bytes b.levels _ e q m.known; size = rw f k.size }
 
 -- what a measurement answers and leaves: the definition's answer, with the levels that it takes
 pub record Outcome (m : ℕ) (es : List Entry) (work work' : List ℕ) (f : ℕ → Result ℕ) (level : ℕ) (r : Measured) : Type 0 where

@@ -11,29 +11,18 @@ fn opened(kind: u64, lists: usize) -> usize
     requires { (kind ≡ 0 → 1 ≤ lists) × (lists ≤ 1048576) }
     ensures { result ≡ opens_by kind lists }
 {
-    if kind == entry::END {
-        return lists - 1;
+    match kind {
+        entry::END => lists - 1,
+        entry::STRUCT | entry::PACKED_STRUCT => lists + 1,
+        _ => lists,
     }
-    if kind == entry::STRUCT {
-        return lists + 1;
-    }
-    if kind == entry::PACKED_STRUCT {
-        return lists + 1;
-    }
-    lists
 }
 
 // Whether an array begins with an entry of this kind.
 fn is_array(kind: u64) -> bool
     ensures { result ≡ array_kind kind }
 {
-    if kind == entry::ARRAY {
-        return true;
-    }
-    if kind == entry::PACKED_ARRAY {
-        return true;
-    }
-    false
+    matches!(kind, entry::ARRAY | entry::PACKED_ARRAY)
 }
 
 // The number of entries of the type at the front.
@@ -41,15 +30,16 @@ pub fn type_end(kinds: &[u64], words: &[u64], names: u64) -> usize
     requires { Starts names (entries kinds.now words.now) }
     ensures { result ≡ ty_len names (entries kinds.now words.now) }
 {
+    // No `for`: how many entries a type has is known only behind them.
     let mut at: usize = 0;
     while is_array(kinds[at]) {
-        at = at + 1;
+        at += 1;
     }
     let mut lists = opened(kinds[at], 0);
-    at = at + 1;
+    at += 1;
     while lists != 0 {
         lists = opened(kinds[at], lists);
-        at = at + 1;
+        at += 1;
     }
     at
 }

@@ -7,54 +7,57 @@ pub mod memory;
 pub mod scalars;
 pub mod structs;
 
-ghost use Rattle.std.specs.Prelude.{◌≡◌, max};
+ghost use Rattle.std.specs.Prelude.{◌≡◌};
 ghost use Rattle.book.specs.Entry.{entries};
 ghost use Rattle.layout_memo.specs.Measured.{one_more, Few};
 ghost use Rattle.layout_memo.specs.Front.{ty_len};
-ghost use Rattle.layout_memo.specs.Arms.{times_of, SmallBytes};
+ghost use Rattle.layout_memo.specs.Arms.{times_of};
 
-use book_types::Length;
-use book_types::types::type_len;
+use book::refusal::Refusal;
+use book_types::types::{LEVELS, type_len};
 
-// A measured size or alignment with the levels that it takes, or the number of a refusal.
-#[derive(Clone, Copy)]
-pub enum Measured {
-    Bytes(u64, u32),
-    Refused(u64),
+// The most bytes of a type, and the most entries of a book.
+pub const MOST_BYTES: u64 = 16777216;
+
+pub const MOST_ENTRIES: u64 = 1048576;
+
+// A measured size or alignment with the levels that it takes.
+#[derive(Clone, Copy, Debug, PartialEq, Eq)]
+pub struct Measure {
+    pub bytes: u64,
+    pub levels: u32,
+}
+
+// So many bytes, of a type that takes one level.
+pub fn one_level(bytes: u64) -> Measure
+    ensures { result ≡ record { bytes = bytes; levels = 1 } }
+{
+    Measure { bytes, levels: 1 }
 }
 
 // One level more.
-pub fn one_more(m: Measured) -> Measured
+pub fn one_more(m: Result<Measure, Refusal>) -> Result<Measure, Refusal>
     requires { Few m }
     ensures { result ≡ one_more m }
 {
-    match m {
-        Measured::Bytes(n, levels) => Measured::Bytes(n, levels + 1),
-        Measured::Refused(e) => Measured::Refused(e),
-    }
+    let Measure { bytes, levels } = m?;
+    Ok(Measure {
+        bytes,
+        levels: levels + 1,
+    })
 }
 
 // An array of so many elements: at most 2^24 bytes.
-pub fn array_bytes(len: u64, elem: Measured) -> Measured
-    requires { SmallBytes elem }
+pub fn array_bytes(len: u64, elem: Result<Measure, Refusal>) -> Result<Measure, Refusal>
     ensures { result ≡ times_of len elem }
 {
-    match elem {
-        Measured::Refused(e) => Measured::Refused(e),
-        Measured::Bytes(size, levels) => {
-            if size == 0 {
-                return Measured::Bytes(0, levels);
-            }
-            if 16777216 < len {
-                return Measured::Refused(7);
-            }
-            let n = len * size;
-            if n <= 16777216 {
-                Measured::Bytes(n, levels)
-            } else {
-                Measured::Refused(7)
-            }
-        }
+    let elem = elem?;
+    match len.checked_mul(elem.bytes) {
+        Some(bytes) if bytes <= MOST_BYTES => Ok(Measure {
+            bytes,
+            levels: elem.levels,
+        }),
+        _ => Err(Refusal::TooLarge),
     }
 }
 
@@ -62,22 +65,5 @@ pub fn array_bytes(len: u64, elem: Measured) -> Measured
 pub fn skip(kinds: &[u64], words: &[u64], names: u64) -> usize
     ensures { result ≡ ty_len names (entries kinds.now words.now) }
 {
-    match type_len(kinds, words, names, 64) {
-        Length::Entries(n) => n,
-        Length::Bad => 0,
-    }
-}
-
-// The larger of two alignments.
-pub fn larger(a: u64, b: u64) -> u64
-    ensures { result ≡ max a b }
-{
-    if a < b { b } else { a }
-}
-
-// The larger of two numbers of levels.
-pub fn deeper(a: u32, b: u32) -> u32
-    ensures { result ≡ max a b }
-{
-    if a < b { b } else { a }
+    type_len(kinds, words, names, LEVELS).unwrap_or(0)
 }

@@ -1,41 +1,51 @@
-// Word 7 of a name: what is known of its struct's size and alignment.
-ghost use Rattle.std.specs.Prelude.{◌≡◌};
-ghost use Rattle.layout_memo.specs.Arms.{SmallBytes};
-ghost use Rattle.layout_memo.specs.Measured.{Few};
-ghost use Rattle.layout_memo.specs.Work.{recalled as recalledAs, with_size, with_align};
+// Word 7 of a name: what is known of its struct's size and alignment. The size's part stands above the alignment's, and each
+// part has the bytes above the levels.
+ghost use Rattle.std.specs.Prelude.{◌≡◌, ◌≤◌};
+ghost use Rattle.layout_memo.specs.Work.{recalled as recalledAs, with_size, with_align, part_of as partOf};
 
-use crate::Measured;
+use crate::Measure;
+use book::refusal::Refusal;
+
+// A part is 32 bits, its levels are 7.
+pub const PART: u64 = 4294967296;
+
+const LEVELS: u64 = 128;
 
 // The answer that a part of the word remembers, with so many levels.
-pub fn recalled(part: u64, level: u32) -> Measured
+pub fn recalled(part: u64, level: u32) -> Result<Measure, Refusal>
     ensures { result ≡ recalledAs part level }
 {
-    let levels = (part % 128) as u32;
+    let levels = (part % LEVELS) as u32;
     if levels <= level {
-        Measured::Bytes(part / 128, levels)
+        Ok(Measure {
+            bytes: part / LEVELS,
+            levels,
+        })
     } else {
-        Measured::Refused(7)
+        Err(Refusal::TooLarge)
     }
+}
+
+// The part that remembers a measure.
+fn part_of(m: Measure) -> u64
+    requires { (m.bytes ≤ 16777216) × (m.levels ≤ 64) }
+    ensures { result ≡ partOf m.bytes m.levels }
+{
+    m.bytes * LEVELS + u64::from(m.levels)
 }
 
 // The word with a size that was measured.
-pub fn with_size(word: u64, m: Measured) -> u64
-    requires { SmallBytes m × Few m }
+pub fn with_size(word: u64, m: Measure) -> u64
+    requires { (m.bytes ≤ 16777216) × (m.levels ≤ 64) }
     ensures { result ≡ with_size word m }
 {
-    match m {
-        Measured::Bytes(n, levels) => (n * 128 + levels as u64) * 4294967296 + word % 4294967296,
-        Measured::Refused(_) => word,
-    }
+    part_of(m) * PART + word % PART
 }
 
 // The word with an alignment that was measured.
-pub fn with_align(word: u64, m: Measured) -> u64
-    requires { SmallBytes m × Few m }
+pub fn with_align(word: u64, m: Measure) -> u64
+    requires { (m.bytes ≤ 16777216) × (m.levels ≤ 64) }
     ensures { result ≡ with_align word m }
 {
-    match m {
-        Measured::Bytes(n, levels) => word / 4294967296 * 4294967296 + (n * 128 + levels as u64),
-        Measured::Refused(_) => word,
-    }
+    word / PART * PART + part_of(m)
 }

@@ -1,12 +1,11 @@
 // Fields that are integers or pointers, which are passed without a call for each.
-ghost use Rattle.std.specs.Prelude.{◌≡◌, true, ◌+◌, ◌<◌, ◌≤◌, ◌^◌};
+ghost use Rattle.std.specs.Prelude.{◌≡◌, true, ◌+◌, ◌<◌, ◌≤◌, ◌^◌, IfSome};
 ghost use Rattle.numbers.specs.Align.{is_align};
 ghost use Rattle.layout.specs.Layout.{placed};
 ghost use Rattle.layout_memo.specs.Scalars.{Scalar, RunFrom, Passes, all_from, reach_of};
 
-use crate::{deeper, larger};
+use crate::MOST_ENTRIES;
 use book::entry;
-use numbers::align::exponent;
 
 // The fields of a struct so far: the place behind them, how many more are to be passed, where they end, their largest
 // alignment, the levels that they take.
@@ -25,25 +24,23 @@ pub fn run_from(at: usize, offset: u64, align: u64, levels: u32) -> Run
 {
     Run {
         at,
-        left: 1048576,
+        left: MOST_ENTRIES,
         offset,
         align,
         levels,
     }
 }
 
-// The bytes of an integer or a pointer, by its entry; 0 for any other.
-fn scalar_bytes(kind: u64, word: u64) -> u64
+// The bytes of an integer or a pointer, by its entry.
+fn scalar_bytes(kind: u64, word: u64) -> Option<u64>
     requires { kind ≡ 11 → word ≤ 64 }
-    ensures { Scalar kind word result }
+    ensures { IfSome result (λ bytes. Scalar kind word bytes) }
 {
-    if kind == entry::INT {
-        return (word + 7) / 8;
+    match kind {
+        entry::INT => Some((word + 7) / 8),
+        entry::PTR => Some(8),
+        _ => None,
     }
-    if kind == entry::PTR {
-        return 8;
-    }
-    0
 }
 
 // Where a field starts that is aligned to its bytes.
@@ -54,7 +51,7 @@ fn scalar_start(packed: bool, offset: u64, bytes: u64) -> u64
     if packed {
         return offset;
     }
-    let e = exponent(bytes);
+    let e = bytes.trailing_zeros();
     ((offset + (bytes - 1)) >> e) << e
 }
 
@@ -73,10 +70,9 @@ pub fn pass_scalars(
     let mut run = from;
     while run.at < stop {
         let at = run.at;
-        let bytes = scalar_bytes(kinds[at], words[at]);
-        if bytes == 0 {
+        let Some(bytes) = scalar_bytes(kinds[at], words[at]) else {
             return run;
-        }
+        };
         if run.left == 0 {
             return run;
         }
@@ -84,8 +80,8 @@ pub fn pass_scalars(
             at: at + 1,
             left: run.left - 1,
             offset: scalar_start(packed, run.offset, bytes) + bytes,
-            align: larger(run.align, bytes),
-            levels: deeper(run.levels, 1),
+            align: run.align.max(bytes),
+            levels: run.levels.max(1),
         };
     }
     run

@@ -8,13 +8,14 @@ use Rattle.book.specs.Entry.{entries}
 use Rattle.book.specs.Ast.{Ty, StructType}
 use Rattle.book.specs.Result.{Result, err, bind, given}
 use Rattle.layout.specs.Layout.{limit, placed, size_from, struct_size, align_at, size_at}
-use Rattle.layout_memo.specs.Measured.{Gives, Measures, Progress, progress_start, progress_bind, progress_refused, progress_bytes, progress_err}
+use Rattle.layout_memo.specs.Measured.{bytes_of, Gives, Measures, Progress, progress_start, progress_bind, progress_refused, progress_bytes, progress_err}
 use Rattle.layout_memo.specs.Fields.{AtFields, at_start_lem, at_nil, at_field, at_next, at_cons}
 use Rattle.layout_size.specs.Sums.{SmallSum, SmallField, added, closed, placed_most}
 use Rattle.layout_memo.specs.Front.{StartsFields, ty_of, tys_of, ty_len}
 use Rattle.layout_memo.specs.Work.{sizes, aligns, align_small, size_small, pick_measured}
 use Rattle.layout_memo.specs.Arms.{field_sizes}
-use Rattle.layout_memo.specs.declared.Measured.TheVariants.{Bytes, Refused}
+use Rattle.std.specs.Prelude.{Err}
+use Rattle.book.specs.declared.refusal.Refusal.TheVariants as refusal
 use Rattle.layout_size.specs.declared.Sum.{Sum}
 
 -- ---- size
@@ -41,7 +42,7 @@ module _ (structs : List StructType) (m : ℕ) (ks ws : List ℕ) (packed : Bool
     size_done z = go (leb (placed packed sum.offset sum.align) 16777216) refl
       where
         go : (b : Bool) → leb (placed packed sum.offset sum.align) 16777216 ≡ b
-            → Measures (field_sizes structs packed (tys_of m (entries ks ws))) level (pick_measured b (Bytes (placed packed sum.offset sum.align) sum.levels) (Refused 7))
+            → Measures (field_sizes structs packed (tys_of m (entries ks ws))) level (pick_measured b (bytes_of (placed packed sum.offset sum.align) sum.levels) (Err refusal.TooLarge))
         go true e = progress_bytes l.goes (λ k. rw (at_nil l.place z, e) refl)
         go false e = progress_err l.goes (λ k. rw (at_nil l.place z, e) refl)
 

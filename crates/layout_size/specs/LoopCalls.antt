@@ -3,7 +3,9 @@ use Rattle.std.specs.Prelude.{ℕ, ◌+◌, ◌≤◌, max, ◌≡◌, Bool, Lis
 use Rattle.std.proofs.Common.{arith}
 use Rattle.book.specs.Entry.{Entry, entries}
 use Rattle.book.specs.Ast.{StructType}
-use Rattle.layout_memo.specs.Measured.{Gives, Measures}
+use Rattle.std.specs.Prelude.{Err}
+use Rattle.book.specs.declared.refusal.Refusal.{Refusal}
+use Rattle.layout_memo.specs.Measured.{Measured, bytes_of, Gives, Measures}
 use Rattle.layout_memo.specs.Front.{ty_of, tys_of, ty_len}
 use Rattle.layout_memo.specs.Work.{structs_in, sizes, aligns, After, Outcome, outcome, Ask, AskFields, after_none, after_then}
 use Rattle.layout_memo.specs.Arms.{field_sizes}
@@ -16,8 +18,6 @@ use Rattle.layout_memo.specs.Scalars.{Scalar, Passes, none, more, RunFrom, all_f
 use Rattle.layout_memo.specs.declared.scalars.Run.{Run}
 use Rattle.layout_size.specs.Loop as loops
 use Rattle.layout_size.specs.Loop.{SizeLoop}
-use Rattle.layout_memo.specs.declared.Measured.{Measured}
-use Rattle.layout_memo.specs.declared.Measured.TheVariants.{Bytes, Refused}
 use Rattle.layout_size.specs.declared.Sum.{Sum}
 
 -- ---- size
@@ -49,25 +49,25 @@ module _ (m : ℕ) (ks ws : List ℕ) (bs : List Entry) (work₀ : List ℕ) (le
         align_says : Measures (aligns structs₂ (ty_of m (drop a (entries ks ws)))) level r
         align_says = part_type (aligns structs₂) m ks ws a level r o.says
 
-        pub size_align_refused : (x : ℕ) → r ≡ Refused x → Outcome m bs work₀ work' (field_sizes structs₂ packed (tys_of m (entries ks ws))) level (Refused x)
+        pub size_align_refused : (x : Refusal) → r ≡ Err x → Outcome m bs work₀ work' (field_sizes structs₂ packed (tys_of m (entries ks ws))) level (Err x)
         size_align_refused x q =
             outcome (loops.size_align_refused structs₂ m ks ws packed level lv i.0 z (refused_at r _ level q align_says)) (after_then i.1 o.after)
 
         pub size_ask : Ask m (lent ks ws a) bs work' level
         size_ask = ask_part ks ws a (at_field i.0.place z).field o.after.ready lv
 
-        module _ (b hb : ℕ) (q : r ≡ Bytes b hb) {work'' : List ℕ} {s : Measured} (u : Outcome m bs work' work'' (sizes structs₂ (ty_of m (lent ks ws a))) level s) where
+        module _ (b hb : ℕ) (q : r ≡ bytes_of b hb) {work'' : List ℕ} {s : Measured} (u : Outcome m bs work' work'' (sizes structs₂ (ty_of m (lent ks ws a))) level s) where
           size_says : Measures (sizes structs₂ (ty_of m (drop a (entries ks ws)))) level s
           size_says = part_type (sizes structs₂) m ks ws a level s u.says
 
           abbrev align_gives : Gives (aligns structs₂ (ty_of m (drop a (entries ks ws)))) level b hb
           align_gives = gives_at r q _ level align_says
 
-          pub size_refused : (x : ℕ) → s ≡ Refused x → Outcome m bs work₀ work'' (field_sizes structs₂ packed (tys_of m (entries ks ws))) level (Refused x)
+          pub size_refused : (x : Refusal) → s ≡ Err x → Outcome m bs work₀ work'' (field_sizes structs₂ packed (tys_of m (entries ks ws))) level (Err x)
           size_refused x p =
               outcome (loops.size_refused structs₂ m ks ws packed level lv i.0 z align_gives (refused_at s _ level p size_says)) (after_then i.1 (after_then o.after u.after))
 
-          module _ (c hc : ℕ) (p : s ≡ Bytes c hc) where
+          module _ (c hc : ℕ) (p : s ≡ bytes_of c hc) where
             pub field_small : SmallField sum.offset b c
             field_small = loops.small_field structs₂ m ks ws packed level lv i.0 z align_gives (gives_at s p _ level size_says)
 

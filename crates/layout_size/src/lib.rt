@@ -9,12 +9,13 @@ ghost use Rattle.layout_memo.specs.Arms.{field_sizes};
 ghost use Rattle.layout_size.specs.Sums.{added, closed as closedSum, SmallSum, SmallField};
 ghost use Rattle.layout_memo.specs.Work.{Ask, AskFields, AskName, Outcome, structs_in, sizes as sizesOf};
 
+use book::refusal::Refusal;
 use book_types::types::{TypeGroup, type_group};
 use layout_align::align_of;
 use layout_memo::ends::type_end;
-use layout_memo::memory::{recalled, with_size};
+use layout_memo::memory::{PART, recalled, with_size};
 use layout_memo::scalars::{pass_scalars, reach, run_from};
-use layout_memo::{Measured, array_bytes, deeper, larger, one_more};
+use layout_memo::{MOST_BYTES, Measure, array_bytes, one_level, one_more};
 use numbers::align::align_up;
 
 // The size of the type at the front.
@@ -27,19 +28,19 @@ pub fn size_of(
     work: &mut [u64],
     names: u64,
     level: u32,
-) -> Measured
+) -> Result<Measure, Refusal>
     requires { Ask names (entries kinds.now words.now) (entries book_kinds.now book_words.now) work.old level }
     ensures { Outcome names (entries book_kinds.now book_words.now) work.old work.new
         (sizesOf (structs_in names (entries book_kinds.now book_words.now)) (ty_of names (entries kinds.now words.now))) level result }
 {
     if level == 0 {
-        return Measured::Refused(7);
+        return Err(Refusal::TooLarge);
     }
     let word = words[0];
     match type_group(kinds[0]) {
-        TypeGroup::Void => Measured::Bytes(0, 1),
-        TypeGroup::Int => Measured::Bytes((word + 7) / 8, 1),
-        TypeGroup::Ptr => Measured::Bytes(8, 1),
+        TypeGroup::Void => Ok(one_level(0)),
+        TypeGroup::Int => Ok(one_level((word + 7) / 8)),
+        TypeGroup::Ptr => Ok(one_level(8)),
         TypeGroup::Array(_) => one_more(array_bytes(
             word,
             size_of(
@@ -63,12 +64,11 @@ pub fn size_of(
             level - 1,
             packed,
         )),
-        TypeGroup::Sizeless => Measured::Refused(6),
-        TypeGroup::Other => Measured::Refused(6),
+        TypeGroup::Sizeless | TypeGroup::Other => Err(Refusal::NoSize),
     }
 }
 
-// The size of a named struct.
+// The size of a named struct. Apart from `named_align`, as one function for both would take the measurement that calls back into it.
 #[cycle(named_size_size_of_struct_size)]
 fn named_size(
     book_kinds: &[u64],
@@ -77,19 +77,19 @@ fn named_size(
     names: u64,
     name: u64,
     level: u32,
-) -> Measured
+) -> Result<Measure, Refusal>
     requires { AskName names name (entries book_kinds.now book_words.now) work.old level }
     ensures { Outcome names (entries book_kinds.now book_words.now) work.old work.new
         (sizesOf (structs_in names (entries book_kinds.now book_words.now)) (Ty.named_struct name)) level result }
 {
     let at = book::work::WORDS * (name as usize);
-    let part = work[at + book::work::MEASURED] / 4294967296;
+    let part = work[at + book::work::MEASURED] / PART;
     if part != 0 {
         return recalled(part, level);
     }
     let body = work[at + book::work::BODY];
     if body == 0 {
-        return Measured::Refused(6);
+        return Err(Refusal::NoSize);
     }
     let from = (body - 1) as usize;
     let r = one_more(size_of(
@@ -100,9 +100,9 @@ fn named_size(
         work,
         names,
         level - 1,
-    ));
+    ))?;
     work[at + book::work::MEASURED] = with_size(work[at + book::work::MEASURED], r);
-    r
+    Ok(r)
 }
 
 // The fields of a struct so far: where they end, their largest alignment, the levels that they take.
@@ -126,37 +126,30 @@ pub fn placed(packed: bool, offset: u64, align: u64) -> u64
 }
 
 // One field more.
-fn add_field(
-    sum: Sum,
-    packed: bool,
-    align: u64,
-    align_levels: u32,
-    size: u64,
-    size_levels: u32,
-) -> Sum
-    requires { SmallField sum.offset align size }
-    ensures { result ≡ added sum packed align align_levels size size_levels }
+fn add_field(sum: Sum, packed: bool, align: Measure, size: Measure) -> Sum
+    requires { SmallField sum.offset align.bytes size.bytes }
+    ensures { result ≡ added sum packed align.bytes align.levels size.bytes size.levels }
 {
-    let offset = placed(packed, sum.offset, align) + size;
-    let most = larger(sum.align, align);
-    let levels = deeper(deeper(sum.levels, align_levels), size_levels);
     Sum {
-        offset,
-        align: most,
-        levels,
+        offset: placed(packed, sum.offset, align.bytes) + size.bytes,
+        align: sum.align.max(align.bytes),
+        levels: sum.levels.max(align.levels).max(size.levels),
     }
 }
 
 // The end of a struct: at most 2^24 bytes.
-fn closed(sum: Sum, packed: bool) -> Measured
+fn closed(sum: Sum, packed: bool) -> Result<Measure, Refusal>
     requires { SmallSum sum.offset sum.align }
     ensures { result ≡ closedSum sum packed }
 {
-    let size = placed(packed, sum.offset, sum.align);
-    if size <= 16777216 {
-        Measured::Bytes(size, sum.levels)
+    let bytes = placed(packed, sum.offset, sum.align);
+    if bytes <= MOST_BYTES {
+        Ok(Measure {
+            bytes,
+            levels: sum.levels,
+        })
     } else {
-        Measured::Refused(7)
+        Err(Refusal::TooLarge)
     }
 }
 
@@ -171,7 +164,7 @@ fn struct_size(
     names: u64,
     level: u32,
     packed: bool,
-) -> Measured
+) -> Result<Measure, Refusal>
     requires { AskFields names (entries kinds.now words.now) (entries book_kinds.now book_words.now) work.old level }
     ensures { Outcome names (entries book_kinds.now book_words.now) work.old work.new
         (field_sizes (structs_in names (entries book_kinds.now book_words.now)) packed (tys_of names (entries kinds.now words.now))) level result }
@@ -187,17 +180,9 @@ fn struct_size(
     while kinds[at] != book::entry::END {
         let ks = &kinds[at..];
         let ws = &words[at..];
-        match align_of(ks, ws, book_kinds, book_words, work, names, level) {
-            Measured::Refused(e) => return Measured::Refused(e),
-            Measured::Bytes(a, a_levels) => {
-                match size_of(ks, ws, book_kinds, book_words, work, names, level) {
-                    Measured::Refused(e) => return Measured::Refused(e),
-                    Measured::Bytes(s, s_levels) => {
-                        sum = add_field(sum, packed, a, a_levels, s, s_levels);
-                    }
-                }
-            }
-        }
+        let a = align_of(ks, ws, book_kinds, book_words, work, names, level)?;
+        let s = size_of(ks, ws, book_kinds, book_words, work, names, level)?;
+        sum = add_field(sum, packed, a, s);
         let behind = at + type_end(ks, ws, names);
         let next = run_from(behind, sum.offset, sum.align, sum.levels);
         let run = pass_scalars(kinds, words, names, packed, stop, next);

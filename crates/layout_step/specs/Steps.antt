@@ -7,6 +7,10 @@ use mathlib.Core.List.{List}
 use Rattle.std.proofs.Math.ListN.{drop}
 use Rattle.std.proofs.Math.Seq.{drop-drop}
 use Rattle.numbers.specs.Wrap.{wrap_mul}
+use Rattle.std.specs.Prelude.{Option as Maybe, Some, None, Result as Answer, Ok, Err}
+use Rattle.book.specs.declared.refusal.Refusal.{Refusal}
+use Rattle.book.specs.declared.refusal.Refusal.TheVariants as refusal
+use Rattle.book.specs.Refusal.{number_of}
 use Rattle.book.specs.Entry.{Entry, entries}
 use Rattle.book.specs.Ast.{Ty, Tys, Value, StructType}
 use Rattle.book.specs.Kinds.{ty_tag}
@@ -24,24 +28,25 @@ use Rattle.layout_memo.specs.Work.{structs_in, BodyAt, sizes, Ready, After, Fiel
 use Rattle.layout_memo.specs.Helpers.{gives_at, refused_at}
 use Rattle.layout_memo.specs.Calls.{lent, ask_part, ask_fields, part_type, starts_length}
 use Rattle.layout_memo.specs.Fields.{AtFields, at_nil, at_field, at_cons}
-use Rattle.layout_field.specs.Offsets.{FieldFound, FieldPlace, AskStart, StartOutcome, start_of, AskOffset, OffsetOutcome, offset_of, offset_result}
-use Rattle.layout_memo.specs.declared.Measured.{Measured}
-use Rattle.layout_memo.specs.declared.Measured.TheVariants.{Bytes, Refused}
-use Rattle.layout_field.specs.declared.Offset.{Offset}
-use Rattle.layout_field.specs.declared.Offset.TheVariants as offset
-use Rattle.layout_field.specs.declared.Place.{Place}
-use Rattle.layout_field.specs.declared.Place.TheVariants as place
+use Rattle.layout_field.specs.Offsets.{Offset, FieldFound, FieldPlace, AskStart, StartOutcome, start_of, AskOffset, OffsetOutcome, offset_of, offset_result}
+use Rattle.layout_memo.specs.Measured.{Measured, bytes_of}
 use Rattle.layout_table.specs.Table.{AskFieldsAt, fields_below}
 use Rattle.layout_table.specs.Known.{KnownOutcome}
 use Rattle.layout_table.specs.declared.Known.{Known}
-use Rattle.layout_step.specs.declared.Index.{Index}
-use Rattle.layout_step.specs.declared.Index.TheVariants as index
 use Rattle.layout_step.specs.declared.Step.{Step}
 use Rattle.layout_step.specs.declared.Step.TheVariants as step
 
+-- the index as the code has it: a constant, or none where it varies
+abbrev pub Index : Type 0
+Index = Maybe ℕ
+
 abbrev pub index_of : Index → Option ℕ
-index_of (index.Constant c) = some c
-index_of index.Varying = none
+index_of (Some c) = some c
+index_of None = none
+
+-- a step, or why there is none
+abbrev pub Stepping : Type 0
+Stepping = Answer Step Refusal
 
 -- `gep_step` and `struct_step`, by the index where it is constant
 module _ (structs : List StructType) where
@@ -95,12 +100,12 @@ pub record Stepped (m : ℕ) (es : List Entry) (res : Result GepStep) (by : Ty �
   pub answer : res ≡ ok (by (ty_of m (drop p es)))
   pub front : Starts m (drop p es)
 
-abbrev pub Steps : (m : ℕ) (es : List Entry) (res : Result GepStep) → Step → Type 0
-Steps m es res (step.Constant off p) = Stepped m es res (GepStep.const off) p
-Steps m es res (step.Varying size p) = Stepped m es res (GepStep.var size) p
-Steps m es res (step.Refused e) = res ≡ err e
+abbrev pub Steps : (m : ℕ) (es : List Entry) (res : Result GepStep) → Stepping → Type 0
+Steps m es res (Ok (step.Constant off p)) = Stepped m es res (GepStep.const off) p
+Steps m es res (Ok (step.Varying size p)) = Stepped m es res (GepStep.var size) p
+Steps m es res (Err e) = res ≡ err (number_of e)
 
-pub record StepOutcome (m : ℕ) (es : List Entry) (work work' : List ℕ) (res : Result GepStep) (r : Step) : Type 0 where
+pub record StepOutcome (m : ℕ) (es : List Entry) (work work' : List ℕ) (res : Result GepStep) (r : Stepping) : Type 0 where
   pub says : Steps m es res r
   pub after : After m es work work'
 
@@ -126,7 +131,7 @@ module _ (m : ℕ) (bk bw : List ℕ) (work : List ℕ) (at off : ℕ) (k : AskB
     abbrev first : Result GepStep
     first = field_by (structs_in m es) packed fields 0 off
 
-    pub first_none : get_or bk at 0 ≡ 0 → StepOutcome m es work work first (step.Refused 14)
+    pub first_none : get_or bk at 0 ≡ 0 → StepOutcome m es work work first (Err refusal.GepStep)
     unfolding field_by field_at bind ok_or
     first_none z = record { says = rw (at_nil behind_place z) refl; after = after_none k.ask.ready }
 
@@ -149,29 +154,29 @@ module _ (m : ℕ) (bk bw : List ℕ) (work : List ℕ) (at off : ℕ) (k : AskB
         first_is : offset_of (structs_in m es) packed fields 0 off ≡ offset_result r
         first_is = first_offset ∙ sym o.answer
 
-        pub first_refused : (e : ℕ) → r ≡ offset.Refused e → StepOutcome m es work work' first (step.Refused e)
+        pub first_refused : (e : Refusal) → r ≡ Err e → StepOutcome m es work work' first (Err e)
         unfolding field_by bind ok_or
         first_refused e er = record { says = rw (first_field, first_is ∙ ap offset_result er) refl; after = o.after }
 
-        pub first_const : (n : ℕ) → r ≡ offset.At n → StepOutcome m es work work' first (step.Constant n at)
+        pub first_const : (n : ℕ) → r ≡ Ok n → StepOutcome m es work work' first (Ok (step.Constant n at))
         unfolding field_by bind ok_or
         first_const n er = record { says = record { answer = rw (first_field, first_is ∙ ap offset_result er) refl; front = front }; after = o.after }
 
     -- any one
-    module _ (i : ℕ) (q : Place) (found : FieldFound m (lent bk bw at) i q) where
+    module _ (i : ℕ) (q : Maybe ℕ) (found : FieldFound m (lent bk bw at) i q) where
       abbrev later : Result GepStep
       later = field_by (structs_in m es) packed fields i off
 
       found_here : FieldFound m (drop at es) i q
       found_here = subst (λ (x : List Entry). FieldFound m x i q) (entries_part at bk bw) found
 
-      pub later_none : q ≡ place.Nothing → StepOutcome m es work work later (step.Refused 14)
+      pub later_none : q ≡ None → StepOutcome m es work work later (Err refusal.GepStep)
       unfolding field_by bind ok_or
       later_none e =
           let g : field_at fields i ≡ none = subst (FieldFound m (drop at es) i) e found_here in
           record { says = rw g refl; after = after_none k.ask.ready }
 
-      module _ (n : ℕ) (eq : q ≡ place.At n) where
+      module _ (n : ℕ) (eq : q ≡ Some n) where
         field_place : FieldPlace m (drop at es) i n
         field_place = subst (FieldFound m (drop at es) i) eq found_here
 
@@ -182,11 +187,11 @@ module _ (m : ℕ) (bk bw : List ℕ) (work : List ℕ) (at off : ℕ) (k : AskB
           offset_is : offset_of (structs_in m es) packed fields i off ≡ offset_result r
           offset_is = sym (o.answer ∙ ap (λ (x : List Entry). offset_of (structs_in m es) packed (tys_of m x) i off) (entries_part at bk bw))
 
-          pub later_refused : (e : ℕ) → r ≡ offset.Refused e → StepOutcome m es work work' later (step.Refused e)
+          pub later_refused : (e : Refusal) → r ≡ Err e → StepOutcome m es work work' later (Err e)
           unfolding field_by bind ok_or
           later_refused e er = record { says = rw (field_place.field, offset_is ∙ ap offset_result er) refl; after = o.after }
 
-          pub later_const : (start : ℕ) → r ≡ offset.At start → StepOutcome m es work work' later (step.Constant start (at + n))
+          pub later_const : (start : ℕ) → r ≡ Ok start → StepOutcome m es work work' later (Ok (step.Constant start (at + n)))
           unfolding field_by bind ok_or
           later_const start er =
               let d : drop n (drop at es) ≡ drop (at + n) es = drop-drop n at es in
@@ -203,12 +208,12 @@ module _ (m : ℕ) (es : List Entry) (work : List ℕ) (at : ℕ) (packed : Bool
   abbrev answer : Result GepStep
   answer = struct_by (structs_in m es) packed (tys_of m (drop at es)) (index_of i)
 
-  pub struct_varying : AskFieldsAt m es work at → i ≡ index.Varying → StepOutcome m es work work answer (step.Refused 14)
+  pub struct_varying : AskFieldsAt m es work at → i ≡ None → StepOutcome m es work work answer (Err refusal.GepStep)
   unfolding struct_by bind ok_or
   struct_varying k e = record { says = rw e refl; after = after_none k.ready }
 
   -- the fields behind a fact
-  module _ (f : ℕ) (ef : i ≡ index.Constant f) {work' : List ℕ} (v : Known) (w : KnownOutcome m es work work' packed at f v) where
+  module _ (f : ℕ) (ef : i ≡ Some f) {work' : List ℕ} (v : Known) (w : KnownOutcome m es work work' packed at f v) where
     fact : FieldFact m es packed at v.index v.at v.offset
     fact = w.best.fact
 
@@ -223,7 +228,7 @@ module _ (m : ℕ) (es : List Entry) (work : List ℕ) (at : ℕ) (packed : Bool
       unfolding struct_by field_by bind ok_or field_offset
       answer_is = rw (ef, whole, fact.places left, fact.offsets left) refl
 
-      pub struct_known : {work'' : List ℕ} {r : Step} → StepOutcome m es work' work'' (field_by (structs_in m es) packed (tys_of m (drop v.at es)) left v.offset) r
+      pub struct_known : {work'' : List ℕ} {r : Stepping} → StepOutcome m es work' work'' (field_by (structs_in m es) packed (tys_of m (drop v.at es)) left v.offset) r
           → StepOutcome m es work work'' answer r
       struct_known {r = r} o = record { says = subst (λ (x : Result GepStep). Steps m es x r) (sym answer_is) o.says; after = after_then w.after o.after }
 
@@ -248,21 +253,21 @@ module _ (m : ℕ) (bk bw : List ℕ) (work : List ℕ) (at : ℕ) (i : Index) (
     elem_says : Measures (sizes (structs_in m (entries bk bw)) elem) 64 r
     elem_says = part_type (sizes (structs_in m (entries bk bw))) m bk bw at 64 r o.says
 
-    pub array_refused : (e : ℕ) → r ≡ Refused e → StepOutcome m (entries bk bw) work work' (array_by (structs_in m (entries bk bw)) elem (index_of i)) (step.Refused e)
+    pub array_refused : (e : Refusal) → r ≡ Err e → StepOutcome m (entries bk bw) work work' (array_by (structs_in m (entries bk bw)) elem (index_of i)) (Err e)
     unfolding array_by bind size_of
     array_refused e er =
-        let g : sizes (structs_in m (entries bk bw)) elem 64 ≡ err e = refused_at r _ 64 er elem_says in
+        let g : sizes (structs_in m (entries bk bw)) elem 64 ≡ err (number_of e) = refused_at r _ 64 er elem_says in
         record { says = rw g refl; after = o.after }
 
-    module _ (s h : ℕ) (er : r ≡ Bytes s h) where
+    module _ (s h : ℕ) (er : r ≡ bytes_of s h) where
       size_is : sizes (structs_in m (entries bk bw)) elem 64 ≡ ok s
       size_is = let g = gives_at r er _ 64 elem_says in g.known.high 64 g.within
 
-      pub array_const : (c : ℕ) → i ≡ index.Constant c → (v : ℕ) → v ≡ wrap_mul 64 c s → StepOutcome m (entries bk bw) work work' (array_by (structs_in m (entries bk bw)) elem (index_of i)) (step.Constant v at)
+      pub array_const : (c : ℕ) → i ≡ Some c → (v : ℕ) → v ≡ wrap_mul 64 c s → StepOutcome m (entries bk bw) work work' (array_by (structs_in m (entries bk bw)) elem (index_of i)) (Ok (step.Constant v at))
       unfolding array_by bind size_of stride
       array_const c e v ev = record { says = record { answer = rw (size_is, e, ev) refl; front = k.front }; after = o.after }
 
-      pub array_varying : i ≡ index.Varying → StepOutcome m (entries bk bw) work work' (array_by (structs_in m (entries bk bw)) elem (index_of i)) (step.Varying s at)
+      pub array_varying : i ≡ None → StepOutcome m (entries bk bw) work work' (array_by (structs_in m (entries bk bw)) elem (index_of i)) (Ok (step.Varying s at))
       unfolding array_by bind size_of stride
       array_varying e = record { says = record { answer = rw (size_is, e) refl; front = k.front }; after = o.after }
 
@@ -283,7 +288,7 @@ module _ (m : ℕ) (bk bw : List ℕ) (work : List ℕ) (at : ℕ) (i : Index) (
   abbrev gep_answer : Result GepStep
   gep_answer = step_by (structs_in m (entries bk bw)) (ty_of m (drop at (entries bk bw))) (index_of i)
 
-  module _ {work' : List ℕ} {r : Step} where
+  module _ {work' : List ℕ} {r : Stepping} where
     pub gep_struct : (p : Bool) → g ≡ group.Struct p → StepOutcome m (entries bk bw) work work' (struct_by (structs_in m (entries bk bw)) p (tys_of m (drop (at + 1) (entries bk bw))) (index_of i)) r
         → StepOutcome m (entries bk bw) work work' gep_answer r
     unfolding step_by
@@ -298,31 +303,45 @@ module _ (m : ℕ) (bk bw : List ℕ) (work : List ℕ) (at : ℕ) (i : Index) (
         → StepOutcome m (entries bk bw) work work' gep_answer r
     gep_named e o = rw (seen group.Named e).1 o
 
-  pub gep_void : g ≡ group.Void → StepOutcome m (entries bk bw) work work gep_answer (step.Refused 14)
+  gep_void : g ≡ group.Void → StepOutcome m (entries bk bw) work work gep_answer (Err refusal.GepStep)
   unfolding step_by
   gep_void e = record { says = rw (seen group.Void e) refl; after = after_none k.ready }
 
-  pub gep_int : g ≡ group.Int → StepOutcome m (entries bk bw) work work gep_answer (step.Refused 14)
+  gep_int : g ≡ group.Int → StepOutcome m (entries bk bw) work work gep_answer (Err refusal.GepStep)
   unfolding step_by
   gep_int e = record { says = rw (seen group.Int e).0 refl; after = after_none k.ready }
 
-  pub gep_ptr : g ≡ group.Ptr → StepOutcome m (entries bk bw) work work gep_answer (step.Refused 14)
+  gep_ptr : g ≡ group.Ptr → StepOutcome m (entries bk bw) work work gep_answer (Err refusal.GepStep)
   unfolding step_by
   gep_ptr e = record { says = rw (seen group.Ptr e) refl; after = after_none k.ready }
 
-  pub gep_sizeless : g ≡ group.Sizeless → StepOutcome m (entries bk bw) work work gep_answer (step.Refused 14)
+  gep_sizeless : g ≡ group.Sizeless → StepOutcome m (entries bk bw) work work gep_answer (Err refusal.GepStep)
   unfolding step_by
   gep_sizeless e = record { says = rw (seen group.Sizeless e).1 refl; after = after_none k.ready }
 
-  pub gep_other : {X : Type 0} → g ≡ group.Other → X
+  gep_other : {X : Type 0} → g ≡ group.Other → X
   gep_other e = absurd (seen group.Other e)
+
+  -- no array and no struct
+  pub gep_rest : ((p : Bool) → g ≡ group.Array p → ⊥) → (g ≡ group.Named → ⊥) → ((p : Bool) → g ≡ group.Struct p → ⊥) → StepOutcome m (entries bk bw) work work gep_answer (Err refusal.GepStep)
+  gep_rest array named struct = go g refl
+    where
+      go : (h : TypeGroup) → g ≡ h → StepOutcome m (entries bk bw) work work gep_answer (Err refusal.GepStep)
+      go group.Void e = gep_void e
+      go group.Int e = gep_int e
+      go group.Ptr e = gep_ptr e
+      go (group.Array p) e = absurd (array p e)
+      go group.Named e = absurd (named e)
+      go (group.Struct p) e = absurd (struct p e)
+      go group.Sizeless e = gep_sizeless e
+      go group.Other e = gep_other e
 
 -- ---- a named struct
 module _ (m : ℕ) (bk bw : List ℕ) (work : List ℕ) (x : ℕ) (i : Index) (k : AskNameAt m (entries bk bw) work x) where
   abbrev named_answer : Result GepStep
   named_answer = step_by (structs_in m (entries bk bw)) (Ty.named_struct x) (index_of i)
 
-  pub named_absent : get_or work (body_at x) 0 ≡ 0 → StepOutcome m (entries bk bw) work work named_answer (step.Refused 6)
+  pub named_absent : get_or work (body_at x) 0 ≡ 0 → StepOutcome m (entries bk bw) work work named_answer (Err refusal.NoSize)
   unfolding step_by bind
   named_absent z = record { says = rw ((k.ready.bodies x k.name).absent z) refl; after = after_none k.ready }
 
@@ -346,7 +365,7 @@ module _ (m : ℕ) (bk bw : List ℕ) (work : List ℕ) (x : ℕ) (i : Index) (k
       pub named_ask : (p : Bool) → g ≡ group.Struct p → AskFieldsAt m (entries bk bw) work (spot + 1)
       named_ask p e = record { front = (looks (group.Struct p) e).0; there = body_there; ready = k.ready }
 
-      pub named_struct_lem : (p : Bool) → g ≡ group.Struct p → {work' : List ℕ} {r : Step}
+      pub named_struct_lem : (p : Bool) → g ≡ group.Struct p → {work' : List ℕ} {r : Stepping}
           → StepOutcome m (entries bk bw) work work' (struct_by (structs_in m (entries bk bw)) p (tys_of m (drop (spot + 1) (entries bk bw))) (index_of i)) r → StepOutcome m (entries bk bw) work work' named_answer r
       unfolding step_by bind
       named_struct_lem p e o =
@@ -358,23 +377,16 @@ module _ (m : ℕ) (bk bw : List ℕ) (work : List ℕ) (x : ℕ) (i : Index) (k
       never : {X : Type 0} (t : Ty) → ty_of m (drop spot (entries bk bw)) ≡ t → (as_type body.body ≡ t → ⊥) → X
       never t e n = absurd (n (sym body.same ∙ e))
 
-      pub named_void : {X : Type 0} → g ≡ group.Void → X
-      named_void e = never _ (looks group.Void e) (λ q. let z : ◌≡◌ {A = ℕ} 0 1 = cc in omega arith)
-
-      pub named_int : {X : Type 0} → g ≡ group.Int → X
-      named_int e = never _ (looks group.Int e).0 (λ q. let z : ◌≡◌ {A = ℕ} 0 1 = cc in omega arith)
-
-      pub named_ptr : {X : Type 0} → g ≡ group.Ptr → X
-      named_ptr e = never _ (looks group.Ptr e) (λ q. let z : ◌≡◌ {A = ℕ} 0 1 = cc in omega arith)
-
-      pub named_array : {X : Type 0} (p : Bool) → g ≡ group.Array p → X
-      named_array p e = never _ (looks (group.Array p) e).1 (λ q. let z : ◌≡◌ {A = ℕ} 0 1 = cc in omega arith)
-
-      pub named_named : {X : Type 0} → g ≡ group.Named → X
-      named_named e = never _ (looks group.Named e).1 (λ q. let z : ◌≡◌ {A = ℕ} 0 1 = cc in omega arith)
-
-      pub named_sizeless : {X : Type 0} → g ≡ group.Sizeless → X
-      named_sizeless e = never _ (looks group.Sizeless e).1 (λ q. let z : ◌≡◌ {A = ℕ} 0 1 = cc in omega arith)
-
-      pub named_other : {X : Type 0} → g ≡ group.Other → X
-      named_other e = absurd (looks group.Other e)
+      -- nothing else is a struct's body
+      pub named_rest : {X : Type 0} → ((p : Bool) → g ≡ group.Struct p → ⊥) → X
+      named_rest {X = X} struct = go g refl
+        where
+          go : (h : TypeGroup) → g ≡ h → X
+          go group.Void e = never _ (looks group.Void e) (λ q. let z : ◌≡◌ {A = ℕ} 0 1 = cc in omega arith)
+          go group.Int e = never _ (looks group.Int e).0 (λ q. let z : ◌≡◌ {A = ℕ} 0 1 = cc in omega arith)
+          go group.Ptr e = never _ (looks group.Ptr e) (λ q. let z : ◌≡◌ {A = ℕ} 0 1 = cc in omega arith)
+          go (group.Array p) e = never _ (looks (group.Array p) e).1 (λ q. let z : ◌≡◌ {A = ℕ} 0 1 = cc in omega arith)
+          go group.Named e = never _ (looks group.Named e).1 (λ q. let z : ◌≡◌ {A = ℕ} 0 1 = cc in omega arith)
+          go (group.Struct p) e = absurd (struct p e)
+          go group.Sizeless e = never _ (looks group.Sizeless e).1 (λ q. let z : ◌≡◌ {A = ℕ} 0 1 = cc in omega arith)
+          go group.Other e = absurd (looks group.Other e)

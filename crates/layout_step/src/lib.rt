@@ -1,6 +1,6 @@
 #![tactic(auto)]
 // The step that an index of a getelementptr takes into an array or a struct. A type is named by its place among the book's
-// entries, so that the type stepped into can be handed on.
+// entries, so that the type stepped into can be handed on. A constant index is its two's complement word; one that varies is none.
 ghost use Rattle.book.specs.Entry.{entries};
 ghost use Rattle.book.specs.Ast.{Ty};
 ghost use Rattle.std.specs.Prelude.{drop};
@@ -9,28 +9,18 @@ ghost use Rattle.layout_memo.specs.Work.{structs_in};
 ghost use Rattle.layout_table.specs.Table.{AskFieldsAt};
 ghost use Rattle.layout_step.specs.Steps.{AskAt, AskNameAt, AskBehind, StepOutcome, index_of, step_by, struct_by, field_by, array_by};
 
+use book::refusal::Refusal;
 use book_types::types::{TypeGroup, type_group};
-use layout_field::{Offset, Place, field_at, field_offset};
-use layout_memo::Measured;
+use layout_field::{field_at, field_offset};
 use layout_size::size_of;
 use layout_table::known_before;
 use layout_table::starts::start_at;
-use numbers::wrap::wrapping_mul;
 
-// An index: a constant's two's complement word, or a value that varies.
-#[derive(Drop)]
-pub enum Index {
-    Constant(u64),
-    Varying,
-}
-
-// A constant offset modulo 2^64, or a stride for an index that varies, and the place of the type stepped into; or the number
-// of a refusal.
-#[derive(Drop)]
+// A constant offset modulo 2^64, or a stride for an index that varies, and the place of the type stepped into.
+#[derive(Clone, Copy, Debug, PartialEq, Eq)]
 pub enum Step {
     Constant(u64, usize),
     Varying(u64, usize),
-    Refused(u64),
 }
 
 // The step to the field at the place, behind so many bytes.
@@ -42,19 +32,17 @@ fn field_step(
     at: usize,
     packed: bool,
     offset: u64,
-) -> Step
+) -> Result<Step, Refusal>
     requires { AskBehind names (entries book_kinds.now book_words.now) work.old at offset }
     ensures { StepOutcome names (entries book_kinds.now book_words.now) work.old work.new
         (field_by (structs_in names (entries book_kinds.now book_words.now)) packed
         (tys_of names (drop at (entries book_kinds.now book_words.now))) 0 offset) result }
 {
     if book_kinds[at] == book::entry::END {
-        return Step::Refused(14);
+        return Err(Refusal::GepStep);
     }
-    match start_at(book_kinds, book_words, work, names, at, packed, offset) {
-        Offset::Refused(e) => Step::Refused(e),
-        Offset::At(start) => Step::Constant(start, at),
-    }
+    let start = start_at(book_kinds, book_words, work, names, at, packed, offset)?;
+    Ok(Step::Constant(start, at))
 }
 
 // The step to the field with this index among those from the place on, behind so many bytes.
@@ -67,7 +55,7 @@ fn later_step(
     packed: bool,
     index: u64,
     offset: u64,
-) -> Step
+) -> Result<Step, Refusal>
     requires { AskBehind names (entries book_kinds.now book_words.now) work.old at offset }
     ensures { StepOutcome names (entries book_kinds.now book_words.now) work.old work.new
         (field_by (structs_in names (entries book_kinds.now book_words.now)) packed
@@ -75,15 +63,13 @@ fn later_step(
 {
     let ks = &book_kinds[at..];
     let ws = &book_words[at..];
-    let Place::At(n) = field_at(ks, ws, names, index) else {
-        return Step::Refused(14);
+    let Some(n) = field_at(ks, ws, names, index) else {
+        return Err(Refusal::GepStep);
     };
-    match field_offset(
+    let start = field_offset(
         ks, ws, book_kinds, book_words, work, names, packed, index, offset,
-    ) {
-        Offset::Refused(e) => Step::Refused(e),
-        Offset::At(start) => Step::Constant(start, at + n),
-    }
+    )?;
+    Ok(Step::Constant(start, at + n))
 }
 
 // The step into a struct whose fields start at the place.
@@ -94,14 +80,14 @@ fn struct_step(
     names: u64,
     at: usize,
     packed: bool,
-    index: Index,
-) -> Step
+    index: Option<u64>,
+) -> Result<Step, Refusal>
     requires { AskFieldsAt names (entries book_kinds.now book_words.now) work.old at }
     ensures { StepOutcome names (entries book_kinds.now book_words.now) work.old work.new
         (struct_by (structs_in names (entries book_kinds.now book_words.now)) packed (tys_of names (drop at (entries book_kinds.now book_words.now))) (index_of index)) result }
 {
-    let Index::Constant(field) = index else {
-        return Step::Refused(14);
+    let Some(field) = index else {
+        return Err(Refusal::GepStep);
     };
     let known = known_before(book_kinds, book_words, work, names, at, packed, field);
     let from = known.at;
@@ -122,26 +108,18 @@ pub fn array_step(
     work: &mut [u64],
     names: u64,
     at: usize,
-    index: Index,
-) -> Step
+    index: Option<u64>,
+) -> Result<Step, Refusal>
     requires { AskAt names (entries book_kinds.now book_words.now) work.old at }
     ensures { StepOutcome names (entries book_kinds.now book_words.now) work.old work.new
         (array_by (structs_in names (entries book_kinds.now book_words.now)) (ty_of names (drop at (entries book_kinds.now book_words.now))) (index_of index)) result }
 {
-    match size_of(
-        &book_kinds[at..],
-        &book_words[at..],
-        book_kinds,
-        book_words,
-        work,
-        names,
-        64,
-    ) {
-        Measured::Refused(e) => Step::Refused(e),
-        Measured::Bytes(size, _) => match index {
-            Index::Constant(c) => Step::Constant(wrapping_mul(c, size), at),
-            Index::Varying => Step::Varying(size, at),
-        },
+    let ks = &book_kinds[at..];
+    let ws = &book_words[at..];
+    let size = size_of(ks, ws, book_kinds, book_words, work, names, 64)?.bytes;
+    match index {
+        Some(c) => Ok(Step::Constant(c.wrapping_mul(size), at)),
+        None => Ok(Step::Varying(size, at)),
     }
 }
 
@@ -152,15 +130,15 @@ fn named_step(
     work: &mut [u64],
     names: u64,
     name: u64,
-    index: Index,
-) -> Step
+    index: Option<u64>,
+) -> Result<Step, Refusal>
     requires { AskNameAt names (entries book_kinds.now book_words.now) work.old name }
     ensures { StepOutcome names (entries book_kinds.now book_words.now) work.old work.new
         (step_by (structs_in names (entries book_kinds.now book_words.now)) (Ty.named_struct name) (index_of index)) result }
 {
     let body = work[book::work::WORDS * (name as usize) + book::work::BODY];
     if body == 0 {
-        return Step::Refused(6);
+        return Err(Refusal::NoSize);
     }
     let at = (body - 1) as usize;
     match type_group(book_kinds[at]) {
@@ -173,13 +151,7 @@ fn named_step(
             packed,
             index,
         ),
-        TypeGroup::Void => Step::Refused(14),
-        TypeGroup::Int => Step::Refused(14),
-        TypeGroup::Ptr => Step::Refused(14),
-        TypeGroup::Array(_) => Step::Refused(14),
-        TypeGroup::Named => Step::Refused(14),
-        TypeGroup::Sizeless => Step::Refused(14),
-        TypeGroup::Other => Step::Refused(14),
+        _ => Err(Refusal::GepStep),
     }
 }
 
@@ -190,8 +162,8 @@ pub fn gep_step(
     work: &mut [u64],
     names: u64,
     at: usize,
-    index: Index,
-) -> Step
+    index: Option<u64>,
+) -> Result<Step, Refusal>
     requires { AskAt names (entries book_kinds.now book_words.now) work.old at }
     ensures { StepOutcome names (entries book_kinds.now book_words.now) work.old work.new
         (step_by (structs_in names (entries book_kinds.now book_words.now)) (ty_of names (drop at (entries book_kinds.now book_words.now))) (index_of index)) result }
@@ -209,10 +181,6 @@ pub fn gep_step(
             packed,
             index,
         ),
-        TypeGroup::Void => Step::Refused(14),
-        TypeGroup::Int => Step::Refused(14),
-        TypeGroup::Ptr => Step::Refused(14),
-        TypeGroup::Sizeless => Step::Refused(14),
-        TypeGroup::Other => Step::Refused(14),
+        _ => Err(Refusal::GepStep),
     }
 }

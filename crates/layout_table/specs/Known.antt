@@ -1,5 +1,5 @@
 -- The fields of a struct one after the other, each with what is known behind it.
-use Rattle.std.specs.Prelude.{ℕ, suc, ◌+◌, ◌-◌, ◌<◌, ◌≤◌, ◌^◌, ◌≡◌, Bool, true, false, List, length, get_or, drop}
+use Rattle.std.specs.Prelude.{ℕ, suc, ◌+◌, ◌-◌, ◌<◌, ◌≤◌, ◌^◌, ◌≡◌, Bool, List, length, get_or, drop}
 use Rattle.std.proofs.Math.Path.{refl}
 use Rattle.std.proofs.Common.{sym, ap, ◌∙◌, subst, arith}
 use Rattle.book.specs.Entry.{Entry, entries}
@@ -17,22 +17,21 @@ use Rattle.layout_memo.specs.Fields.{AtFields, at_field, at_next, at_cons}
 use Rattle.layout_memo.specs.FieldCalls.{skipped}
 use Rattle.layout_memo.specs.Scalars.{Scalar, Passes, none, more, RunFrom, scalar_kind, scalar_type}
 use Rattle.layout_memo.specs.declared.scalars.Run.{Run}
-use Rattle.layout_memo.specs.declared.Measured.{Measured}
-use Rattle.layout_memo.specs.declared.Measured.TheVariants.{Bytes}
-use Rattle.layout_field.specs.Offsets.{left_from, start_of, offset_result, AskStart, StartOutcome, StartsBy, through, scalar_starts, scalar_sized}
-use Rattle.layout_field.specs.declared.Offset.{Offset}
-use Rattle.layout_field.specs.declared.Offset.TheVariants as offset
+use Rattle.layout_memo.specs.Measured.{Measured, bytes_of}
+use Rattle.layout_field.specs.Offsets.{Offset, left_from, start_of, offset_result, AskStart, StartOutcome, StartsBy, through, scalar_starts, scalar_sized}
+use Rattle.std.specs.Prelude.{Option, Some, None, IfSome, ok_or, Result as Answer, Ok, Err}
 use Rattle.layout_table.specs.declared.Known.{Known}
 use Rattle.layout_table.specs.Table.{AskNote, Best}
-
--- nothing is known behind
-abbrev pub is_ended : Known → Known
-is_ended k = record { index = k.index; at = k.at; offset = k.offset; ended = true }
 
 -- what passing answers and leaves: a fact with at most so many fields before it
 pub record KnownOutcome (m : ℕ) (es : List Entry) (work work' : List ℕ) (packed : Bool) (p index : ℕ) (r : Known) : Type 0 where
   pub best : Best m es packed p index r
   pub after : After m es work work'
+
+-- the same, whether passing came as far as it was to or not
+abbrev pub PassOutcome : (m : ℕ) (es : List Entry) (work work' : List ℕ) (packed : Bool) (p index : ℕ) → Answer Known Known → Type 0
+PassOutcome m es work work' packed p index (Ok k) = KnownOutcome m es work work' packed p index k
+PassOutcome m es work work' packed p index (Err k) = KnownOutcome m es work work' packed p index k
 
 -- what is asked to pass integers and pointers; to pass any fields
 pub record AskRun (m : ℕ) (es : List Entry) (packed : Bool) (p index : ℕ) (k : Known) : Type 0 where
@@ -63,8 +62,16 @@ module _ {m : ℕ} {es : List Entry} {work : List ℕ} {packed : Bool} {p index 
       → KnownOutcome m es work work''' packed p index s
   pass_then o f u = record { best = u.best; after = after_then o.after (after_then f u.after) }
 
-pub best_ended : {m : ℕ} {es : List Entry} {packed : Bool} {p index : ℕ} {k : Known} (r : Known) → r ≡ is_ended k → Best m es packed p index k → Best m es packed p index r
-best_ended r e b = rw e (record { fact = b.fact; before = b.before })
+module _ {m : ℕ} {es : List Entry} {work : List ℕ} {packed : Bool} {p index : ℕ} {k : Known} (a : AskPass m es work packed p index k) where
+  -- one field was passed, or none
+  pub pass_one : {work' : List ℕ} (o : Option Known) → IfSome o (Best m es packed p index) → After m es work work' → (r : Answer Known Known) → r ≡ ok_or o k → PassOutcome m es work work' packed p index r
+  pass_one (Some n) b f r e = rw e (record { best = b; after = f })
+  pass_one None b f r e = rw e (record { best = a.best; after = f })
+
+  pub pass_on : {u v : List ℕ} {r : Known} (w : List ℕ) → KnownOutcome m es work u packed p index r → After m es u v → (s : Answer Known Known)
+      → PassOutcome m es v w packed p index s → PassOutcome m es work w packed p index s
+  pass_on w o f (Ok n) g = pass_then a o f g
+  pass_on w o f (Err n) g = pass_then a o f g
 
 one_left : (goal l : ℕ) → l ≤ goal → l - 1 ≤ goal
 one_left goal l h = omega arith
@@ -147,7 +154,7 @@ module _ (m : ℕ) (bk bw : List ℕ) (packed : Bool) (p : ℕ) where
     run_from = rw e (record { place = here.place; small = omega (arith, a.best.fact.small) })
 
     pub run_passed : {stop : ℕ} (run : Run) → Passes bk bw packed stop next run → run.left ≡ 0 → run.offset ≤ 16777216 → many ≤ index - k.index
-        → Best m es packed p index (record { index = k.index + many; at = run.at; offset = run.offset; ended = false })
+        → Best m es packed p index (record { index = k.index + many; at = run.at; offset = run.offset })
     run_passed run w z l h =
         let d : k.index ≡ k.index + many - many = omega arith in
         let y : k.index + many - run.left ≡ k.index + many = omega arith in
@@ -162,9 +169,6 @@ module _ (m : ℕ) (bk bw : List ℕ) (packed : Bool) (p : ℕ) where
     pub known_place : AtFields m bk bw k.at
     known_place = now.place
 
-    pub field_ended : {work' : List ℕ} (r : Known) → r ≡ is_ended k → After m es work work' → KnownOutcome m es work work' packed p index r
-    field_ended r e f = record { best = best_ended r e a.best; after = f }
-
     module _ (z : get_or bk k.at 0 ≡ 0 → ⊥) where
       abbrev here_type : Ty
       here_type = ty_of m (drop k.at es)
@@ -172,7 +176,7 @@ module _ (m : ℕ) (bk bw : List ℕ) (packed : Bool) (p : ℕ) where
       pub start_ask : AskStart m (lent bk bw k.at) es work k.offset
       start_ask = record { ask = ask_part bk bw k.at (at_field known_place z).field a.ready (omega arith); small = omega (arith, a.best.fact.small) }
 
-      module _ {work' : List ℕ} (r : Offset) (o : StartOutcome m es work work' k.offset (start_of structs packed (ty_of m (lent bk bw k.at)) k.offset) r) (n : ℕ) (q : r ≡ offset.At n) where
+      module _ {work' : List ℕ} (r : Offset) (o : StartOutcome m es work work' k.offset (start_of structs packed (ty_of m (lent bk bw k.at)) k.offset) r) (n : ℕ) (q : r ≡ Ok n) where
         pub size_ask : Ask m (lent bk bw k.at) es work' 64
         size_ask = ask_part bk bw k.at (at_field known_place z).field o.after.ready (omega arith)
 
@@ -182,7 +186,7 @@ module _ (m : ℕ) (bk bw : List ℕ) (packed : Bool) (p : ℕ) where
         start_most : n ≤ k.offset + 8
         start_most = subst (StartsBy (k.offset + 8)) q o.most
 
-        module _ {work'' : List ℕ} (s : Measured) (u : Outcome m es work' work'' (sizes structs (ty_of m (lent bk bw k.at))) 64 s) (c h : ℕ) (e : s ≡ Bytes c h) where
+        module _ {work'' : List ℕ} (s : Measured) (u : Outcome m es work' work'' (sizes structs (ty_of m (lent bk bw k.at))) 64 s) (c h : ℕ) (e : s ≡ bytes_of c h) where
           gives : Gives (sizes structs here_type) 64 c h
           gives = gives_at s e _ 64 (part_type (sizes structs) m bk bw k.at 64 s u.says)
 
@@ -190,7 +194,7 @@ module _ (m : ℕ) (bk bw : List ℕ) (packed : Bool) (p : ℕ) where
           next_fits = omega (arith, start_most, a.best.fact.small, size_small structs here_type gives.within gives.known)
 
           pub field_passed : n + c ≤ 16777216 → k.index < index → (len : ℕ) → len ≡ ty_len m (lent bk bw k.at)
-              → KnownOutcome m es work work'' packed p index (record { index = k.index + 1; at = k.at + len; offset = n + c; ended = false })
+              → Best m es packed p index (record { index = k.index + 1; at = k.at + len; offset = n + c })
           field_passed l w len en =
               let g = behind_next now z n c start_is (gives.known.high 64 gives.within) in
-              rw (skipped m bk bw k.at known_place z len en) (record { best = record { fact = fact_of g l; before = omega arith }; after = after_then o.after u.after })
+              rw (skipped m bk bw k.at known_place z len en) (record { fact = fact_of g l; before = omega arith })

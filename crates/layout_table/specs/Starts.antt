@@ -11,12 +11,11 @@ use Rattle.layout_memo.specs.Front.{Starts, ty_of}
 use Rattle.layout_memo.specs.Work.{structs_in, aligns, After, Outcome, AlignFact, after_none, after_then, aligned_small}
 use Rattle.layout_memo.specs.Helpers.{gives_at}
 use Rattle.layout_memo.specs.Calls.{lent, ask_part, part_type}
-use Rattle.layout_memo.specs.declared.Measured.{Measured}
-use Rattle.layout_memo.specs.declared.Measured.TheVariants.{Bytes, Refused}
+use Rattle.layout_memo.specs.Measured.{Measured, bytes_of}
 use Rattle.layout_size.specs.Sums.{SmallSum, placed_most}
-use Rattle.layout_field.specs.Offsets.{start_of, AskStart, StartOutcome, start_refused, start_small, start_at}
-use Rattle.layout_field.specs.declared.Offset.{Offset}
-use Rattle.layout_field.specs.declared.Offset.TheVariants as offset
+use Rattle.layout_field.specs.Offsets.{Offset, start_of, AskStart, StartOutcome, start_refused, start_small, start_at}
+use Rattle.std.specs.Prelude.{Ok, Err}
+use Rattle.book.specs.declared.refusal.Refusal.{Refusal}
 use Rattle.layout_table.specs.Table.{AskTypeAt, AskNoteAlign, type_below}
 
 -- a type at a place of the lent slices
@@ -58,17 +57,17 @@ module _ (m : ℕ) (bk bw work : List ℕ) (p : ℕ) (packed : Bool) (off : ℕ)
       pub noted_small : SmallSum off a
       noted_small = (k.small, (aligned_small structs field f.aligned).1)
 
-      pub start_noted : (n : ℕ) → n ≡ placed packed off a → StartOutcome m es work work off (start_of structs packed field off) (offset.At n)
+      pub start_noted : (n : ℕ) → n ≡ placed packed off a → StartOutcome m es work work off (start_of structs packed field off) (Ok n)
       unfolding start_of align_in bind
       start_noted n en =
           record { answer = ap ok en ∙ rw (e, f.aligned) refl; most = omega (arith, placed_most packed off a noted_small.1); after = after_none k.ask.ready }
 
     -- it is measured
     module _ {work' : List ℕ} (r : Measured) (o : Outcome m es work work' (aligns structs (ty_of m (lent bk bw p))) 64 r) where
-      pub measured_refused : (x : ℕ) → r ≡ Refused x → StartOutcome m es work work' off (start_of structs packed field off) (offset.Refused x)
+      pub measured_refused : (x : Refusal) → r ≡ Err x → StartOutcome m es work work' off (start_of structs packed field off) (Err x)
       measured_refused x q = start_part (start_refused m (lent bk bw p) es work packed off (start_ask bk bw p k) e r o x q)
 
-      module _ (a h : ℕ) (q : r ≡ Bytes a h) where
+      module _ (a h : ℕ) (q : r ≡ bytes_of a h) where
         measured_fact : AlignFact m es p a
         unfolding align_of
         measured_fact =
@@ -82,7 +81,7 @@ module _ (m : ℕ) (bk bw work : List ℕ) (p : ℕ) (packed : Bool) (off : ℕ)
         measured_small = start_small m (lent bk bw p) es work packed off (start_ask bk bw p k) e r o a h q
 
         pub measured_start : {work'' : List ℕ} → After m es work' work'' → (n : ℕ) → n ≡ placed packed off a
-            → StartOutcome m es work work'' off (start_of structs packed field off) (offset.At n)
+            → StartOutcome m es work work'' off (start_of structs packed field off) (Ok n)
         measured_start f n en =
             let s = start_part (start_at m (lent bk bw p) es work packed off (start_ask bk bw p k) e r o a h q n en) in
             record { answer = s.answer; most = s.most; after = after_then s.after f }

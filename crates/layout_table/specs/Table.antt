@@ -21,7 +21,7 @@ FactOf m es packed p k = FieldFact m es packed p k.index k.at k.offset
 
 -- behind no fields
 abbrev pub no_fields : ℕ → Known
-no_fields p = record { index = 0; at = p; offset = 0; ended = false }
+no_fields p = record { index = 0; at = p; offset = 0 }
 
 -- what is asked about the struct
 pub record AskFieldsAt (m : ℕ) (es : List Entry) (work : List ℕ) (at : ℕ) : Type 0 where
@@ -113,12 +113,12 @@ room_few length m r e l = go (leb m 1048576) refl (leb (work_for m) length) e
     go false q b e = absurd (omega arith)
 
 -- ---- looking for a fact
--- a word that stands behind a key in the table, or 0
+-- a word that stands behind a key in the table
 abbrev pub Probed : (m : ℕ) (work : List ℕ) (key r : ℕ) → Type 0
-Probed m work key r = (r ≡ 0) ⊎ ((k : ℕ) × ((get_or work (table_at m (2 * k)) 0 ≡ key) × (get_or work (table_at m (2 * k + 1)) 0 ≡ r)))
+Probed m work key r = (k : ℕ) × ((get_or work (table_at m (2 * k)) 0 ≡ key) × (get_or work (table_at m (2 * k + 1)) 0 ≡ r))
 
 pub probed_at : (m : ℕ) (work : List ℕ) (key slot at behind : ℕ) → at ≡ table_at m (2 * slot) → behind ≡ table_at m (2 * slot + 1) → get_or work at 0 ≡ key → Probed m work key (get_or work behind 0)
-probed_at m work key slot at behind ea eb e = inr (slot, (rw (← ea) e, rw (← eb) refl))
+probed_at m work key slot at behind ea eb e = (slot, (rw (← ea) e, rw (← eb) refl))
 
 -- a right fact about a struct with at most so many fields before it
 pub record Best (m : ℕ) (es : List Entry) (packed : Bool) (p index : ℕ) (r : Known) : Type 0 where
@@ -137,24 +137,19 @@ module _ {m : ℕ} {es : List Entry} {work : List ℕ} {p index : ℕ} (k : AskF
   pub find_place : p < 1048576
   find_place = omega (arith, fields_below k.ask, k.ask.ready.few)
 
-  pub find_probed : (j key value : ℕ) → KeyOf packed p j key → Probed m work key value → (value ≡ 0 → ⊥) → FieldFact m es packed p j (value / 33554432) (value % 33554432)
-  find_probed j key value c (inl z) n = absurd (n z)
-  find_probed j key value c (inr f) n =
+  pub find_probed : (j key value : ℕ) → KeyOf packed p j key → Probed m work key value → FieldFact m es packed p j (value / 33554432) (value % 33554432)
+  find_probed j key value c f =
       let g = (k.ask.ready.facts f.0).field (λ z. c.some (sym f.1.0 ∙ z)) (rw f.1.0 c.low) in
       rw (f.1.0, f.1.1, c.packing, c.start, c.field) at g
 
-  pub find_here : (j key value : ℕ) → KeyOf packed p j key → Probed m work key value → (value ≡ 0 → ⊥) → j ≤ index
-      → Best m es packed p index (record { index = j; at = value / 33554432; offset = value % 33554432; ended = false })
-  find_here j key value c f n l = record { fact = find_probed j key value c f n; before = l }
+  pub find_here : (j key value : ℕ) → KeyOf packed p j key → Probed m work key value → j ≤ index
+      → Best m es packed p index (record { index = j; at = value / 33554432; offset = value % 33554432 })
+  find_here j key value c f l = record { fact = find_probed j key value c f; before = l }
 
 -- what is asked about the type at a place
 pub record AskTypeAt (m : ℕ) (es : List Entry) (work : List ℕ) (p : ℕ) : Type 0 where
   pub front : Starts m (drop p es)
   pub ready : Ready m es work
-
--- an alignment of the type, or 0
-abbrev pub AlignFound : (m : ℕ) (es : List Entry) (p r : ℕ) → Type 0
-AlignFound m es p r = (r ≡ 0 → ⊥) → AlignFact m es p r
 
 module _ {m : ℕ} {es : List Entry} {work : List ℕ} {p : ℕ} (k : AskTypeAt m es work p) where
   pub type_below : p < length es
@@ -163,9 +158,8 @@ module _ {m : ℕ} {es : List Entry} {work : List ℕ} {p : ℕ} (k : AskTypeAt 
   pub type_place : p < 1048576
   type_place = omega (arith, type_below, k.ready.few)
 
-  pub align_probed : (key r : ℕ) → key ≡ align_key p → Probed m work key r → AlignFound m es p r
-  align_probed key r e (inl z) n = absurd (n z)
-  align_probed key r e (inr f) n =
+  pub align_probed : (key r : ℕ) → key ≡ align_key p → Probed m work key r → AlignFact m es p r
+  align_probed key r e f =
       let d : key - 2 ^ 43 ≡ p = omega arith in
       let l : 2 ^ 43 ≤ key = omega arith in
       let g = (k.ready.facts f.0).align (rw f.1.0 l) in

@@ -7,28 +7,29 @@
 pub mod starts;
 pub mod table;
 
-ghost use Rattle.std.specs.Prelude.{◌≡◌, ◌+◌, ◌<◌, ◌≤◌, ◌^◌, length};
+ghost use Rattle.std.specs.Prelude.{◌+◌, ◌<◌, ◌≤◌, ◌^◌, length, IfSome};
 ghost use Rattle.book.specs.Entry.{entries};
 ghost use Rattle.layout_memo.specs.Work.{After};
 ghost use Rattle.layout_table.specs.Table.{AskFieldsAt, AskNote, Best};
-ghost use Rattle.layout_table.specs.Known.{is_ended, AskRun, AskPass, KnownOutcome};
+ghost use Rattle.layout_table.specs.Known.{AskRun, AskPass, KnownOutcome, PassOutcome};
 
-use crate::table::{find, no_fields, note, room_for};
+use crate::table::{LEAST_FACTS, find, no_fields, note, room_for};
 use book::entry;
-use layout_field::{Offset, field_start, fields_left};
-use layout_memo::Measured;
+use layout_field::{field_start, fields_left};
 use layout_memo::ends::type_end;
 use layout_memo::scalars::pass_scalars;
+use layout_memo::{MOST_BYTES, MOST_ENTRIES};
 use layout_size::size_of;
 
-// Behind `index` fields of a struct, the fields from `at` on are left, and `offset` bytes are taken. Passing sets `ended` where
-// it did not come as far as it was to.
+// A book of fewer entries needs no facts.
+const SMALL_BOOK: usize = 2048;
+
+// Behind `index` fields of a struct, the fields from `at` on are left, and `offset` bytes are taken.
 #[derive(Clone, Copy)]
 pub struct Known {
     pub index: u64,
     pub at: usize,
     pub offset: u64,
-    pub ended: bool,
 }
 
 // The field with this index of the struct whose first field stands at the place; facts are noted behind fields that take `size`
@@ -41,18 +42,6 @@ pub struct Sought {
     pub size: usize,
 }
 
-// No field more is passed.
-fn ended(known: Known) -> Known
-    ensures { result ≡ is_ended known }
-{
-    Known {
-        index: known.index,
-        at: known.at,
-        offset: known.offset,
-        ended: true,
-    }
-}
-
 // Passes one field, up to the one asked for, where it can be measured and the bytes taken stay within 2^24.
 fn next_field(
     book_kinds: &[u64],
@@ -61,38 +50,37 @@ fn next_field(
     names: u64,
     sought: Sought,
     from: Known,
-) -> Known
+) -> Option<Known>
     requires { AskPass names (entries book_kinds.now book_words.now) work.old sought.packed sought.place sought.index from }
-    ensures { KnownOutcome names (entries book_kinds.now book_words.now) work.old work.new
-        sought.packed sought.place sought.index result }
+    ensures best { IfSome result (λ known. Best names (entries book_kinds.now book_words.now) sought.packed sought.place sought.index known) }
+    ensures after { After names (entries book_kinds.now book_words.now) work.old work.new }
 {
     let at = from.at;
     let packed = sought.packed;
     if book_kinds[at] == entry::END {
-        return ended(from);
+        return None;
     }
     if sought.index <= from.index {
-        return ended(from);
+        return None;
     }
     let ks = &book_kinds[at..];
     let ws = &book_words[at..];
     let begin = from.offset;
-    let Offset::At(start) = field_start(ks, ws, book_kinds, book_words, work, names, packed, begin)
-    else {
-        return ended(from);
+    let Ok(start) = field_start(ks, ws, book_kinds, book_words, work, names, packed, begin) else {
+        return None;
     };
-    let Measured::Bytes(size, _) = size_of(ks, ws, book_kinds, book_words, work, names, 64) else {
-        return ended(from);
+    let Ok(size) = size_of(ks, ws, book_kinds, book_words, work, names, 64) else {
+        return None;
     };
-    if 16777216 < start + size {
-        return ended(from);
+    let offset = start + size.bytes;
+    if MOST_BYTES < offset {
+        return None;
     }
-    Known {
+    Some(Known {
         index: from.index + 1,
         at: at + type_end(ks, ws, names),
-        offset: start + size,
-        ended: false,
-    }
+        offset,
+    })
 }
 
 // Passes 2^level fields, up to the one asked for, where these are few and all integers or pointers.
@@ -103,32 +91,31 @@ fn next_scalars(
     sought: Sought,
     level: u32,
     from: Known,
-) -> Known
+) -> Option<Known>
     requires { AskRun names (entries book_kinds.now book_words.now) sought.packed sought.place sought.index from }
-    ensures { Best names (entries book_kinds.now book_words.now) sought.packed sought.place sought.index result }
+    ensures { IfSome result (λ known. Best names (entries book_kinds.now book_words.now) sought.packed sought.place sought.index known) }
 {
     if 6 < level {
-        return ended(from);
+        return None;
     }
     let many = 1u64 << level;
     if sought.index - from.index < many {
-        return ended(from);
+        return None;
     }
     let next = fields_left(from.at, many, from.offset);
     let stop = book_kinds.len();
     let run = pass_scalars(book_kinds, book_words, names, sought.packed, stop, next);
     if run.left != 0 {
-        return ended(from);
+        return None;
     }
-    if 16777216 < run.offset {
-        return ended(from);
+    if MOST_BYTES < run.offset {
+        return None;
     }
-    Known {
+    Some(Known {
         index: from.index + many,
         at: run.at,
         offset: run.offset,
-        ended: false,
-    }
+    })
 }
 
 // Notes a fact where the fields from `start` on take many entries before it.
@@ -152,7 +139,8 @@ fn note_behind(
     }
 }
 
-// Passes 2^level fields, up to the one asked for, and notes facts on the way.
+// Passes 2^level fields, up to the one asked for, and notes facts on the way. Where it does not come as far, the error is how far
+// it came.
 fn note_fields(
     book_kinds: &[u64],
     book_words: &[u64],
@@ -161,23 +149,19 @@ fn note_fields(
     sought: Sought,
     level: u32,
     from: Known,
-) -> Known
+) -> Result<Known, Known>
     requires ask_pass { AskPass names (entries book_kinds.now book_words.now) work.old sought.packed sought.place sought.index from }
     requires size_bound { sought.size ≤ 2 ^ 32 }
-    ensures { KnownOutcome names (entries book_kinds.now book_words.now) work.old work.new
+    ensures { PassOutcome names (entries book_kinds.now book_words.now) work.old work.new
         sought.packed sought.place sought.index result }
 {
-    let run = next_scalars(book_kinds, book_words, names, sought, level, from);
-    if run.ended == false {
-        return run;
+    if let Some(run) = next_scalars(book_kinds, book_words, names, sought, level, from) {
+        return Ok(run);
     }
     if level == 0 {
-        return next_field(book_kinds, book_words, work, names, sought, from);
+        return next_field(book_kinds, book_words, work, names, sought, from).ok_or(from);
     }
-    let half = note_fields(book_kinds, book_words, work, names, sought, level - 1, from);
-    if half.ended {
-        return half;
-    }
+    let half = note_fields(book_kinds, book_words, work, names, sought, level - 1, from)?;
     note_behind(book_kinds, book_words, work, names, sought, from.at, half);
     note_fields(book_kinds, book_words, work, names, sought, level - 1, half)
 }
@@ -188,19 +172,15 @@ fn size_for(facts: usize, count: usize) -> usize
     requires { (16 ≤ facts) × (count ≤ 1048576) }
     ensures { result ≤ 2 ^ 32 }
 {
-    let size = count / facts / 2;
-    if size < 64 {
-        return 64;
-    }
-    size
+    (count / facts / 2).max(64)
 }
 
 // Whether an entry of this kind begins an array or a struct.
 fn opens(kind: u64) -> bool {
-    match kind {
-        entry::ARRAY | entry::PACKED_ARRAY | entry::STRUCT | entry::PACKED_STRUCT => true,
-        _ => false,
-    }
+    matches!(
+        kind,
+        entry::ARRAY | entry::PACKED_ARRAY | entry::STRUCT | entry::PACKED_STRUCT
+    )
 }
 
 // Where 128 entries from the place on end, or the book.
@@ -222,12 +202,7 @@ fn lists_behind(kind: u64, lists: usize) -> usize
     ensures { result ≤ lists + 1 }
 {
     match kind {
-        entry::END => {
-            if lists == 0 {
-                return 0;
-            }
-            lists - 1
-        }
+        entry::END => lists.saturating_sub(1),
         entry::STRUCT | entry::PACKED_STRUCT => lists + 1,
         _ => lists,
     }
@@ -249,43 +224,40 @@ fn left_behind(kind: u64, lists: usize, left: u64) -> u64
 // Whether the field with this index, of those from the place on, stands among the next 128 entries, and begins no array or struct,
 // whose alignment may be known: it is found without a fact.
 fn is_near(kinds: &[u64], place: usize, index: u64) -> bool {
-    let stop = near_stop(kinds.len(), place);
-    let mut at = place;
     let mut lists: usize = 0;
     let mut left = index;
-    while at < stop {
+    for at in place..near_stop(kinds.len(), place) {
         let kind = kinds[at];
         if left == 0 {
-            return opens(kind) == false;
+            return !opens(kind);
         }
         lists = lists_behind(kind, lists);
         left = left_behind(kind, lists, left);
-        at = at + 1;
     }
     false
 }
 
-// How many facts the table has room for, 0 where the field is found without it.
-fn facts_for(kinds: &[u64], place: usize, index: u64, words: usize, names: u64) -> usize
-    ensures { 1 ≤ result → (16 ≤ result) × ((index < 1048576) × (length kinds.now ≤ 1048576)) }
+// How many facts the table has room for, where the field is not found without them.
+fn facts_for(kinds: &[u64], place: usize, index: u64, words: usize, names: u64) -> Option<usize>
+    ensures { IfSome result (λ facts. (16 ≤ facts) × ((index < 1048576) × (length kinds.now ≤ 1048576))) }
 {
-    if kinds.len() < 2048 {
-        return 0;
+    if kinds.len() < SMALL_BOOK {
+        return None;
     }
     if is_near(kinds, place, index) {
-        return 0;
+        return None;
     }
-    if 1048576 < kinds.len() {
-        return 0;
+    if MOST_ENTRIES < kinds.len() as u64 {
+        return None;
     }
-    if 1048576 <= index {
-        return 0;
+    if MOST_ENTRIES <= index {
+        return None;
     }
     let facts = room_for(words, names);
-    if facts < 16 {
-        return 0;
+    if facts < LEAST_FACTS {
+        return None;
     }
-    facts
+    Some(facts)
 }
 
 // A level at which so many fields are passed.
@@ -306,10 +278,9 @@ pub fn known_before(
     requires { AskFieldsAt names (entries book_kinds.now book_words.now) work.old place }
     ensures { KnownOutcome names (entries book_kinds.now book_words.now) work.old work.new packed place index result }
 {
-    let facts = facts_for(book_kinds, place, index, work.len(), names);
-    if facts == 0 {
+    let Some(facts) = facts_for(book_kinds, place, index, work.len(), names) else {
         return no_fields(place);
-    }
+    };
     let found = find(book_kinds, book_words, work, names, place, packed, index);
     let left = index - found.index;
     if is_near(book_kinds, found.at, left) {
@@ -321,13 +292,9 @@ pub fn known_before(
         index,
         size: size_for(facts, book_kinds.len()),
     };
-    note_fields(
-        book_kinds,
-        book_words,
-        work,
-        names,
-        sought,
-        level_for(left),
-        found,
-    )
+    let level = level_for(left);
+    match note_fields(book_kinds, book_words, work, names, sought, level, found) {
+        Ok(known) => known,
+        Err(known) => known,
+    }
 }

@@ -6,26 +6,20 @@ ghost use Rattle.layout_memo.specs.Work.{After, structs_in};
 ghost use Rattle.layout_field.specs.Offsets.{AskStart, StartOutcome, start_of};
 ghost use Rattle.layout_table.specs.Table.{AskNoteAlign};
 
-use crate::opens;
-use crate::table::{note_align, noted_align, room_for};
+use crate::table::{LEAST_FACTS, note_align, noted_align, room_for};
+use crate::{SMALL_BOOK, opens};
+use book::refusal::Refusal;
 use layout_align::align_of;
-use layout_field::{Offset, field_start};
-use layout_memo::Measured;
+use layout_field::field_start;
 use layout_memo::ends::type_end;
 use layout_size::placed;
 
 // Whether the type at the place may be long, and the table has room for its alignment.
 fn may_be_long(kinds: &[u64], place: usize, words: usize, names: u64) -> bool {
-    if kinds.len() < 2048 {
-        return false;
-    }
-    if kinds.len() <= place {
-        return false;
-    }
-    if room_for(words, names) < 16 {
-        return false;
-    }
-    opens(kinds[place])
+    kinds.len() >= SMALL_BOOK
+        && place < kinds.len()
+        && room_for(words, names) >= LEAST_FACTS
+        && opens(kinds[place])
 }
 
 // Notes the alignment of the type at the place where the type is long.
@@ -55,29 +49,24 @@ pub fn start_at(
     place: usize,
     packed: bool,
     offset: u64,
-) -> Offset
+) -> Result<u64, Refusal>
     requires { AskStart names (drop place (entries book_kinds.now book_words.now)) (entries book_kinds.now book_words.now) work.old offset }
     ensures { StartOutcome names (entries book_kinds.now book_words.now) work.old work.new offset
         (start_of (structs_in names (entries book_kinds.now book_words.now)) packed
         (ty_of names (drop place (entries book_kinds.now book_words.now))) offset) result }
 {
     if packed {
-        return Offset::At(offset);
+        return Ok(offset);
     }
     let ks = &book_kinds[place..];
     let ws = &book_words[place..];
-    if may_be_long(book_kinds, place, work.len(), names) == false {
+    if !may_be_long(book_kinds, place, work.len(), names) {
         return field_start(ks, ws, book_kinds, book_words, work, names, packed, offset);
     }
-    let noted = noted_align(book_kinds, book_words, work, names, place);
-    if noted != 0 {
-        return Offset::At(placed(packed, offset, noted));
+    if let Some(noted) = noted_align(book_kinds, book_words, work, names, place) {
+        return Ok(placed(packed, offset, noted));
     }
-    match align_of(ks, ws, book_kinds, book_words, work, names, 64) {
-        Measured::Refused(e) => Offset::Refused(e),
-        Measured::Bytes(a, _) => {
-            note_long(book_kinds, book_words, work, names, place, a);
-            Offset::At(placed(packed, offset, a))
-        }
-    }
+    let align = align_of(ks, ws, book_kinds, book_words, work, names, 64)?.bytes;
+    note_long(book_kinds, book_words, work, names, place, align);
+    Ok(placed(packed, offset, align))
 }

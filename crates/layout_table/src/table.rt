@@ -1,11 +1,35 @@
 // A table among the work words: of places of fields, and of alignments of types by their place. A fact names its struct or its
 // type, so where it stands is no matter of its truth.
-ghost use Rattle.std.specs.Prelude.{◌≡◌, ◌<◌, ◌≤◌, ◌^◌};
+ghost use Rattle.std.specs.Prelude.{◌≡◌, ◌<◌, ◌≤◌, ◌^◌, IfSome};
 ghost use Rattle.book.specs.Entry.{entries};
-ghost use Rattle.layout_memo.specs.Work.{After, table_at};
-ghost use Rattle.layout_table.specs.Table.{KeyOf, ValueOf, Probed, Best, AskFind, AskNote, AskTypeAt, AskNoteAlign, AlignFound, Stored, align_key, no_fields, room_for};
+ghost use Rattle.layout_memo.specs.Work.{After, AlignFact, table_at};
+ghost use Rattle.layout_table.specs.Table.{KeyOf, ValueOf, Probed, Best, AskFind, AskNote, AskTypeAt, AskNoteAlign, Stored, align_key, no_fields, room_for};
 
 use crate::Known;
+use layout_memo::MOST_ENTRIES;
+
+// Fewer facts are not worth a table, and more are not used.
+pub const LEAST_FACTS: usize = 16;
+
+const MOST_FACTS: usize = 4294967296;
+
+// A fact is looked for in so many slots.
+const TRIES: usize = 16;
+
+// The first word of a fact about fields has the index above the place, and the place above whether the struct is packed; that of
+// an alignment has a bit above all of these. The second word of a fact about fields has the place above the bytes.
+const INDEX: u64 = 2097152;
+
+const ALIGN: u64 = 8796093022208;
+
+const PLACE: u64 = 33554432;
+
+// A key is mixed modulo a prime, and then by 2^32 over the golden ratio.
+const PRIME: u64 = 4294967291;
+
+const GOLDEN: u64 = 2654435769;
+
+const MIXED: u64 = 4294967296;
 
 // Where the table's word i stands: word 6 of a name, or behind the words of terms.
 fn table_at(names: u64, i: usize) -> usize
@@ -24,7 +48,7 @@ fn key_of(place: usize, packed: bool, index: u64) -> u64
     requires { (place < 1048576) × (index < 1048576) }
     ensures { KeyOf packed place index result }
 {
-    let low = index * 2097152 + (place as u64) * 2;
+    let low = index * INDEX + (place as u64) * 2;
     if packed {
         return low + 2;
     }
@@ -36,56 +60,49 @@ fn first_slot(key: u64, facts: usize) -> usize
     requires { facts ≤ 2 ^ 32 }
     ensures { result ≤ 2 ^ 32 }
 {
-    let mixed = key % 4294967291 * 2654435769 % 4294967296;
-    (mixed * (facts as u64) / 4294967296) as usize
+    let mixed = key % PRIME * GOLDEN % MIXED;
+    (mixed * (facts as u64) / MIXED) as usize
 }
 
 fn next_slot(slot: usize, facts: usize) -> usize
     requires { facts ≤ 2 ^ 32 }
     ensures { result ≤ 2 ^ 32 }
 {
-    if facts == 0 {
-        return 0;
-    }
-    if slot < facts - 1 {
-        return slot + 1;
-    }
-    0
+    let next = slot.wrapping_add(1);
+    if next < facts { next } else { 0 }
 }
 
-// The second word of a fact with this key, 0 where none is found. No fact is taken out again, so a free slot ends the search.
-fn probe(work: &[u64], names: u64, facts: usize, key: u64) -> u64
+// The second word of a fact with this key. No fact is taken out again, so a free slot ends the search.
+fn probe(work: &[u64], names: u64, facts: usize, key: u64) -> Option<u64>
     requires { (names ≤ 2 ^ 40) × (facts ≤ 2 ^ 32) }
-    ensures { Probed names work.now key result }
+    ensures { IfSome result (λ value. Probed names work.now key value) }
 {
     let mut slot = first_slot(key, facts);
-    let mut tries: usize = 0;
-    while tries < 16 {
+    for _ in 0..TRIES {
         let at = table_at(names, 2 * slot);
         let behind = table_at(names, 2 * slot + 1);
         if work.len() <= at {
-            return 0;
+            return None;
         }
         if work.len() <= behind {
-            return 0;
+            return None;
         }
         if work[at] == key {
-            return work[behind];
+            return Some(work[behind]);
         }
         if work[at] == 0 {
-            return 0;
+            return None;
         }
         slot = next_slot(slot, facts);
-        tries = tries + 1;
     }
-    0
+    None
 }
 
 // How many facts the table has room for.
 pub fn room_for(length: usize, names: u64) -> usize
     ensures { result ≡ room_for length names }
 {
-    if 1048576 < names {
+    if MOST_ENTRIES < names {
         return 0;
     }
     let m = names as usize;
@@ -93,10 +110,7 @@ pub fn room_for(length: usize, names: u64) -> usize
         return 0;
     }
     let room = (length - book::work::WORDS * m - book::work::TERMS) / 2 + m / 2;
-    if 4294967296 < room {
-        return 4294967296;
-    }
-    room
+    room.min(MOST_FACTS)
 }
 
 // Behind no fields of the struct.
@@ -107,7 +121,6 @@ pub fn no_fields(place: usize) -> Known
         index: 0,
         at: place,
         offset: 0,
-        ended: false,
     }
 }
 
@@ -125,21 +138,19 @@ pub fn find(
     ensures { Best names (entries book_kinds.now book_words.now) packed place index result }
 {
     let facts = room_for(work.len(), names);
-    if facts < 16 {
+    if facts < LEAST_FACTS {
         return no_fields(place);
     }
     let mut before = index;
     while before != 0 {
-        let value = probe(work, names, facts, key_of(place, packed, before));
-        if value != 0 {
+        if let Some(value) = probe(work, names, facts, key_of(place, packed, before)) {
             return Known {
                 index: before,
-                at: (value / 33554432) as usize,
-                offset: value % 33554432,
-                ended: false,
+                at: (value / PLACE) as usize,
+                offset: value % PLACE,
             };
         }
-        before = before & (before - 1);
+        before &= before - 1;
     }
     no_fields(place)
 }
@@ -149,7 +160,7 @@ fn value_of(place: usize, offset: u64) -> u64
     requires { (place < 1048576) × (offset ≤ 16777216) }
     ensures { ValueOf place offset result }
 {
-    (place as u64) * 33554432 + offset
+    (place as u64) * PLACE + offset
 }
 
 // A slot that is free for the key, or the first one.
@@ -159,8 +170,7 @@ fn free_slot(work: &[u64], names: u64, facts: usize, key: u64) -> usize
 {
     let first = first_slot(key, facts);
     let mut slot = first;
-    let mut tries: usize = 0;
-    while tries < 16 {
+    for _ in 0..TRIES {
         let at = table_at(names, 2 * slot);
         if at < work.len() {
             if work[at] == 0 {
@@ -171,7 +181,6 @@ fn free_slot(work: &[u64], names: u64, facts: usize, key: u64) -> usize
             }
         }
         slot = next_slot(slot, facts);
-        tries = tries + 1;
     }
     first
 }
@@ -196,7 +205,7 @@ fn put(work: &mut [u64], names: u64, key: u64, value: u64)
     ensures { Stored names work.old work.new key value }
 {
     let facts = room_for(work.len(), names);
-    if facts < 16 {
+    if facts < LEAST_FACTS {
         return;
     }
     let slot = free_slot(work, names, facts, key);
@@ -216,7 +225,7 @@ pub fn note(
     requires { AskNote names (entries book_kinds.now book_words.now) work.old packed place fact }
     ensures { After names (entries book_kinds.now book_words.now) work.old work.new }
 {
-    if 1048576 <= fact.index {
+    if MOST_ENTRIES <= fact.index {
         return;
     }
     let key = key_of(place, packed, fact.index);
@@ -228,23 +237,23 @@ fn align_key(place: usize) -> u64
     requires { place < 1048576 }
     ensures { result ≡ align_key place }
 {
-    8796093022208 + (place as u64)
+    ALIGN + (place as u64)
 }
 
-// The alignment that is noted for the type at the place, 0 where none is.
+// The alignment that is noted for the type at the place.
 pub fn noted_align(
     book_kinds: &[u64],
     book_words: &[u64],
     work: &[u64],
     names: u64,
     place: usize,
-) -> u64
+) -> Option<u64>
     requires { AskTypeAt names (entries book_kinds.now book_words.now) work.now place }
-    ensures { AlignFound names (entries book_kinds.now book_words.now) place result }
+    ensures { IfSome result (λ align. AlignFact names (entries book_kinds.now book_words.now) place align) }
 {
     let facts = room_for(work.len(), names);
-    if facts < 16 {
-        return 0;
+    if facts < LEAST_FACTS {
+        return None;
     }
     probe(work, names, facts, align_key(place))
 }

@@ -11,8 +11,8 @@ use Rattle.book.specs.Decode.{type_to, decode}
 use Rattle.book.proofs.AgreeTy.{agrees_type_to}
 use Rattle.book_types.specs.Length.{len_of}
 use Rattle.book_types.specs.Laws.{len_got, len_fits, entries_part, length_entries}
-use Rattle.book_types.specs.declared.Length.{Length}
-use Rattle.book_types.specs.declared.Length.TheVariants as len
+use Rattle.std.specs.Prelude as code
+use Rattle.std.specs.Prelude.{Some}
 use Rattle.layout_memo.specs.Front.{Starts}
 use Rattle.layout_memo.specs.Work.{Ready, Ask}
 use Rattle.layout_memo.specs.Calls.{lent}
@@ -30,7 +30,7 @@ pub record Measuring (m : ℕ) (es : List Entry) (work work' : List ℕ) (at r :
   pub further : at ≤ r
 
 -- a type that was read at a place can be measured
-module _ (m : ℕ) (ks ws : List ℕ) (at : ℕ) (few : length (entries ks ws) ≤ 2 ^ 20) (r : Length) (e : r ≡ len_of (type_to m 64 (lent ks ws at))) (n : ℕ) (q : r ≡ len.Entries n) where
+module _ (m : ℕ) (ks ws : List ℕ) (at : ℕ) (few : length (entries ks ws) ≤ 2 ^ 20) (r : code.Option ℕ) (e : r ≡ len_of (type_to m 64 (lent ks ws at))) (n : ℕ) (q : r ≡ Some n) where
   lent_few : length (lent ks ws at) ≤ 2 ^ 20
   lent_few = omega (arith, ap length (entries_part at ks ws), length-drop at (entries ks ws))
 

@@ -7,10 +7,10 @@ ghost use Rattle.layout_memo.specs.Work.{Ready};
 ghost use Rattle.try_layout.specs.Laws.{Measuring};
 
 use book::entry;
-use book_types::Length;
-use book_types::types::type_len;
+use book::refusal::Refusal;
+use book_types::types::{LEVELS, type_len};
 use layout_align::align_of;
-use layout_memo::Measured;
+use layout_memo::Measure;
 use layout_memo::structs::place_structs;
 use layout_size::size_of;
 use std::io;
@@ -95,10 +95,10 @@ const WORDS: [u64; 944] = [
     0,
 ];
 
-fn show(rt: &impl Print, m: Measured) -> io::Result<()> {
+fn show(rt: &impl Print, m: Result<Measure, Refusal>) -> io::Result<()> {
     match m {
-        Measured::Bytes(n, _) => print!(rt; "{n}"),
-        Measured::Refused(e) => print!(rt; "r{e}"),
+        Ok(m) => print!(rt; "{}", m.bytes),
+        Err(e) => print!(rt; "r{}", e.number()),
     }
 }
 
@@ -121,7 +121,7 @@ fn measure_one(
     if words.len() < at {
         return Ok(at);
     }
-    let Length::Entries(n) = type_len(&kinds[at..], &words[at..], names, 64) else {
+    let Some(n) = type_len(&kinds[at..], &words[at..], names, LEVELS) else {
         return Ok(at);
     };
     let size = size_of(&kinds[at..], &words[at..], kinds, words, work, names, 64);

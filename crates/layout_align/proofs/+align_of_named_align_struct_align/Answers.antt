@@ -3,6 +3,8 @@ use Rattle.layout_align.specs.LoopCalls as lc
 use Rattle.layout_memo.specs.FieldCalls as fields
 use Rattle.layout_memo.specs.Scalars.{passes_from, reach_none}
 use borrow.Author.Rules.{rules}
+use Rattle.std.proofs.lemmas.Result.{err_from_is_err_and}
+use Rattle.std.proofs.Common.{⊎_elim, sym, ◌∙◌}
 use native.Mathlib.Omega.{arith}
 use Rattle.book.specs.Entry.{entries}
 use Rattle.layout_align.proofs.+align_of_named_align_struct_align.Goals as goal
@@ -16,8 +18,8 @@ align_of-bounds-words-0 t c = let h = calls.words_there _ _ _ _ _ _ c.requires i
 pub align_of-bounds-kinds-0 : goal.align_of-bounds-kinds-0
 align_of-bounds-kinds-0 t c = let h = calls.kinds_there _ _ _ _ _ _ c.requires in search rules
 
-pub align_of-overflow_add-result : goal.align_of-overflow_add-result
-align_of-overflow_add-result t c =
+pub align_of-overflow_add-word : goal.align_of-overflow_add-word
+align_of-overflow_add-word t c =
     omega (arith, calls.int_width_lem _ _ _ _ _ _ c.requires _ c.type_group.ensures c.in-Int.is)
 
 pub align_of-slice_bounds-align_of-count : goal.align_of-slice_bounds-align_of-count
@@ -73,15 +75,18 @@ align_of-one_more-requires-in-Struct t c =
 
 pub align_of-returns-in-Void : goal.align_of-returns-in-Void
 align_of-returns-in-Void t c =
-    calls.align_void _ _ _ _ _ _ c.requires _ c.type_group.ensures c.if-level-eq0.false c.in-Void.is
+    rw c.one_level.ensures
+    (calls.align_void _ _ _ _ _ _ c.requires _ c.type_group.ensures c.if-level-eq0.false c.in-Void.is)
 
 pub align_of-returns-in-Int : goal.align_of-returns-in-Int
 align_of-returns-in-Int t c =
-    calls.align_int _ _ _ _ _ _ c.requires _ c.type_group.ensures c.if-level-eq0.false c.in-Int.is
+    rw c.one_level-in-Int.ensures
+    (calls.align_int _ _ _ _ _ _ c.requires _ c.type_group.ensures c.if-level-eq0.false c.in-Int.is)
 
 pub align_of-returns-in-Ptr : goal.align_of-returns-in-Ptr
 align_of-returns-in-Ptr t c =
-    calls.align_ptr _ _ _ _ _ _ c.requires _ c.type_group.ensures c.if-level-eq0.false c.in-Ptr.is
+    rw c.one_level-in-Ptr.ensures
+    (calls.align_ptr _ _ _ _ _ _ c.requires _ c.type_group.ensures c.if-level-eq0.false c.in-Ptr.is)
 
 pub align_of-returns-in-Array : goal.align_of-returns-in-Array
 align_of-returns-in-Array t c =
@@ -100,11 +105,9 @@ align_of-returns-in-Struct t c =
 
 pub align_of-returns-in-Sizeless : goal.align_of-returns-in-Sizeless
 align_of-returns-in-Sizeless t c =
-    calls.align_sizeless _ _ _ _ _ _ c.requires _ c.type_group.ensures c.if-level-eq0.false c.in-Sizeless.is
-
-pub align_of-returns-in-Other : goal.align_of-returns-in-Other
-align_of-returns-in-Other t c =
-    calls.other _ _ _ _ _ _ c.requires _ c.type_group.ensures c.if-level-eq0.false c.in-Other.is
+    ⊎_elim
+    (λ e. calls.align_sizeless _ _ _ _ _ _ c.requires _ c.type_group.ensures c.if-level-eq0.false e)
+    (λ e. calls.other _ _ _ _ _ _ c.requires _ c.type_group.ensures c.if-level-eq0.false e) c.in-Sizeless.is
 
 pub named_align-returns-then-part-ne0 : goal.named_align-returns-then-part-ne0
 named_align-returns-then-part-ne0 t c = calls.align_recalled _ _ _ _ _ _ c.requires c.if-part-ne0.true _ c.recalled.ensures
@@ -134,17 +137,23 @@ pub named_align-align_of-requires : goal.named_align-align_of-requires
 named_align-align_of-requires t c =
     (omega arith, calls.body_ask _ _ _ _ _ _ c.requires c.if-body-eq0.false)
 
-pub named_align-one_more-r-requires : goal.named_align-one_more-r-requires
-named_align-one_more-r-requires t c =
+pub named_align-one_more-requires : goal.named_align-one_more-requires
+named_align-one_more-requires t c =
     calls.outcome_few (omega (arith, c.requires.levels)) c.align_of.ensures
+
+pub named_align-returns-in_err-r : goal.named_align-returns-in_err-r
+named_align-returns-in_err-r t c =
+    let p = err_from_is_err_and c.from_residual.result c.from_residual.ensures.1 in
+    rw (p.1, p.2)
+    (calls.align_kept _ _ _ _ _ _ c.requires c.if-body-eq0.false _ (sym c.in_err-r.was ∙ c.one_more.ensures) c.align_of.ensures)
 
 pub named_align-with_align-requires : goal.named_align-with_align-requires
 named_align-with_align-requires t c =
-    calls.align_body_small _ _ _ _ _ _ c.requires c.if-body-eq0.false _ c.one_more-r.ensures c.align_of.ensures
+    calls.align_body_small _ _ _ _ _ _ c.requires c.if-body-eq0.false _ c.one_more.ensures _ c.in_ok-r.was c.align_of.ensures
 
 pub named_align-returns : goal.named_align-returns
 named_align-returns t c =
-    calls.align_stored _ _ _ _ _ _ c.requires c.if-body-eq0.false _ c.one_more-r.ensures c.align_of.ensures _
+    calls.align_stored _ _ _ _ _ _ c.requires c.if-body-eq0.false _ c.one_more.ensures _ c.in_ok-r.was c.align_of.ensures _
     c.with_align.ensures
 
 pub struct_align-returns-then-packed : goal.struct_align-returns-then-packed
@@ -204,11 +213,13 @@ struct_align-align_of-requires t c = (
       c.args.packed c.loop-at.invariant c.loop-at-test.true c.requires.levels,
 )
 
-pub struct_align-returns-in-Refused : goal.struct_align-returns-in-Refused
-struct_align-returns-in-Refused t c =
-    lc.align_refused c.args.names c.args.kinds.now c.args.words.now
+pub struct_align-returns-in_err-field : goal.struct_align-returns-in_err-field
+struct_align-returns-in_err-field t c =
+    let p = err_from_is_err_and c.from_residual.result c.from_residual.ensures.1 in
+    rw (p.1, p.2)
+    (lc.align_refused c.args.names c.args.kinds.now c.args.words.now
     (entries c.args.book_kinds.now c.args.book_words.now) c.args.work.now c.args.level c.args.packed
-    c.loop-at.invariant c.loop-at-test.true c.align_of.ensures c.if-packed.false _ c.in-Refused.is
+    c.loop-at.invariant c.loop-at-test.true c.align_of.ensures c.if-packed.false _ c.in_err-field.was)
 
 pub struct_align-type_end-requires : goal.struct_align-type_end-requires
 struct_align-type_end-requires t c =
@@ -224,8 +235,8 @@ pub struct_align-pass_scalars-run-requires : goal.struct_align-pass_scalars-run-
 struct_align-pass_scalars-run-requires t c =
     let next = lc.align_next c.args.names c.args.kinds.now c.args.words.now
     (entries c.args.book_kinds.now c.args.book_words.now) c.args.work.now c.args.level c.args.packed
-    c.loop-at.invariant c.loop-at-test.true c.align_of.ensures _ _ c.in-Bytes.is _ c.type_end.ensures _ _
-    c.larger.ensures c.deeper.ensures in
+    c.loop-at.invariant c.loop-at-test.true c.align_of.ensures _ _ c.in_ok-field.was _ c.type_end.ensures _ _
+    c.max-most.ensures c.max.ensures in
     lc.align_from c.args.names c.args.kinds.now c.args.words.now
     (entries c.args.book_kinds.now c.args.book_words.now) c.args.work.now c.args.level c.args.packed
     next _ c.run_from-next.ensures
@@ -241,8 +252,8 @@ pub struct_align-loop-at-preserved : goal.struct_align-loop-at-preserved
 struct_align-loop-at-preserved t c =
     let next = lc.align_next c.args.names c.args.kinds.now c.args.words.now
     (entries c.args.book_kinds.now c.args.book_words.now) c.args.work.now c.args.level c.args.packed
-    c.loop-at.invariant c.loop-at-test.true c.align_of.ensures _ _ c.in-Bytes.is _ c.type_end.ensures _ _
-    c.larger.ensures c.deeper.ensures in
+    c.loop-at.invariant c.loop-at-test.true c.align_of.ensures _ _ c.in_ok-field.was _ c.type_end.ensures _ _
+    c.max-most.ensures c.max.ensures in
     lc.align_again c.args.names c.args.kinds.now c.args.words.now
     (entries c.args.book_kinds.now c.args.book_words.now) c.args.work.now c.args.level c.args.packed
     next _ _ c.run_from-next.ensures (reach_none _ _ _ c.reach-stop.ensures) c.pass_scalars-run.ensures

@@ -1,5 +1,6 @@
 use borrow.Author.Rules.{rules}
 use native.Mathlib.Omega.{arith}
+use Rattle.std.proofs.lemmas.Result.{err_from_is_err_and}
 use Rattle.book.specs.Entry.{entries}
 use Rattle.layout_memo.specs.FieldCalls as fields
 use Rattle.layout_field.specs.Offsets as laws
@@ -50,30 +51,34 @@ field_start-requires c =
     (entries c.args.book_kinds.now c.args.book_words.now) c.args.work.now c.args.packed c.args.index c.args.offset
     c.loop-at.invariant c.loop-at-test.true
 
-pub returns-in-Refused : goal.returns-in-Refused
-returns-in-Refused c =
-    laws.offset_refused c.args.names c.args.kinds.now c.args.words.now
+pub returns-in_err-start : goal.returns-in_err-start
+returns-in_err-start c =
+    let p = err_from_is_err_and c.from_residual.result c.from_residual.ensures.1 in
+    rw (p.1, p.2)
+    (laws.offset_refused c.args.names c.args.kinds.now c.args.words.now
     (entries c.args.book_kinds.now c.args.book_words.now) c.args.work.now c.args.packed c.args.index c.args.offset
-    c.loop-at.invariant c.loop-at-test.true c.field_start.ensures _ c.in-Refused.is
+    c.loop-at.invariant c.loop-at-test.true c.field_start.ensures _ c.in_err-start.was)
 
 pub returns-then-left-eq0 : goal.returns-then-left-eq0
 returns-then-left-eq0 c =
     laws.offset_here c.args.names c.args.kinds.now c.args.words.now
     (entries c.args.book_kinds.now c.args.book_words.now) c.args.work.now c.args.packed c.args.index c.args.offset
-    c.loop-at.invariant c.loop-at-test.true c.field_start.ensures _ c.in-At.is c.if-left-eq0.true
+    c.loop-at.invariant c.loop-at-test.true c.field_start.ensures _ c.in_ok-start.was c.if-left-eq0.true
 
 pub size_of-requires : goal.size_of-requires
 size_of-requires c =
     laws.size_ask c.args.names c.args.kinds.now c.args.words.now
     (entries c.args.book_kinds.now c.args.book_words.now) c.args.work.now c.args.packed c.args.index c.args.offset
-    c.loop-at.invariant c.loop-at-test.true c.field_start.ensures _ c.in-At.is
+    c.loop-at.invariant c.loop-at-test.true c.field_start.ensures _ c.in_ok-start.was
 
-pub returns-in-Refused-size_of : goal.returns-in-Refused-size_of
-returns-in-Refused-size_of c =
-    laws.offset_size_refused c.args.names c.args.kinds.now c.args.words.now
+pub returns-in_err-size : goal.returns-in_err-size
+returns-in_err-size c =
+    let p = err_from_is_err_and c.from_residual-in_err-size.result c.from_residual-in_err-size.ensures.1 in
+    rw (p.1, p.2)
+    (laws.offset_size_refused c.args.names c.args.kinds.now c.args.words.now
     (entries c.args.book_kinds.now c.args.book_words.now) c.args.work.now c.args.packed c.args.index c.args.offset
-    c.loop-at.invariant c.loop-at-test.true c.field_start.ensures _ c.in-At.is c.if-left-eq0.false
-    c.size_of.ensures _ c.in-Refused-size_of.is
+    c.loop-at.invariant c.loop-at-test.true c.field_start.ensures _ c.in_ok-start.was c.if-left-eq0.false
+    c.size_of.ensures _ c.in_err-size.was)
 
 pub overflow_add-taken : goal.overflow_add-taken
 overflow_add-taken c =
@@ -81,8 +86,8 @@ overflow_add-taken c =
       arith,
       laws.offset_fits c.args.names c.args.kinds.now c.args.words.now
           (entries c.args.book_kinds.now c.args.book_words.now) c.args.work.now c.args.packed
-          c.args.index c.args.offset c.loop-at.invariant c.loop-at-test.true c.field_start.ensures _ c.in-At.is
-          c.if-left-eq0.false c.size_of.ensures _ _ c.in-Bytes.is,
+          c.args.index c.args.offset c.loop-at.invariant c.loop-at-test.true c.field_start.ensures _ c.in_ok-start.was
+          c.if-left-eq0.false c.size_of.ensures _ _ c.in_ok-size.was,
     )
 
 pub type_end-requires : goal.type_end-requires
@@ -104,8 +109,8 @@ pub pass_scalars-run-requires : goal.pass_scalars-run-requires
 pass_scalars-run-requires c =
     let next = laws.offset_next c.args.names c.args.kinds.now c.args.words.now
     (entries c.args.book_kinds.now c.args.book_words.now) c.args.work.now c.args.packed c.args.index c.args.offset
-    c.loop-at.invariant c.loop-at-test.true c.field_start.ensures _ c.in-At.is c.if-left-eq0.false
-    c.size_of.ensures _ _ c.in-Bytes.is _ c.type_end.ensures in
+    c.loop-at.invariant c.loop-at-test.true c.field_start.ensures _ c.in_ok-start.was c.if-left-eq0.false
+    c.size_of.ensures _ _ c.in_ok-size.was _ c.type_end.ensures in
     laws.offset_from_lem c.args.names c.args.kinds.now c.args.words.now
     (entries c.args.book_kinds.now c.args.book_words.now) c.args.work.now c.args.packed c.args.index c.args.offset
     next _ c.fields_left-next.ensures
@@ -121,8 +126,8 @@ pub loop-at-preserved : goal.loop-at-preserved
 loop-at-preserved c =
     let next = laws.offset_next c.args.names c.args.kinds.now c.args.words.now
     (entries c.args.book_kinds.now c.args.book_words.now) c.args.work.now c.args.packed c.args.index c.args.offset
-    c.loop-at.invariant c.loop-at-test.true c.field_start.ensures _ c.in-At.is c.if-left-eq0.false
-    c.size_of.ensures _ _ c.in-Bytes.is _ c.type_end.ensures in
+    c.loop-at.invariant c.loop-at-test.true c.field_start.ensures _ c.in_ok-start.was c.if-left-eq0.false
+    c.size_of.ensures _ _ c.in_ok-size.was _ c.type_end.ensures in
     laws.offset_again c.args.names c.args.kinds.now c.args.words.now
     (entries c.args.book_kinds.now c.args.book_words.now) c.args.work.now c.args.packed c.args.index c.args.offset
     next _ c.fields_left-next.ensures _ c.pass_scalars-run.ensures

@@ -3,6 +3,8 @@ use Rattle.layout_size.specs.LoopCalls as lc
 use Rattle.layout_memo.specs.FieldCalls as fields
 use Rattle.layout_memo.specs.Scalars.{passes_from, reach_none}
 use borrow.Author.Rules.{rules}
+use Rattle.std.proofs.lemmas.Result.{err_from_is_err_and}
+use Rattle.std.proofs.Common.{⊎_elim, sym, ◌∙◌}
 use native.Mathlib.Omega.{arith}
 use lib.ListN.{get_or}
 use Rattle.book.specs.Entry.{entries}
@@ -36,17 +38,23 @@ pub named_size-size_of-requires : goal.named_size-size_of-requires
 named_size-size_of-requires t c =
     (omega arith, calls.body_ask _ _ _ _ _ _ c.requires c.if-body-eq0.false)
 
-pub named_size-one_more-r-requires : goal.named_size-one_more-r-requires
-named_size-one_more-r-requires t c =
+pub named_size-one_more-requires : goal.named_size-one_more-requires
+named_size-one_more-requires t c =
     calls.outcome_few (omega (arith, c.requires.levels)) c.size_of.ensures
+
+pub named_size-returns-in_err-r : goal.named_size-returns-in_err-r
+named_size-returns-in_err-r t c =
+    let p = err_from_is_err_and c.from_residual.result c.from_residual.ensures.1 in
+    rw (p.1, p.2)
+    (calls.size_kept _ _ _ _ _ _ c.requires c.if-body-eq0.false _ (sym c.in_err-r.was ∙ c.one_more.ensures) c.size_of.ensures)
 
 pub named_size-with_size-requires : goal.named_size-with_size-requires
 named_size-with_size-requires t c =
-    calls.size_body_small _ _ _ _ _ _ c.requires c.if-body-eq0.false _ c.one_more-r.ensures c.size_of.ensures
+    calls.size_body_small _ _ _ _ _ _ c.requires c.if-body-eq0.false _ c.one_more.ensures _ c.in_ok-r.was c.size_of.ensures
 
 pub named_size-returns : goal.named_size-returns
 named_size-returns t c =
-    calls.size_stored _ _ _ _ _ _ c.requires c.if-body-eq0.false _ c.one_more-r.ensures c.size_of.ensures _
+    calls.size_stored _ _ _ _ _ _ c.requires c.if-body-eq0.false _ c.one_more.ensures _ c.in_ok-r.was c.size_of.ensures _
     c.with_size.ensures
 
 pub size_of-returns-then-level-eq0 : goal.size_of-returns-then-level-eq0
@@ -58,8 +66,8 @@ size_of-bounds-words-0 t c = let h = calls.words_there _ _ _ _ _ _ c.requires in
 pub size_of-bounds-kinds-0 : goal.size_of-bounds-kinds-0
 size_of-bounds-kinds-0 t c = let h = calls.kinds_there _ _ _ _ _ _ c.requires in search rules
 
-pub size_of-overflow_add-result : goal.size_of-overflow_add-result
-size_of-overflow_add-result t c =
+pub size_of-overflow_add-word : goal.size_of-overflow_add-word
+size_of-overflow_add-word t c =
     omega (arith, calls.int_width_lem _ _ _ _ _ _ c.requires _ c.type_group.ensures c.in-Int.is)
 
 pub size_of-slice_bounds-size_of-count : goal.size_of-slice_bounds-size_of-count
@@ -77,10 +85,6 @@ size_of-slice_bounds-size_of-start-in-Array t c = let h = calls.words_there _ _ 
 pub size_of-size_of-requires : goal.size_of-size_of-requires
 size_of-size_of-requires t c =
     (omega arith, calls.array_ask _ _ _ _ _ _ c.requires _ c.type_group.ensures _ c.in-Array.is)
-
-pub size_of-array_bytes-requires : goal.size_of-array_bytes-requires
-size_of-array_bytes-requires t c =
-    calls.size_outcome_small (omega (arith, c.requires.levels)) _ c.size_of.ensures
 
 pub size_of-one_more-requires : goal.size_of-one_more-requires
 size_of-one_more-requires t c =
@@ -120,15 +124,18 @@ size_of-one_more-requires-in-Struct t c =
 
 pub size_of-returns-in-Void : goal.size_of-returns-in-Void
 size_of-returns-in-Void t c =
-    calls.size_void _ _ _ _ _ _ c.requires _ c.type_group.ensures c.if-level-eq0.false c.in-Void.is
+    rw c.one_level.ensures
+    (calls.size_void _ _ _ _ _ _ c.requires _ c.type_group.ensures c.if-level-eq0.false c.in-Void.is)
 
 pub size_of-returns-in-Int : goal.size_of-returns-in-Int
 size_of-returns-in-Int t c =
-    calls.size_int _ _ _ _ _ _ c.requires _ c.type_group.ensures c.if-level-eq0.false c.in-Int.is
+    rw c.one_level-in-Int.ensures
+    (calls.size_int _ _ _ _ _ _ c.requires _ c.type_group.ensures c.if-level-eq0.false c.in-Int.is)
 
 pub size_of-returns-in-Ptr : goal.size_of-returns-in-Ptr
 size_of-returns-in-Ptr t c =
-    calls.size_ptr _ _ _ _ _ _ c.requires _ c.type_group.ensures c.if-level-eq0.false c.in-Ptr.is
+    rw c.one_level-in-Ptr.ensures
+    (calls.size_ptr _ _ _ _ _ _ c.requires _ c.type_group.ensures c.if-level-eq0.false c.in-Ptr.is)
 
 pub size_of-returns-in-Array : goal.size_of-returns-in-Array
 size_of-returns-in-Array t c =
@@ -147,11 +154,9 @@ size_of-returns-in-Struct t c =
 
 pub size_of-returns-in-Sizeless : goal.size_of-returns-in-Sizeless
 size_of-returns-in-Sizeless t c =
-    calls.size_sizeless _ _ _ _ _ _ c.requires _ c.type_group.ensures c.if-level-eq0.false c.in-Sizeless.is
-
-pub size_of-returns-in-Other : goal.size_of-returns-in-Other
-size_of-returns-in-Other t c =
-    calls.other _ _ _ _ _ _ c.requires _ c.type_group.ensures c.if-level-eq0.false c.in-Other.is
+    ⊎_elim
+    (λ e. calls.size_sizeless _ _ _ _ _ _ c.requires _ c.type_group.ensures c.if-level-eq0.false e)
+    (λ e. calls.other _ _ _ _ _ _ c.requires _ c.type_group.ensures c.if-level-eq0.false e) c.in-Sizeless.is
 
 pub struct_size-pass_scalars-first-requires : goal.struct_size-pass_scalars-first-requires
 struct_size-pass_scalars-first-requires t c =
@@ -204,11 +209,13 @@ struct_size-align_of-requires t c =
     (entries c.args.book_kinds.now c.args.book_words.now) c.args.work.now c.args.level c.args.packed
     c.loop-at.invariant.0 c.loop-at.invariant.1 c.loop-at-test.true
 
-pub struct_size-returns-in-Refused : goal.struct_size-returns-in-Refused
-struct_size-returns-in-Refused t c =
-    lc.size_align_refused c.args.names c.args.kinds.now c.args.words.now
+pub struct_size-returns-in_err-a : goal.struct_size-returns-in_err-a
+struct_size-returns-in_err-a t c =
+    let p = err_from_is_err_and c.from_residual.result c.from_residual.ensures.1 in
+    rw (p.1, p.2)
+    (lc.size_align_refused c.args.names c.args.kinds.now c.args.words.now
     (entries c.args.book_kinds.now c.args.book_words.now) c.args.work.now c.args.level c.args.packed
-    c.loop-at.invariant.0 c.loop-at.invariant.1 c.loop-at-test.true c.align_of.ensures _ c.in-Refused.is
+    c.loop-at.invariant.0 c.loop-at.invariant.1 c.loop-at-test.true c.align_of.ensures _ c.in_err-a.was)
 
 pub struct_size-size_of-requires : goal.struct_size-size_of-requires
 struct_size-size_of-requires t c = (
@@ -218,26 +225,28 @@ struct_size-size_of-requires t c = (
       c.args.packed c.loop-at.invariant.0 c.loop-at.invariant.1 c.loop-at-test.true c.align_of.ensures,
 )
 
-pub struct_size-shape_of-work-in-Refused-size_of : goal.struct_size-shape_of-work-in-Refused-size_of
-struct_size-shape_of-work-in-Refused-size_of t c =
+pub struct_size-shape_of-work-in_err-s : goal.struct_size-shape_of-work-in_err-s
+struct_size-shape_of-work-in_err-s t c =
     let h = c.loop-at.invariant.1.1.kept.long in
     let g = c.align_of.ensures.after.kept.long in
     let f = c.size_of.ensures.after.kept.long in
     search rules
 
-pub struct_size-returns-in-Refused-size_of : goal.struct_size-returns-in-Refused-size_of
-struct_size-returns-in-Refused-size_of t c =
-    lc.size_refused c.args.names c.args.kinds.now c.args.words.now
+pub struct_size-returns-in_err-s : goal.struct_size-returns-in_err-s
+struct_size-returns-in_err-s t c =
+    let p = err_from_is_err_and c.from_residual-in_err-s.result c.from_residual-in_err-s.ensures.1 in
+    rw (p.1, p.2)
+    (lc.size_refused c.args.names c.args.kinds.now c.args.words.now
     (entries c.args.book_kinds.now c.args.book_words.now) c.args.work.now c.args.level c.args.packed
-    c.loop-at.invariant.0 c.loop-at.invariant.1 c.loop-at-test.true c.align_of.ensures _ _ c.in-Bytes.is
-    c.size_of.ensures _ c.in-Refused-size_of.is
+    c.loop-at.invariant.0 c.loop-at.invariant.1 c.loop-at-test.true c.align_of.ensures _ _ c.in_ok-a.was
+    c.size_of.ensures _ c.in_err-s.was)
 
 pub struct_size-add_field-sum-requires : goal.struct_size-add_field-sum-requires
 struct_size-add_field-sum-requires t c =
     lc.field_small c.args.names c.args.kinds.now c.args.words.now
     (entries c.args.book_kinds.now c.args.book_words.now) c.args.work.now c.args.level c.args.packed
-    c.loop-at.invariant.0 c.loop-at.invariant.1 c.loop-at-test.true c.align_of.ensures _ _ c.in-Bytes.is
-    c.size_of.ensures _ _ c.in-Bytes-size_of.is
+    c.loop-at.invariant.0 c.loop-at.invariant.1 c.loop-at-test.true c.align_of.ensures _ _ c.in_ok-a.was
+    c.size_of.ensures _ _ c.in_ok-s.was
 
 pub struct_size-type_end-requires : goal.struct_size-type_end-requires
 struct_size-type_end-requires t c =
@@ -255,8 +264,8 @@ pub struct_size-pass_scalars-run-requires : goal.struct_size-pass_scalars-run-re
 struct_size-pass_scalars-run-requires t c =
     let next = lc.size_next c.args.names c.args.kinds.now c.args.words.now
     (entries c.args.book_kinds.now c.args.book_words.now) c.args.work.now c.args.level c.args.packed
-    c.loop-at.invariant.0 c.loop-at.invariant.1 c.loop-at-test.true c.align_of.ensures _ _ c.in-Bytes.is
-    c.size_of.ensures _ _ c.in-Bytes-size_of.is _ c.type_end.ensures _ c.add_field-sum.ensures in
+    c.loop-at.invariant.0 c.loop-at.invariant.1 c.loop-at-test.true c.align_of.ensures _ _ c.in_ok-a.was
+    c.size_of.ensures _ _ c.in_ok-s.was _ c.type_end.ensures _ c.add_field-sum.ensures in
     lc.size_from_lem c.args.names c.args.kinds.now c.args.words.now
     (entries c.args.book_kinds.now c.args.book_words.now) c.args.work.now c.args.level c.args.packed
     c.loop-at.invariant.0 next _ c.run_from-next.ensures
@@ -272,8 +281,8 @@ pub struct_size-loop-at-preserved : goal.struct_size-loop-at-preserved
 struct_size-loop-at-preserved t c =
     let next = lc.size_next c.args.names c.args.kinds.now c.args.words.now
     (entries c.args.book_kinds.now c.args.book_words.now) c.args.work.now c.args.level c.args.packed
-    c.loop-at.invariant.0 c.loop-at.invariant.1 c.loop-at-test.true c.align_of.ensures _ _ c.in-Bytes.is
-    c.size_of.ensures _ _ c.in-Bytes-size_of.is _ c.type_end.ensures _ c.add_field-sum.ensures in (
+    c.loop-at.invariant.0 c.loop-at.invariant.1 c.loop-at-test.true c.align_of.ensures _ _ c.in_ok-a.was
+    c.size_of.ensures _ _ c.in_ok-s.was _ c.type_end.ensures _ c.add_field-sum.ensures in (
       c.loop-at.invariant.0,
       lc.size_again c.args.names c.args.kinds.now c.args.words.now
           (entries c.args.book_kinds.now c.args.book_words.now) c.args.work.now c.args.level

@@ -1,5 +1,7 @@
 -- `layout_step::array_step` meets its contract.
 use Rattle.layout_step.specs.Steps as laws
+use mathlib.Core.Path.{refl}
+use Rattle.std.proofs.lemmas.Result.{err_from_is_err_and}
 use borrow.Author.Rules.{rules}
 use Rattle.layout_step.proofs.array_step.Goals as goal
 
@@ -9,14 +11,14 @@ offset_bounds-book_kinds-at c =
     c.args.at c.args.index c.requires in
     search rules
 
-pub slice_bounds-size_of-count : goal.slice_bounds-size_of-count
-slice_bounds-size_of-count c =
+pub slice_bounds-ks-count : goal.slice_bounds-ks-count
+slice_bounds-ks-count c =
     let h = laws.at_kinds c.args.names c.args.book_kinds.now c.args.book_words.now c.args.work.now
     c.args.at c.args.index c.requires in
     search rules
 
-pub slice_bounds-size_of-start : goal.slice_bounds-size_of-start
-slice_bounds-size_of-start c =
+pub slice_bounds-ks-start : goal.slice_bounds-ks-start
+slice_bounds-ks-start c =
     let h = laws.at_kinds c.args.names c.args.book_kinds.now c.args.book_words.now c.args.work.now
     c.args.at c.args.index c.requires in
     search rules
@@ -27,14 +29,14 @@ offset_bounds-book_words-at c =
     c.args.at c.args.index c.requires in
     search rules
 
-pub slice_bounds-size_of-count-2 : goal.slice_bounds-size_of-count-2
-slice_bounds-size_of-count-2 c =
+pub slice_bounds-ws-count : goal.slice_bounds-ws-count
+slice_bounds-ws-count c =
     let h = laws.at_words c.args.names c.args.book_kinds.now c.args.book_words.now c.args.work.now
     c.args.at c.args.index c.requires in
     search rules
 
-pub slice_bounds-size_of-start-2 : goal.slice_bounds-size_of-start-2
-slice_bounds-size_of-start-2 c =
+pub slice_bounds-ws-start : goal.slice_bounds-ws-start
+slice_bounds-ws-start c =
     let h = laws.at_words c.args.names c.args.book_kinds.now c.args.book_words.now c.args.work.now
     c.args.at c.args.index c.requires in
     search rules
@@ -44,18 +46,20 @@ size_of-requires c =
     laws.array_ask c.args.names c.args.book_kinds.now c.args.book_words.now c.args.work.now c.args.at
     c.args.index c.requires
 
-pub returns-in-Refused : goal.returns-in-Refused
-returns-in-Refused c =
-    laws.array_refused c.args.names c.args.book_kinds.now c.args.book_words.now c.args.work.now c.args.at
-    c.args.index c.requires _ c.size_of.ensures _ c.in-Refused.is
+pub returns-in_err-size : goal.returns-in_err-size
+returns-in_err-size c =
+    let p = err_from_is_err_and c.from_residual.result c.from_residual.ensures.1 in
+    rw (p.1, p.2)
+    (laws.array_refused c.args.names c.args.book_kinds.now c.args.book_words.now c.args.work.now c.args.at
+    c.args.index c.requires _ c.size_of.ensures _ c.in_err-size.was)
 
-pub returns-in-Constant : goal.returns-in-Constant
-returns-in-Constant c =
+pub returns-in-Some : goal.returns-in-Some
+returns-in-Some c =
     laws.array_const c.args.names c.args.book_kinds.now c.args.book_words.now c.args.work.now c.args.at
-    c.args.index c.requires _ c.size_of.ensures _ _ c.in-Bytes.is _ c.in-Constant.is
-    _ c.wrapping_mul.ensures
+    c.args.index c.requires _ c.size_of.ensures _ _ c.in_ok-size.was _ c.in-Some.is
+    _ refl
 
-pub returns-in-Varying : goal.returns-in-Varying
-returns-in-Varying c =
+pub returns-in-None : goal.returns-in-None
+returns-in-None c =
     laws.array_varying c.args.names c.args.book_kinds.now c.args.book_words.now c.args.work.now c.args.at
-    c.args.index c.requires _ c.size_of.ensures _ _ c.in-Bytes.is c.in-Varying.is
+    c.args.index c.requires _ c.size_of.ensures _ _ c.in_ok-size.was c.in-None.is

@@ -72,27 +72,7 @@ returns-in-Struct c =
     c.args.index c.requires _ c.type_group.ensures _ c.in-Struct.is
     c.struct_step.ensures
 
-pub returns-in-Void : goal.returns-in-Void
-returns-in-Void c =
-    laws.gep_void c.args.names c.args.book_kinds.now c.args.book_words.now c.args.work.now c.args.at
-    c.args.index c.requires _ c.type_group.ensures c.in-Void.is
-
-pub returns-in-Int : goal.returns-in-Int
-returns-in-Int c =
-    laws.gep_int c.args.names c.args.book_kinds.now c.args.book_words.now c.args.work.now c.args.at
-    c.args.index c.requires _ c.type_group.ensures c.in-Int.is
-
-pub returns-in-Ptr : goal.returns-in-Ptr
-returns-in-Ptr c =
-    laws.gep_ptr c.args.names c.args.book_kinds.now c.args.book_words.now c.args.work.now c.args.at
-    c.args.index c.requires _ c.type_group.ensures c.in-Ptr.is
-
-pub returns-in-Sizeless : goal.returns-in-Sizeless
-returns-in-Sizeless c =
-    laws.gep_sizeless c.args.names c.args.book_kinds.now c.args.book_words.now c.args.work.now c.args.at
-    c.args.index c.requires _ c.type_group.ensures c.in-Sizeless.is
-
-pub returns-in-Other : goal.returns-in-Other
-returns-in-Other c =
-    laws.gep_other c.args.names c.args.book_kinds.now c.args.book_words.now c.args.work.now c.args.at
-    c.args.index c.requires _ c.type_group.ensures c.in-Other.is
+pub returns-in_default : goal.returns-in_default
+returns-in_default c =
+    laws.gep_rest c.args.names c.args.book_kinds.now c.args.book_words.now c.args.work.now c.args.at
+    c.args.index c.requires _ c.type_group.ensures c.in_default.not-Array c.in_default.not-Named c.in_default.not-Struct

@@ -1,6 +1,7 @@
 -- `layout_step::later_step` meets its contract.
 use Rattle.layout_memo.specs.FieldCalls as fields
 use Rattle.layout_step.specs.Steps as laws
+use Rattle.std.proofs.lemmas.Result.{err_from_is_err_and}
 use borrow.Author.Rules.{rules}
 use Rattle.layout_step.proofs.later_step.Goals as goal
 
@@ -38,13 +39,15 @@ field_offset-requires c =
 
 pub overflow_add-result : goal.overflow_add-result
 overflow_add-result c =
-    let h = laws.later_fits _ _ _ _ _ _ c.requires c.args.packed _ _ c.field_at.ensures _ c.in-At.is in
+    let h = laws.later_fits _ _ _ _ _ _ c.requires c.args.packed _ _ c.field_at.ensures _ c.in-Some.is in
     search rules
 
-pub returns-in-Refused : goal.returns-in-Refused
-returns-in-Refused c =
-    laws.later_refused _ _ _ _ _ _ c.requires c.args.packed _ _ c.field_at.ensures _ c.in-At.is _ c.field_offset.ensures _ c.in-Refused.is
+pub returns-in_err-start : goal.returns-in_err-start
+returns-in_err-start c =
+    let p = err_from_is_err_and c.from_residual.result c.from_residual.ensures.1 in
+    rw (p.1, p.2)
+    (laws.later_refused _ _ _ _ _ _ c.requires c.args.packed _ _ c.field_at.ensures _ c.in-Some.is _ c.field_offset.ensures _ c.in_err-start.was)
 
-pub returns-in-At-field_offset : goal.returns-in-At-field_offset
-returns-in-At-field_offset c =
-    laws.later_const _ _ _ _ _ _ c.requires c.args.packed _ _ c.field_at.ensures _ c.in-At.is _ c.field_offset.ensures _ c.in-At-field_offset.is
+pub returns : goal.returns
+returns c =
+    laws.later_const _ _ _ _ _ _ c.requires c.args.packed _ _ c.field_at.ensures _ c.in-Some.is _ c.field_offset.ensures _ c.in_ok-start.was

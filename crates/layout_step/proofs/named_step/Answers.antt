@@ -37,37 +37,7 @@ returns-in-Struct c =
     c.args.index c.requires c.if-body-eq0.false _ c.type_group.ensures _ c.in-Struct.is
     c.struct_step.ensures
 
-pub returns-in-Void : goal.returns-in-Void
-returns-in-Void c =
-    laws.named_void c.args.names c.args.book_kinds.now c.args.book_words.now c.args.work.now c.args.name
-    c.args.index c.requires c.if-body-eq0.false _ c.type_group.ensures c.in-Void.is
-
-pub returns-in-Int : goal.returns-in-Int
-returns-in-Int c =
-    laws.named_int c.args.names c.args.book_kinds.now c.args.book_words.now c.args.work.now c.args.name
-    c.args.index c.requires c.if-body-eq0.false _ c.type_group.ensures c.in-Int.is
-
-pub returns-in-Ptr : goal.returns-in-Ptr
-returns-in-Ptr c =
-    laws.named_ptr c.args.names c.args.book_kinds.now c.args.book_words.now c.args.work.now c.args.name
-    c.args.index c.requires c.if-body-eq0.false _ c.type_group.ensures c.in-Ptr.is
-
-pub returns-in-Array : goal.returns-in-Array
-returns-in-Array c =
-    laws.named_array c.args.names c.args.book_kinds.now c.args.book_words.now c.args.work.now c.args.name
-    c.args.index c.requires c.if-body-eq0.false _ c.type_group.ensures _ c.in-Array.is
-
-pub returns-in-Named : goal.returns-in-Named
-returns-in-Named c =
-    laws.named_named c.args.names c.args.book_kinds.now c.args.book_words.now c.args.work.now c.args.name
-    c.args.index c.requires c.if-body-eq0.false _ c.type_group.ensures c.in-Named.is
-
-pub returns-in-Sizeless : goal.returns-in-Sizeless
-returns-in-Sizeless c =
-    laws.named_sizeless c.args.names c.args.book_kinds.now c.args.book_words.now c.args.work.now
-    c.args.name c.args.index c.requires c.if-body-eq0.false _ c.type_group.ensures c.in-Sizeless.is
-
-pub returns-in-Other : goal.returns-in-Other
-returns-in-Other c =
-    laws.named_other c.args.names c.args.book_kinds.now c.args.book_words.now c.args.work.now c.args.name
-    c.args.index c.requires c.if-body-eq0.false _ c.type_group.ensures c.in-Other.is
+pub returns-in_default : goal.returns-in_default
+returns-in_default c =
+    laws.named_rest c.args.names c.args.book_kinds.now c.args.book_words.now c.args.work.now c.args.name
+    c.args.index c.requires c.if-body-eq0.false _ c.type_group.ensures c.in_default.not-Struct

@@ -9,16 +9,16 @@ returns-in_default c =
 
 pub field_step-requires : goal.field_step-requires
 field_step-requires c =
-    laws.known_ask _ _ _ _ c.args.packed _ _ c.in-Constant.is _ c.known_before-known.ensures
+    laws.known_ask _ _ _ _ c.args.packed _ _ c.in-Some.is _ c.known_before-known.ensures
 
 pub returns-then-left-eq0 : goal.returns-then-left-eq0
 returns-then-left-eq0 c =
-    laws.struct_known _ _ _ _ c.args.packed _ _ c.in-Constant.is _ c.known_before-known.ensures _ (sym c.if-left-eq0.true) c.field_step.ensures
+    laws.struct_known _ _ _ _ c.args.packed _ _ c.in-Some.is _ c.known_before-known.ensures _ (sym c.if-left-eq0.true) c.field_step.ensures
 
 pub later_step-requires : goal.later_step-requires
 later_step-requires c =
-    laws.known_ask _ _ _ _ c.args.packed _ _ c.in-Constant.is _ c.known_before-known.ensures
+    laws.known_ask _ _ _ _ c.args.packed _ _ c.in-Some.is _ c.known_before-known.ensures
 
 pub returns : goal.returns
 returns c =
-    laws.struct_known _ _ _ _ c.args.packed _ _ c.in-Constant.is _ c.known_before-known.ensures _ refl c.later_step.ensures
+    laws.struct_known _ _ _ _ c.args.packed _ _ c.in-Some.is _ c.known_before-known.ensures _ refl c.later_step.ensures

@@ -11,14 +11,6 @@ bounds-book_kinds-at c =
     let h = fields.place_kinds _ _ _ _ (laws.known_place _ _ _ _ _ _ c.requires) in
     search rules
 
-pub returns-then-book_kinds-at-eq-END : goal.returns-then-book_kinds-at-eq-END
-returns-then-book_kinds-at-eq-END c =
-    laws.field_ended _ _ _ _ _ _ c.requires _ c.ended.ensures (after_none c.requires.ready)
-
-pub returns-then-sought-from : goal.returns-then-sought-from
-returns-then-sought-from c =
-    laws.field_ended _ _ _ _ _ _ c.requires _ c.ended-then-sought-from.ensures (after_none c.requires.ready)
-
 pub slice_bounds-ks-count : goal.slice_bounds-ks-count
 slice_bounds-ks-count c =
     let h = fields.place_kinds _ _ _ _ (laws.known_place _ _ _ _ _ _ c.requires) in
@@ -43,31 +35,17 @@ pub field_start-requires : goal.field_start-requires
 field_start-requires c =
     laws.start_ask _ _ _ _ _ _ c.requires c.if-book_kinds-at-eq-END.false
 
-pub returns-in_default : goal.returns-in_default
-returns-in_default c =
-    laws.field_ended _ _ _ _ _ _ c.requires _ c.ended-in_default.ensures c.field_start.ensures.after
-
 pub size_of-requires : goal.size_of-requires
 size_of-requires c =
-    laws.size_ask _ _ _ _ _ _ c.requires c.if-book_kinds-at-eq-END.false _ c.field_start.ensures _ c.in-At.is
+    laws.size_ask _ _ _ _ _ _ c.requires c.if-book_kinds-at-eq-END.false _ c.field_start.ensures _ c.in-Ok.is
 
-pub returns-in_default-size_of : goal.returns-in_default-size_of
-returns-in_default-size_of c =
-    laws.field_ended _ _ _ _ _ _ c.requires _ c.ended-in_default-size_of.ensures
-    (after_then c.field_start.ensures.after c.size_of.ensures.after)
-
-pub overflow_add-start : goal.overflow_add-start
-overflow_add-start c =
+pub overflow_add-offset : goal.overflow_add-offset
+overflow_add-offset c =
     omega (
       arith,
-      laws.next_fits _ _ _ _ _ _ c.requires c.if-book_kinds-at-eq-END.false _ c.field_start.ensures _ c.in-At.is _
-          c.size_of.ensures _ _ c.in-Bytes.is,
+      laws.next_fits _ _ _ _ _ _ c.requires c.if-book_kinds-at-eq-END.false _ c.field_start.ensures _ c.in-Ok.is _
+          c.size_of.ensures _ _ c.in-Ok-size_of.is,
     )
-
-pub returns-then-start-size-gt16777216 : goal.returns-then-start-size-gt16777216
-returns-then-start-size-gt16777216 c =
-    laws.field_ended _ _ _ _ _ _ c.requires _ c.ended-then-start-size-gt16777216.ensures
-    (after_then c.field_start.ensures.after c.size_of.ensures.after)
 
 pub overflow_add-result : goal.overflow_add-result
 overflow_add-result c =
@@ -81,7 +59,25 @@ pub overflow_add-result-2 : goal.overflow_add-result-2
 overflow_add-result-2 c =
     omega (arith, fields.next_few _ _ _ _ (laws.known_place _ _ _ _ _ _ c.requires) c.if-book_kinds-at-eq-END.false _ c.type_end.ensures)
 
-pub returns : goal.returns
-returns c =
-    laws.field_passed _ _ _ _ _ _ c.requires c.if-book_kinds-at-eq-END.false _ c.field_start.ensures _ c.in-At.is _
-    c.size_of.ensures _ _ c.in-Bytes.is c.if-start-size-gt16777216.false c.if-sought-from.false _ c.type_end.ensures
+pub returns-then-book_kinds-at-eq-END-clause-after : goal.returns-then-book_kinds-at-eq-END-clause-after
+returns-then-book_kinds-at-eq-END-clause-after c = after_none c.requires.ready
+
+pub returns-then-sought-from-clause-after : goal.returns-then-sought-from-clause-after
+returns-then-sought-from-clause-after c = after_none c.requires.ready
+
+pub returns-in_default-clause-after : goal.returns-in_default-clause-after
+returns-in_default-clause-after c = c.field_start.ensures.after
+
+pub returns-in_default-size_of-clause-after : goal.returns-in_default-size_of-clause-after
+returns-in_default-size_of-clause-after c = after_then c.field_start.ensures.after c.size_of.ensures.after
+
+pub returns-then-offset-gt-MOST_BYTES-clause-after : goal.returns-then-offset-gt-MOST_BYTES-clause-after
+returns-then-offset-gt-MOST_BYTES-clause-after c = after_then c.field_start.ensures.after c.size_of.ensures.after
+
+pub returns-clause-best : goal.returns-clause-best
+returns-clause-best c =
+    laws.field_passed _ _ _ _ _ _ c.requires c.if-book_kinds-at-eq-END.false _ c.field_start.ensures _ c.in-Ok.is _
+    c.size_of.ensures _ _ c.in-Ok-size_of.is c.if-offset-gt-MOST_BYTES.false c.if-sought-from.false _ c.type_end.ensures
+
+pub returns-clause-after : goal.returns-clause-after
+returns-clause-after c = after_then c.field_start.ensures.after c.size_of.ensures.after

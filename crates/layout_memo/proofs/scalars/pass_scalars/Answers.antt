@@ -18,12 +18,12 @@ bounds-words-at c =
     let h = fields.place_words c.args.names c.args.kinds.now c.args.words.now _ c.loop-run.invariant.1.place in
     search rules
 
-pub scalar_bytes-bytes-requires : goal.scalar_bytes-bytes-requires
-scalar_bytes-bytes-requires c =
+pub scalar_bytes-requires : goal.scalar_bytes-requires
+scalar_bytes-requires c =
     laws.run_word c.loop-run.invariant.0 c.loop-run.invariant.1
 
-pub returns-then-bytes-eq0 : goal.returns-then-bytes-eq0
-returns-then-bytes-eq0 c = c.loop-run.invariant.0
+pub returns-in_default : goal.returns-in_default
+returns-in_default c = c.loop-run.invariant.0
 
 pub returns-then-run-eq0 : goal.returns-then-run-eq0
 returns-then-run-eq0 c = c.loop-run.invariant.0
@@ -34,13 +34,13 @@ overflow_add-run c =
 
 pub scalar_start-requires : goal.scalar_start-requires
 scalar_start-requires c =
-    laws.run_start c.loop-run.invariant.0 c.loop-run.invariant.1 c.scalar_bytes-bytes.ensures c.if-bytes-eq0.false
+    laws.run_start c.loop-run.invariant.0 c.loop-run.invariant.1 c.in-Some.ensures (laws.scalar_some c.loop-run.invariant.1.place c.in-Some.ensures)
 
 pub overflow_add-run-in-loop-run : goal.overflow_add-run-in-loop-run
 overflow_add-run-in-loop-run c =
     omega (
       arith,
-      laws.run_fits c.loop-run.invariant.0 c.loop-run.invariant.1 c.scalar_bytes-bytes.ensures c.if-bytes-eq0.false _ c.scalar_start.ensures,
+      laws.run_fits c.loop-run.invariant.0 c.loop-run.invariant.1 c.in-Some.ensures (laws.scalar_some c.loop-run.invariant.1.place c.in-Some.ensures) _ c.scalar_start.ensures,
     )
 
 pub loop-run-smaller : goal.loop-run-smaller
@@ -49,8 +49,8 @@ loop-run-smaller c =
 
 pub loop-run-preserved : goal.loop-run-preserved
 loop-run-preserved c =
-    laws.run_next c.loop-run.invariant.0 c.loop-run.invariant.1 c.scalar_bytes-bytes.ensures c.if-bytes-eq0.false
-    c.loop-run-test.true c.if-run-eq0.false _ _ _ c.scalar_start.ensures c.larger.ensures c.deeper.ensures
+    laws.run_next c.loop-run.invariant.0 c.loop-run.invariant.1 c.in-Some.ensures (laws.scalar_some c.loop-run.invariant.1.place c.in-Some.ensures)
+    c.loop-run-test.true c.if-run-eq0.false _ _ _ c.scalar_start.ensures c.max.ensures c.max-in-loop-run.ensures
 
 pub returns : goal.returns
 returns c = c.loop-run.invariant.0

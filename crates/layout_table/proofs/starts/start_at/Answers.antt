@@ -1,6 +1,7 @@
 -- `layout_table::starts::start_at` meets its contract.
 use Rattle.layout_table.specs.Starts as laws
 use Rattle.layout_field.specs.Offsets.{start_packed}
+use Rattle.std.proofs.lemmas.Result.{err_from_is_err_and}
 use borrow.Author.Rules.{rules}
 use Rattle.layout_table.proofs.starts.start_at.Goals as goal
 
@@ -41,17 +42,17 @@ pub field_start-requires : goal.field_start-requires
 field_start-requires c =
     laws.start_ask _ _ c.args.place c.requires
 
-pub returns-then-may_be_long-eqfalse : goal.returns-then-may_be_long-eqfalse
-returns-then-may_be_long-eqfalse c =
+pub returns-then-not-may_be_long : goal.returns-then-not-may_be_long
+returns-then-not-may_be_long c =
     laws.start_part _ _ _ _ _ _ _ c.requires c.field_start.ensures
 
 pub placed-requires : goal.placed-requires
 placed-requires c =
-    laws.noted_small _ _ _ _ _ _ _ c.requires c.if-packed.false _ (c.noted_align-noted.ensures c.if-noted-ne0.true)
+    laws.noted_small _ _ _ _ _ _ _ c.requires c.if-packed.false _ c.in-Some.ensures
 
-pub returns-then-noted-ne0 : goal.returns-then-noted-ne0
-returns-then-noted-ne0 c =
-    laws.start_noted _ _ _ _ _ _ _ c.requires c.if-packed.false _ (c.noted_align-noted.ensures c.if-noted-ne0.true) _ c.placed.ensures
+pub returns-in-Some : goal.returns-in-Some
+returns-in-Some c =
+    laws.start_noted _ _ _ _ _ _ _ c.requires c.if-packed.false _ c.in-Some.ensures _ c.placed.ensures
 
 pub align_of-requires : goal.align_of-requires
 align_of-requires c =
@@ -59,16 +60,18 @@ align_of-requires c =
 
 pub note_long-requires : goal.note_long-requires
 note_long-requires c =
-    laws.measured_note _ _ _ _ _ _ _ c.requires c.if-packed.false _ c.align_of.ensures _ _ c.in-Bytes.is
+    laws.measured_note _ _ _ _ _ _ _ c.requires c.if-packed.false _ c.align_of.ensures _ _ c.in_ok-align.was
 
-pub placed-requires-in-Bytes : goal.placed-requires-in-Bytes
-placed-requires-in-Bytes c =
-    laws.measured_small _ _ _ _ _ _ _ c.requires c.if-packed.false _ c.align_of.ensures _ _ c.in-Bytes.is
+pub placed-requires-2 : goal.placed-requires-2
+placed-requires-2 c =
+    laws.measured_small _ _ _ _ _ _ _ c.requires c.if-packed.false _ c.align_of.ensures _ _ c.in_ok-align.was
 
-pub returns-in-Refused : goal.returns-in-Refused
-returns-in-Refused c =
-    laws.measured_refused _ _ _ _ _ _ _ c.requires c.if-packed.false _ c.align_of.ensures _ c.in-Refused.is
+pub returns-in_err-align : goal.returns-in_err-align
+returns-in_err-align c =
+    let p = err_from_is_err_and c.from_residual.result c.from_residual.ensures.1 in
+    rw (p.1, p.2)
+    (laws.measured_refused _ _ _ _ _ _ _ c.requires c.if-packed.false _ c.align_of.ensures _ c.in_err-align.was)
 
-pub returns-in-Bytes : goal.returns-in-Bytes
-returns-in-Bytes c =
-    laws.measured_start _ _ _ _ _ _ _ c.requires c.if-packed.false _ c.align_of.ensures _ _ c.in-Bytes.is c.note_long.ensures _ c.placed-in-Bytes.ensures
+pub returns : goal.returns
+returns c =
+    laws.measured_start _ _ _ _ _ _ _ c.requires c.if-packed.false _ c.align_of.ensures _ _ c.in_ok-align.was c.note_long.ensures _ c.placed-2.ensures

@@ -2,20 +2,20 @@ use native.Mathlib.Omega.{arith}
 use Rattle.layout_table.specs.Table as laws
 use Rattle.layout_table.proofs.table.find.Goals as goal
 
-pub returns-then-facts-lt16 : goal.returns-then-facts-lt16
-returns-then-facts-lt16 c =
+pub returns-then-facts-lt-LEAST_FACTS : goal.returns-then-facts-lt-LEAST_FACTS
+returns-then-facts-lt-LEAST_FACTS c =
     laws.best_none c.requires.ask c.args.packed _ _ c.no_fields.ensures
 
 pub key_of-requires : goal.key_of-requires
 key_of-requires c =
     (laws.find_place c.requires c.args.packed, omega (arith, c.requires.few, c.loop-before.invariant))
 
-pub probe-value-requires : goal.probe-value-requires
-probe-value-requires c = laws.room_few _ _ _ c.room_for-facts.ensures (omega arith)
+pub probe-requires : goal.probe-requires
+probe-requires c = laws.room_few _ _ _ c.room_for-facts.ensures (omega arith)
 
-pub returns-then-value-ne0 : goal.returns-then-value-ne0
-returns-then-value-ne0 c =
-    laws.find_here c.requires c.args.packed _ _ _ c.key_of.ensures c.probe-value.ensures c.if-value-ne0.true c.loop-before.invariant
+pub returns-in-Some : goal.returns-in-Some
+returns-in-Some c =
+    laws.find_here c.requires c.args.packed _ _ _ c.key_of.ensures c.in-Some.ensures c.loop-before.invariant
 
 pub loop-before-smaller : goal.loop-before-smaller
 loop-before-smaller c =

@@ -6,8 +6,8 @@ use Rattle.layout_table.specs.Table as laws
 use borrow.Author.Rules.{rules}
 use Rattle.layout_table.proofs.table.put.Goals as goal
 
-pub returns-then-facts-lt16 : goal.returns-then-facts-lt16
-returns-then-facts-lt16 c = inl refl
+pub returns-then-facts-lt-LEAST_FACTS : goal.returns-then-facts-lt-LEAST_FACTS
+returns-then-facts-lt-LEAST_FACTS c = inl refl
 
 pub free_slot-slot-requires : goal.free_slot-slot-requires
 free_slot-slot-requires c = laws.room_few _ _ _ c.room_for-facts.ensures (omega arith)
