@@ -20,10 +20,11 @@ ghost use Rattle.gen_alloca.specs.Alloca.{raise, move_by, times_size, plus_offse
 
 use assembly::line;
 use book::entry;
+use book::refusal::Refusal;
 use gen_lines::{Reached, put, refuse};
 use gen_size::{Bytes, measured_align, measured_size};
 use gen_values::{push_int, push_value, store_dest};
-use layout_memo::{larger, skip};
+use layout_memo::skip;
 
 // The place of a count's value, or of the entry that says that there is none; the field starts at `at`.
 fn count_place(kinds: &[u64], words: &[u64], at: usize, names: u64) -> usize
@@ -147,7 +148,7 @@ fn gen_dynamic_alloca(
         count + 1,
         size.s,
     );
-    let start = raised(larger(stated.bytes, 8), lines, operands, stated.s);
+    let start = raised(stated.bytes.max(8), lines, operands, stated.s);
     let counted = push_count(count_kinds, count_words, work, lines, operands, start);
     moved(size.bytes, lines, operands, counted)
 }
@@ -228,7 +229,7 @@ pub fn gen_alloca(
         s result lines.old operands.old lines.new operands.new }
 {
     if dest == 0 {
-        return refuse(s, 5);
+        return refuse(s, Refusal::NoResultName);
     }
     let placed = place_of(
         kinds,

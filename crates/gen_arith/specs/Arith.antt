@@ -1,21 +1,27 @@
 -- What the generators of this crate are lent, and the laws that put their lines together.
-use Rattle.std.specs.Prelude.{ℕ, ◌+◌, ◌≤◌, ◌≡◌, Bool, ◌&&◌, ◌||◌, List, [], ◌∷◌, length, drop, eqb, leb, ltb}
+use Rattle.std.specs.Prelude.{ℕ, ◌+◌, ◌≤◌, ◌≡◌, Bool, false, ◌&&◌, List, [], ◌∷◌, length, drop, ltb}
 use Rattle.std.proofs.Math.Path.{refl}
-use Rattle.std.proofs.Common.{subst, arith}
-use Rattle.book.specs.Ast.{Ty, Value, BinOp, ICmpPred, ConvOp}
+use Rattle.std.proofs.Common.{sym, subst, arith}
+use Rattle.book.specs.Ast.{Ty, Value}
+use Rattle.book.specs.Ast as ast
 use Rattle.book.specs.Entry.{Entry, entries}
 use Rattle.book.specs.Fields.{Item, Field, Meanings}
+use Rattle.book.specs.Ops.{bin_of, icmp_of}
+use Rattle.book.specs.declared.ops.BinOp.{BinOp}
+use Rattle.book.specs.declared.ops.BinOp.TheVariants as binop
+use Rattle.book.specs.declared.ops.ICmpPred.{ICmpPred}
+use Rattle.book.specs.declared.ops.ICmpPred.TheVariants as icmppred
 use Rattle.book.specs.Work.{name_words}
 use Rattle.assembly.specs.Line.{Line}
 use Rattle.assembly.specs.Number.{kind_of, operand_of, operation, bin_number, icmp_number}
-use Rattle.lowering.specs.Gen.{line, when}
+use Rattle.lowering.specs.Gen.{Gen, line, when, ◌>>◌}
 use Rattle.lowering.specs.Context.{FnCtx}
 use Rattle.lowering.specs.Operand.{int_width, work_of, work_bits, emit_trunc_to, emit_sext, push_value}
 use Rattle.lowering.specs.Arith.{signed_left, signed_right, signed_pred, gen_bin, gen_icmp}
 use Rattle.layout_memo.specs.Front.{ty_len}
 use Rattle.gen_lines.specs.declared.Reached.{Reached}
-use Rattle.gen_lines.specs.Puts.{Puts, Lined, then_puts}
-use Rattle.gen_lines.specs.Follow.{Asked, asked_puts}
+use Rattle.gen_lines.specs.Puts.{Puts, Lined, then_puts, same_puts}
+use Rattle.gen_lines.specs.Follow.{Asked, asked_puts, four_then}
 use Rattle.gen_values.specs.Fields.{Fields, ValueAt, OperandAt, part_from, operand_part, operand_at, value_at, behind_value, behind_type_lem}
 use Rattle.gen_values.specs.Push.{bare_puts}
 use Rattle.gen_values.specs.Widths.{bin_puts}
@@ -32,15 +38,6 @@ pub record There (fs : List Field) (m : ℕ) (es : List Entry) (work : List ℕ)
   pub holds : Meanings fs
   pub fields : Fields m fs holds es
   pub room : name_words m + 64 ≤ length work
-
--- conversions in ast.rs order
-unfoldable pub conv_number : ConvOp → ℕ
-conv_number ConvOp.trunc = 0
-conv_number ConvOp.zext = 1
-conv_number ConvOp.sext = 2
-conv_number ConvOp.ptr_to_int = 3
-conv_number ConvOp.int_to_ptr = 4
-conv_number ConvOp.bit_cast = 5
 
 -- ---- the values behind a type
 module _ {m : ℕ} {fs : List Field} {p : Meanings (Field.plain Item.type ∷ Field.plain Item.value ∷ fs)} (ks ws : List ℕ)
@@ -66,73 +63,85 @@ operand_there work r h = operand_part (operand_at h (omega (arith, r)))
 
 -- ---- the lines
 module _ {s t : Reached} {ks os ks' os' : List ℕ} where
-  pub icmp_puts : (o : ICmpPred) (w : ℕ) {k : ℕ} → k ≡ operation (icmp_number o) (work_of w) → Lined k 0 s t ks os ks' os' → Puts (line (Line.icmp o (work_of w))) s t ks os ks' os'
+  pub icmp_puts : (o : ast.ICmpPred) (w : ℕ) {k : ℕ} → k ≡ operation (icmp_number o) (work_of w) → Lined k 0 s t ks os ks' os' → Puts (line (Line.icmp o (work_of w))) s t ks os ks' os'
   unfolding kind_of operand_of
   icmp_puts o w e h = bare_puts (Line.icmp o (work_of w)) e refl h
 
-  -- the same test
-  tested : {b d : Bool} (w : ℕ) → b ≡ d → Puts (when (b && ltb w (work_bits w)) (emit_sext w (work_bits w))) s t ks os ks' os'
-      → Puts (when (d && ltb w (work_bits w)) (emit_sext w (work_bits w))) s t ks os ks' os'
-  tested {b} {d} w e p = subst (λ (x : Bool). Puts (when (x && ltb w (work_bits w)) (emit_sext w (work_bits w))) s t ks os ks' os') e p
+-- ---- both sides
+-- extended where that is asked for
+abbrev extended : ℕ → Bool → Gen
+extended w b = when (b && ltb w (work_bits w)) (emit_sext w (work_bits w))
 
-module _ (c : FnCtx) (ty : Ty) (lhs rhs : Value) {w : ℕ} {s s₀ s₁ s₂ s₃ s₄ s₅ : Reached} {k₀ o₀ k₁ o₁ k₂ o₂ k₃ o₃ k₄ o₄ k₅ o₅ : List ℕ} (asked : Asked (int_width ty) s s₀ w) where
-  pub bin_lines : (o : BinOp) {b d : Bool} {s₆ : Reached} {k₆ o₆ : List ℕ} {k : ℕ} → b ≡ signed_left o → d ≡ signed_right o → k ≡ operation (bin_number o) (work_of w)
-      → Puts (push_value c lhs w) s₀ s₁ k₀ o₀ k₁ o₁ → Puts (when (b && ltb w (work_bits w)) (emit_sext w (work_bits w))) s₁ s₂ k₁ o₁ k₂ o₂
-      → Puts (push_value c rhs w) s₂ s₃ k₂ o₂ k₃ o₃ → Puts (when (d && ltb w (work_bits w)) (emit_sext w (work_bits w))) s₃ s₄ k₃ o₃ k₄ o₄
-      → Lined k 0 s₄ s₅ k₄ o₄ k₅ o₅ → Puts (when (ltb w 32) (emit_trunc_to w)) s₅ s₆ k₅ o₅ k₆ o₆ → Puts (gen_bin c o ty lhs rhs) s s₆ k₀ o₀ k₆ o₆
+unfoldable pub sides : FnCtx → ℕ → (left right : Bool) → (lhs rhs : Value) → Gen
+sides c w left right lhs rhs = push_value c lhs w >> (extended w left >> (push_value c rhs w >> extended w right))
+
+module _ (c : FnCtx) (w : ℕ) (left right : Bool) (lhs rhs : Value) {s s₁ s₂ s₃ s₄ : Reached} {ks os k₁ o₁ k₂ o₂ k₃ o₃ k₄ o₄ : List ℕ} where
+  pub sides_puts : Puts (push_value c lhs w) s s₁ ks os k₁ o₁ → Puts (extended w left) s₁ s₂ k₁ o₁ k₂ o₂ → Puts (push_value c rhs w) s₂ s₃ k₂ o₂ k₃ o₃
+      → Puts (extended w right) s₃ s₄ k₃ o₃ k₄ o₄ → Puts (sides c w left right lhs rhs) s s₄ ks os k₄ o₄
+  unfolding sides
+  sides_puts p q u v = then_puts p (then_puts q (then_puts u v))
+
+-- what follows both sides
+module _ (c : FnCtx) (w : ℕ) (left right : Bool) (lhs rhs : Value) {g : Gen} {s t u : Reached} {ks os k₁ o₁ k₂ o₂ : List ℕ} where
+  behind_sides : Puts (sides c w left right lhs rhs) s t ks os k₁ o₁ → Puts g t u k₁ o₁ k₂ o₂
+      → Puts (push_value c lhs w >> (extended w left >> (push_value c rhs w >> (extended w right >> g)))) s u ks os k₂ o₂
+  unfolding sides
+  behind_sides p q = same_puts (four_then (push_value c lhs w) (extended w left) (push_value c rhs w) (extended w right) g) (then_puts p q)
+
+module _ (c : FnCtx) (ty : Ty) (lhs rhs : Value) {w : ℕ} {s s₀ s₁ s₂ : Reached} {ks os k₁ o₁ k₂ o₂ : List ℕ} (asked : Asked (int_width ty) s s₀ w) where
+  pub bin_lines : (o : ast.BinOp) {b d : Bool} {s₃ : Reached} {k₃ o₃ : List ℕ} {k : ℕ} → b ≡ signed_left o → d ≡ signed_right o → k ≡ operation (bin_number o) (work_of w)
+      → Puts (sides c w b d lhs rhs) s₀ s₁ ks os k₁ o₁ → Lined k 0 s₁ s₂ k₁ o₁ k₂ o₂ → Puts (when (ltb w 32) (emit_trunc_to w)) s₂ s₃ k₂ o₂ k₃ o₃
+      → Puts (gen_bin c o ty lhs rhs) s s₃ ks os k₃ o₃
   unfolding gen_bin
-  bin_lines o eb ed ek p q u v l t =
-      asked_puts _ asked (then_puts p (then_puts (tested w eb q) (then_puts u (then_puts (tested w ed v) (then_puts (bin_puts o w ek l) t)))))
+  bin_lines o eb ed ek p l t = asked_puts _ asked (behind_sides c w _ _ lhs rhs (rw (sym eb, sym ed) p) (then_puts (bin_puts o w ek l) t))
 
-  pub icmp_lines : (o : ICmpPred) {b : Bool} {k : ℕ} → b ≡ signed_pred o → k ≡ operation (icmp_number o) (work_of w)
-      → Puts (push_value c lhs w) s₀ s₁ k₀ o₀ k₁ o₁ → Puts (when (b && ltb w (work_bits w)) (emit_sext w (work_bits w))) s₁ s₂ k₁ o₁ k₂ o₂
-      → Puts (push_value c rhs w) s₂ s₃ k₂ o₂ k₃ o₃ → Puts (when (b && ltb w (work_bits w)) (emit_sext w (work_bits w))) s₃ s₄ k₃ o₃ k₄ o₄
-      → Lined k 0 s₄ s₅ k₄ o₄ k₅ o₅ → Puts (gen_icmp c o ty lhs rhs) s s₅ k₀ o₀ k₅ o₅
+  pub icmp_lines : (o : ast.ICmpPred) {b : Bool} {k : ℕ} → b ≡ signed_pred o → k ≡ operation (icmp_number o) (work_of w)
+      → Puts (sides c w b b lhs rhs) s₀ s₁ ks os k₁ o₁ → Lined k 0 s₁ s₂ k₁ o₁ k₂ o₂ → Puts (gen_icmp c o ty lhs rhs) s s₂ ks os k₂ o₂
   unfolding gen_icmp
-  icmp_lines o eb ek p q u v l = asked_puts _ asked (then_puts p (then_puts (tested w eb q) (then_puts u (then_puts (tested w eb v) (icmp_puts o w ek l)))))
+  icmp_lines o eb ek p l = asked_puts _ asked (behind_sides c w _ _ lhs rhs (rw (sym eb) p) (icmp_puts o w ek l))
 
--- ---- which sides are extended, by number
-pub left_by : (op : ℕ) (o : BinOp) → op ≡ bin_number o → (eqb op 4 || eqb op 6) || eqb op 12 ≡ signed_left o
-unfolding bin_number signed_left
-left_by op BinOp.add e = rw e
-left_by op BinOp.sub e = rw e
-left_by op BinOp.mul e = rw e
-left_by op BinOp.udiv e = rw e
-left_by op BinOp.sdiv e = rw e
-left_by op BinOp.urem e = rw e
-left_by op BinOp.srem e = rw e
-left_by op BinOp.and e = rw e
-left_by op BinOp.or e = rw e
-left_by op BinOp.xor e = rw e
-left_by op BinOp.shl e = rw e
-left_by op BinOp.lshr e = rw e
-left_by op BinOp.ashr e = rw e
+-- ---- which sides are not extended
+pub unsigned_left : (op : BinOp) → (op ≡ binop.SDiv → ⊥) → (op ≡ binop.SRem → ⊥) → (op ≡ binop.AShr → ⊥) → false ≡ signed_left (bin_of op)
+unfolding signed_left
+unsigned_left binop.Add z0 z1 z2 = refl
+unsigned_left binop.Sub z0 z1 z2 = refl
+unsigned_left binop.Mul z0 z1 z2 = refl
+unsigned_left binop.UDiv z0 z1 z2 = refl
+unsigned_left binop.SDiv z0 z1 z2 = absurd (z0 refl)
+unsigned_left binop.URem z0 z1 z2 = refl
+unsigned_left binop.SRem z0 z1 z2 = absurd (z1 refl)
+unsigned_left binop.And z0 z1 z2 = refl
+unsigned_left binop.Or z0 z1 z2 = refl
+unsigned_left binop.Xor z0 z1 z2 = refl
+unsigned_left binop.Shl z0 z1 z2 = refl
+unsigned_left binop.LShr z0 z1 z2 = refl
+unsigned_left binop.AShr z0 z1 z2 = absurd (z2 refl)
 
-pub right_by : (op : ℕ) (o : BinOp) → op ≡ bin_number o → eqb op 4 || eqb op 6 ≡ signed_right o
-unfolding bin_number signed_right
-right_by op BinOp.add e = rw e
-right_by op BinOp.sub e = rw e
-right_by op BinOp.mul e = rw e
-right_by op BinOp.udiv e = rw e
-right_by op BinOp.sdiv e = rw e
-right_by op BinOp.urem e = rw e
-right_by op BinOp.srem e = rw e
-right_by op BinOp.and e = rw e
-right_by op BinOp.or e = rw e
-right_by op BinOp.xor e = rw e
-right_by op BinOp.shl e = rw e
-right_by op BinOp.lshr e = rw e
-right_by op BinOp.ashr e = rw e
+pub unsigned_right : (op : BinOp) → (op ≡ binop.SDiv → ⊥) → (op ≡ binop.SRem → ⊥) → false ≡ signed_right (bin_of op)
+unfolding signed_right
+unsigned_right binop.Add z0 z1 = refl
+unsigned_right binop.Sub z0 z1 = refl
+unsigned_right binop.Mul z0 z1 = refl
+unsigned_right binop.UDiv z0 z1 = refl
+unsigned_right binop.SDiv z0 z1 = absurd (z0 refl)
+unsigned_right binop.URem z0 z1 = refl
+unsigned_right binop.SRem z0 z1 = absurd (z1 refl)
+unsigned_right binop.And z0 z1 = refl
+unsigned_right binop.Or z0 z1 = refl
+unsigned_right binop.Xor z0 z1 = refl
+unsigned_right binop.Shl z0 z1 = refl
+unsigned_right binop.LShr z0 z1 = refl
+unsigned_right binop.AShr z0 z1 = refl
 
-pub pred_by : (op : ℕ) (o : ICmpPred) → op ≡ icmp_number o → leb 19 op ≡ signed_pred o
-unfolding icmp_number signed_pred
-pred_by op ICmpPred.eq e = rw e
-pred_by op ICmpPred.ne e = rw e
-pred_by op ICmpPred.ugt e = rw e
-pred_by op ICmpPred.uge e = rw e
-pred_by op ICmpPred.ult e = rw e
-pred_by op ICmpPred.ule e = rw e
-pred_by op ICmpPred.sgt e = rw e
-pred_by op ICmpPred.sge e = rw e
-pred_by op ICmpPred.slt e = rw e
-pred_by op ICmpPred.sle e = rw e
+pub unsigned_pred : (op : ICmpPred) → (op ≡ icmppred.Sgt → ⊥) → (op ≡ icmppred.Sge → ⊥) → (op ≡ icmppred.Slt → ⊥) → (op ≡ icmppred.Sle → ⊥) → false ≡ signed_pred (icmp_of op)
+unfolding signed_pred
+unsigned_pred icmppred.Eq z0 z1 z2 z3 = refl
+unsigned_pred icmppred.Ne z0 z1 z2 z3 = refl
+unsigned_pred icmppred.Ugt z0 z1 z2 z3 = refl
+unsigned_pred icmppred.Uge z0 z1 z2 z3 = refl
+unsigned_pred icmppred.Ult z0 z1 z2 z3 = refl
+unsigned_pred icmppred.Ule z0 z1 z2 z3 = refl
+unsigned_pred icmppred.Sgt z0 z1 z2 z3 = absurd (z0 refl)
+unsigned_pred icmppred.Sge z0 z1 z2 z3 = absurd (z1 refl)
+unsigned_pred icmppred.Slt z0 z1 z2 z3 = absurd (z2 refl)
+unsigned_pred icmppred.Sle z0 z1 z2 z3 = absurd (z3 refl)

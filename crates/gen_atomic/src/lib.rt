@@ -5,6 +5,7 @@ ghost use Rattle.book.specs.Ast.{Value};
 ghost use Rattle.book.specs.Entry.{entries};
 ghost use Rattle.book.specs.Kinds.{InstTag};
 ghost use Rattle.book.specs.Fields.{Item, Field, Meanings, inst_fields};
+ghost use Rattle.book.specs.Refusal.{number_of};
 ghost use Rattle.book.specs.Work.{slot_at};
 ghost use Rattle.book.specs.Map.{lookup};
 ghost use Rattle.book.specs.Result.{ok_or};
@@ -22,11 +23,11 @@ ghost use Rattle.gen_atomic.specs.Atomic.{set_both};
 
 use assembly::line;
 use book::entry;
+use book::refusal::Refusal;
 use gen_lines::{Reached, put, refuse};
 use gen_size::measured_size;
 use gen_values::{need, push_value, store_dest};
 use layout_memo::skip;
-use std::num::wrapping_add_u64;
 
 // `require_atomic_width` of the type at the front: no line.
 pub fn require_atomic_width(
@@ -45,7 +46,7 @@ pub fn require_atomic_width(
         → Did (require_atomic_width c p.0) names (entries book_kinds.now book_words.now) c work.new s result ks os ks os }
 {
     let size = measured_size(kinds, words, book_kinds, book_words, work, names, s);
-    need(size.s, size.bytes == 8, 12)
+    need(size.s, size.bytes == 8, Refusal::AtomicSize)
 }
 
 // An atomic `load`, without its result.
@@ -104,23 +105,23 @@ pub fn gen_atomic_store(
     put(lines, operands, both, line::ATOMIC_STORE_U64, 0)
 }
 
-// A slot, 0 where it was refused, and what was reached.
+// A slot, 0 where it was refused, and what was reached, through which the refusal goes on.
 #[derive(Clone, Copy)]
 pub struct Slot {
     pub slot: u64,
     pub s: Reached,
 }
 
-// The slot of a name; where it has none, a refusal with this number.
-fn name_slot(name: u64, number: u64, work: &[u64], s: Reached) -> Slot
-    requires { (slot_at name < length work.now) × (0 < number) }
-    ensures { (m : ℕ) (c : FnCtx) → name < m → Locals c m work.now → Asked (ok_or number (lookup name c.slots)) s result.s result.slot }
+// The slot of a name; where it has none, this refusal.
+fn name_slot(name: u64, why: Refusal, work: &[u64], s: Reached) -> Slot
+    requires { slot_at name < length work.now }
+    ensures { (m : ℕ) (c : FnCtx) → name < m → Locals c m work.now → Asked (ok_or (number_of why) (lookup name c.slots)) s result.s result.slot }
 {
     let word = work[book::work::WORDS * (name as usize) + book::work::SLOT];
     if word == 0 {
         return Slot {
             slot: 0,
-            s: refuse(s, number),
+            s: refuse(s, why),
         };
     }
     Slot { slot: word - 1, s }
@@ -134,10 +135,10 @@ fn slot_of(dest: u64, work: &[u64], s: Reached) -> Slot
     if dest == 0 {
         return Slot {
             slot: 0,
-            s: refuse(s, 5),
+            s: refuse(s, Refusal::NoResultName),
         };
     }
-    name_slot(dest - 1, 5, work, s)
+    name_slot(dest - 1, Refusal::NoResultName, work, s)
 }
 
 // The cell found goes into the slot, and whether it was the one compared with, whose value is at the front, into the next.
@@ -163,7 +164,7 @@ fn set_both(
         operands,
         equal,
         line::SET_LOCAL,
-        wrapping_add_u64(slot, 1),
+        slot.wrapping_add(1),
     )
 }
 
@@ -207,11 +208,11 @@ fn agg_slot(kinds: &[u64], words: &[u64], work: &[u64], s: Reached) -> Slot
         → Asked (ok_or 16 (agg_slot c v)) s result.s result.slot }
 {
     if kinds[0] == entry::LOCAL {
-        return name_slot(words[0], 16, work, s);
+        return name_slot(words[0], Refusal::ExtractValue, work, s);
     }
     Slot {
         slot: 0,
-        s: refuse(s, 16),
+        s: refuse(s, Refusal::ExtractValue),
     }
 }
 
@@ -233,13 +234,13 @@ pub fn gen_extractvalue(
 {
     let first = agg_slot(kinds, words, work, s);
     let index = words[1];
-    let known = need(first.s, index <= 1, 16);
+    let known = need(first.s, index <= 1, Refusal::ExtractValue);
     let got = put(
         lines,
         operands,
         known,
         line::GET_LOCAL,
-        wrapping_add_u64(first.slot, index),
+        first.slot.wrapping_add(index),
     );
     store_dest(dest, work, lines, operands, got)
 }

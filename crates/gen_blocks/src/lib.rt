@@ -12,7 +12,7 @@ use book::entry;
 use book_types::shorter;
 use layout_memo::skip;
 
-// The place of the first function's entry.
+// The place of the first function's entry. The contract knows that there is one, which an iterator would test at each entry.
 pub fn find_function(kinds: &[u64], words: &[u64], names: u64) -> usize
     requires { IsBook names (entries kinds.now words.now) }
     ensures { FunctionsAt names (entries kinds.now words.now) (last_of (entries kinds.now words.now)) result
@@ -20,7 +20,7 @@ pub fn find_function(kinds: &[u64], words: &[u64], names: u64) -> usize
 {
     let mut at: usize = 0;
     while kinds[at] != entry::FUNCTION {
-        at = at + 1;
+        at += 1;
     }
     at
 }
@@ -49,8 +49,8 @@ fn place_params(kinds: &[u64], words: &[u64], work: &mut [u64], names: u64) -> u
     let mut next = 1 + skip(&kinds[1..], &words[1..], names);
     let mut index: u64 = 0;
     while kinds[next] == entry::PARAM {
-        next = next + place_param(&kinds[next..], &words[next..], work, names, index);
-        index = index + 1;
+        next += place_param(&kinds[next..], &words[next..], work, names, index);
+        index += 1;
     }
     next + 1
 }
@@ -65,8 +65,7 @@ fn place_blocks(kinds: &[u64], words: &[u64], work: &mut [u64], names: u64, at: 
         → BlocksPlaced names blocks rest book (entries kinds.now words.now) work.old work.new result }
 {
     let end = shorter(kinds, words);
-    let mut next: usize = 0;
-    while next < end {
+    for next in 0..end {
         if kinds[next] == entry::FUNCTION {
             return next;
         }
@@ -74,9 +73,8 @@ fn place_blocks(kinds: &[u64], words: &[u64], work: &mut [u64], names: u64, at: 
             let first = (at + next + 2) as u64;
             work[book::work::WORDS * (words[next] as usize) + book::work::BLOCK] = first;
         }
-        next = next + 1;
     }
-    next
+    end
 }
 
 // Where a function's list of blocks stands in the book, and where the function ends.

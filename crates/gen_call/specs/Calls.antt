@@ -1,7 +1,7 @@
 -- Which way a callee is called, and calls from their parts.
-use Rattle.std.specs.Prelude.{◌≡◌, ℕ, ◌+◌, ◌*◌, ◌%◌, ◌^◌, ◌<◌, ◌≤◌, Bool, true, false, cond, not, ◌||◌, ltb, List, [], ◌∷◌, ◌++◌, length, drop, ◌==◌, ◌≢◌, nat_le, nat_lt, slice_index, slice_index_or}
+use Rattle.std.specs.Prelude.{◌≡◌, ℕ, ◌+◌, ◌*◌, ◌%◌, ◌^◌, ◌<◌, ◌≤◌, Bool, true, false, cond, not, ◌||◌, ltb, List, [], ◌∷◌, ◌++◌, length, drop, ◌==◌, ◌≢◌, nat_le, nat_lt, slice_index, slice_index_or, ◌⊎◌}
 use Rattle.std.proofs.Math.Path.{refl, sym, ap}
-use Rattle.std.proofs.Common.{◌∙◌, arith, eqb-true, eq-eqb, ne_eqb, leb-true, leb-false, lt-ltb, le-ltb}
+use Rattle.std.proofs.Common.{◌∙◌, arith, eqb-true, eq-eqb, ne_eqb, leb-true, leb-false, lt-ltb, le-ltb, ⊎_elim}
 use Rattle.std.proofs.Math.Option.{Option, none, some}
 use Rattle.std.proofs.lemmas.Bool.{eqb-false}
 use Rattle.names.specs.Name.{name_at}
@@ -33,6 +33,8 @@ use Rattle.gen_fields.specs.Items.{type_front}
 use Rattle.gen_fields.specs.Tests.{need_puts}
 use Rattle.gen_fields.specs.Places.{past_type}
 use Rattle.gen_fields.specs.Given.{Given}
+use Rattle.gen_call.specs.declared.Called.{Called}
+use Rattle.gen_call.specs.declared.Called.TheVariants as called
 use Rattle.gen_call.specs.Args.{Args, ArgsLent}
 
 -- the callee and its arguments
@@ -46,6 +48,16 @@ class_of g (Value.local x) = 0
 class_of g (Value.int v) = 0
 class_of g (Value.zero z) = 0
 class_of g Value.other = 0
+
+abbrev pub class_number : Called → ℕ
+class_number called.Other = 0
+class_number called.Defined = 1
+class_number called.Syscall = 2
+class_number called.Memcmp = 3
+
+-- what is called plainly
+pub plain_class : {q : Called} → (q ≡ called.Defined) ⊎ (q ≡ called.Other) → (class_number q ≢ 2) × (class_number q ≢ 3)
+plain_class = ⊎_elim (λ e. (λ z. omega (arith, ap class_number e), λ z. omega (arith, ap class_number e))) (λ e. (λ z. omega (arith, ap class_number e), λ z. omega (arith, ap class_number e)))
 
 -- the mark of each name
 abbrev pub Marks : (m : ℕ) → FnCtx → List ℕ → Type 0

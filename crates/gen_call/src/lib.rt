@@ -1,7 +1,7 @@
 #![tactic(auto)]
 // `gen_call`, `gen_syscall` and `gen_memcmp_call`. The entries are lent from the return type on; the callee is behind it and
 // the arguments behind the callee. The mark of a name says how it is called.
-ghost use Rattle.std.specs.Prelude.{◌≡◌, ℕ, ◌+◌, ◌*◌, ◌%◌, ◌^◌, ◌≤◌, List, length, slice_index};
+ghost use Rattle.std.specs.Prelude.{◌≡◌, ◌==◌, ℕ, ◌+◌, ◌*◌, ◌%◌, ◌^◌, ◌≤◌, List, length, slice_index};
 ghost use Rattle.book.specs.Ast.{Ty, Value, TypedVal};
 ghost use Rattle.book.specs.Entry.{Entry, entries};
 ghost use Rattle.book.specs.Kinds.{InstTag};
@@ -15,17 +15,17 @@ ghost use Rattle.gen_values.specs.Maps.{Locals, Maps};
 ghost use Rattle.gen_values.specs.Fields.{Fields, ValueAt, OperandAt};
 ghost use Rattle.gen_fields.specs.Given.{Given};
 ghost use Rattle.gen_call.specs.Args.{Args, ArgsLent};
-ghost use Rattle.gen_call.specs.Calls.{class_of, ClassReaches, Marks, Defined, callee as calleeFields};
+ghost use Rattle.gen_call.specs.Calls.{class_number, class_of, ClassReaches, Marks, Defined, callee as calleeFields};
 
 use assembly::line;
 use book::entry;
+use book::refusal::Refusal;
 use gen_fields::push_typed;
 use gen_lines::{Reached, put, refuse};
 use gen_values::{need, push_value, store_or_pop};
 use layout_memo::skip;
-use std::num::wrapping_add_u64;
 
-// The number of arguments, of which the first is at the front.
+// The number of arguments, of which the first is at the front. A `while`: each turn goes on by the entries of an argument.
 fn count_args(kinds: &[u64], words: &[u64], names: u64) -> u64
     requires { ArgsLent names (entries kinds.now words.now) }
     ensures { (args : List TypedVal) → Args names args (entries kinds.now words.now) → result ≡ length args }
@@ -34,12 +34,12 @@ fn count_args(kinds: &[u64], words: &[u64], names: u64) -> u64
     let mut args: u64 = 0;
     while kinds[at] != entry::END {
         at += skip(&kinds[at..], &words[at..], names) + 1;
-        args = args + 1;
+        args += 1;
     }
     args
 }
 
-// Every argument, in order, of which the first is at the front.
+// Every argument, in order, of which the first is at the front. A `while` for the same reason.
 fn push_args(
     kinds: &[u64],
     words: &[u64],
@@ -67,23 +67,46 @@ fn push_args(
     reached
 }
 
-// How the value at the front is called: 2 as a syscall, 3 as memcmp, 1 as a function that is defined, 0 otherwise.
-fn call_class(kinds: &[u64], words: &[u64], work: &[u64]) -> u64
-    requires { ClassReaches kinds.now words.now work.now }
-    ensures { (m : ℕ) (c : FnCtx) (v : Value) → ValueAt m kinds.now words.now 0 v → Marks m c work.now → result ≡ class_of c.codegen v }
-{
-    if kinds[0] == entry::GLOBAL {
-        return work[book::work::WORDS * (words[0] as usize) + book::work::MARK]
-            % book::work::OVERFLOW;
+// How a value is called: as a function that is defined here, as a syscall, as memcmp; other is a global that may not be called, or
+// no global.
+#[derive(Clone, Copy)]
+enum Called {
+    Other,
+    Defined,
+    Syscall,
+    Memcmp,
+}
+
+impl Called {
+    fn is_defined(self) -> bool
+        ensures { result ≡ (class_number self == 1) }
+    {
+        matches!(self, Called::Defined)
     }
-    book::work::CALL_NONE
+}
+
+// How the value at the front is called, by its mark.
+fn call_class(kinds: &[u64], words: &[u64], work: &[u64]) -> Called
+    requires { ClassReaches kinds.now words.now work.now }
+    ensures { (m : ℕ) (c : FnCtx) (v : Value) → ValueAt m kinds.now words.now 0 v → Marks m c work.now → class_number result ≡ class_of c.codegen v }
+{
+    if kinds[0] != entry::GLOBAL {
+        return Called::Other;
+    }
+    let mark = work[book::work::WORDS * (words[0] as usize) + book::work::MARK];
+    match mark % book::work::OVERFLOW {
+        book::work::CALL_DEFINED => Called::Defined,
+        book::work::CALL_SYSCALL => Called::Syscall,
+        book::work::CALL_MEMCMP => Called::Memcmp,
+        _ => Called::Other,
+    }
 }
 
 // The operand of a call.
 fn call_operand(name: u64, args: u64) -> u64
     ensures { result ≡ (name * 256 + args) % 2 ^ 64 }
 {
-    wrapping_add_u64(name << 8, args)
+    (name << 8).wrapping_add(args)
 }
 
 // The target at the front, behind its arguments: a global, of which `defined` says whether it is defined here, or a local.
@@ -102,7 +125,7 @@ fn call_target(
         → Puts (call_target c v args) s result lines.old operands.old lines.new operands.new }
 {
     if kinds[0] == entry::GLOBAL {
-        let known = need(s, defined, 15);
+        let known = need(s, defined, Refusal::Call);
         return put(
             lines,
             operands,
@@ -115,7 +138,7 @@ fn call_target(
         let address = push_value(kinds, words, 64, work, lines, operands, s);
         return put(lines, operands, address, line::CALL_FP, args);
     }
-    refuse(s, 15)
+    refuse(s, Refusal::Call)
 }
 
 // `gen_call` of the callee at the front, with its arguments behind it: at most 255.
@@ -137,7 +160,7 @@ fn gen_plain_call(
     let arg_kinds = &kinds[1..];
     let arg_words = &words[1..];
     let args = count_args(arg_kinds, arg_words, names);
-    let few = need(s, args <= 255, 15);
+    let few = need(s, args <= 255, Refusal::Call);
     let pushed = push_args(arg_kinds, arg_words, names, work, lines, operands, few);
     let called = call_target(kinds, words, defined, args, work, lines, operands, pushed);
     store_or_pop(dest, work, lines, operands, called)
@@ -209,7 +232,7 @@ pub fn gen_call(
     let callee_words = &words[at..];
     let class = call_class(callee_kinds, callee_words, work);
     match class {
-        book::work::CALL_SYSCALL => gen_syscall(
+        Called::Syscall => gen_syscall(
             callee_kinds,
             callee_words,
             kinds[0] == entry::VOID,
@@ -220,7 +243,7 @@ pub fn gen_call(
             operands,
             s,
         ),
-        book::work::CALL_MEMCMP => gen_memcmp_call(
+        Called::Memcmp => gen_memcmp_call(
             callee_kinds,
             callee_words,
             names,
@@ -230,10 +253,10 @@ pub fn gen_call(
             operands,
             s,
         ),
-        _ => gen_plain_call(
+        Called::Defined | Called::Other => gen_plain_call(
             callee_kinds,
             callee_words,
-            class == book::work::CALL_DEFINED,
+            class.is_defined(),
             names,
             dest,
             work,

@@ -39,10 +39,7 @@ pub fn clear_function(kinds: &[u64], words: &[u64], work: &mut [u64], names: u64
     requires { ClearPart names (entries kinds.now words.now) work.old }
     ensures { AllCleared names work.old work.new }
 {
-    let end = shorter(kinds, words);
-    let mut at: usize = 0;
-    while at < end {
+    for at in 0..shorter(kinds, words) {
         clear_entry(kinds[at], words[at], work, names);
-        at = at + 1;
     }
 }

@@ -1,5 +1,6 @@
 -- The copies of an edge, phi by phi: what is refused before a value is pushed, and the values pushed. "The first matching predecessor counts."
-use Rattle.std.specs.Prelude.{◌≡◌, ℕ, ◌+◌, ◌-◌, ◌<◌, ◌≤◌, Bool, true, false, cond, not, ◌&&◌, List, [], ◌∷◌, ◌++◌, map, length, ◌==◌, ◌≢◌, slice_index}
+use Rattle.std.specs.Prelude
+use Rattle.std.specs.Prelude.{◌≡◌, ℕ, ◌+◌, ◌-◌, ◌<◌, ◌≤◌, Bool, true, false, cond, not, ◌&&◌, List, [], ◌∷◌, ◌++◌, map, length, ◌==◌, ◌≢◌, slice_index, SomeIff, is_some, unwrap_or, Some, None}
 use Rattle.std.proofs.Math.Path.{refl, sym, ap}
 use Rattle.std.proofs.Common.{subst, ◌∙◌, arith}
 use Rattle.std.proofs.Math.Option.{Option, none, some}
@@ -66,6 +67,25 @@ both_true false b h = absurd (let z : ◌≡◌ {A = ℕ} 0 1 = cc in omega arit
 -- ---- the slot of a result word, with 1 added, 0 for none
 unfoldable pub slot_word : (dest : ℕ) (work : List ℕ) → ℕ
 slot_word d work = cond (d == 0) 0 (slice_index work (slot_at (d - 1)))
+
+-- as the code answers it
+low : (w : ℕ) → (1 ≤ w → ⊥) → w ≡ 0
+low w k = omega (arith, k)
+
+module _ (o : Prelude.Option ℕ) (w : ℕ) where
+  pub slot_some : SomeIff o (1 ≤ w) (w - 1) → is_some o ≡ not (w == 0)
+  slot_some h = at o h
+    where
+      at : (o : Prelude.Option ℕ) → SomeIff o (1 ≤ w) (w - 1) → is_some o ≡ not (w == 0)
+      at None k = rw (eq-eqb w 0 (low w k))
+      at (Some x) k = rw (ne_eqb w 0 (λ z. omega (arith, k.0)))
+
+  pub slot_or : SomeIff o (1 ≤ w) (w - 1) → unwrap_or o 0 ≡ w - 1
+  slot_or h = at o h
+    where
+      at : (o : Prelude.Option ℕ) → SomeIff o (1 ≤ w) (w - 1) → unwrap_or o 0 ≡ w - 1
+      at None k = rw (low w k) refl
+      at (Some x) k = k.1
 
 -- the slot itself, where there is one
 abbrev pub slot_number : List ℕ → Option ℕ → ℕ

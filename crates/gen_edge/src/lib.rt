@@ -2,7 +2,7 @@
 // `emit_edge_copies`, and the jump behind it: "An edge pushes every incoming value, then sets slots backwards; the scan of
 // leading phis ends at the first instruction that is none. The first matching predecessor counts." A first pass pushes the
 // values and notes what is refused before any of them; a second one sets the slots, at places counted from the last.
-ghost use Rattle.std.specs.Prelude.{◌≡◌, ℕ, ◌-◌, ◌%◌, ◌^◌, ◌≤◌, true, List, ◌∷◌, map, reverse, length, drop, slice_index_or, slice_set};
+ghost use Rattle.std.specs.Prelude.{◌≡◌, SomeIff, ℕ, ◌-◌, ◌%◌, ◌^◌, ◌≤◌, true, List, ◌∷◌, map, reverse, length, drop, slice_index_or, slice_set};
 ghost use Rattle.book.specs.Ast.{Ty, Value};
 ghost use Rattle.book.specs.Entry.{entries};
 ghost use Rattle.lowering.specs.Context.{FnCtx};
@@ -20,10 +20,10 @@ ghost use Rattle.gen_edge.specs.Edges.{PhiLent, SetAsk, slots_of, EdgeAsk};
 
 use assembly::line;
 use book::entry;
+use book::refusal::Refusal;
 use gen_lines::{Reached, put, refuse};
 use gen_values::{need, need_width, push_value};
 use layout_memo::skip;
-use std::num::wrapping_add_usize;
 
 // The number of phis passed, and what was reached behind their values.
 #[derive(Clone, Copy)]
@@ -32,15 +32,15 @@ pub struct Copies {
     pub reached: Reached,
 }
 
-// The slot of a result word, with 1 added; 0 for none.
-fn slot_word(dest: u64, work: &[u64]) -> u64
+// The slot of a result word, where there is one.
+fn slot(dest: u64, work: &[u64]) -> Option<u64>
     requires { DestReaches dest work.now }
-    ensures { result ≡ slot_word dest work.now }
+    ensures { SomeIff result (1 ≤ slot_word dest work.now) (slot_word dest work.now - 1) }
 {
     if dest == 0 {
-        return 0;
+        return None;
     }
-    work[book::work::WORDS * ((dest - 1) as usize) + book::work::SLOT]
+    work[book::work::WORDS * ((dest - 1) as usize) + book::work::SLOT].checked_sub(1)
 }
 
 // What is refused before a value is pushed: a phi without a slot, then one without the predecessor.
@@ -48,8 +48,8 @@ fn note(dest: u64, found: usize, work: &[u64], s: Reached) -> Reached
     requires { DestReaches dest work.now }
     ensures { result ≡ notedFrom dest found work.now s }
 {
-    let slotted = need(s, slot_word(dest, work) != 0, 5);
-    need(slotted, found != 0, 18)
+    let slotted = need(s, slot(dest, work).is_some(), Refusal::NoResultName);
+    need(slotted, found != 0, Refusal::PhiLacksPredecessor)
 }
 
 // The value at the front, where one was found, at the width of the type at the front of its part; nothing where none was.
@@ -84,7 +84,8 @@ fn noted_first(noted: Reached, reached: Reached) -> Reached
     if noted.refused != 0 { noted } else { reached }
 }
 
-// The values of the leading phis, in order.
+// The values of the leading phis, in order. The place of a pair stays a number, 0 for none: a phi's entry stands in front of its pairs. The loops end at
+// an entry that the contract knows to be there, so an iterator's test of the slice's end would come on top.
 fn push_copies(
     pred: u64,
     kinds: &[u64],
@@ -134,12 +135,12 @@ fn push_copies(
         at = pair + 1;
     }
     Copies {
-        phis: phis,
+        phis,
         reached: noted_first(noted, reached),
     }
 }
 
-// The number of entries of the phi at the front.
+// The number of entries of the phi at the front. A loop, since its end is an entry and not the slice's.
 fn phi_len(kinds: &[u64], words: &[u64], names: u64) -> usize
     requires { PhiLent names (entries kinds.now words.now) }
     ensures { (p : Phi) (ps : List Phi) → Leading names (p ∷ ps) (entries kinds.now words.now)
@@ -150,18 +151,6 @@ fn phi_len(kinds: &[u64], words: &[u64], names: u64) -> usize
         pair += 2;
     }
     pair + 1
-}
-
-// The slot of a result word; 0 for none.
-fn slot_number(dest: u64, work: &[u64]) -> u64
-    requires { DestReaches dest work.now }
-    ensures { result ≡ slot_word dest work.now - 1 }
-{
-    let slot = slot_word(dest, work);
-    if slot == 0 {
-        return 0;
-    }
-    slot - 1
 }
 
 // A `set_local` at a place, where the slices reach so far.
@@ -212,11 +201,9 @@ fn set_slots(
 {
     let first = s.at;
     let mut at: usize = 0;
-    let mut left = phis;
-    while left != 0 {
-        left -= 1;
-        let slot = slot_number(words[at], work);
-        put_at(lines, operands, wrapping_add_usize(first, left), slot);
+    for left in (0..phis).rev() {
+        let slot = slot(words[at], work).unwrap_or(0);
+        put_at(lines, operands, first.wrapping_add(left), slot);
         at += phi_len(&kinds[at..], &words[at..], names);
     }
     Reached {
@@ -244,7 +231,7 @@ pub fn emit_edge_copies(
 {
     let place = work[book::work::WORDS * (succ as usize) + book::work::BLOCK];
     if place == 0 {
-        return refuse(s, 17);
+        return refuse(s, Refusal::UnknownBlock);
     }
     let at = (place - 1) as usize;
     let kinds = &book_kinds[at..];

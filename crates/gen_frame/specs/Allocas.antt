@@ -21,11 +21,11 @@ use Rattle.layout_memo.specs.Work.{Ready, structs_in}
 use Rattle.layout_memo.specs.Calls.{lent}
 use Rattle.gen_values.specs.Values.{dest_of}
 use Rattle.gen_values.specs.Fields.{Fields, entry_at, type_starts, type_is, behind_type_lem, type_in}
-use Rattle.gen_frame.specs.Frames.{barred_by, dynamic_by, FrameSays}
-use Rattle.gen_frame.specs.Placed.{PlaceStep, PlaceDone, same_step, step_none}
+use Rattle.gen_frame.specs.Frames.{Framing, dynamic_by, FrameSays}
+use Rattle.gen_frame.specs.Placed.{PlaceStep, PlaceDone, same_step, step_none, step_err}
 use Rattle.gen_frame.specs.declared.Frame.{Frame}
-use Rattle.gen_frame.specs.declared.places.Count.{Count}
-use Rattle.gen_frame.specs.declared.places.Count.TheVariants as count
+use Rattle.std.specs.Prelude.{Option as Counted, Some, None, Ok, Err}
+use Rattle.book.specs.declared.refusal.Refusal.TheVariants as refusal
 
 -- ---- the count
 -- it stands at the front
@@ -35,9 +35,9 @@ pub record CountAt (m : ℕ) (o : Option TypedVal) (es : List Entry) : Type 0 wh
   pub keeps : Maybe (TypedLimits m) o
   pub few : length es ≤ 2 ^ 20
 
-abbrev pub count_by : Count → Option ℕ
-count_by (count.Fixed n) = some n
-count_by count.Varying = none
+abbrev pub count_by : Counted ℕ → Option ℕ
+count_by (Some n) = some n
+count_by None = none
 
 -- no type begins with kind 21
 type_kind : (t : Ty) (ks ws : List ℕ) (rest : List Entry) → entries ks ws ≡ enc_ty t ++ rest → get_or ks 0 0 ≡ 21 → ⊥
@@ -114,7 +114,7 @@ pub record AllocaAsk (m dest : ℕ) (f : Frame) (es bs : List Entry) (work : Lis
   pub ready : Ready m bs work
   pub ends : f.off ≤ 2147483648
 
-abbrev pub AllocaDone : (m dest : ℕ) (es bs : List Entry) (work work' : List ℕ) (f r : Frame) → Type 0
+abbrev pub AllocaDone : (m dest : ℕ) (es bs : List Entry) (work work' : List ℕ) (f : Frame) (r : Framing) → Type 0
 AllocaDone m dest es bs work work' f r =
     (args : Meanings alloca_fields) → Fields m alloca_fields args es → PlaceStep m bs work work' f r (frame_step (structs_in m bs) (dest_of dest) (Shape.alloca args.0 args.1.0))
 
@@ -138,29 +138,27 @@ module _ (m dest : ℕ) (ks ws : List ℕ) (args : Meanings alloca_fields) (k : 
   step_of bs = frame_step (structs_in m bs) (dest_of dest) (Shape.alloca args.0 args.1.0)
 
   -- no name
-  pub alloca_unnamed : {bs : List Entry} {work : List ℕ} {f r : Frame} → dest ≡ 0 → Ready m bs work → r ≡ barred_by f 5 → PlaceStep m bs work work f r (step_of bs)
+  pub alloca_unnamed : {bs : List Entry} {work : List ℕ} {f : Frame} → dest ≡ 0 → Ready m bs work → PlaceStep m bs work work f (Err refusal.NoResultName) (step_of bs)
   unfolding frame_step dest_of ok_or bind
-  alloca_unnamed {bs} z ready e =
-      step_none (step_of bs) ready (ap (λ (x : Frame). x.slots) e) (ap (λ (x : Frame). x.off) e)
-      (λ p h. rw (eq-eqb dest 0 z) (record { positive = omega arith; number = ap (λ (x : Frame). x.refused) e }))
+  alloca_unnamed {bs} z ready = step_err (step_of bs) ready (λ p h. rw (eq-eqb dest 0 z) refl)
 
-  module _ (z : dest ≡ 0 → ⊥) (c : Count) (e : count_by c ≡ count_of args.1.0) where
+  module _ (z : dest ≡ 0 → ⊥) (c : Counted ℕ) (e : count_by c ≡ count_of args.1.0) where
     step_named : {o : Option ℕ} → count_by c ≡ o → (bs : List Entry) (p : Places) → step_of bs p ≡ place (structs_in m bs) (dest - 1) args.0 o p
     unfolding frame_step dest_of ok_or bind
     step_named d bs p = rw (ne_eqb dest 0 z) (ap (λ x. place (structs_in m bs) (dest - 1) args.0 x p) (sym e ∙ d))
 
     -- a fixed count
-    pub alloca_fixed : {bs : List Entry} {work work' : List ℕ} {f r : Frame} {n : ℕ} → c ≡ count.Fixed n → PlaceDone m (dest - 1) n (entries ks ws) bs work work' f r
+    pub alloca_fixed : {bs : List Entry} {work work' : List ℕ} {f : Frame} {r : Framing} {n : ℕ} → c ≡ Some n → PlaceDone m (dest - 1) n (entries ks ws) bs work work' f r
         → PlaceStep m bs work work' f r (step_of bs)
     alloca_fixed {bs} {n = n} d s =
         same_step (place (structs_in m bs) (dest - 1) (ty_of m (entries ks ws)) (some n)) (step_of bs)
         (λ p. step_named (ap count_by d) bs p ∙ ap (λ t. place (structs_in m bs) (dest - 1) t (some n) p) (sym (type_is ks ws 0 k))) s
 
     -- a varying one
-    pub alloca_varying : {bs : List Entry} {work : List ℕ} {f : Frame} → c ≡ count.Varying → Ready m bs work → PlaceStep m bs work work f (dynamic_by f) (step_of bs)
+    pub alloca_varying : {bs : List Entry} {work : List ℕ} {f : Frame} → c ≡ None → Ready m bs work → PlaceStep m bs work work f (Ok (dynamic_by f)) (step_of bs)
     unfolding place with_dynamic
     alloca_varying {bs} {work} {f} d ready =
         step_none (step_of bs) ready refl refl
         (λ p h.
-        subst (λ (x : Result Places). FrameSays m x work (dynamic_by f)) (sym (step_named (ap count_by d) bs p))
-        (record { going = h.going; off = h.off; within = h.within; dynamic = refl; words = h.words }))
+        subst (λ (x : Result Places). FrameSays m x work (Ok (dynamic_by f))) (sym (step_named (ap count_by d) bs p))
+        (record { off = h.off; within = h.within; dynamic = refl; words = h.words }))

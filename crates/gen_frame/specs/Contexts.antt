@@ -12,10 +12,11 @@ use Rattle.book.specs.Shape.{all_insts}
 use Rattle.book.specs.Work.{slot_at, place_at, mark_at}
 use Rattle.layout.specs.Frame.{Places, no_frame, frame_pass}
 use Rattle.layout_memo.specs.Work.{structs_in}
-use Rattle.lowering.specs.Context.{Codegen, FnCtx}
+use Rattle.std.specs.Prelude.{Ok, Err, IfOk}
+use Rattle.lowering.specs.Context.{Codegen, FnCtx, slot_map, no_slots}
 use Rattle.lowering.specs.Function.{slots_of, context_of}
 use Rattle.gen_values.specs.Maps.{numbered, call_class, mark_word}
-use Rattle.gen_frame.specs.Frames.{Barred, Overflows, FrameSays}
+use Rattle.gen_frame.specs.Frames.{Framing, SlotsHold, Overflows, FrameSays}
 use Rattle.gen_frame.specs.Pass.{BlocksAt, FrameDone}
 use Rattle.gen_frame.specs.declared.Frame.{Frame}
 
@@ -38,7 +39,6 @@ marks_overflow g m work h x l =
 
 -- the words of slots and fixed places hold the context's maps, and the answer the rest of it
 pub record Framed (m : ℕ) (c : FnCtx) (p : Places) (work : List ℕ) (f : Frame) : Type 0 where
-  pub accepted : f.refused ≡ 0
   pub slots : (x : ℕ) → x < m → get_or work (slot_at x) 0 ≡ numbered (lookup x c.slots)
   pub places : (x : ℕ) → x < m → get_or work (place_at x) 0 ≡ numbered (lookup x c.alloca_offsets)
   pub base : f.slots ≡ c.bp_slot
@@ -46,18 +46,24 @@ pub record Framed (m : ℕ) (c : FnCtx) (p : Places) (work : List ℕ) (f : Fram
   pub within : p.off ≤ 2147483648
   pub dynamic : f.dynamic ≡ p.dynamic
 
-module _ (g : Codegen) (fn : Function) {m : ℕ} {es bs : List Entry} {work work' : List ℕ} {r : Frame}
+-- the same of an answer, which is no refusal
+abbrev pub FramedAs : (m : ℕ) (c : FnCtx) (p : Places) (work : List ℕ) → Framing → Type 0
+FramedAs m c p work (Ok f) = Framed m c p work f
+FramedAs m c p work (Err e) = ⊥
+
+module _ (g : Codegen) (fn : Function) {m : ℕ} {es bs : List Entry} {work work' : List ℕ} {r : Framing}
     (same : g.structs ≡ structs_in m bs) (at : BlocksAt m fn.blocks es) (d : FrameDone m es bs work work' r) where
   says : {res : Result Places} → frame_pass g.structs (all_insts fn.blocks) no_frame ≡ res → FrameSays m res work' r
   says {res} e =
       subst (λ (x : Result Places). FrameSays m x work' r) (ap (λ (x : List StructType). frame_pass x (all_insts fn.blocks) no_frame) (sym same) ∙ e) (d.places fn.blocks at)
 
-  pub frame_context : {p : Places} → ((x : ℕ) → x < m → get_or work (mark_at x) 0 ≡ mark_word g x) → frame_pass g.structs (all_insts fn.blocks) no_frame ≡ ok p → Framed m (context_of g fn p) p work' r
+  pub frame_context : {p : Places} → ((x : ℕ) → x < m → get_or work (mark_at x) 0 ≡ mark_word g x) → frame_pass g.structs (all_insts fn.blocks) no_frame ≡ ok p → FramedAs m (context_of g fn p) p work' r
   unfolding context_of slots_of
-  frame_context {p} marks e =
-      let h = says e in
-      let s = d.slots fn.blocks at h.going g.names (marks_overflow g m work marks) in
-      record { accepted = h.going; slots = s.words; places = h.words; base = s.count; off = h.off; within = h.within; dynamic = h.dynamic }
+  frame_context {p} marks e = go r (says e) (d.slots fn.blocks at g.names (marks_overflow g m work marks))
+    where
+      go : (x : Framing) → FrameSays m (ok p) work' x → IfOk x (λ f. SlotsHold m (slot_map g.names (all_insts fn.blocks) no_slots) work' f) → FramedAs m (context_of g fn p) p work' x
+      go (Ok f) h s = record { slots = s.words; places = h.words; base = s.count; off = h.off; within = h.within; dynamic = h.dynamic }
+      go (Err y) h s = h
 
-  pub frame_refused : {n : ℕ} → frame_pass g.structs (all_insts fn.blocks) no_frame ≡ err n → Barred n r.refused
+  pub frame_refused : {n : ℕ} → frame_pass g.structs (all_insts fn.blocks) no_frame ≡ err n → FrameSays m (err n) work' r
   frame_refused e = says e

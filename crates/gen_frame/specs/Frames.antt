@@ -11,6 +11,9 @@ use Rattle.std.proofs.Math.Seq.{get_or-set_other}
 use Rattle.std.proofs.Math.Dec.{eqb}
 use Rattle.names.specs.Name.{name_at}
 use Rattle.names.specs.Spelling.{has_overflow}
+use Rattle.std.specs.Prelude.{Result as Answer, Ok, Err}
+use Rattle.book.specs.Refusal.{number_of}
+use Rattle.book.specs.declared.refusal.Refusal.{Refusal}
 use Rattle.book.specs.Entry.{Entry}
 use Rattle.book.specs.Result.{Result, ok, err}
 use Rattle.book.specs.Map.{Map, lookup}
@@ -34,11 +37,12 @@ not_told b z = absurd (omega (arith, b.positive, b.number))
 pub never : {A : Type 0} {b : Bool} → b ≡ true → b ≡ false → A
 never p q = absurd (let z : ◌≡◌ {A = ℕ} 0 1 = cc in omega arith)
 
-abbrev pub barred_by : Frame → ℕ → Frame
-barred_by f e = record { slots = f.slots; off = f.off; dynamic = f.dynamic; refused = e }
+-- what the pass has reached, or why a place was refused
+abbrev pub Framing : Type 0
+Framing = Answer Frame Refusal
 
 abbrev pub dynamic_by : Frame → Frame
-dynamic_by f = record { slots = f.slots; off = f.off; dynamic = true; refused = f.refused }
+dynamic_by f = record { slots = f.slots; off = f.off; dynamic = true }
 
 -- ---- slots
 pub record SlotsHold (m : ℕ) (s : Slots) (work : List ℕ) (f : Frame) : Type 0 where
@@ -51,15 +55,16 @@ Overflows names m work = (x : ℕ) → x < m → leb 4 (get_or work (mark_at x) 
 
 -- ---- fixed places
 pub record PlacesHold (m : ℕ) (p : Places) (work : List ℕ) (f : Frame) : Type 0 where
-  pub going : f.refused ≡ 0
   pub off : f.off ≡ p.off
   pub within : p.off ≤ 2 ^ 31
   pub dynamic : f.dynamic ≡ p.dynamic
   pub words : (x : ℕ) → x < m → get_or work (place_at x) 0 ≡ numbered (lookup x p.offsets)
 
-abbrev pub FrameSays : ℕ → Result Places → List ℕ → Frame → Type 0
-FrameSays m (ok p) work f = PlacesHold m p work f
-FrameSays m (err e) work f = Barred e f.refused
+abbrev pub FrameSays : ℕ → Result Places → List ℕ → Framing → Type 0
+FrameSays m (ok p) work (Ok f) = PlacesHold m p work f
+FrameSays m (ok p) work (Err e) = ⊥
+FrameSays m (err n) work (Ok f) = ⊥
+FrameSays m (err n) work (Err e) = number_of e ≡ n
 
 -- ---- what is left as it was
 -- words 3 may have changed, and those of measuring

@@ -3,6 +3,8 @@ use Rattle.std.specs.Prelude.{ℕ, ◌+◌, ◌*◌, ◌<◌, ◌≤◌, ◌^◌
 use Rattle.std.proofs.Math.Path.{refl, sym, ap, subst}
 use Rattle.std.proofs.Common.{◌∙◌, arith, add-zero, add-one, ltb-true, ltb-false, length-drop, drop_of_length-le, drop-cons, get_or-drop}
 use mathlib.Core.List.{List, [], ◌∷◌, ◌++◌, append-nil}
+use Rattle.std.specs.Prelude.{Ok, Err, IfOk}
+use Rattle.book.specs.declared.refusal.Refusal.{Refusal}
 use Rattle.book.specs.Entry.{Entry, entry, entries}
 use Rattle.book.specs.Ast.{Inst, BasicBlock}
 use Rattle.book.specs.Encode.{closed, enc_basic_block}
@@ -19,7 +21,7 @@ use Rattle.layout_memo.specs.Front.{kind_of, kind_at_lem}
 use Rattle.layout_memo.specs.Work.{Ready, structs_in}
 use Rattle.layout_memo.specs.Calls.{lent}
 use Rattle.lowering.specs.Context.{Slots, no_slots, slot_step, slot_map}
-use Rattle.gen_frame.specs.Frames.{not_told, SlotsHold, Overflows, FrameSays, FrameKept, kept_none, kept_then, overflows_kept}
+use Rattle.gen_frame.specs.Frames.{Framing, PlacesHold, SlotsHold, Overflows, FrameSays, FrameKept, kept_none, kept_then, overflows_kept}
 use Rattle.gen_frame.specs.Taken.{InstAt}
 use Rattle.gen_frame.specs.Steps.{StepAsk, Stepped, step_idle}
 use Rattle.gen_frame.specs.Scan.{First, Scan, scan_blocks}
@@ -49,14 +51,14 @@ pub record FrameAsk (m : ℕ) (es bs : List Entry) (work : List ℕ) : Type 0 wh
   pub places : (x : ℕ) → x < m → get_or work (place_at x) 0 ≡ 0
 
 -- the answer is that of `framePass`, with the slots of `slotMap`. Left free: what words 1, 3 and 7 hold where it refuses
-pub record FrameDone (m : ℕ) (es bs : List Entry) (work work' : List ℕ) (r : Frame) : Type 0 where
+pub record FrameDone (m : ℕ) (es bs : List Entry) (work work' : List ℕ) (r : Framing) : Type 0 where
   pub ready : Ready m bs work'
   pub kept : FrameKept m work work'
-  pub few : r.slots ≤ 2 * length es
-  pub ends : r.off ≤ 2147483648
+  pub few : IfOk r (λ f. f.slots ≤ 2 * length es)
+  pub ends : IfOk r (λ f. f.off ≤ 2147483648)
   pub places : (blocks : List BasicBlock) → BlocksAt m blocks es → FrameSays m (frame_pass (structs_in m bs) (all_insts blocks) no_frame) work' r
-  pub slots : (blocks : List BasicBlock) → BlocksAt m blocks es → r.refused ≡ 0 → (names : List (List ℕ)) → Overflows names m work
-      → SlotsHold m (slot_map names (all_insts blocks) no_slots) work' r
+  pub slots : (blocks : List BasicBlock) → BlocksAt m blocks es → (names : List (List ℕ)) → Overflows names m work
+      → IfOk r (λ f. SlotsHold m (slot_map names (all_insts blocks) no_slots) work' f)
 
 -- ---- on the way
 -- the slots so far, and those of the instructions that are left
@@ -70,10 +72,10 @@ pub record Going (m : ℕ) (es bs : List Entry) (work₀ work : List ℕ) (at : 
   pub own : BlocksAt m blocks es
   pub left : List Inst
   pub place : Scan m left (drop at es)
-  pub so : Result Places
-  pub rest : frame_pass (structs_in m bs) (all_insts blocks) no_frame ≡ bind so (frame_pass (structs_in m bs) left)
-  pub says : FrameSays m so work f
-  pub slots : f.refused ≡ 0 → (names : List (List ℕ)) → Overflows names m work₀ → SlotsSo m names (all_insts blocks) left work f
+  pub so : Places
+  pub rest : frame_pass (structs_in m bs) (all_insts blocks) no_frame ≡ frame_pass (structs_in m bs) left so
+  pub says : PlacesHold m so work f
+  pub slots : (names : List (List ℕ)) → Overflows names m work₀ → SlotsSo m names (all_insts blocks) left work f
   pub ready : Ready m bs work
   pub kept : FrameKept m work₀ work
   pub there : at ≤ length es
@@ -81,10 +83,10 @@ pub record Going (m : ℕ) (es bs : List Entry) (work₀ work : List ℕ) (at : 
   pub ends : f.off ≤ 2147483648
 
 abbrev pub first : Frame
-first = record { slots = 0; off = 0; dynamic = false; refused = 0 }
+first = record { slots = 0; off = 0; dynamic = false }
 
 pub going_start : {m : ℕ} {es bs : List Entry} {work : List ℕ} → FrameAsk m es bs work → Going m es bs work work 0 first
-unfolding bind no_frame no_slots lookup
+unfolding no_frame no_slots lookup
 going_start {m} {es} {bs} {work} a =
     record {
       blocks = a.blocks;
@@ -92,10 +94,10 @@ going_start {m} {es} {bs} {work} a =
       left = all_insts a.blocks;
       place = subst (Scan m (all_insts a.blocks)) (sym (a.at.here ∙ ap (λ (x : List Entry). closed enc_basic_block a.blocks ++ x) a.ends ∙ append-nil (closed enc_basic_block a.blocks)))
           (scan_blocks m a.blocks a.at.keeps);
-      so = ok no_frame;
+      so = no_frame;
       rest = refl;
-      says = record { going = refl; off = refl; within = omega arith; dynamic = refl; words = a.places };
-      slots = λ e names o. record { so = no_slots; rest = refl; holds = record { count = refl; words = a.slots } };
+      says = record { off = refl; within = omega arith; dynamic = refl; words = a.places };
+      slots = λ names o. record { so = no_slots; rest = refl; holds = record { count = refl; words = a.slots } };
       ready = a.ready;
       kept = kept_none;
       there = omega arith;
@@ -112,8 +114,8 @@ module _ {m : ℕ} (ks ws : List ℕ) {bs : List Entry} {work₀ work : List ℕ
   here = drop at (entries ks ws)
 
   -- no entry is left
-  pub going_done : length (entries ks ws) ≤ at → FrameDone m (entries ks ws) bs work₀ work f
-  unfolding frame_pass slot_map bind
+  pub going_done : length (entries ks ws) ≤ at → FrameDone m (entries ks ws) bs work₀ work (Ok f)
+  unfolding frame_pass slot_map
   going_done z =
       let e : g.left ≡ [] = subst (Scan m g.left) (drop_of_length-le (entries ks ws) z) g.place in
       record {
@@ -122,16 +124,12 @@ module _ {m : ℕ} (ks ws : List ℕ) {bs : List Entry} {work₀ work : List ℕ
         few = omega (arith, g.few, g.there);
         ends = g.ends;
         places = λ blocks b.
-            subst (λ (r : Result Places). FrameSays m r work f)
-            (sym (ap (λ x. frame_pass (structs_in m bs) (all_insts x) no_frame) (same_blocks b g.own) ∙ g.rest ∙ ap (λ x. bind g.so (frame_pass (structs_in m bs) x)) e ∙ whole g.so)) g.says;
-        slots = λ blocks b d names o.
-            let s = g.slots d names o in
+            subst (λ (r : Result Places). FrameSays m r work (Ok f))
+            (sym (ap (λ x. frame_pass (structs_in m bs) (all_insts x) no_frame) (same_blocks b g.own) ∙ g.rest ∙ ap (λ x. frame_pass (structs_in m bs) x g.so) e)) g.says;
+        slots = λ blocks b names o.
+            let s = g.slots names o in
             subst (λ (x : Slots). SlotsHold m x work f) (sym (ap (λ x. slot_map names (all_insts x) no_slots) (same_blocks b g.own) ∙ s.rest ∙ ap (λ x. slot_map names x s.so) e)) s.holds;
       }
-    where
-      whole : (r : Result Places) → bind r (frame_pass (structs_in m bs) []) ≡ r
-      whole (ok p) = refl
-      whole (err n) = refl
 
   module _ (more : at < length (entries ks ws)) where
     -- the entry at the place, and what stands behind it
@@ -171,45 +169,62 @@ module _ {m : ℕ} (ks ws : List ℕ) {bs : List Entry} {work₀ work : List ℕ
         }
 
     -- a step was done
-    module _ {work' : List ℕ} {r : Frame} (i : Inst) (next : List Inst) (split : g.left ≡ i ∷ next) (own : InstAt m i here) (s : Stepped m here bs work work' f r) where
-      abbrev step : Places → Result Places
-      step = frame_step (structs_in m bs) i.dest (shape i.kind)
+    module _ (i : Inst) (next : List Inst) (split : g.left ≡ i ∷ next) (own : InstAt m i here) where
+      abbrev step : Result Places
+      step = frame_step (structs_in m bs) i.dest (shape i.kind) g.so
 
-      behind : (so : Result Places) → bind so (frame_pass (structs_in m bs) (i ∷ next)) ≡ bind (bind so step) (frame_pass (structs_in m bs) next)
-      unfolding bind frame_pass
-      behind (ok p) = refl
-      behind (err n) = refl
+      behind : frame_pass (structs_in m bs) (all_insts g.blocks) no_frame ≡ bind step (frame_pass (structs_in m bs) next)
+      unfolding frame_pass
+      behind = g.rest ∙ ap (λ x. frame_pass (structs_in m bs) x g.so) split
 
-      not_before : (so : Result Places) → FrameSays m so work f → FrameSays m (bind so step) work' r → r.refused ≡ 0 → f.refused ≡ 0
-      unfolding bind
-      not_before (ok p) h k e = h.going
-      not_before (err n) h k e = not_told k e
+      module _ {work' : List ℕ} where
+        -- its place was refused
+        barred : {e : Refusal} → Stepped m here bs work work' f (Err e) → FrameDone m (entries ks ws) bs work₀ work' (Err e)
+        unfolding bind
+        barred {e} s =
+            record {
+              ready = s.ready;
+              kept = kept_then g.kept s.kept;
+              few = tt;
+              ends = tt;
+              places = λ blocks b.
+                  subst (λ (x : Result Places). FrameSays m x work' (Err e))
+                  (sym (ap (λ x. frame_pass (structs_in m bs) (all_insts x) no_frame) (same_blocks b g.own) ∙ behind)) (go step (s.places i own g.so g.says));
+              slots = λ blocks b names o. tt;
+            }
+          where
+            go : (x : Result Places) → FrameSays m x work' (Err e) → FrameSays m (bind x (frame_pass (structs_in m bs) next)) work' (Err e)
+            go (err n) h = h
+            go (ok p) h = absurd h
 
-      done : Scan m next back → Going m (entries ks ws) bs work₀ work' (at + 1) r
-      unfolding slot_map
-      done p =
-          let says = s.places i own g.so g.says in
-          record {
-            blocks = g.blocks;
-            own = g.own;
-            left = next;
-            place = p;
-            so = bind g.so step;
-            rest = g.rest ∙ ap (λ x. bind g.so (frame_pass (structs_in m bs) x)) split ∙ behind g.so;
-            says = says;
-            slots = λ e names o.
-                let q = g.slots (not_before g.so g.says says e) names o in
+        done : {t : Frame} → Stepped m here bs work work' f (Ok t) → Scan m next back → Going m (entries ks ws) bs work₀ work' (at + 1) t
+        unfolding slot_map bind
+        done {t} s p = go step refl (s.places i own g.so g.says)
+          where
+            go : (x : Result Places) → step ≡ x → FrameSays m x work' (Ok t) → Going m (entries ks ws) bs work₀ work' (at + 1) t
+            go (err n) e h = absurd h
+            go (ok so) e h =
                 record {
-                  so = slot_step names i.dest (shape i.kind) q.so;
-                  rest = q.rest ∙ ap (λ x. slot_map names x q.so) split;
-                  holds = s.slots i own e names (overflows_kept names g.kept o) q.so q.holds;
-                };
-            ready = s.ready;
-            kept = kept_then g.kept s.kept;
-            there = omega arith;
-            few = omega (arith, g.few, s.few);
-            ends = s.ends g.ends;
-          }
+                  blocks = g.blocks;
+                  own = g.own;
+                  left = next;
+                  place = p;
+                  so = so;
+                  rest = behind ∙ ap (λ x. bind x (frame_pass (structs_in m bs) next)) e;
+                  says = h;
+                  slots = λ names o.
+                      let q = g.slots names o in
+                      record {
+                        so = slot_step names i.dest (shape i.kind) q.so;
+                        rest = q.rest ∙ ap (λ x. slot_map names x q.so) split;
+                        holds = s.slots i own names (overflows_kept names g.kept o) q.so q.holds;
+                      };
+                  ready = s.ready;
+                  kept = kept_then g.kept s.kept;
+                  there = omega arith;
+                  few = omega (arith, g.few, s.few);
+                  ends = s.ends g.ends;
+                }
 
     -- an instruction
     module _ (low : 40 ≤ get_or ks at 0) (high : get_or ks at 0 < 90) where
@@ -231,10 +246,14 @@ module _ {m : ℕ} (ks ws : List ℕ) {bs : List Entry} {work₀ work : List ℕ
             ends = g.ends;
           })
 
-      pub going_inst : {work' : List ℕ} {r : Frame} → Stepped m (lent ks ws at) bs work work' f r → Going m (entries ks ws) bs work₀ work' (at + 1) r
-      going_inst {work'} {r} s =
-          done first_here.own first_here.others first_here.split inst_here
-          (subst (λ (es : List Entry). Stepped m es bs work work' f r) (entries_part at ks ws) s) first_here.behind
+      step_here : {work' : List ℕ} (r : Framing) → Stepped m (lent ks ws at) bs work work' f r → (q : Framing) → r ≡ q → Stepped m here bs work work' f q
+      step_here {work'} r s q e = rw e at (subst (λ (es : List Entry). Stepped m es bs work work' f r) (entries_part at ks ws) s)
+
+      pub going_inst : {work' : List ℕ} (r : Framing) → Stepped m (lent ks ws at) bs work work' f r → (t : Frame) → r ≡ Ok t → Going m (entries ks ws) bs work₀ work' (at + 1) t
+      going_inst r s t e = done first_here.own first_here.others first_here.split inst_here (step_here r s (Ok t) e) first_here.behind
+
+      pub going_barred : {work' : List ℕ} (r : Framing) → Stepped m (lent ks ws at) bs work work' f r → (x : Refusal) → r ≡ Err x → FrameDone m (entries ks ws) bs work₀ work' (Err x)
+      going_barred r s x e = barred first_here.own first_here.others first_here.split inst_here (step_here r s (Err x) e)
 
     -- any other entry
     pub going_idle : (40 ≤ get_or ks at 0 → get_or ks at 0 < 90 → (get_or ws at 0 ≡ 0) × (get_or ks at 0 ≡ 73 → ⊥)) → Going m (entries ks ws) bs work₀ work (at + 1) f
@@ -247,7 +266,7 @@ module _ {m : ℕ} (ks ws : List ℕ) {bs : List Entry} {work₀ work : List ℕ
             let k : get_or (drop at ks) 0 0 ≡ get_or ks at 0 = rw (get_or-drop, add-zero) refl in
             let v : get_or (drop at ws) 0 0 ≡ get_or ws at 0 = rw (get_or-drop, add-zero) refl in
             done (first_here l h).own (first_here l h).others (first_here l h).split (inst_here l h)
-            (subst (λ (es : List Entry). Stepped m es bs work work f f) (entries_drop at ks ws)
+            (subst (λ (es : List Entry). Stepped m es bs work work f (Ok f)) (entries_drop at ks ws)
             (step_idle (drop at ks) (drop at ws) work f g.ready (v ∙ w.0) (λ q. w.1 (sym k ∙ q)))) (first_here l h).behind
         high l false e = skipped (scanned.1 (omega (arith, kind_is, ltb-false (get_or ks at 0) 90 e)))
 

@@ -1,5 +1,5 @@
 -- One instruction of the frame pass: its slots, and its place where it is an alloca.
-use Rattle.std.specs.Prelude.{ℕ, zero, suc, ◌+◌, ◌≤◌, ◌^◌, ◌≡◌, refl, List, get_or}
+use Rattle.std.specs.Prelude.{ℕ, ◌+◌, ◌<◌, ◌≤◌, ◌^◌, ◌≡◌, refl, List, get_or, Ok, Err, IfOk}
 use Rattle.std.proofs.Common.{sym, ◌∙◌, arith}
 use Rattle.std.proofs.Math.Path.{ap, subst}
 use Rattle.std.proofs.Math.Option.{Option, none, some}
@@ -9,7 +9,8 @@ use Rattle.book.specs.Kinds.{InstTag, inst_kind}
 use Rattle.book.specs.Fields.{Meanings, inst_fields, inst_tag_of, inst_args}
 use Rattle.book.specs.Encode.{dest_word}
 use Rattle.book.specs.Limits.{Maybe, NameLimits}
-use Rattle.book.specs.Result.{Result, ok, err, bind}
+use Rattle.book.specs.Map.{lookup}
+use Rattle.book.specs.Result.{Result, ok}
 use Rattle.book.specs.Shape.{Shape, shape}
 use Rattle.book.specs.Work.{slot_at}
 use Rattle.layout.specs.Frame.{Places, frame_step}
@@ -17,8 +18,9 @@ use Rattle.layout_memo.specs.Work.{Ready, settled_word, structs_in}
 use Rattle.layout_memo.specs.Calls.{lent}
 use Rattle.lowering.specs.Context.{Slots, slot_step}
 use Rattle.gen_values.specs.Values.{dest_of, dest_is}
+use Rattle.gen_values.specs.Maps.{numbered}
 use Rattle.gen_values.specs.Fields.{Fields}
-use Rattle.gen_frame.specs.Frames.{not_told, SlotsHold, Overflows, FrameSays, FrameKept, kept_none, kept_then, kept_places}
+use Rattle.gen_frame.specs.Frames.{Framing, SlotsHold, PlacesHold, Overflows, FrameSays, FrameKept, kept_then, kept_places}
 use Rattle.gen_frame.specs.Allocas.{alloca_fields, AllocaAsk, AllocaDone}
 use Rattle.gen_frame.specs.Taken.{InstAt, inst_front, same_tag, TakeAsk, Taken, take_none}
 use Rattle.gen_frame.specs.declared.Frame.{Frame}
@@ -31,14 +33,14 @@ pub record StepAsk (m : ℕ) (f : Frame) (es bs : List Entry) (work : List ℕ) 
   pub ends : f.off ≤ 2147483648
 
 -- what was done: the places as `frameStep` says, the slots as `slotStep` does
-pub record Stepped (m : ℕ) (es bs : List Entry) (work work' : List ℕ) (f r : Frame) : Type 0 where
+pub record Stepped (m : ℕ) (es bs : List Entry) (work work' : List ℕ) (f : Frame) (r : Framing) : Type 0 where
   pub ready : Ready m bs work'
   pub kept : FrameKept m work work'
-  pub few : r.slots ≤ f.slots + 2
-  pub ends : f.off ≤ 2147483648 → r.off ≤ 2147483648
-  pub places : (i : Inst) → InstAt m i es → (fr : Result Places) → FrameSays m fr work f → FrameSays m (bind fr (frame_step (structs_in m bs) i.dest (shape i.kind))) work' r
-  pub slots : (i : Inst) → InstAt m i es → r.refused ≡ 0 → (names : List (List ℕ)) → Overflows names m work → (s : Slots) → SlotsHold m s work f
-      → SlotsHold m (slot_step names i.dest (shape i.kind) s) work' r
+  pub few : IfOk r (λ t. t.slots ≤ f.slots + 2)
+  pub ends : f.off ≤ 2147483648 → IfOk r (λ t. t.off ≤ 2147483648)
+  pub places : (i : Inst) → InstAt m i es → (p : Places) → PlacesHold m p work f → FrameSays m (frame_step (structs_in m bs) i.dest (shape i.kind) p) work' r
+  pub slots : (i : Inst) → InstAt m i es → (names : List (List ℕ)) → Overflows names m work → (s : Slots) → SlotsHold m s work f
+      → IfOk r (λ t. SlotsHold m (slot_step names i.dest (shape i.kind) s) work' t)
 
 -- an alloca; any other has no place
 tag_alloca : (q : InstKind) → inst_tag_of q ≡ InstTag.alloca → (args : Meanings alloca_fields) × (q ≡ InstKind.alloca args.0 args.1.0 args.1.1.0)
@@ -99,27 +101,15 @@ module _ {m : ℕ} (ks ws : List ℕ) {bs : List Entry} (work : List ℕ) (f : F
   pub take_ask : StepAsk m f (entries ks ws) bs work → TakeAsk m f (entries ks ws) work
   take_ask k = record { inst = k.inst; at = k.at; room = k.ready.room; few = k.few }
 
-  -- behind a refusal
-  pub step_refused : Ready m bs work → (f.refused ≡ 0 → ⊥) → Stepped m (entries ks ws) bs work work f f
-  unfolding bind
-  step_refused ready e =
-      record { ready = ready; kept = kept_none; few = omega arith; ends = λ l. l; places = λ i a. still i; slots = λ i a d. absurd (e d) }
-    where
-      still : (i : Inst) (fr : Result Places) → FrameSays m fr work f → FrameSays m (bind fr (frame_step (structs_in m bs) i.dest (shape i.kind))) work f
-      still i (ok p) h = absurd (e h.going)
-      still i (err n) h = h
-
-  module _ (going : f.refused ≡ 0) {work' : List ℕ} {taken : Frame} (t : Taken m (entries ks ws) work work' f taken) where
+  module _ {work' : List ℕ} {taken : Frame} (t : Taken m (entries ks ws) work work' f taken) where
     -- no alloca
-    pub step_plain : Ready m bs work → (get_or ks 0 0 ≡ 73 → ⊥) → Stepped m (entries ks ws) bs work work' f taken
-    unfolding bind
+    pub step_plain : Ready m bs work → (get_or ks 0 0 ≡ 73 → ⊥) → Stepped m (entries ks ws) bs work work' f (Ok taken)
     step_plain ready z =
-        record { ready = t.ready bs ready; kept = t.kept; few = t.few; ends = λ l. omega (arith, t.off); places = places; slots = λ i a d names o s h. t.slots i a names o s h }
+        record { ready = t.ready bs ready; kept = t.kept; few = t.few; ends = λ l. omega (arith, t.off); places = places; slots = λ i a names o s h. t.slots i a names o s h }
       where
-        places : (i : Inst) → InstAt m i (entries ks ws) → (fr : Result Places) → FrameSays m fr work f → FrameSays m (bind fr (frame_step (structs_in m bs) i.dest (shape i.kind))) work' taken
-        places i a (err n) h = not_told h going
-        places i a (ok p) h =
-            subst (λ (x : Result Places). FrameSays m x work' taken)
+        places : (i : Inst) → InstAt m i (entries ks ws) → (p : Places) → PlacesHold m p work f → FrameSays m (frame_step (structs_in m bs) i.dest (shape i.kind) p) work' (Ok taken)
+        places i a p h =
+            subst (λ (x : Result Places). FrameSays m x work' (Ok taken))
             (sym (tag_unplaced (structs_in m bs) i.dest i.kind p (λ e. z ((inst_front ks ws a).kind ∙ ap inst_kind e)))) (t.places p h)
 
     -- an alloca
@@ -130,34 +120,37 @@ module _ {m : ℕ} (ks ws : List ℕ) {bs : List Entry} (work : List ℕ) (f : F
           let d : get_or ws 0 0 ≤ m = dest_within k.inst.dest (inst_front ks ws k.at).dest k.at.keeps.0 in
           record { args = a.args; fields = a.fields; named = d; ready = t.ready bs k.ready; ends = omega (arith, k.ends, t.off) }
 
-      pub step_alloca : (k : StepAsk m f (entries ks ws) bs work) {work'' : List ℕ} {r : Frame} → AllocaDone m (get_or ws 0 0) (lent ks ws 1) bs work' work'' taken r
+      pub step_alloca : (k : StepAsk m f (entries ks ws) bs work) {work'' : List ℕ} {r : Framing} → AllocaDone m (get_or ws 0 0) (lent ks ws 1) bs work' work'' taken r
           → Stepped m (entries ks ws) bs work work'' f r
-      unfolding bind
       step_alloca k {work''} {r} done =
           let own = alloca_front ks ws k.at e in
           let s = done own.args own.fields in
           record {
             ready = s.ready;
             kept = kept_then t.kept (kept_places s.kept);
-            few = omega (arith, t.few, s.slots);
+            few = few r s.slots;
             ends = λ l. s.ends (omega (arith, t.off));
             places = places;
-            slots = λ i a d names o z h.
+            slots = λ i a names o z h.
                 let g = t.slots i a names o z h in
-                record { count = s.slots ∙ g.count; words = λ x l. s.kept.same (slot_at x) (λ y _ q. omega arith) (settled_word x 1 l (omega arith)) ∙ g.words x l };
+                slots (slot_step names i.dest (shape i.kind) z) g.count (λ x l. s.kept.same (slot_at x) (λ y _ q. omega arith) (settled_word x 1 l (omega arith)) ∙ g.words x l) r s.slots;
           }
         where
-          places : (i : Inst) → InstAt m i (entries ks ws) → (fr : Result Places) → FrameSays m fr work f → FrameSays m (bind fr (frame_step (structs_in m bs) i.dest (shape i.kind))) work'' r
-          places i a (err n) h = not_told h going
-          places i a (ok p) h =
+          few : (r : Framing) → IfOk r (λ u. u.slots ≡ taken.slots) → IfOk r (λ u. u.slots ≤ f.slots + 2)
+          few (Ok u) q = omega (arith, t.few)
+          few (Err n) q = tt
+
+          slots : (so : Slots) → taken.slots ≡ so.num → ((x : ℕ) → x < m → get_or work'' (slot_at x) 0 ≡ numbered (lookup x so.slots)) → (r : Framing) → IfOk r (λ u. u.slots ≡ taken.slots)
+              → IfOk r (λ u. SlotsHold m so work'' u)
+          slots so count words (Ok u) q = record { count = q ∙ count; words = words }
+          slots so count words (Err n) q = tt
+
+          places : (i : Inst) → InstAt m i (entries ks ws) → (p : Places) → PlacesHold m p work f → FrameSays m (frame_step (structs_in m bs) i.dest (shape i.kind) p) work'' r
+          places i a p h =
               let c = alloca_front ks ws a e in
               let d : dest_of (get_or ws 0 0) ≡ i.dest = ap dest_of (inst_front ks ws a).dest ∙ dest_is i.dest in
               rw (← d, c.is) ((done c.args c.fields).says p (t.places p h))
 
   -- no result that has a name, and no alloca
-  pub step_idle : Ready m bs work → get_or ws 0 0 ≡ 0 → (get_or ks 0 0 ≡ 73 → ⊥) → Stepped m (entries ks ws) bs work work f f
-  step_idle ready w z = at f.refused refl
-    where
-      at : (n : ℕ) → f.refused ≡ n → Stepped m (entries ks ws) bs work work f f
-      at zero e = step_plain e (take_none ks ws work f w) ready z
-      at (suc n) e = step_refused ready (λ d. omega arith)
+  pub step_idle : Ready m bs work → get_or ws 0 0 ≡ 0 → (get_or ks 0 0 ≡ 73 → ⊥) → Stepped m (entries ks ws) bs work work f (Ok f)
+  step_idle ready w z = step_plain (take_none ks ws work f w) ready z

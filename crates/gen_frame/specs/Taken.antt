@@ -243,7 +243,6 @@ pub record Taken (m : ℕ) (es : List Entry) (work work' : List ℕ) (f r : Fram
   pub kept : FrameKept m work work'
   pub few : r.slots ≤ f.slots + 2
   pub off : r.off ≡ f.off
-  pub going : r.refused ≡ f.refused
   pub ready : (bs : List Entry) → Ready m bs work → Ready m bs work'
   pub slots : (i : Inst) → InstAt m i es → (names : List (List ℕ)) → Overflows names m work → (s : Slots) → SlotsHold m s work f → SlotsHold m (slot_step names i.dest (shape i.kind) s) work' r
   pub places : (p : Places) → PlacesHold m p work f → PlacesHold m p work' r
@@ -265,7 +264,6 @@ module _ {m : ℕ} (ks ws work : List ℕ) (f : Frame) where
         kept = kept_none;
         few = omega arith;
         off = refl;
-        going = refl;
         ready = λ bs r. r;
         slots = λ i a names o s h. rw (dest_none i.dest (inst_front ks ws a).dest z) h;
         places = λ p h. h;
@@ -279,14 +277,13 @@ module _ {m : ℕ} (ks ws work : List ℕ) (f : Frame) where
     take_below = subst (Maybe (NameLimits m)) (dest_some ask.inst.dest (inst_front ks ws ask.at).dest z) ask.at.keeps.0
 
     pub take_some : {n : ℕ} → SlotsFor m (entries ks ws) work n
-        → Taken m (entries ks ws) work (set work (slot_at x) (f.slots + 1)) f (record { slots = f.slots + n; off = f.off; dynamic = f.dynamic; refused = f.refused })
+        → Taken m (entries ks ws) work (set work (slot_at x) (f.slots + 1)) f (record { slots = f.slots + n; off = f.off; dynamic = f.dynamic })
     unfolding slot_step
     take_some {n} c =
         record {
           kept = record { long = length-set work (slot_at x) (f.slots + 1); same = λ i a b d. get_or-set_other work (slot_at x) i (f.slots + 1) 0 (a x take_below) };
           few = omega (arith, c.most);
           off = refl;
-          going = refl;
           ready = λ bs r. ready_set (slot_at x) (f.slots + 1) r (λ y e. omega arith) (λ y e. omega arith) (λ k. table_other m k x 1 (omega arith) (λ e. omega arith) take_below);
           slots = λ i a names o s h.
               rw (dest_some i.dest (inst_front ks ws a).dest z)
@@ -296,7 +293,6 @@ module _ {m : ℕ} (ks ws work : List ℕ) (f : Frame) where
               });
           places = λ p h.
               record {
-                going = h.going;
                 off = h.off;
                 within = h.within;
                 dynamic = h.dynamic;

@@ -12,19 +12,18 @@ ghost use Rattle.gen_frame.specs.Pass.{FrameAsk, FrameDone};
 use crate::places::alloca;
 use crate::slots::take_slots;
 use book::entry;
+use book::refusal::Refusal;
 use book_types::shorter;
 
-// The slots taken so far, where the fixed places end, whether a varying one is among the places, and the refusal's number
-// where a place was refused, 0 where none was.
-#[derive(Clone, Copy)]
+// The slots taken so far, where the fixed places end, and whether a varying one is among the places.
+#[derive(Clone, Copy, Debug, PartialEq, Eq)]
 pub struct Frame {
     pub slots: u64,
     pub off: u64,
     pub dynamic: bool,
-    pub refused: u64,
 }
 
-// One instruction: its slots, and its place where it is an alloca. Behind a refusal nothing changes.
+// One instruction: its slots, and its place where it is an alloca.
 fn frame_inst(
     kinds: &[u64],
     words: &[u64],
@@ -33,17 +32,14 @@ fn frame_inst(
     work: &mut [u64],
     names: u64,
     f: Frame,
-) -> Frame
+) -> Result<Frame, Refusal>
     requires { StepAsk names f (entries kinds.now words.now) (entries book_kinds.now book_words.now) work.old }
     ensures { Stepped names (entries kinds.now words.now) (entries book_kinds.now book_words.now)
         work.old work.new f result }
 {
-    if f.refused != 0 {
-        return f;
-    }
     let taken = take_slots(kinds, words, work, names, f);
     if kinds[0] != entry::ALLOCA {
-        return taken;
+        return Ok(taken);
     }
     alloca(
         &kinds[1..],
@@ -82,32 +78,23 @@ pub fn frame_pass(
     book_words: &[u64],
     work: &mut [u64],
     names: u64,
-) -> Frame
+) -> Result<Frame, Refusal>
     requires { FrameAsk names (entries kinds.now words.now) (entries book_kinds.now book_words.now) work.old }
     ensures { FrameDone names (entries kinds.now words.now) (entries book_kinds.now book_words.now)
         work.old work.new result }
 {
-    let end = shorter(kinds, words);
-    let mut at: usize = 0;
     let mut f = Frame {
         slots: 0,
         off: 0,
         dynamic: false,
-        refused: 0,
     };
-    while at < end {
+    let end = shorter(kinds, words);
+    for at in 0..end {
         if acts(kinds[at], words[at]) {
-            f = frame_inst(
-                &kinds[at..],
-                &words[at..],
-                book_kinds,
-                book_words,
-                work,
-                names,
-                f,
-            );
+            let ks = &kinds[at..];
+            let ws = &words[at..];
+            f = frame_inst(ks, ws, book_kinds, book_words, work, names, f)?;
         }
-        at = at + 1;
     }
-    f
+    Ok(f)
 }

@@ -48,6 +48,5 @@ pub fn take_slots(kinds: &[u64], words: &[u64], work: &mut [u64], names: u64, f:
         slots: f.slots + n,
         off: f.off,
         dynamic: f.dynamic,
-        refused: f.refused,
     }
 }

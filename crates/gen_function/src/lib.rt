@@ -13,6 +13,7 @@ ghost use Rattle.gen_function.specs.Blocks.{Listed, BlocksAsk};
 ghost use Rattle.gen_function.specs.Function.{FunctionHere, FunctionAsk, Framed, slots_of};
 
 use assembly::line;
+use book::refusal::Refusal;
 use gen_block::gen_block;
 use gen_lines::{Reached, put};
 use gen_prepare::Prepared;
@@ -136,7 +137,7 @@ pub fn gen_function(
     let total = total_slots(head);
     let titled = put(lines, operands, s, line::COMMENT, name);
     let labelled = put(lines, operands, titled, line::FN_LABEL, name);
-    let few = need(labelled, total <= 65535, 8);
+    let few = need(labelled, total <= 65535, Refusal::TooManySlots);
     let slotted = push_slots(total, lines, operands, few);
     let entered = enter_frame(head, lines, operands, slotted);
     let base = Base {

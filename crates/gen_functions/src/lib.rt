@@ -46,22 +46,22 @@ fn gen_turn(
     let from = t.from;
     let to = t.to;
     clear_function(&book_kinds[from..to], &book_words[from..to], work, names);
-    let head = prepare(book_kinds, book_words, work, names, at, last);
-    let end = head.end;
-    if head.refused != 0 {
-        return Turn {
-            s: refuse(t.s, head.refused),
+    match prepare(book_kinds, book_words, work, names, at, last) {
+        Ok(head) => {
+            let s = gen_function(
+                book_kinds, book_words, head, work, names, lines, operands, t.s,
+            );
+            Turn {
+                s,
+                from: at,
+                to: head.end,
+            }
+        }
+        Err(e) => Turn {
+            s: refuse(t.s, e),
             from: at,
-            to: end,
-        };
-    }
-    let s = gen_function(
-        book_kinds, book_words, head, work, names, lines, operands, t.s,
-    );
-    Turn {
-        s,
-        from: at,
-        to: end,
+            to: at,
+        },
     }
 }
 

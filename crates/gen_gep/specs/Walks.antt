@@ -5,22 +5,18 @@ use Rattle.std.proofs.Math.Path.{refl, ap}
 use Rattle.std.proofs.Common.{subst, ◌∙◌, arith}
 use Rattle.std.proofs.Math.Bool.{true, false}
 use mathlib.Core.List.{List, [], ◌∷◌, ◌++◌}
-use Rattle.std.proofs.Math.Option.{Option, none, some}
+use Rattle.std.proofs.Math.Option.{Option}
 use Rattle.std.proofs.Math.ListN.{length-append}
 use Rattle.numbers.specs.Wrap.{wrap_add}
-use Rattle.book.specs.Ast.{Ty, Value, TypedVal, StructType}
+use Rattle.book.specs.Ast.{Ty, TypedVal, StructType}
 use Rattle.book.specs.Entry.{Entry, entries}
 use Rattle.book.specs.Fields.{Meanings}
 use Rattle.book.specs.Result.{Result, ok, err, bind}
 use Rattle.book.specs.Check.{work_for}
-use Rattle.layout.specs.Step.{Step as GepStep, const_int, stride}
-use Rattle.layout.proofs.Refusals.{Refusing, refusal_positive, refusing_err, gep_step_refusing}
+use Rattle.layout.specs.Step.{Step as GepStep, const_int}
 use Rattle.layout_memo.specs.Front.{Starts, ty_of, ty_len}
 use Rattle.layout_memo.specs.Work.{Ready, After}
-use Rattle.layout_step.specs.Steps.{Stepped, Steps, StepOutcome, index_of, array_by, step_by, step_by_lem}
-use Rattle.layout_step.specs.declared.Index.{Index}
-use Rattle.layout_step.specs.declared.Step.{Step}
-use Rattle.layout_step.specs.declared.Step.TheVariants as step
+use Rattle.layout_step.specs.Steps.{Index, Stepping, Stepped, Steps, StepOutcome, index_of, array_by, step_by, step_by_lem}
 use Rattle.lowering.specs.Operand.{int_width}
 use Rattle.lowering.specs.Gep.{VarTerm, Walk as GepWalk, var_term, start, took, first_step, walk_rest, walk}
 use Rattle.gen_lines.specs.declared.Reached.{Reached}
@@ -60,28 +56,6 @@ module _ (structs : List StructType) where
   walk_same t (idx ∷ is) =
       let f : walk_rest structs is ≡ walk_from false is = λ i x. later_same is x i in
       rw f (two_binds (array_by structs t (const_int idx.val)) (λ (s : GepStep). took s idx (start t)) (walk_from false is))
-
-  -- a refusal's number is not 0
-  later_refusing : (t : Ty) (o : Option ℕ) → Refusing (step_by structs t o)
-  unfolding const_int
-  later_refusing t none = rw (step_by_lem structs t Value.other) at (gep_step_refusing structs t Value.other)
-  later_refusing t (some n) = rw (step_by_lem structs t (Value.int n)) at (gep_step_refusing structs t (Value.int n))
-
-  step_refusing : (first : Bool) (t : Ty) (o : Option ℕ) → Refusing (step_from first t o)
-  unfolding step_from step_by
-  step_refusing true t o = later_refusing (Ty.array false 0 t) o
-  step_refusing false t o = later_refusing t o
-
-abbrev pub Numbered : Step → Type 0
-Numbered (step.Refused e) = 0 < e
-Numbered (step.Constant off next) = Unit {0}
-Numbered (step.Varying size next) = Unit {0}
-
-pub step_numbered : {m : ℕ} {es : List Entry} {work work' : List ℕ} (structs : List StructType) (first : Bool) (t : Ty) (o : Option ℕ) (r : Step)
-    → StepOutcome m es work work' (step_from structs first t o) r → Numbered r
-step_numbered structs first t o (step.Refused e) q = refusal_positive (refusing_err (step_from structs first t o) (step_refusing structs first t o) q.says)
-step_numbered structs first t o (step.Constant off next) q = tt
-step_numbered structs first t o (step.Varying size next) q = tt
 
 -- ---- what is asked for, one after the other
 module _ {A B : Type 0} {r : Result A} (f : A → Result B) {s t u : Reached} {x : A} {y : B} where
@@ -238,7 +212,7 @@ module _ {m : ℕ} {bk bw work work' : List ℕ} where
       }
 
 -- the first step and a later one
-module _ {m : ℕ} {es : List Entry} {work work' : List ℕ} (structs : List StructType) (t : Ty) (o : Option ℕ) {first : Bool} {r : Step} where
+module _ {m : ℕ} {es : List Entry} {work work' : List ℕ} (structs : List StructType) (t : Ty) (o : Option ℕ) {first : Bool} {r : Stepping} where
   pub first_outcome : first ≡ true → StepOutcome m es work work' (array_by structs t o) r → StepOutcome m es work work' (step_from structs first t o) r
   unfolding step_from
   first_outcome e q = rw e q
@@ -249,7 +223,7 @@ module _ {m : ℕ} {es : List Entry} {work work' : List ℕ} (structs : List Str
 
 -- the answer by the code's type and index
 module _ {m : ℕ} {bk bw work : List ℕ} (structs : List StructType) {k : GepWalk} {w : Way} (at : WalkAt m bk bw work k w) (i : Index) (idx : TypedVal) (ei : index_of i ≡ const_int idx.val) where
-  pub same_step : (st : Step) → Steps m (entries bk bw) (step_from structs w.first (ty_of m (drop w.ty (entries bk bw))) (index_of i)) st
+  pub same_step : (st : Stepping) → Steps m (entries bk bw) (step_from structs w.first (ty_of m (drop w.ty (entries bk bw))) (index_of i)) st
       → Steps m (entries bk bw) (step_from structs w.first k.cur_ty (const_int idx.val)) st
   same_step st q = subst (λ (t : Ty). Steps m (entries bk bw) (step_from structs w.first t (const_int idx.val)) st) at.type
       (subst (λ (o : Option ℕ). Steps m (entries bk bw) (step_from structs w.first (ty_of m (drop w.ty (entries bk bw))) o) st) ei q)

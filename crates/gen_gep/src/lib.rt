@@ -19,17 +19,17 @@ ghost use Rattle.gen_values.specs.Fields.{Fields, ValueAt};
 ghost use Rattle.gen_values.specs.Maps.{Locals, Maps, Did};
 ghost use Rattle.gen_gep.specs.Indices.{gep_fields, index_list, index_then, index_in};
 ghost use Rattle.gen_gep.specs.Terms.{Terms, TermIs, TermsAsk, TermAsk};
-ghost use Rattle.gen_gep.specs.Walks.{step_from, WalkAt, Went, TookAsk, TakeAsk, Numbered};
+ghost use Rattle.gen_gep.specs.Walks.{step_from, WalkAt, Went, TookAsk, TakeAsk};
 ghost use Rattle.gen_gep.specs.Loop.{GepAsk, WalkAsk, Walked};
 ghost use Rattle.gen_gep.specs.Lines.{sum_gen};
 
 use assembly::line;
 use book::entry;
+use book::refusal::Refusal;
 use gen_lines::{Reached, put, refuse};
 use gen_values::{emit_sext, need_width, push_int, push_value, width_of};
 use layout_memo::skip;
-use layout_step::{Index, Step, array_step, gep_step};
-use numbers::wrap::wrapping_add;
+use layout_step::{Step, array_step, gep_step};
 
 // The walk so far: whether the next index is the first, the place of the type that it steps into, the sum of the constant
 // offsets, the number of varying terms, and what is reached.
@@ -50,15 +50,15 @@ fn skip_at(book_kinds: &[u64], book_words: &[u64], at: usize, names: u64) -> usi
     skip(&book_kinds[at..], &book_words[at..], names)
 }
 
-// The index whose value is at a place.
-fn index_at(kinds: &[u64], words: &[u64], at: usize) -> Index
+// The index whose value is at a place, where it is constant.
+fn index_at(kinds: &[u64], words: &[u64], at: usize) -> Option<u64>
     requires { (at < length kinds.now) × (at < length words.now) }
     ensures { (m : ℕ) (v : Value) → ValueAt m kinds.now words.now at v → index_of result ≡ const_int v }
 {
     if kinds[at] == entry::INTEGER {
-        return Index::Constant(words[at]);
+        return Some(words[at]);
     }
-    Index::Varying
+    None
 }
 
 // The step of an index from the type at the place: the first strides over it, a later one steps into it.
@@ -69,8 +69,8 @@ fn next_step(
     names: u64,
     first: bool,
     at: usize,
-    index: Index,
-) -> Step
+    index: Option<u64>,
+) -> Result<Step, Refusal>
     requires { AskAt names (entries book_kinds.now book_words.now) work.old at }
     ensures { StepOutcome names (entries book_kinds.now book_words.now) work.old work.new
         (step_from (structs_in names (entries book_kinds.now book_words.now)) first
@@ -105,13 +105,12 @@ fn vary(
     let to = book::work::WORDS * (names as usize) + 2 * w.terms;
     work[to] = index as u64;
     work[to + 1] = stride;
-    let s = wide.s;
     Way {
         first: false,
         ty: next,
         sum: w.sum,
         terms: w.terms + 1,
-        s,
+        s: wide.s,
     }
 }
 
@@ -122,10 +121,10 @@ fn took(
     work: &mut [u64],
     names: u64,
     index: usize,
-    step: Step,
+    step: Result<Step, Refusal>,
     w: Way,
 ) -> Way
-    requires { TookAsk names book_kinds.now book_words.now work.old index w × Numbered step }
+    requires { TookAsk names book_kinds.now book_words.now work.old index w }
     ensures { (p : Meanings index_then) (k : GepWalk) (answer : Result GepStep)
         → Fields names index_then p (drop index (entries book_kinds.now book_words.now))
         → Ready names (entries book_kinds.now book_words.now) work.old
@@ -137,23 +136,25 @@ fn took(
 {
     let s = w.s;
     match step {
-        Step::Refused(e) => Way {
+        Err(e) => Way {
             first: false,
             ty: w.ty,
             sum: w.sum,
             terms: w.terms,
             s: refuse(s, e),
         },
-        Step::Constant(offset, next) => Way {
-            first: false,
-            ty: next,
-            sum: wrapping_add(w.sum, offset),
-            terms: w.terms,
-            s,
+        Ok(step) => match step {
+            Step::Constant(offset, next) => Way {
+                first: false,
+                ty: next,
+                sum: w.sum.wrapping_add(offset),
+                terms: w.terms,
+                s,
+            },
+            Step::Varying(stride, next) => vary(
+                book_kinds, book_words, work, names, index, stride, next, w,
+            ),
         },
-        Step::Varying(stride, next) => vary(
-            book_kinds, book_words, work, names, index, stride, next, w,
-        ),
     }
 }
 
@@ -245,7 +246,7 @@ fn gen_var_term(
     ensures { (c : FnCtx) (t : VarTerm) → Locals c names work.now → TermIs names book_kinds.now book_words.now index stride t
         → Puts (gen_var_term c t) s result lines.old operands.old lines.new operands.new }
 {
-    let width = width_of(&book_kinds[index..], &book_words[index..]);
+    let width = width_of(&book_kinds[index..], &book_words[index..]).unwrap_or(0);
     let value = index + skip_at(book_kinds, book_words, index, names);
     let pushed = push_value(
         &book_kinds[value..],
@@ -279,8 +280,7 @@ fn gen_var_terms(
         → Puts (each (gen_var_term c) ts) s result lines.old operands.old lines.new operands.new }
 {
     let mut reached = s;
-    let mut i: usize = 0;
-    while i < terms {
+    for i in 0..terms {
         let from = book::work::WORDS * (names as usize) + 2 * i;
         let index = work[from] as usize;
         reached = gen_var_term(
@@ -294,7 +294,6 @@ fn gen_var_terms(
             operands,
             reached,
         );
-        i += 1;
     }
     reached
 }

@@ -1,11 +1,14 @@
 -- An instruction's lines but for the result's slot, where `gen_inst` stores one behind them.
-use Rattle.std.specs.Prelude.{ℕ, ◌<◌, ◌≤◌, ◌≡◌, List, ◌⊎◌}
-use Rattle.std.proofs.Common.{sym, ap, subst, ◌∙◌, ⊎_elim, arith}
-use Rattle.std.proofs.Math.Option.{Option}
+use Rattle.std.specs.Prelude.{ℕ, ◌<◌, ◌≤◌, ◌≡◌, refl, Bool, true, false, List}
+use Rattle.std.proofs.Common.{sym, ap, subst, ◌∙◌, arith}
+use Rattle.std.proofs.Math.Option.{Option, some}
 use Rattle.book.specs.Ast.{BinOp, ConvOp, ICmpPred, InstKind}
 use Rattle.book.specs.Encode.{dest_word}
 use Rattle.book.specs.Fields.{inst_tag_of}
 use Rattle.book.specs.Kinds.{InstTag, inst_kind}
+use Rattle.book_insts.specs.Insts.{inst_group_of}
+use Rattle.book_insts.specs.declared.InstGroup.{InstGroup}
+use Rattle.book_insts.specs.declared.InstGroup.TheVariants as group
 use Rattle.lowering.specs.Gen.{Gen, skip, ◌>>◌}
 use Rattle.lowering.specs.Context.{FnCtx}
 use Rattle.lowering.specs.Operand.{store_dest}
@@ -36,24 +39,34 @@ body_gen c d (InstKind.cmpxchg t p x v) = require_atomic_width c t >> gen_cmpxch
 body_gen c d (InstKind.extract_value v i) = gen_extract_value c v i d
 body_gen c d InstKind.fence = skip
 
--- whether the result's slot is set behind them: kinds up to 71, 74, 77 and 78
-abbrev pub Stores : ℕ → Type 0
-Stores kind = (kind ≤ 71) ⊎ ((kind ≡ 74) ⊎ ((kind ≡ 77) ⊎ (kind ≡ 78)))
-
-pub record Unstored (kind : ℕ) : Type 0 where
-  pub high : 71 < kind
-  pub no_gep : kind ≡ 74 → ⊥
-  pub no_freeze : kind ≡ 77 → ⊥
-  pub no_atomic : kind ≡ 78 → ⊥
+-- whether the result's slot is set behind them
+abbrev pub stores_of : InstGroup → Bool
+stores_of (group.Bin op) = true
+stores_of (group.Conv op) = true
+stores_of (group.ICmp op) = true
+stores_of group.Select = true
+stores_of group.Load = true
+stores_of group.GetElementPtr = true
+stores_of group.Freeze = true
+stores_of group.AtomicLoad = true
+stores_of group.Store = false
+stores_of group.Alloca = false
+stores_of group.Phi = false
+stores_of group.Call = false
+stores_of group.AtomicStore = false
+stores_of group.Cmpxchg = false
+stores_of group.ExtractValue = false
+stores_of group.Fence = false
+stores_of group.Other = false
 
 -- the result is stored behind the value
 pub result : (c : FnCtx) {t u : Reached} {ks os ks' os' : List ℕ} (dest : ℕ) (d : Option ℕ) → dest ≡ dest_word d → Puts (store_dest c (dest_of dest)) t u ks os ks' os'
     → Puts (store_dest c d) t u ks os ks' os'
 result c {t} {u} {ks} {os} {ks'} {os'} dest d named p = subst (λ (o : Option ℕ). Puts (store_dest c o) t u ks os ks' os') (ap dest_of named ∙ dest_is d) p
 
--- the numbers of the kinds that store nothing
-other_kind : (n : ℕ) {kind : ℕ} → kind ≡ n → (71 < n) → (n ≡ 74 → ⊥) → (n ≡ 77 → ⊥) → (n ≡ 78 → ⊥) → Stores kind → ⊥
-other_kind n e l a b d = ⊎_elim (λ x. omega arith) (⊎_elim (λ x. a (sym e ∙ x)) (⊎_elim (λ x. b (sym e ∙ x)) (λ x. d (sym e ∙ x))))
+-- a group that stores is none that does not
+differs : {g j : InstGroup} {a b : Bool} → g ≡ j → stores_of j ≡ a → stores_of g ≡ b → a ≡ b
+differs e p q = sym p ∙ ap stores_of (sym e) ∙ q
 
 -- the kinds of operations, conversions and comparisons
 pub bin_range : (o : BinOp) → (40 ≤ inst_kind (InstTag.bin o)) × (inst_kind (InstTag.bin o) < 60)
@@ -109,43 +122,46 @@ kind_from (InstKind.cmpxchg t p x v) = omega arith
 kind_from (InstKind.extract_value v i) = omega arith
 kind_from InstKind.fence = omega arith
 
-module _ (c : FnCtx) (d : Option ℕ) where
-  pub stored_puts : {kind : ℕ} (k : InstKind) {s t u : Reached} {k₀ o₀ k₁ o₁ k₂ o₂ : List ℕ} → kind ≡ inst_kind (inst_tag_of k) → Stores kind
+no : false ≡ true → ⊥
+no e = cc
+
+module _ (c : FnCtx) (d : Option ℕ) {g : InstGroup} where
+  pub stored_puts : (k : InstKind) {s t u : Reached} {k₀ o₀ k₁ o₁ k₂ o₂ : List ℕ} → g ≡ inst_group_of (some (inst_tag_of k)) → stores_of g ≡ true
       → Puts (body_gen c d k) s t k₀ o₀ k₁ o₁ → Puts (store_dest c d) t u k₁ o₁ k₂ o₂ → Puts (gen_kind c d k) s u k₀ o₀ k₂ o₂
   unfolding gen_kind body_gen
   stored_puts (InstKind.bin op ty l r) e b p q = then_puts p q
-  stored_puts (InstKind.conv op from x to) e b p q = then_puts p q
+  stored_puts (InstKind.conv op from v to) e b p q = then_puts p q
   stored_puts (InstKind.icmp o ty l r) e b p q = then_puts p q
   stored_puts (InstKind.select t ty l r) e b p q = then_puts p q
-  stored_puts (InstKind.load t x a) e b p q = then_puts p q
-  stored_puts (InstKind.store t x y a) e b p q = absurd (other_kind 72 e (omega arith) (λ z. omega arith) (λ z. omega arith) (λ z. omega arith) b)
-  stored_puts (InstKind.alloca t n a) e b p q = absurd (other_kind 73 e (omega arith) (λ z. omega arith) (λ z. omega arith) (λ z. omega arith) b)
-  stored_puts (InstKind.get_element_ptr t x is) e b p q = then_puts p q
-  stored_puts (InstKind.phi t vs) e b p q = absurd (other_kind 75 e (omega arith) (λ z. omega arith) (λ z. omega arith) (λ z. omega arith) b)
-  stored_puts (InstKind.call t f vs) e b p q = absurd (other_kind 76 e (omega arith) (λ z. omega arith) (λ z. omega arith) (λ z. omega arith) b)
-  stored_puts (InstKind.freeze t x) e b p q = then_puts p q
-  stored_puts (InstKind.atomic_load t x) e b p q = then_puts p q
-  stored_puts (InstKind.atomic_store t x y) e b p q = absurd (other_kind 79 e (omega arith) (λ z. omega arith) (λ z. omega arith) (λ z. omega arith) b)
-  stored_puts (InstKind.cmpxchg t x y z) e b p q = absurd (other_kind 80 e (omega arith) (λ z. omega arith) (λ z. omega arith) (λ z. omega arith) b)
-  stored_puts (InstKind.extract_value x i) e b p q = absurd (other_kind 81 e (omega arith) (λ z. omega arith) (λ z. omega arith) (λ z. omega arith) b)
-  stored_puts InstKind.fence e b p q = absurd (other_kind 82 e (omega arith) (λ z. omega arith) (λ z. omega arith) (λ z. omega arith) b)
+  stored_puts (InstKind.load t v a) e b p q = then_puts p q
+  stored_puts (InstKind.store t v w a) e b p q = absurd (no (differs e refl b))
+  stored_puts (InstKind.alloca t n a) e b p q = absurd (no (differs e refl b))
+  stored_puts (InstKind.get_element_ptr t v is) e b p q = then_puts p q
+  stored_puts (InstKind.phi t vs) e b p q = absurd (no (differs e refl b))
+  stored_puts (InstKind.call t f vs) e b p q = absurd (no (differs e refl b))
+  stored_puts (InstKind.freeze t v) e b p q = then_puts p q
+  stored_puts (InstKind.atomic_load t v) e b p q = then_puts p q
+  stored_puts (InstKind.atomic_store t v w) e b p q = absurd (no (differs e refl b))
+  stored_puts (InstKind.cmpxchg t v w x) e b p q = absurd (no (differs e refl b))
+  stored_puts (InstKind.extract_value v i) e b p q = absurd (no (differs e refl b))
+  stored_puts InstKind.fence e b p q = absurd (no (differs e refl b))
 
-  pub unstored_puts : {kind : ℕ} (k : InstKind) {s t : Reached} {ks os ks' os' : List ℕ} → kind ≡ inst_kind (inst_tag_of k) → Unstored kind
+  pub unstored_puts : (k : InstKind) {s t : Reached} {ks os ks' os' : List ℕ} → g ≡ inst_group_of (some (inst_tag_of k)) → stores_of g ≡ false
       → Puts (body_gen c d k) s t ks os ks' os' → Puts (gen_kind c d k) s t ks os ks' os'
   unfolding gen_kind body_gen
-  unstored_puts (InstKind.bin op ty l r) e u p = absurd (omega (arith, u.high, (bin_range op).1))
-  unstored_puts (InstKind.conv op from v to) e u p = absurd (omega (arith, u.high, (conv_range op).1))
-  unstored_puts (InstKind.icmp o ty l r) e u p = absurd (omega (arith, u.high, (icmp_range o).1))
-  unstored_puts (InstKind.select t ty l r) e u p = absurd (omega (arith, u.high))
-  unstored_puts (InstKind.load t v a) e u p = absurd (omega (arith, u.high))
-  unstored_puts (InstKind.store t v w a) e u p = p
-  unstored_puts (InstKind.alloca t n a) e u p = p
-  unstored_puts (InstKind.get_element_ptr t v is) e u p = absurd (u.no_gep e)
-  unstored_puts (InstKind.phi t vs) e u p = p
-  unstored_puts (InstKind.call t f vs) e u p = p
-  unstored_puts (InstKind.freeze t v) e u p = absurd (u.no_freeze e)
-  unstored_puts (InstKind.atomic_load t v) e u p = absurd (u.no_atomic e)
-  unstored_puts (InstKind.atomic_store t v w) e u p = p
-  unstored_puts (InstKind.cmpxchg t v w x) e u p = p
-  unstored_puts (InstKind.extract_value v i) e u p = p
-  unstored_puts InstKind.fence e u p = p
+  unstored_puts (InstKind.bin op ty l r) e b p = absurd (no (sym (differs e refl b)))
+  unstored_puts (InstKind.conv op from v to) e b p = absurd (no (sym (differs e refl b)))
+  unstored_puts (InstKind.icmp o ty l r) e b p = absurd (no (sym (differs e refl b)))
+  unstored_puts (InstKind.select t ty l r) e b p = absurd (no (sym (differs e refl b)))
+  unstored_puts (InstKind.load t v a) e b p = absurd (no (sym (differs e refl b)))
+  unstored_puts (InstKind.store t v w a) e b p = p
+  unstored_puts (InstKind.alloca t n a) e b p = p
+  unstored_puts (InstKind.get_element_ptr t v is) e b p = absurd (no (sym (differs e refl b)))
+  unstored_puts (InstKind.phi t vs) e b p = p
+  unstored_puts (InstKind.call t f vs) e b p = p
+  unstored_puts (InstKind.freeze t v) e b p = absurd (no (sym (differs e refl b)))
+  unstored_puts (InstKind.atomic_load t v) e b p = absurd (no (sym (differs e refl b)))
+  unstored_puts (InstKind.atomic_store t v w) e b p = p
+  unstored_puts (InstKind.cmpxchg t v w x) e b p = p
+  unstored_puts (InstKind.extract_value v i) e b p = p
+  unstored_puts InstKind.fence e b p = p

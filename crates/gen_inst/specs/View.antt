@@ -1,12 +1,11 @@
 -- An instruction in front of the entries lent: what its entry and the group of its kind tell.
-use Rattle.std.specs.Prelude.{ℕ, ◌+◌, ◌-◌, ◌<◌, ◌≤◌, ◌≡◌, refl, List, ◌∷◌, ◌++◌, length, drop, get_or}
+use Rattle.std.specs.Prelude.{ℕ, ◌+◌, ◌<◌, ◌≤◌, ◌≡◌, refl, List, ◌∷◌, ◌++◌, length, drop, get_or}
 use Rattle.std.proofs.Common.{sym, ap, subst, ◌∙◌, arith, length-drop}
 use Rattle.std.proofs.Math.Option.{Option, none, some}
-use Rattle.book.specs.Ast.{Ty, Value, TypedVal, Incoming, BinOp, ConvOp, ICmpPred, InstKind, Inst}
+use Rattle.book.specs.Ast.{Ty, Value, TypedVal, Incoming, InstKind, Inst}
 use Rattle.book.specs.Entry.{entry, entries}
-use Rattle.book.specs.Rule.{find}
-use Rattle.book.specs.Kinds.{inst_kind, inst_tag, inst_tags}
-use Rattle.book_types.specs.Tables.{in_range_lem}
+use Rattle.book.specs.Kinds.{inst_kind, inst_tag}
+use Rattle.book.specs.Ops.{bin_of, bin_same, conv_of, conv_same, icmp_of, icmp_same}
 use Rattle.book.specs.Fields.{inst_fields, inst_tag_of, inst_args}
 use Rattle.book.specs.Encode.{enc_inst, enc_fields, dest_word}
 use Rattle.book.specs.Limits.{Maybe, NameLimits}
@@ -14,9 +13,7 @@ use Rattle.book.specs.AgreeInst.{inst_found}
 use Rattle.book_insts.specs.Insts.{inst_group_of}
 use Rattle.book_insts.specs.declared.InstGroup.{InstGroup}
 use Rattle.book_insts.specs.declared.InstGroup.TheVariants as group
-use Rattle.assembly.specs.Number.{bin_number, icmp_number}
 use Rattle.gen_values.specs.Fields.{Fields, InstAt, entry_at}
-use Rattle.gen_arith.specs.Arith.{conv_number}
 
 module _ {m : ℕ} {i : Inst} (ks ws : List ℕ) (h : InstAt m i (entries ks ws)) where
   front : entries ks ws ≡ entry (inst_kind (inst_tag_of i.kind)) (dest_word i.dest) ∷ (enc_fields (inst_fields (inst_tag_of i.kind)) (inst_args i.kind) ++ h.rest)
@@ -45,9 +42,9 @@ module _ {m : ℕ} {i : Inst} (ks ws : List ℕ) (h : InstAt m i (entries ks ws)
 
 -- ---- what the group tells
 abbrev pub Told : InstGroup → InstKind → Type 0
-Told (group.Bin n) k = (op : BinOp) × (ty : Ty) × (l : Value) × (r : Value) × (k ≡ InstKind.bin op ty l r) × (n ≡ bin_number op)
-Told (group.Conv n) k = (op : ConvOp) × (from : Ty) × (v : Value) × (to : Ty) × (k ≡ InstKind.conv op from v to) × (n ≡ conv_number op)
-Told (group.ICmp n) k = (p : ICmpPred) × (ty : Ty) × (l : Value) × (r : Value) × (k ≡ InstKind.icmp p ty l r) × (n + 13 ≡ icmp_number p)
+Told (group.Bin op) k = (ty : Ty) × (l : Value) × (r : Value) × (k ≡ InstKind.bin (bin_of op) ty l r)
+Told (group.Conv op) k = (from : Ty) × (v : Value) × (to : Ty) × (k ≡ InstKind.conv (conv_of op) from v to)
+Told (group.ICmp p) k = (ty : Ty) × (l : Value) × (r : Value) × (k ≡ InstKind.icmp (icmp_of p) ty l r)
 Told group.Select k = (test : Value) × (ty : Ty) × (l : Value) × (r : Value) × (k ≡ InstKind.select test ty l r)
 Told group.Load k = (ty : Ty) × (p : Value) × (a : Option ℕ) × (k ≡ InstKind.load ty p a)
 Told group.Store k = (ty : Ty) × (v : Value) × (p : Value) × (a : Option ℕ) × (k ≡ InstKind.store ty v p a)
@@ -64,15 +61,9 @@ Told group.Fence k = k ≡ InstKind.fence
 Told group.Other k = ⊥
 
 told : (k : InstKind) → Told (inst_group_of (some (inst_tag_of k))) k
-unfolding bin_number icmp_number conv_number
-told (InstKind.bin op ty l r) = (op, ty, l, r, refl, refl)
-told (InstKind.conv ConvOp.trunc t v u) = (ConvOp.trunc, t, v, u, refl, refl)
-told (InstKind.conv ConvOp.zext t v u) = (ConvOp.zext, t, v, u, refl, refl)
-told (InstKind.conv ConvOp.sext t v u) = (ConvOp.sext, t, v, u, refl, refl)
-told (InstKind.conv ConvOp.ptr_to_int t v u) = (ConvOp.ptr_to_int, t, v, u, refl, refl)
-told (InstKind.conv ConvOp.int_to_ptr t v u) = (ConvOp.int_to_ptr, t, v, u, refl, refl)
-told (InstKind.conv ConvOp.bit_cast t v u) = (ConvOp.bit_cast, t, v, u, refl, refl)
-told (InstKind.icmp p ty l r) = (p, ty, l, r, refl, refl)
+told (InstKind.bin op ty l r) = (ty, l, r, ap (λ o. InstKind.bin o ty l r) (sym (bin_same op)))
+told (InstKind.conv op t v u) = (t, v, u, ap (λ o. InstKind.conv o t v u) (sym (conv_same op)))
+told (InstKind.icmp p ty l r) = (ty, l, r, ap (λ o. InstKind.icmp o ty l r) (sym (icmp_same p)))
 told (InstKind.select t ty l r) = (t, ty, l, r, refl)
 told (InstKind.load t p a) = (t, p, a, refl)
 told (InstKind.store t v p a) = (t, v, p, a, refl)
@@ -87,42 +78,13 @@ told (InstKind.cmpxchg t p c v) = (t, p, c, v, refl)
 told (InstKind.extract_value v i) = (v, i, refl)
 told InstKind.fence = refl
 
-pub told_by : {g : InstGroup} (k : InstKind) → g ≡ inst_group_of (some (inst_tag_of k)) → Told g k
-told_by k e = subst (λ (g : InstGroup). Told g k) (sym e) (told k)
+-- an instruction of this group
+pub told_as : (j : InstGroup) {g : InstGroup} (k : InstKind) → g ≡ inst_group_of (some (inst_tag_of k)) → g ≡ j → Told j k
+told_as j k e i = subst (λ (g : InstGroup). Told g k) (sym e ∙ i) (told k)
 
--- ---- what the kind tells
-told_at : {kind : ℕ} {g : InstGroup} (k : InstKind) → kind ≡ inst_kind (inst_tag_of k) → g ≡ inst_group_of (inst_tag kind) → Told g k
-told_at k e i = told_by k (i ∙ ap (λ n. inst_group_of (inst_tag n)) e ∙ ap inst_group_of (inst_found (inst_tag_of k)))
-
--- a single kind: its group is looked up
-pub told_single : (n : ℕ) {kind : ℕ} {g : InstGroup} (k : InstKind) → kind ≡ inst_kind (inst_tag_of k) → kind ≡ n → g ≡ inst_group_of (inst_tag n) → Told g k
-told_single n {kind} {g} k e i j = told_at k e (j ∙ ap (λ x. inst_group_of (inst_tag x)) (sym i))
-
-pub told_bin : {kind : ℕ} (k : InstKind) → kind ≡ inst_kind (inst_tag_of k) → 40 ≤ kind → kind < 53 → Told (group.Bin (kind - 40)) k
-unfolding inst_tag find inst_tags
-told_bin {kind} k e a b =
-    told_at k e (in_range_lem (λ n. group.Bin (n - 40) ≡ inst_group_of (inst_tag n)) 40 13
-    (refl, (refl, (refl, (refl, (refl, (refl, (refl, (refl, (refl, (refl, (refl, (refl, (refl, tt))))))))))))) kind a b)
-
-pub told_conv : {kind : ℕ} (k : InstKind) → kind ≡ inst_kind (inst_tag_of k) → 53 ≤ kind → kind < 59 → Told (group.Conv (kind - 53)) k
-unfolding inst_tag find inst_tags
-told_conv {kind} k e a b =
-    told_at k e (in_range_lem (λ n. group.Conv (n - 53) ≡ inst_group_of (inst_tag n)) 53 6 (refl, (refl, (refl, (refl, (refl, (refl, tt)))))) kind a b)
-
-pub told_icmp : {kind : ℕ} (k : InstKind) → kind ≡ inst_kind (inst_tag_of k) → 60 ≤ kind → kind < 70 → Told (group.ICmp (kind - 60)) k
-unfolding inst_tag find inst_tags
-told_icmp {kind} k e a b =
-    told_at k e (in_range_lem (λ n. group.ICmp (n - 60) ≡ inst_group_of (inst_tag n)) 60 10
-    (refl, (refl, (refl, (refl, (refl, (refl, (refl, (refl, (refl, (refl, tt)))))))))) kind a b)
-
-pub told_select : {kind : ℕ} (k : InstKind) → kind ≡ inst_kind (inst_tag_of k) → kind ≡ 70 → Told group.Select k
-unfolding inst_tag find inst_tags
-told_select k e a = told_single 70 k e a refl
-
--- no instruction has the kind 59
-pub not_59 : (k : InstKind) → inst_kind (inst_tag_of k) ≡ 59 → ⊥
-unfolding inst_tag find inst_tags
-not_59 k e = let none-there : Told group.Other k = told_single 59 k refl e refl in none-there
+-- the group of its kind
+pub group_is : {n : ℕ} {g : InstGroup} (k : InstKind) → n ≡ inst_kind (inst_tag_of k) → g ≡ inst_group_of (inst_tag n) → g ≡ inst_group_of (some (inst_tag_of k))
+group_is k e i = i ∙ ap (λ n. inst_group_of (inst_tag n)) e ∙ ap inst_group_of (inst_found (inst_tag_of k))
 
 -- ---- the result word
 pub dest_below : (m : ℕ) (d : Option ℕ) → Maybe (NameLimits m) d → dest_word d ≤ m

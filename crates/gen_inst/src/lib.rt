@@ -1,52 +1,51 @@
 #![tactic(auto)]
-// `gen_inst`: an instruction in front of the entries lent, by its kind.
-pub mod measured;
-pub mod own;
-
-ghost use Rattle.std.specs.Prelude.{◌≡◌, true, false, ℕ};
-ghost use Rattle.std.proofs.Math.Option.{Option};
+// `gen_inst`: an instruction in front of the entries lent, by the group of its kind.
+ghost use Rattle.std.specs.Prelude.{◌≡◌, ℕ};
+ghost use Rattle.std.proofs.Math.Option.{Option, some};
 ghost use Rattle.book.specs.Ast.{InstKind, Inst};
 ghost use Rattle.book.specs.Entry.{entries};
 ghost use Rattle.book.specs.Encode.{dest_word};
-ghost use Rattle.book.specs.Kinds.{inst_kind};
 ghost use Rattle.book.specs.Fields.{inst_fields, inst_tag_of, inst_args};
+ghost use Rattle.book_insts.specs.Insts.{inst_group_of};
 ghost use Rattle.lowering.specs.Context.{FnCtx};
 ghost use Rattle.lowering.specs.Inst.{gen_inst};
 ghost use Rattle.gen_values.specs.Maps.{Maps, Did};
 ghost use Rattle.gen_values.specs.Fields.{Fields, InstAt};
-ghost use Rattle.gen_inst.specs.Body.{body_gen, Stores, Unstored};
+ghost use Rattle.gen_inst.specs.Body.{body_gen, stores_of};
 ghost use Rattle.gen_inst.specs.Held.{HeldAt};
 ghost use Rattle.gen_inst.specs.Whole.{InstThere};
 
-use crate::measured::measured_lines;
-use crate::own::own_lines;
-use book::entry;
+use book_insts::{InstGroup, inst_group};
+use gen_alloca::gen_alloca;
 use gen_arith::{gen_bin, gen_conv, gen_icmp};
+use gen_atomic::{
+    gen_atomic_load, gen_atomic_store, gen_cmpxchg, gen_extractvalue, require_atomic_width,
+};
+use gen_call::gen_call;
+use gen_gep::gen_gep;
 use gen_lines::Reached;
+use gen_memory::{gen_freeze, gen_load, gen_store};
+use gen_select::gen_select;
 use gen_values::store_dest;
 
-// Comparisons are numbered behind the 13 operations.
-const FIRST_COMPARED: u64 = entry::EQ - 13;
-
 // Whether the result's slot is set behind the lines.
-fn stores(kind: u64) -> bool
-    ensures { (result ≡ true → Stores kind) × (result ≡ false → Unstored kind) }
+fn stores(group: InstGroup) -> bool
+    ensures { result ≡ stores_of group }
 {
-    if kind < entry::STORE {
-        return true;
+    match group {
+        InstGroup::Bin(_) | InstGroup::Conv(_) | InstGroup::ICmp(_) => true,
+        InstGroup::Select | InstGroup::Load | InstGroup::GetElementPtr => true,
+        InstGroup::Freeze | InstGroup::AtomicLoad => true,
+        InstGroup::Store | InstGroup::Alloca | InstGroup::Phi | InstGroup::Call => false,
+        InstGroup::AtomicStore | InstGroup::Cmpxchg | InstGroup::ExtractValue => false,
+        InstGroup::Fence | InstGroup::Other => false,
     }
-    if kind == entry::GET_ELEMENT_PTR {
-        return true;
-    }
-    if kind == entry::FREEZE {
-        return true;
-    }
-    kind == entry::ATOMIC_LOAD
 }
 
-// The lines but for that, from the fields; `from` is their place in the book.
+// The lines but for that, from the fields; `from` is their place in the book. A `cmpxchg` tests the atomic width before anything else,
+// and phis and fences have no line.
 fn inst_body(
-    kind: u64,
+    group: InstGroup,
     kinds: &[u64],
     words: &[u64],
     book_kinds: &[u64],
@@ -60,33 +59,48 @@ fn inst_body(
     operands: &mut [u64],
     s: Reached,
 ) -> Reached
-    requires { HeldAt kind names (entries kinds.now words.now) (entries book_kinds.now book_words.now) from dest work.old }
-    ensures { (c : FnCtx) (d : Option ℕ) (k : InstKind) → kind ≡ inst_kind (inst_tag_of k) → dest ≡ dest_word d → c.bp_slot ≡ base
+    requires { HeldAt group names (entries kinds.now words.now) (entries book_kinds.now book_words.now) from dest work.old }
+    ensures { (c : FnCtx) (d : Option ℕ) (k : InstKind) → group ≡ inst_group_of (some (inst_tag_of k)) → dest ≡ dest_word d → c.bp_slot ≡ base
         → Maps names (entries book_kinds.now book_words.now) c work.old
         → Fields names (inst_fields (inst_tag_of k)) (inst_args k) (entries kinds.now words.now)
         → Did (body_gen c d k) names (entries book_kinds.now book_words.now) c work.new
         s result lines.old operands.old lines.new operands.new }
 {
-    match kind {
-        entry::ADD..=entry::ASHR => {
-            let op = (kind - entry::ADD) as u16;
-            gen_bin(op, kinds, words, names, work, lines, operands, s)
-        }
-        entry::EQ..=entry::SLE => {
-            let pred = (kind - FIRST_COMPARED) as u16;
-            gen_icmp(pred, kinds, words, names, work, lines, operands, s)
-        }
-        entry::TRUNC..=entry::BIT_CAST => {
-            let op = (kind - entry::TRUNC) as u16;
-            gen_conv(op, kinds, words, names, work, lines, operands, s)
-        }
-        entry::LOAD..=entry::STORE | entry::FREEZE..=entry::ATOMIC_STORE => measured_lines(
-            kind, kinds, words, book_kinds, book_words, work, names, lines, operands, s,
+    match group {
+        InstGroup::Bin(op) => gen_bin(op, kinds, words, names, work, lines, operands, s),
+        InstGroup::Conv(op) => gen_conv(op, kinds, words, names, work, lines, operands, s),
+        InstGroup::ICmp(pred) => gen_icmp(pred, kinds, words, names, work, lines, operands, s),
+        InstGroup::Select => gen_select(kinds, words, names, work, lines, operands, s),
+        InstGroup::Load => gen_load(
+            kinds, words, book_kinds, book_words, work, names, lines, operands, s,
         ),
-        _ => own_lines(
-            kind, kinds, words, book_kinds, book_words, from, work, names, dest, base, lines,
-            operands, s,
+        InstGroup::Store => gen_store(
+            kinds, words, book_kinds, book_words, work, names, lines, operands, s,
         ),
+        InstGroup::Alloca => gen_alloca(
+            kinds, words, book_kinds, book_words, work, names, dest, base, lines, operands, s,
+        ),
+        InstGroup::GetElementPtr => gen_gep(
+            book_kinds, book_words, from, names, work, lines, operands, s,
+        ),
+        InstGroup::Call => gen_call(kinds, words, names, dest, work, lines, operands, s),
+        InstGroup::Freeze => gen_freeze(
+            kinds, words, book_kinds, book_words, work, names, lines, operands, s,
+        ),
+        InstGroup::AtomicLoad => gen_atomic_load(
+            kinds, words, book_kinds, book_words, work, names, lines, operands, s,
+        ),
+        InstGroup::AtomicStore => gen_atomic_store(
+            kinds, words, book_kinds, book_words, work, names, lines, operands, s,
+        ),
+        InstGroup::Cmpxchg => {
+            let wide = require_atomic_width(kinds, words, book_kinds, book_words, work, names, s);
+            gen_cmpxchg(kinds, words, names, dest, work, lines, operands, wide)
+        }
+        InstGroup::ExtractValue => gen_extractvalue(
+            kinds, words, names, dest, work, lines, operands, s,
+        ),
+        InstGroup::Phi | InstGroup::Fence | InstGroup::Other => s,
     }
 }
 
@@ -110,10 +124,10 @@ pub fn gen_inst(
         → Did (gen_inst c i) names (entries book_kinds.now book_words.now) c work.new
         s result lines.old operands.old lines.new operands.new }
 {
-    let kind = kinds[0];
+    let group = inst_group(kinds[0]);
     let dest = words[0];
     let body = inst_body(
-        kind,
+        group,
         &kinds[1..],
         &words[1..],
         book_kinds,
@@ -127,7 +141,7 @@ pub fn gen_inst(
         operands,
         s,
     );
-    if stores(kind) {
+    if stores(group) {
         return store_dest(dest, work, lines, operands, body);
     }
     body

@@ -123,6 +123,10 @@ then_same g h k e n = at (g n)
     at (ok out) = ap (λ r. bind r (λ q. ok (after out.lines q))) (e out.next)
     at (err e) = refl
 
+-- four generators as one, and what follows them
+pub four_then : (g h k l rest : Gen) (n : ℕ) → ((g >> (h >> (k >> l))) >> rest) n ≡ (g >> (h >> (k >> (l >> rest)))) n
+four_then g h k l rest n = assoc g (h >> (k >> l)) rest n ∙ then_same g _ _ (λ m. assoc h (k >> l) rest m ∙ then_same h _ _ (assoc k l rest) m) n
+
 module _ {A : Type 0} (f : A → Gen) where
   each_append : (xs : List A) (x : A) (n : ℕ) → (each f xs >> f x) n ≡ each f (xs ++ (x ∷ [])) n
   unfolding each

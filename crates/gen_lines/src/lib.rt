@@ -2,13 +2,14 @@
 // Where lines are put. One code counts and writes: lines behind the end of the lent slices are counted and not stored. What
 // a generator reached is handed through, and a refusal goes through unchanged, so that generators follow one another without
 // a test between them.
-ghost use Rattle.std.specs.Prelude.{◌≡◌, ◌<◌, slice_set};
+ghost use Rattle.std.specs.Prelude.{◌≡◌, slice_set};
+ghost use Rattle.book.specs.Refusal.{number_of};
 ghost use Rattle.gen_lines.specs.Puts.{further as furtherFrom, Lined, made_fresh, made_refused};
 
-use std::num::wrapping_add_u64;
+use book::refusal::Refusal;
 
 // The place behind the last line, the label counter, and the refusal's number where a generator refused, 0 where none did: behind
-// it the place and the counter count for nothing. All are words because a flag would leave padding: the struct is handed on by
+// it the place and the counter count for nothing. All are words because a flag or an enum would leave padding: the struct is handed on by
 // value, and copying padding reads across what was stored just before, which waits for the store.
 #[derive(Clone, Copy)]
 pub struct Reached {
@@ -17,32 +18,22 @@ pub struct Reached {
     pub refused: u64,
 }
 
-// The place behind one line more. Counting ends at 2^62, which no line slice reaches.
+// Counting ends here: no line slice reaches so far.
+const END: usize = 1 << 62;
+
+// The place behind one line more.
 fn further(at: usize) -> usize
     ensures { result ≡ furtherFrom at 1 }
 {
-    if at < 4611686018427387904 {
-        at + 1
-    } else {
-        4611686018427387904
-    }
+    at.min(END - 1) + 1
 }
 
-// Stores a kind where the slice reaches so far.
-fn store_kind(lines: &mut [u16], at: usize, kind: u16)
-    ensures { lines.new ≡ slice_set lines.old at kind }
+// Stored where the slice reaches so far.
+fn store<T: Copy>(slice: &mut [T], at: usize, value: T)
+    ensures { slice.new ≡ slice_set slice.old at value }
 {
-    if at < lines.len() {
-        lines[at] = kind;
-    }
-}
-
-// Stores an operand where the slice reaches so far.
-fn store_operand(operands: &mut [u64], at: usize, operand: u64)
-    ensures { operands.new ≡ slice_set operands.old at operand }
-{
-    if at < operands.len() {
-        operands[at] = operand;
+    if at < slice.len() {
+        slice[at] = value;
     }
 }
 
@@ -50,28 +41,31 @@ fn store_operand(operands: &mut [u64], at: usize, operand: u64)
 pub fn put(lines: &mut [u16], operands: &mut [u64], s: Reached, kind: u16, operand: u64) -> Reached
     ensures { Lined kind operand s result lines.old operands.old lines.new operands.new }
 {
-    let at = s.at;
-    store_kind(lines, at, kind);
-    store_operand(operands, at, operand);
+    store(lines, s.at, kind);
+    store(operands, s.at, operand);
     Reached {
-        at: further(at),
-        counter: s.counter,
-        refused: s.refused,
+        at: further(s.at),
+        ..s
     }
 }
 
 // A refusal, unless one came before.
-pub fn refuse(s: Reached, number: u64) -> Reached
-    requires { 0 < number }
+pub fn refuse(s: Reached, why: Refusal) -> Reached
+    ensures { result ≡ made_refused s (number_of why) }
+{
+    refuse_number(s, why.number())
+}
+
+// The same of a refusal that is at hand by its number.
+pub fn refuse_number(s: Reached, number: u64) -> Reached
     ensures { result ≡ made_refused s number }
 {
     if s.refused != 0 {
         s
     } else {
         Reached {
-            at: s.at,
-            counter: s.counter,
             refused: number,
+            ..s
         }
     }
 }
@@ -81,9 +75,8 @@ pub fn fresh(s: Reached, labels: u64) -> Reached
     ensures { result ≡ made_fresh s labels }
 {
     Reached {
-        at: s.at,
-        counter: wrapping_add_u64(s.counter, labels),
-        refused: s.refused,
+        counter: s.counter.wrapping_add(labels),
+        ..s
     }
 }
 

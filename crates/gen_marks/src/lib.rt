@@ -23,11 +23,7 @@ fn is_syscall(names: &[u8], at: usize) -> bool
     requires { at < length names.now }
     ensures { result ≡ is_syscall (name_from names.now at) }
 {
-    if names[at] == b'_' {
-        name_starts(names, at, b"__uvm_")
-    } else {
-        false
-    }
+    names[at] == b'_' && name_starts(names, at, b"__uvm_")
 }
 
 // Whether the name that goes from `at` to `end` is `bcmp` or `memcmp`. Most have another length.
@@ -67,14 +63,12 @@ fn overflows(names: &[u8], at: usize, end: usize) -> bool
     if end - at < 15 {
         return false;
     }
-    let mut i = at;
-    while i + 14 < end {
+    for i in at..end - 14 {
         if names[i] == b'.' {
             if name_starts(names, i, b".with.overflow.") {
                 return true;
             }
         }
-        i += 1;
     }
     false
 }
@@ -102,7 +96,7 @@ fn defined(word: u64) -> u64
     }
 }
 
-// Every name by its spelling, in place of the next one's start.
+// Every name by its spelling, in place of the next one's start. A loop by hand, since the step is a name's length.
 fn spell_marks(names: &[u8], work: &mut [u64], count: u64)
     requires { SpellAsked names.now count work.old }
     ensures { SpellDone names.now count work.old work.new }
@@ -130,14 +124,11 @@ fn define_marks(kinds: &[u64], words: &[u64], work: &mut [u64], count: u64)
     requires { DefineAsked count (entries kinds.now words.now) work.old }
     ensures { DefineDone count (entries kinds.now words.now) work.old work.new }
 {
-    let end = shorter(kinds, words);
-    let mut at: usize = 0;
-    while at < end {
+    for at in 0..shorter(kinds, words) {
         if defines(kinds[at]) {
             let place = book::work::WORDS * (words[at] as usize) + book::work::MARK;
             work[place] = defined(work[place]);
         }
-        at = at + 1;
     }
 }
 

@@ -1,2 +1,3 @@
 -- Loads, stores and `freeze`, part by part.
+pub mod Freeze
 pub mod Memory

@@ -1,11 +1,10 @@
 -- `load`, `store` and `freeze` from their parts.
-use Rattle.std.specs.Prelude.{ℕ, ◌+◌, ◌*◌, ◌≤◌, ◌≡◌, List}
+use Rattle.std.specs.Prelude.{ℕ, ◌+◌, ◌≤◌, ◌≡◌, List}
 use Rattle.std.proofs.Math.Path.{refl, ap}
-use Rattle.std.proofs.Common.{sym, ◌∙◌}
 use native.Mathlib.Omega.{arith}
 use borrow.Author.Tests.{ne_eqb}
 use Rattle.book.specs.Ast.{Ty, Value}
-use Rattle.book.specs.Result.{Result, ok, err, ok_or}
+use Rattle.book.specs.Result.{ok_or}
 use Rattle.layout.specs.Layout.{size_of}
 use Rattle.assembly.specs.Line.{Line, Mem}
 use Rattle.assembly.specs.Number.{kind_of, operand_of, mem_number}
@@ -18,7 +17,6 @@ use Rattle.gen_lines.specs.declared.Reached.{Reached}
 use Rattle.gen_lines.specs.Puts.{Puts, Lined, made_refused, then_puts, same_puts}
 use Rattle.gen_lines.specs.Follow.{Asked, asked_ok, asked_err, asked_puts}
 use Rattle.gen_values.specs.Push.{bare_puts}
-use Rattle.gen_values.specs.Fields.{WidthSays}
 use Rattle.gen_memory.specs.declared.Width.{Width}
 
 -- ---- the width of so many bytes
@@ -71,22 +69,6 @@ module _ (c : FnCtx) (ty : Ty) {n : ℕ} {s s₁ : Reached} {r : Width} where
         (then_puts p (then_puts q (bare_puts (Line.store m.mem) (ap (λ k. 79 + k) m.number) refl h))))
 
 -- ---- `freeze`
-pub width_there : (t : Ty) (n : ℕ) {w : ℕ} → (w ≡ 0 → ⊥) → WidthSays w (int_width t) → w ≡ width_or (int_width t) n
-unfolding width_or
-width_there t n {w} z = at (int_width t)
-  where
-    at : (r : Result ℕ) → WidthSays w r → w ≡ width_or r n
-    at (ok v) q = q.0
-    at (err e) q = absurd (z q.0)
-
-pub width_bytes : (t : Ty) (n : ℕ) {w : ℕ} → w ≡ 0 → WidthSays w (int_width t) → n * 8 ≡ width_or (int_width t) n
-unfolding width_or
-width_bytes t n {w} z = at (int_width t)
-  where
-    at : (r : Result ℕ) → WidthSays w r → n * 8 ≡ width_or r n
-    at (ok v) q = absurd (q.1 (sym q.0 ∙ z))
-    at (err e) q = refl
-
 module _ (c : FnCtx) (ty : Ty) (val : Value) {n w : ℕ} {s s₁ t : Reached} {ks os ks' os' : List ℕ} where
   pub freeze_puts : Asked (size_of c.codegen.structs ty) s s₁ n → w ≡ width_or (int_width ty) n → Puts (push_value c val w) s₁ t ks os ks' os'
       → Puts (gen_freeze c ty val) s t ks os ks' os'

@@ -16,13 +16,14 @@ ghost use Rattle.gen_size.specs.Lent.{Lent};
 ghost use Rattle.gen_memory.specs.Memory.{MemAsked};
 
 use assembly::line;
+use book::refusal::Refusal;
 use gen_fields::push_typed;
 use gen_lines::{Reached, put, refuse};
 use gen_size::measured_size;
 use gen_values::{push_value, width_of};
 use layout_memo::skip;
 
-// The number of a load's or store's width, 0 where it was refused, and what was reached.
+// The number of a load's or store's width, 0 where it was refused, and what was reached, through which the refusal goes on.
 #[derive(Clone, Copy)]
 pub struct Width {
     pub number: u16,
@@ -40,7 +41,7 @@ fn mem_of(bytes: u64, s: Reached) -> Width
         8 => Width { number: 3, s },
         _ => Width {
             number: 0,
-            s: refuse(s, 11),
+            s: refuse(s, Refusal::AccessSize),
         },
     }
 }
@@ -107,11 +108,7 @@ fn width_or(kinds: &[u64], words: &[u64], bytes: u64) -> u32
     requires bytes_bound { bytes ≤ 16777216 }
     ensures { (t : Ty) → WidthSays (width_by (get_or kinds.now 0 0) (get_or words.now 0 0)) (int_width t) → result ≡ width_or (int_width t) bytes }
 {
-    let width = width_of(kinds, words);
-    if width != 0 {
-        return width;
-    }
-    (bytes * 8) as u32
+    width_of(kinds, words).unwrap_or((bytes * 8) as u32)
 }
 
 // `freeze`, without its result.

@@ -15,7 +15,7 @@ use Rattle.lowering.specs.Function.{gen_functions}
 use Rattle.gen_blocks.specs.Function.{functions_in, functions_are, last_of, FunctionsAt}
 use Rattle.gen_prepare.specs.Prepare.{BookAsk, BookDone}
 use Rattle.gen_passes.specs.Passes.{fitted, Answered, PassAsk}
-use Rattle.gen_passes.specs.declared.Translation.{Translation}
+use Rattle.gen_passes.specs.Reply.{Reply}
 
 pub record GenerateAsk (bs : List ℕ) (m : ℕ) (bk bw work : List ℕ) : Type 0 where
   pub ask : BookAsk bs m (entries bk bw) work
@@ -46,7 +46,7 @@ module _ {bs : List ℕ} {m : ℕ} (bk bw : List ℕ) {work : List ℕ} (a : Gen
       record { codegen = codegen_of n.0 k.book; functions = functions_in m (entries bk bw); here = here; shared = d.shared n.0 k.book n.1 k.says; clean = d.clean }
 
   -- what they answer is what the definition gives
-  pub passes_answer : (ns : List (List ℕ)) (b : Book) → decode m (entries bk bw) ≡ some b → (counter k : ℕ) (r : Translation) (ks os ks' os' : List ℕ)
+  pub passes_answer : (ns : List (List ℕ)) (b : Book) → decode m (entries bk bw) ≡ some b → (counter k : ℕ) (r : Reply) (ks os ks' os' : List ℕ)
       → Answered (fitted (gen_functions (codegen_of ns b) (functions_in m (entries bk bw)) counter) k) r ks os ks' os'
       → Answered (fitted (gen_functions (codegen_of ns b) b.functions counter) k) r ks os ks' os'
   passes_answer ns b eb counter k r ks os ks' os' h =

@@ -1,36 +1,40 @@
 -- Document 01's number and values of an answer.
-use Rattle.std.specs.Prelude.{ℕ, ◌≡◌, refl, Bool, true, false, eqb}
+use Rattle.std.specs.Prelude.{ℕ, ◌≡◌, refl, Bool, true, false, eqb, Result, Ok, Err}
 use Rattle.std.proofs.Common.{arith, ne_eqb}
+use Rattle.book.specs.Refusal as refusal
+use Rattle.book.specs.declared.refusal.Refusal.{Refusal}
 use Rattle.lowering.specs.Numbers.{is_refusal, refusal_range}
 use Rattle.gen_passes.specs.declared.Translation.{Translation}
-use Rattle.gen_passes.specs.declared.Translation.TheVariants.{Accepted, Refused}
+
+abbrev pub Reply : Type 0
+Reply = Result Translation Refusal
 
 -- the refusal's number, 0 for none
-abbrev pub number_of : Translation → ℕ
-number_of (Accepted n next) = 0
-number_of (Refused e) = e
+abbrev pub number_of : Reply → ℕ
+number_of (Ok t) = 0
+number_of (Err e) = refusal.number_of e
 
 -- how many lines there are, 0 where it is refused
-abbrev pub lines_of : Translation → ℕ
-lines_of (Accepted n next) = n
-lines_of (Refused e) = 0
+abbrev pub lines_of : Reply → ℕ
+lines_of (Ok t) = t.lines
+lines_of (Err e) = 0
 
 -- the next counter, the given one where it is refused
-abbrev pub counter_of : (given : ℕ) → Translation → ℕ
-counter_of given (Accepted n next) = next
-counter_of given (Refused e) = given
+abbrev pub counter_of : (given : ℕ) → Reply → ℕ
+counter_of given (Ok t) = t.counter
+counter_of given (Err e) = given
 
 -- whether it is accepted
-abbrev pub is_accepted : Translation → Bool
-is_accepted (Accepted n next) = true
-is_accepted (Refused e) = false
+abbrev pub is_accepted : Reply → Bool
+is_accepted (Ok t) = true
+is_accepted (Err e) = false
 
 -- a refusal is one of 1 to 20
-abbrev pub Numbered : Translation → Type 0
-Numbered (Accepted n next) = Unit {0}
-Numbered (Refused e) = is_refusal e ≡ true
+abbrev pub Numbered : Reply → Type 0
+Numbered (Ok t) = Unit {0}
+Numbered (Err e) = is_refusal (refusal.number_of e) ≡ true
 
 -- so the number is 0 exactly where the answer is accepted
-pub zero_accepted : (r : Translation) → Numbered r → eqb (number_of r) 0 ≡ is_accepted r
-zero_accepted (Accepted n next) h = refl
-zero_accepted (Refused e) h = let l = refusal_range e h in ne_eqb e 0 (λ z. omega arith)
+pub zero_accepted : (r : Reply) → Numbered r → eqb (number_of r) 0 ≡ is_accepted r
+zero_accepted (Ok t) h = refl
+zero_accepted (Err e) h = let l = refusal_range (refusal.number_of e) h in ne_eqb (refusal.number_of e) 0 (λ z. omega arith)

@@ -13,16 +13,17 @@ ghost use Rattle.lowering.specs.Translate.{over};
 ghost use Rattle.gen_passes.specs.Passes.{fitted, Answered, PassAsk, Passed};
 ghost use Rattle.gen_passes.specs.Generate.{GenerateAsk};
 
+use book::refusal::Refusal;
 use gen_functions::{Turn, gen_functions};
 use gen_lines::Reached;
 use gen_prepare::prepare_book;
-use gen_slices::{Fit, copy_kinds, copy_operands, lines_fit};
+use gen_slices::{copy, lines_fit};
 
-// The answer: the number of lines and the next label counter, or document 01's number of a refusal.
-#[derive(Clone, Copy)]
-pub enum Translation {
-    Accepted(usize, u64),
-    Refused(u64),
+// What was translated: the number of lines and the next label counter.
+#[derive(Clone, Copy, Debug, PartialEq, Eq)]
+pub struct Translation {
+    pub lines: usize,
+    pub counter: u64,
 }
 
 // A pass into slices of our own finds every refusal and the number of lines. Those that fit there are copied, others are
@@ -39,7 +40,7 @@ fn pass_over(
     operands: &mut [u64],
     own_lines: &mut [u16],
     own_operands: &mut [u64],
-) -> Translation
+) -> Result<Translation, Refusal>
     requires pass_ask { PassAsk names book_kinds.now book_words.now first last work.old }
     requires own_lines_len { length own_lines.old ≡ length own_operands.old }
     ensures { Passed names book_kinds.now book_words.now first last counter work.old
@@ -66,25 +67,24 @@ fn pass_over(
         own_operands,
         none,
     );
-    match lines_fit(counted.s, lines.len(), operands.len()) {
-        Fit::Refused(e) => Translation::Refused(e),
-        Fit::Lines(many) => {
-            if many <= own_lines.len() {
-                copy_kinds(own_lines, lines, many);
-                copy_operands(own_operands, operands, many);
-                return Translation::Accepted(many, counted.s.counter);
-            }
-            let again = Turn {
-                s: start,
-                from: counted.from,
-                to: counted.to,
-            };
-            gen_functions(
-                book_kinds, book_words, work, names, first, last, lines, operands, again,
-            );
-            Translation::Accepted(many, counted.s.counter)
-        }
+    let many = lines_fit(counted.s, lines.len(), operands.len())?;
+    if many <= own_lines.len() {
+        copy(own_lines, lines, many);
+        copy(own_operands, operands, many);
+    } else {
+        let again = Turn {
+            s: start,
+            from: counted.from,
+            to: counted.to,
+        };
+        gen_functions(
+            book_kinds, book_words, work, names, first, last, lines, operands, again,
+        );
     }
+    Ok(Translation {
+        lines: many,
+        counter: counted.s.counter,
+    })
 }
 
 // The lines of a sound book's functions. The work words are 0 but for the starts of names; the first pass goes into the slices of our
@@ -100,7 +100,7 @@ pub fn generate(
     operands: &mut [u64],
     own_lines: &mut [u16],
     own_operands: &mut [u64],
-) -> Translation
+) -> Result<Translation, Refusal>
     requires generate_ask { GenerateAsk names.now count book_kinds.now book_words.now work.old }
     requires own_lines_len { length own_lines.old ≡ length own_operands.old }
     ensures { (ns : List (List ℕ)) (b : Book) → names_of names.now ≡ some ns

@@ -6,7 +6,7 @@ use Rattle.std.proofs.Math.Option.{some}
 use Rattle.names.specs.Name.{names_of}
 use Rattle.names.specs.Lines.{accepted_iff}
 use Rattle.book.specs.Entry.{Entry, entries}
-use Rattle.book.specs.Ast.{BasicBlock, Function, Book}
+use Rattle.book.specs.Ast.{Function, Book}
 use Rattle.book.specs.Decode.{decode}
 use Rattle.book.specs.Encode.{closed, enc_basic_block}
 use Rattle.book.specs.Result.{Result, ok, err}
@@ -27,8 +27,11 @@ use Rattle.gen_blocks.specs.declared.Placed.{Placed}
 use Rattle.gen_marks.specs.Defined.{MarksAsked, MarksPlaced, marks_ready}
 use Rattle.gen_frame.specs.Pass.{BlocksAt, FrameAsk, FrameDone}
 use Rattle.gen_frame.specs.Contexts.{Framed, frame_context, frame_refused}
+use Rattle.std.specs.Prelude.{Ok, Err}
+use Rattle.book.specs.Refusal.{number_of}
+use Rattle.book.specs.declared.refusal.Refusal.{Refusal}
 use Rattle.gen_frame.specs.declared.Frame.{Frame}
-use Rattle.gen_prepare.specs.Prepare.{prepared_of, Clean, Shared, BookAsk, BookDone, PrepareAsk, SetUp, PreparedAs, PrepareDone}
+use Rattle.gen_prepare.specs.Prepare.{prepared_of, Shared, BookAsk, BookDone, PrepareAsk, SetUp, PreparedAs, PreparedAt, PlaceRefused}
 
 -- ---- the book
 -- its structs
@@ -149,13 +152,13 @@ module _ {m : ℕ} (ks ws : List ℕ) {last a : ℕ} {work : List ℕ} (k : Prep
           places = λ x l. w.same (place_at x) (λ y _ e. omega arith) (λ y _ e. omega arith) ∙ k.clean.places x l;
         }
 
-    module _ {work₂ : List ℕ} {f : Frame} (r : FrameDone m (part ks ws p) es work₁ work₂ f) where
-      -- the context of the function among what the book's functions share
-      module _ (g : Codegen) (sh : Shared m es g work) where
-        marks₁ : (x : ℕ) → x < m → get_or work₁ (mark_at x) 0 ≡ mark_word g x
-        marks₁ x l = w.same (mark_at x) (λ y _ e. omega arith) (λ y _ e. omega arith) ∙ sh.marks x l
+    marks₁ : (g : Codegen) → Shared m es g work → (x : ℕ) → x < m → get_or work₁ (mark_at x) 0 ≡ mark_word g x
+    marks₁ g sh x l = w.same (mark_at x) (λ y _ e. omega arith) (λ y _ e. omega arith) ∙ sh.marks x l
 
-        maps : (fr : Places) → Framed m (context_of g fn fr) fr work₂ f → Maps m es (context_of g fn fr) work₂
+    -- no place is refused: the context of the function among what the book's functions share
+    module _ {work₂ : List ℕ} {t : Frame} (r : FrameDone m (part ks ws p) es work₁ work₂ (Ok t)) where
+      module _ (g : Codegen) (sh : Shared m es g work) where
+        maps : (fr : Places) → Framed m (context_of g fn fr) fr work₂ t → Maps m es (context_of g fn fr) work₂
         unfolding context_of
         maps fr h =
             record {
@@ -166,30 +169,29 @@ module _ {m : ℕ} (ks ws : List ℕ) {last a : ℕ} {work : List ℕ} (k : Prep
               };
               blocks = λ x l. rw (r.kept.same (block_at x) (λ y _ e. omega arith) (λ y _ e. omega arith) (settled_word x 2 l (omega arith))) (w.blocks x l);
               places = h.places;
-              marks = λ x l. r.kept.same (mark_at x) (λ y _ e. omega arith) (λ y _ e. omega arith) (settled_word x 5 l (omega arith)) ∙ marks₁ x l;
+              marks = λ x l. r.kept.same (mark_at x) (λ y _ e. omega arith) (λ y _ e. omega arith) (settled_word x 5 l (omega arith)) ∙ marks₁ g sh x l;
               structs = sh.structs;
               measured = r.ready;
             }
 
-        set_up : (fr : Places) → Framed m (context_of g fn fr) fr work₂ f → SetUp g fn fr m es work₂ (prepared_of a p f)
+        set_up : (fr : Places) → Framed m (context_of g fn fr) fr work₂ t → SetUp g fn fr m es work₂ (prepared_of a p t)
         unfolding context_of framed
         set_up fr h =
             record {
-              going = h.accepted;
               maps = maps fr h;
               slots = sym h.base;
               size = rw h.off refl;
               framed = rw (h.off, h.dynamic) refl;
             }
 
-        says : PreparedAs (frame_pass g.structs (all_insts fn.blocks) no_frame) g fn m es work₂ (prepared_of a p f)
+        says : PreparedAs (frame_pass g.structs (all_insts fn.blocks) no_frame) g fn m es work₂ (prepared_of a p t)
         says = go (frame_pass g.structs (all_insts fn.blocks) no_frame) refl
           where
-            go : (x : Result Places) → frame_pass g.structs (all_insts fn.blocks) no_frame ≡ x → PreparedAs x g fn m es work₂ (prepared_of a p f)
-            go (ok fr) e = set_up fr (frame_context g fn sh.structs blocks_at r marks₁ e)
+            go : (x : Result Places) → frame_pass g.structs (all_insts fn.blocks) no_frame ≡ x → PreparedAs x g fn m es work₂ (prepared_of a p t)
+            go (ok fr) e = set_up fr (frame_context g fn sh.structs blocks_at r (marks₁ g sh) e)
             go (err n) e = frame_refused g fn sh.structs blocks_at r e
 
-      pub prepared : PrepareDone m es a work work₂ (prepared_of a p f)
+      pub prepared : PreparedAt m es a work work₂ (prepared_of a p t)
       prepared =
           record {
             at = refl;
@@ -200,3 +202,11 @@ module _ {m : ℕ} (ks ws : List ℕ) {last a : ℕ} {work : List ℕ} (k : Prep
             few = omega (arith, r.few, few_part, k.fn.few);
             says = says;
           }
+
+    -- one is
+    pub place_refused : {work₂ : List ℕ} {x : Refusal} → FrameDone m (part ks ws p) es work₁ work₂ (Err x) → PlaceRefused m es a work x
+    place_refused {work₂} {x} r g sh = go (frame_pass g.structs (all_insts fn.blocks) no_frame) refl
+      where
+        go : (y : Result Places) → frame_pass g.structs (all_insts fn.blocks) no_frame ≡ y → y ≡ err (number_of x)
+        go (ok fr) e = absurd (frame_context g fn sh.structs blocks_at r (marks₁ g sh) e)
+        go (err n) e = ap err (sym (frame_refused g fn sh.structs blocks_at r e))

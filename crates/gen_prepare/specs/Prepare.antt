@@ -1,5 +1,5 @@
 -- What all passes before the first line ask and leave.
-use Rattle.std.specs.Prelude.{ℕ, ◌+◌, ◌*◌, ◌<◌, ◌≤◌, ◌≡◌, true, ◌||◌, List, ◌++◌, ltb, length, drop, get_or}
+use Rattle.std.specs.Prelude.{ℕ, ◌+◌, ◌<◌, ◌≤◌, ◌≡◌, true, ◌||◌, List, ◌++◌, ltb, length, drop, get_or}
 use Rattle.std.proofs.Math.Option.{some}
 use Rattle.numbers.specs.Align.{align_up}
 use Rattle.names.specs.Name.{names_of, accepted}
@@ -19,8 +19,11 @@ use Rattle.lowering.specs.Function.{context_of}
 use Rattle.gen_values.specs.Maps.{Maps, mark_word}
 use Rattle.gen_blocks.specs.Function.{function_in, behind_in, functions_in, last_of, FunctionAt, FunctionsAt}
 use Rattle.gen_blocks.specs.declared.Placed.{Placed}
+use Rattle.std.specs.Prelude
+use Rattle.std.specs.Prelude.{Ok, Err}
+use Rattle.book.specs.Refusal.{number_of}
+use Rattle.book.specs.declared.refusal.Refusal.{Refusal}
 use Rattle.gen_frame.specs.declared.Frame.{Frame}
-use Rattle.gen_frame.specs.Frames.{Barred}
 use Rattle.gen_prepare.specs.declared.Prepared.{Prepared}
 
 -- the answer, from the frame pass's: the bytes are rounded up to 8; a frame is there for bytes and for varying places
@@ -33,7 +36,6 @@ prepared_of at placed f =
       slots = f.slots;
       size = align_up f.off 8;
       framed = ltb 0 (align_up f.off 8) || f.dynamic;
-      refused = f.refused;
     }
 
 -- ---- the book
@@ -73,19 +75,18 @@ pub record PrepareAsk (m : ℕ) (es : List Entry) (last a : ℕ) (work : List �
 
 -- the work words hold the context's maps, and the answer the rest of it
 pub record SetUp (g : Codegen) (f : Function) (fr : Places) (m : ℕ) (es : List Entry) (work' : List ℕ) (r : Prepared) : Type 0 where
-  pub going : r.refused ≡ 0
   pub maps : Maps m es (context_of g f fr) work'
   pub slots : (context_of g f fr).bp_slot ≡ r.slots
   pub size : (context_of g f fr).frame_size ≡ r.size
   pub framed : (context_of g f fr).has_frame ≡ r.framed
 
--- by the frame pass's answer. Left free: what the work words hold where it refuses
+-- by the frame pass's answer, which is no refusal
 abbrev pub PreparedAs : Result Places → Codegen → Function → (m : ℕ) → List Entry → List ℕ → Prepared → Type 0
 PreparedAs (ok fr) g f m es work' r = SetUp g f fr m es work' r
-PreparedAs (err e) g f m es work' r = Barred e r.refused
+PreparedAs (err e) g f m es work' r = ⊥
 
 -- the function's entry stands at the place a, its list of blocks at `blocks`, what stands behind it at `end`
-pub record PrepareDone (m : ℕ) (es : List Entry) (a : ℕ) (work work' : List ℕ) (r : Prepared) : Type 0 where
+pub record PreparedAt (m : ℕ) (es : List Entry) (a : ℕ) (work work' : List ℕ) (r : Prepared) : Type 0 where
   pub at : r.at ≡ a
   pub blocks : drop r.blocks es ≡ closed enc_basic_block (function_in m es a).blocks ++ behind_in m es a
   pub first_there : r.blocks ≤ length es
@@ -93,3 +94,12 @@ pub record PrepareDone (m : ℕ) (es : List Entry) (a : ℕ) (work work' : List 
   pub there : r.end ≤ length es
   pub few : r.slots ≤ 2097152
   pub says : (g : Codegen) → Shared m es g work → PreparedAs (frame_pass g.structs (all_insts (function_in m es a).blocks) no_frame) g (function_in m es a) m es work' r
+
+-- the frame pass refuses a place
+abbrev pub PlaceRefused : (m : ℕ) (es : List Entry) (a : ℕ) (work : List ℕ) → Refusal → Type 0
+PlaceRefused m es a work e = (g : Codegen) → Shared m es g work → frame_pass g.structs (all_insts (function_in m es a).blocks) no_frame ≡ err (number_of e)
+
+-- Left free: what the work words hold where it refuses
+abbrev pub PrepareDone : (m : ℕ) (es : List Entry) (a : ℕ) (work work' : List ℕ) → Prelude.Result Prepared Refusal → Type 0
+PrepareDone m es a work work' (Ok r) = PreparedAt m es a work work' r
+PrepareDone m es a work work' (Err e) = PlaceRefused m es a work e

@@ -5,6 +5,7 @@ ghost use Rattle.std.specs.Prelude.{◌≡◌, ◌≤◌};
 ghost use Rattle.book.specs.Entry.{entries};
 ghost use Rattle.gen_prepare.specs.Prepare.{prepared_of, BookAsk, BookDone, PrepareAsk, PrepareDone};
 
+use book::refusal::Refusal;
 use gen_blocks::{Placed, find_function, place_function};
 use gen_frame::{Frame, frame_pass};
 use gen_marks::place_marks;
@@ -12,8 +13,8 @@ use layout_memo::structs::place_structs;
 use numbers::align::align_up;
 
 // Where a function stands, its list of blocks and its end; the number of its slots, which is the slot of the frame's base; the bytes
-// of its frame, and whether it has one; and the refusal's number where a place was refused, 0 where none was.
-#[derive(Clone, Copy)]
+// of its frame, and whether it has one. No Option: without one the context's frame size is 0.
+#[derive(Clone, Copy, Debug, PartialEq, Eq)]
 pub struct Prepared {
     pub at: usize,
     pub blocks: usize,
@@ -21,7 +22,6 @@ pub struct Prepared {
     pub slots: u64,
     pub size: u64,
     pub framed: bool,
-    pub refused: u64,
 }
 
 // The answer, from that of the frame pass.
@@ -37,7 +37,6 @@ fn framed(at: usize, placed: Placed, f: Frame) -> Prepared
         slots: f.slots,
         size,
         framed: (0 < size) | f.dynamic,
-        refused: f.refused,
     }
 }
 
@@ -58,7 +57,7 @@ pub fn prepare_book(
     find_function(kinds, words, count)
 }
 
-// The context of the function at the place. The functions end at `last`.
+// The context of the function at the place, or the refusal of one of its places. The functions end at `last`.
 pub fn prepare(
     kinds: &[u64],
     words: &[u64],
@@ -66,7 +65,7 @@ pub fn prepare(
     count: u64,
     at: usize,
     last: usize,
-) -> Prepared
+) -> Result<Prepared, Refusal>
     requires { PrepareAsk count (entries kinds.now words.now) last at work.old }
     ensures { PrepareDone count (entries kinds.now words.now) at work.old work.new result }
 {
@@ -80,6 +79,6 @@ pub fn prepare(
         words,
         work,
         count,
-    );
-    framed(at, placed, f)
+    )?;
+    Ok(framed(at, placed, f))
 }

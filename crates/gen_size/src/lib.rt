@@ -1,18 +1,33 @@
 #![tactic(auto)]
 // Measurements that a generator asks for: the bytes, or a refusal noted.
+ghost use Rattle.std.specs.Prelude.{◌≡◌};
 ghost use Rattle.book.specs.Entry.{entries};
-ghost use Rattle.gen_size.specs.Sizes.{Measurable, SizeAsked, AlignAsked};
+ghost use Rattle.gen_size.specs.Sizes.{Measurable, SizeAsked, AlignAsked, noted_of};
 
+use book::refusal::Refusal;
 use gen_lines::{Reached, refuse};
 use layout_align::align_of;
-use layout_memo::Measured;
+use layout_memo::Measure;
 use layout_size::size_of;
 
-// A number of bytes, 0 where it was refused, and what was reached.
+// A number of bytes, 0 where it was refused, and what was reached: a refusal goes through there, as generators hand it on.
 #[derive(Clone, Copy)]
 pub struct Bytes {
     pub bytes: u64,
     pub s: Reached,
+}
+
+// The bytes of a measure, or its refusal noted.
+fn noted(m: Result<Measure, Refusal>, s: Reached) -> Bytes
+    ensures { result ≡ noted_of m s }
+{
+    match m {
+        Ok(m) => Bytes { bytes: m.bytes, s },
+        Err(e) => Bytes {
+            bytes: 0,
+            s: refuse(s, e),
+        },
+    }
 }
 
 // `size_of` the type at the front.
@@ -29,13 +44,10 @@ pub fn measured_size(
     ensures { SizeAsked names (entries kinds.now words.now) (entries book_kinds.now book_words.now)
         work.old work.new s result }
 {
-    match size_of(kinds, words, book_kinds, book_words, work, names, 64) {
-        Measured::Bytes(bytes, _) => Bytes { bytes, s },
-        Measured::Refused(e) => Bytes {
-            bytes: 0,
-            s: refuse(s, e),
-        },
-    }
+    noted(
+        size_of(kinds, words, book_kinds, book_words, work, names, 64),
+        s,
+    )
 }
 
 // `align_of` the type at the front.
@@ -52,11 +64,8 @@ pub fn measured_align(
     ensures { AlignAsked names (entries kinds.now words.now) (entries book_kinds.now book_words.now)
         work.old work.new s result }
 {
-    match align_of(kinds, words, book_kinds, book_words, work, names, 64) {
-        Measured::Bytes(bytes, _) => Bytes { bytes, s },
-        Measured::Refused(e) => Bytes {
-            bytes: 0,
-            s: refuse(s, e),
-        },
-    }
+    noted(
+        align_of(kinds, words, book_kinds, book_words, work, names, 64),
+        s,
+    )
 }

@@ -1,67 +1,36 @@
 #![tactic(auto)]
 // Slices as a whole: cleared, copied over another, and whether lines fit them.
-ghost use Rattle.std.specs.Prelude.{◌≡◌, length, take, replicate};
-ghost use Rattle.lowering.specs.Translate.{over};
-ghost use Rattle.gen_slices.specs.Copies.{CopyAsk};
+ghost use Rattle.std.specs.Prelude.{◌≡◌, ◌≤◌, ◌++◌, length, take, drop, replicate};
 ghost use Rattle.gen_slices.specs.Fits.{FitOf};
 
+use book::refusal::Refusal;
 use gen_lines::Reached;
 
 // All words 0.
 pub fn clear(work: &mut [u64])
     ensures { work.new ≡ replicate (length work.old) 0 }
 {
-    let mut at: usize = 0;
-    while at < work.len() {
-        work[at] = 0;
-        at += 1;
-    }
+    work.fill(0);
 }
 
-// The first `many` kinds of one slice in another.
-pub fn copy_kinds(from: &[u16], to: &mut [u16], many: usize)
-    requires { CopyAsk many from.now to.old }
-    ensures { to.new ≡ over (take many from.now) to.old }
+// The first `many` elements of one slice over those of another.
+pub fn copy<T: Copy>(from: &[T], to: &mut [T], many: usize)
+    requires from_reaches { many ≤ length from.now }
+    requires to_reaches { many ≤ length to.old }
+    ensures { to.new ≡ take many from.now ++ drop many to.old }
 {
-    let mut i: usize = 0;
-    while i < many {
-        to[i] = from[i];
-        i += 1;
-    }
+    to[..many].copy_from_slice(&from[..many]);
 }
 
-// The same of operands.
-pub fn copy_operands(from: &[u64], to: &mut [u64], many: usize)
-    requires { CopyAsk many from.now to.old }
-    ensures { to.new ≡ over (take many from.now) to.old }
-{
-    let mut i: usize = 0;
-    while i < many {
-        to[i] = from[i];
-        i += 1;
-    }
-}
-
-// So many lines, which fit; or the number of a refusal.
-#[derive(Clone, Copy)]
-pub enum Fit {
-    Lines(usize),
-    Refused(u64),
-}
-
-// Whether the lines that a pass has counted fit slices of these lengths: the pass's own refusal, then 20.
-pub fn lines_fit(counted: Reached, lines: usize, operands: usize) -> Fit
+// Whether the lines that a pass has counted fit slices of these lengths: how many they are, or the pass's own refusal, then `NoRoom`.
+pub fn lines_fit(counted: Reached, lines: usize, operands: usize) -> Result<usize, Refusal>
     ensures { FitOf counted lines operands result }
 {
-    if counted.refused != 0 {
-        return Fit::Refused(counted.refused);
+    if let Ok(refusal) = Refusal::try_from(counted.refused) {
+        return Err(refusal);
     }
-    let many = counted.at;
-    if lines < many {
-        return Fit::Refused(20);
+    if lines.min(operands) < counted.at {
+        return Err(Refusal::NoRoom);
     }
-    if operands < many {
-        return Fit::Refused(20);
-    }
-    Fit::Lines(many)
+    Ok(counted.at)
 }

@@ -10,7 +10,7 @@ use Rattle.book.specs.Fields.{term_fields}
 use Rattle.book.specs.Result.{bind, ok_or}
 use Rattle.assembly.specs.Line.{Line, Hint}
 use Rattle.assembly.specs.Number.{kind_of, operand_of, hint_number}
-use Rattle.lowering.specs.Gen.{refuse, ◌>>=◌, ◌>>◌}
+use Rattle.lowering.specs.Gen.{refuse, ◌>>=◌}
 use Rattle.lowering.specs.Context.{FnCtx}
 use Rattle.lowering.specs.Operand.{push_value}
 use Rattle.lowering.specs.Edge.{edge}

@@ -1,5 +1,5 @@
 -- `switch`, case by case: the tests, whose labels count up, then the edges.
-use Rattle.std.specs.Prelude.{◌≡◌, ℕ, suc, ◌+◌, ◌-◌, ◌%◌, ◌^◌, ◌<◌, List, [], ◌∷◌, length, drop, ◌≢◌, slice_index, slice_index_or}
+use Rattle.std.specs.Prelude.{◌≡◌, ℕ, suc, ◌+◌, ◌%◌, ◌^◌, ◌<◌, List, [], ◌∷◌, length, drop, ◌≢◌, slice_index, slice_index_or}
 use Rattle.std.proofs.Math.Path.{refl, ap, subst}
 use Rattle.std.proofs.Common.{sym, ◌∙◌, arith}
 use mathlib.Core.List.{append_assoc}
@@ -118,7 +118,7 @@ module _ (c : FnCtx) (w : ℕ) (val : Value) where
   no_tests l = refl
 
   module _ {s a b d e : Reached} {ks os k1 o1 k2 o2 k3 o3 k4 o4 : List ℕ} where
-    pub test_puts : (l : ℕ) (k : Case) (more : List Case) {value label kind : ℕ} → label ≡ l % 2 ^ 64 → value ≡ k.value → kind ≡ operation 13 (work_of w)
+    pub test_puts : (l : ℕ) (k : Case) (more : List Case) {value label kind : ℕ} → label ≡ l % 2 ^ 64 → value ≡ k.value → kind ≡ operation (icmp_number ICmpPred.eq) (work_of w)
         → Puts (push_value c val w) s a ks os k1 o1 → Puts (push_int value w) a b k1 o1 k2 o2 → Lined kind 0 b d k2 o2 k3 o3 → Lined 20 label d e k3 o3 k4 o4
         → Toward (case_tests c w val l (k ∷ more)) (case_tests c w val (suc l) more) s e ks os k4 o4
     unfolding case_tests kind_of operand_of hint_number icmp_number

@@ -2,7 +2,7 @@
 // `gen_term`: a block's terminator. Its fields stand behind its entry, from which on the entries are handed in.
 mod switch;
 
-ghost use Rattle.std.specs.Prelude.{◌≡◌, ℕ, ◌^◌, ◌<◌, drop};
+ghost use Rattle.std.specs.Prelude.{◌≡◌, ℕ, drop};
 ghost use Rattle.std.proofs.Math.Option.{Option, some};
 ghost use Rattle.book.specs.Ast.{TypedVal, Value, Terminator};
 ghost use Rattle.book.specs.Entry.{entries};
@@ -21,24 +21,18 @@ ghost use Rattle.gen_term.specs.Whole.{TermAsk};
 use crate::switch::gen_switch;
 use assembly::line;
 use book::entry;
+use book::refusal::Refusal;
 use gen_edge::edge;
 use gen_fields::push_typed;
 use gen_lines::{Reached, fresh, put, refuse};
 use gen_values::push_value;
 use layout_memo::skip;
 
-// The function's frame: the slot of its base, and whether there is one.
+// The function's frame: the slot of its base, and whether there is one. No Option: `gen_inst` takes the slot in either case.
 #[derive(Clone, Copy)]
 pub struct Base {
     pub slot: u64,
     pub framed: bool,
-}
-
-// A number that a struct holds, which is a word.
-fn word(number: u64) -> u64
-    ensures { (result ≡ number) × (number < 2 ^ 64) }
-{
-    number
 }
 
 // `emit_frame_leave`
@@ -47,8 +41,7 @@ fn emit_frame_leave(base: Base, lines: &mut [u16], operands: &mut [u64], s: Reac
         → Puts (emit_frame_leave c) s result lines.old operands.old lines.new operands.new }
 {
     if base.framed {
-        let slot = word(base.slot);
-        let got = put(lines, operands, s, line::GET_LOCAL, slot);
+        let got = put(lines, operands, s, line::GET_LOCAL, base.slot);
         return put(lines, operands, got, line::THREAD_SET, 0);
     }
     s
@@ -119,10 +112,10 @@ fn gen_cond_br(
         → Puts (gen_cond_br c pred cond x y) s result lines.old operands.old lines.new operands.new }
 {
     if kinds[3] == entry::ABSENT {
-        return refuse(s, 19);
+        return refuse(s, Refusal::NoFalseTarget);
     }
     let pushed = push_value(&kinds[1..], &words[1..], 1, work, lines, operands, s);
-    let label = word(pushed.counter);
+    let label = pushed.counter;
     let made = fresh(pushed, 1);
     let jumped = put(lines, operands, made, line::JZ_BR_FALSE, label);
     let gone = edge(

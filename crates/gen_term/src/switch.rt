@@ -14,16 +14,15 @@ ghost use Rattle.gen_term.specs.Toward.{Toward};
 ghost use Rattle.gen_term.specs.Terms.{Cases};
 ghost use Rattle.gen_term.specs.Switches.{CasesAsk, TestsAsk, EdgesAsk, SwitchAsk};
 
-use crate::word;
 use assembly::line;
 use book::entry;
+use book::ops::ICmpPred;
 use gen_edge::edge;
 use gen_lines::{Reached, fresh, put};
-use gen_values::{need_width, operation, push_int, push_value};
+use gen_values::{icmp_line, need_width, push_int, push_value};
 use layout_memo::skip;
-use std::num::wrapping_add_u64;
 
-// The number of cases.
+// The number of cases. A loop, here as for their tests and edges, since its end is an entry and not the slice's.
 fn count_cases(kinds: &[u64], words: &[u64]) -> u64
     requires { CasesAsk kinds.now words.now }
     ensures { (m : ℕ) (cs : List Case) → Cases m cs (entries kinds.now words.now) → result ≡ length cs }
@@ -41,7 +40,7 @@ fn count_cases(kinds: &[u64], words: &[u64]) -> u64
 fn next_label(label: u64) -> u64
     ensures { result ≡ (label + 1) % 2 ^ 64 }
 {
-    wrapping_add_u64(label, 1)
+    label.wrapping_add(1)
 }
 
 // The test of a case: the value at the front, the case's number, equal, a jump to the case's label.
@@ -64,7 +63,7 @@ fn case_test(
 {
     let pushed = push_value(kinds, words, width, work, lines, operands, s);
     let both = push_int(value, width, lines, operands, pushed);
-    let tested = put(lines, operands, both, operation(13, width), 0);
+    let tested = put(lines, operands, both, icmp_line(ICmpPred::Eq, width), 0);
     put(lines, operands, tested, line::JNZ_SW_CASE, label)
 }
 
@@ -201,7 +200,7 @@ pub fn gen_switch(
     let case_kinds = &value_kinds[2..];
     let case_words = &value_words[2..];
     let known = wide.s;
-    let label = word(known.counter);
+    let label = known.counter;
     let made = fresh(known, count_cases(case_kinds, case_words));
     let tested = case_tests(
         value_kinds,

@@ -1,7 +1,7 @@
 -- Fields of an instruction or terminator at a place of the lent entries, read one after the other.
-use Rattle.std.specs.Prelude.{ℕ, zero, suc, ◌+◌, ◌-◌, ◌<◌, ◌≤◌, ◌^◌, ◌≡◌, refl, Bool, true, false, not, take, get_or, eqb}
+use Rattle.std.specs.Prelude.{ℕ, zero, suc, ◌+◌, ◌-◌, ◌<◌, ◌≤◌, ◌^◌, ◌≡◌, refl, true, false, take, get_or}
 use Rattle.std.proofs.Math.Path.{sym, ap}
-use Rattle.std.proofs.Common.{subst, ◌∙◌, arith, le-leb, eq-eqb, ne_eqb, le_of_eq, drop-drop, get_or-drop, take_all}
+use Rattle.std.proofs.Common.{subst, ◌∙◌, arith, le-leb, le_of_eq, drop-drop, get_or-drop, take_all}
 use mathlib.Core.List.{List, [], ◌∷◌, ◌++◌, append_assoc}
 use Rattle.std.proofs.Math.ListN.{length, drop, length-drop}
 use Rattle.std.proofs.Math.Seq.{drop-append_seam}
@@ -16,9 +16,6 @@ use Rattle.book.specs.Result.{Result, ok, err}
 use Rattle.book_types.specs.Laws.{lent_from, entries_part}
 use Rattle.lowering.specs.Operand.{int_width}
 use Rattle.layout_memo.specs.Front.{Starts, ty_of, ty_len, ty_is, len_is}
-use Rattle.gen_lines.specs.declared.Reached.{Reached}
-use Rattle.gen_lines.specs.Puts.{or_else, made_refused}
-use Rattle.gen_lines.specs.Follow.{Asked, asked_ok, asked_err}
 use Rattle.gen_values.specs.Values.{value_of, width_by, Reaches, value_is}
 
 -- the fields fs stand at the front, and this is what they hold
@@ -89,20 +86,6 @@ type_within (Ty.struct p ts) ks ws a tail h = let q = entry_at ks ws a _ _ h in 
 abbrev pub WidthSays : ℕ → Result ℕ → Type 0
 WidthSays w (ok v) = (w ≡ v) × (v ≡ 0 → ⊥)
 WidthSays w (err e) = (w ≡ 0) × (e ≡ 9)
-
--- what the entry says is asked for: a refusal where it says that there is none
-pub says_asked : (r : Result ℕ) (s : Reached) {t : Reached} {w x : ℕ} {b : Bool} → w ≡ x → WidthSays x r → b ≡ not (eqb w 0) → t ≡ or_else b s (made_refused s 9) → Asked r s t w
-says_asked r s {t} {w} {x} {b} e says d h = at r (subst (λ (y : ℕ). WidthSays y r) (sym e) says)
-  where
-    at : (r : Result ℕ) → WidthSays w r → Asked r s t w
-    at (ok v) (i, z) =
-        let n : b ≡ true = d ∙ ap not (ne_eqb w 0 (λ y. z (sym i ∙ y))) in
-        let q : t ≡ s = h ∙ ap (λ y. or_else y s (made_refused s 9)) n in
-        subst (λ (y : Reached). Asked (ok v) s y w) (sym q) (subst (λ (y : ℕ). Asked (ok y) s s w) i (asked_ok s w))
-    at (err n) (i, j) =
-        let n : b ≡ false = d ∙ ap not (eq-eqb w 0 i) in
-        let q : t ≡ made_refused s 9 = h ∙ ap (λ y. or_else y s (made_refused s 9)) n in
-        subst (λ (y : ℕ). Asked (err y) s t w) (sym j) (asked_err 9 (omega arith) s w q)
 
 type_width : (m : ℕ) (t : Ty) (ks ws : List ℕ) (a : ℕ) (tail : List Entry) → drop a (entries ks ws) ≡ enc_ty t ++ tail → Parts m t
     → WidthSays (width_by (get_or ks a 0) (get_or ws a 0)) (int_width t)
@@ -216,7 +199,3 @@ module _ {m : ℕ} {fs : List Field} where
 
     pub width_is : WidthSays (width_by (get_or ks a 0) (get_or ws a 0)) (int_width p.0)
     width_is = type_width m p.0 ks ws a _ front f.keeps.0.parts
-
-    pub asked_width : (s : Reached) {t : Reached} {w : ℕ} {b : Bool} → w ≡ width_by (get_or ks a 0) (get_or ws a 0) → b ≡ not (eqb w 0) → t ≡ or_else b s (made_refused s 9)
-        → Asked (int_width p.0) s t w
-    asked_width s e d h = says_asked (int_width p.0) s e width_is d h

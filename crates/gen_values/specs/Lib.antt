@@ -3,4 +3,5 @@ pub mod Values
 pub mod Maps
 pub mod Push
 pub mod Fields
+pub mod Present
 pub mod Widths

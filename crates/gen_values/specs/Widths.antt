@@ -1,5 +1,5 @@
 -- `emit_trunc_to` and `emit_sext` line by line, and where results go.
-use Rattle.std.specs.Prelude.{ℕ, zero, suc, ◌+◌, ◌-◌, ◌*◌, ◌<◌, ◌≤◌, ◌%◌, ◌^◌, min, ◌≡◌, Bool, true, false, cond, not, ◌&&◌, List, [], ◌∷◌, get_or, eqb, leb, ltb}
+use Rattle.std.specs.Prelude.{ℕ, ◌+◌, ◌-◌, ◌*◌, ◌<◌, ◌≤◌, ◌%◌, ◌^◌, min, ◌≡◌, Bool, true, false, cond, not, ◌&&◌, List, [], ◌∷◌, get_or, eqb, leb, ltb}
 use Rattle.std.proofs.Math.Path.{refl, ap}
 use Rattle.std.proofs.Common.{sym, ◌∙◌, arith, mod-eq_of_lt, pow-add, pow_pos, pow_mono, eq-eqb, ne_eqb, le-leb, leb-true, lt-ltb, le-ltb}
 use Rattle.std.proofs.Math.Option.{Option, none, some}
@@ -62,15 +62,6 @@ module _ (c : FnCtx) (dest : ℕ) {s t : Reached} {ks os ks' os' : List ℕ} whe
   kept_puts z p = same_puts (λ n. rw (ne_eqb dest 0 z)) p
 
 -- ---- the kind of an operation
--- none of the numbers below k, as the rows of a match leave it
-abbrev pub NotBelow : ℕ → ℕ → Type 0
-NotBelow zero n = Unit {0}
-NotBelow (suc k) n = NotBelow k n × (n ≡ k → ⊥)
-
-pub not_below : (k n : ℕ) → NotBelow k n → k ≤ n
-not_below zero n h = omega arith
-not_below (suc k) n (h, z) = omega (arith, not_below k n h, z)
-
 pub narrow_operation : (n w : ℕ) → w ≤ 32 → 21 + n ≡ operation n (work_of w)
 unfolding operation work_of
 narrow_operation n w l = rw (le-leb w 32 l)
@@ -124,9 +115,9 @@ ones_mask w =
     ap (λ (n : ℕ). n % 2 ^ k) b ∙ mul-add-mod_self_left (2 ^ k) (2 ^ (64 - k) - 1) (2 ^ k - 1) ∙ mod-eq_of_lt (omega arith)
 
 module _ {s t u v w : Reached} {ks os ks₁ os₁ ks₂ os₂ ks₃ os₃ ks₄ os₄ : List ℕ} where
-  pub bit_puts : (to : ℕ) {k l x : ℕ} → k ≡ operation 7 (work_of to) → x ≡ mask_to_width (2 ^ 64 - 1) to → x < 2 ^ 64 → l ≡ operation 2 (work_of to) → Lined 8 1 s t ks os ks₁ os₁
+  pub bit_puts : (to : ℕ) {k l x : ℕ} → k ≡ operation (bin_number BinOp.and) (work_of to) → x ≡ mask_to_width (2 ^ 64 - 1) to → x < 2 ^ 64 → l ≡ operation (bin_number BinOp.mul) (work_of to) → Lined 8 1 s t ks os ks₁ os₁
       → Lined k 0 t u ks₁ os₁ ks₂ os₂ → Lined 8 x u v ks₂ os₂ ks₃ os₃ → Lined l 0 v w ks₃ os₃ ks₄ os₄ → Puts (sext_bit to) s w ks os ks₄ os₄
-  unfolding sext_bit bin_number
+  unfolding sext_bit
   bit_puts to {k} {l} {x} ek ex few el h i j o =
       then_puts (push_puts 1 (omega arith) h)
       (then_puts (bin_puts BinOp.and to ek i) (then_puts (same_puts (λ n. ap (λ y. line (Line.push y) n) (ex ∙ ones_mask to)) (push_puts x few j)) (bin_puts BinOp.mul to el o)))

@@ -2,56 +2,57 @@
 // Operands: `push_value`, `push_int`, `store_dest`, widths, `emit_sext` and `emit_trunc_to`. A value or a type is lent as the part of
 // the entries that begins at it. Names are looked up in the work words: a name's parameter, then its slot, each with 1 added, 0 for none.
 ghost use Rattle.std.specs.Prelude.{◌≡◌, ℕ, ◌+◌, ◌<◌, ◌≤◌, length, get_or, ◌&&◌, ltb};
+ghost use Rattle.book.specs.Ops.{bin_of, icmp_of};
+ghost use Rattle.book.specs.Refusal.{number_of};
 ghost use Rattle.book.specs.Work.{slot_at};
 ghost use Rattle.gen_lines.specs.Follow.{Asked};
 ghost use Rattle.gen_values.specs.Fields.{WidthSays, ValueAt, OperandAt};
 ghost use Rattle.lowering.specs.Context.{FnCtx};
 ghost use Rattle.lowering.specs.Operand.{push_value, push_int, store_dest, store_or_pop, emit_trunc_to, int_width, sext_bit, emit_sext, work_of, work_bits};
 ghost use Rattle.lowering.specs.Gen.{when};
-ghost use Rattle.assembly.specs.Number.{operation as operationOf};
+ghost use Rattle.assembly.specs.Number.{operation as operationOf, bin_number, icmp_number};
 ghost use Rattle.book.specs.Ast.{Ty, Value};
 ghost use Rattle.gen_lines.specs.Puts.{Puts, made_refused, or_else};
 ghost use Rattle.gen_values.specs.Values.{width_by, dest_of, DestReaches};
 ghost use Rattle.gen_values.specs.Maps.{Locals};
+ghost use Rattle.gen_values.specs.Present.{Present};
 ghost use Rattle.gen_values.specs.Widths.{sx_kind};
 
 use assembly::line;
 use book::entry;
+use book::ops::{BinOp, ICmpPred};
+use book::refusal::Refusal;
 use book_values::{ValueGroup, value_group};
 use gen_lines::{Reached, put, refuse};
 
 // A refusal where a test fails.
-pub fn need(s: Reached, test: bool, number: u64) -> Reached
-    requires { 0 < number }
-    ensures { result ≡ or_else test s (made_refused s number) }
+pub fn need(s: Reached, test: bool, why: Refusal) -> Reached
+    ensures { result ≡ or_else test s (made_refused s (number_of why)) }
 {
-    if test { s } else { refuse(s, number) }
+    if test { s } else { refuse(s, why) }
 }
 
-// `int_width` of the type that this entry begins; 0 where it is neither an integer nor a pointer.
-fn int_width(kind: u64, word: u64) -> u32
-    ensures { result ≡ width_by kind word }
+// `int_width` of the type that this entry begins, where it is an integer or a pointer.
+fn int_width(kind: u64, word: u64) -> Option<u32>
+    ensures { Present (width_by kind word) result }
 {
-    if kind == entry::PTR {
-        return 64;
+    match kind {
+        entry::PTR => Some(64),
+        entry::INT if 0 < word && word <= 64 => Some(word as u32),
+        _ => None,
     }
-    if kind == entry::INT {
-        if word <= 64 {
-            return word as u32;
-        }
-    }
-    0
 }
 
-// `int_width` of the type at the front, 0 for none.
-pub fn width_of(kinds: &[u64], words: &[u64]) -> u32
+// `int_width` of the type at the front.
+pub fn width_of(kinds: &[u64], words: &[u64]) -> Option<u32>
     requires { (0 < length kinds.now) × (0 < length words.now) }
-    ensures { result ≡ width_by (get_or kinds.now 0 0) (get_or words.now 0 0) }
+    ensures { Present (width_by (get_or kinds.now 0 0) (get_or words.now 0 0)) result }
 {
     int_width(kinds[0], words[0])
 }
 
-// A width that was asked for, 0 where there is none, and what is reached behind the question.
+// A width that was asked for, 0 where it was refused, and what is reached behind the question: no answer that is tested, since
+// generators follow one another without a test between them.
 #[derive(Clone, Copy)]
 pub struct Wide {
     pub width: u32,
@@ -63,10 +64,12 @@ pub fn need_width(kinds: &[u64], words: &[u64], s: Reached) -> Wide
     requires { (0 < length kinds.now) × (0 < length words.now) }
     ensures { (t : Ty) → WidthSays (width_by (get_or kinds.now 0 0) (get_or words.now 0 0)) (int_width t) → Asked (int_width t) s result.s result.width }
 {
-    let width = width_of(kinds, words);
-    Wide {
-        width,
-        s: need(s, width != 0, 9),
+    match width_of(kinds, words) {
+        Some(width) => Wide { width, s },
+        None => Wide {
+            width: 0,
+            s: refuse(s, Refusal::NotInteger),
+        },
     }
 }
 
@@ -110,7 +113,7 @@ fn push_local(
     if slot != 0 {
         return put(lines, operands, s, line::GET_LOCAL, slot - 1);
     }
-    refuse(s, 10)
+    refuse(s, Refusal::UnknownLocal)
 }
 
 // `push_value` of the value at the front.
@@ -133,8 +136,7 @@ pub fn push_value(
         ValueGroup::Global => put(lines, operands, s, line::PUSH_NAME, word),
         ValueGroup::Int => push_int(word, width, lines, operands, s),
         ValueGroup::Zero => put(lines, operands, s, line::PUSH, 0),
-        ValueGroup::Other => refuse(s, 3),
-        ValueGroup::Bad => refuse(s, 3),
+        ValueGroup::Other | ValueGroup::Bad => refuse(s, Refusal::Forbidden),
     }
 }
 
@@ -151,11 +153,11 @@ pub fn store_dest(
         → Puts (store_dest c (dest_of dest)) s result lines.old operands.old lines.new operands.new }
 {
     if dest == 0 {
-        return refuse(s, 5);
+        return refuse(s, Refusal::NoResultName);
     }
     let slot = work[book::work::WORDS * ((dest - 1) as usize) + book::work::SLOT];
     if slot == 0 {
-        return refuse(s, 5);
+        return refuse(s, Refusal::NoResultName);
     }
     put(lines, operands, s, line::SET_LOCAL, slot - 1)
 }
@@ -178,79 +180,30 @@ pub fn store_or_pop(
     store_dest(dest, work, lines, operands, s)
 }
 
-// The line kind of an operation or predicate by its number at 32 bits: 13 operations, and 10 predicates up to 22.
-fn operation_32(number: u16) -> u16
-    requires { number < 23 }
-    ensures { result ≡ 21 + number }
-{
-    match number {
-        0 => line::ADD_U32,
-        1 => line::SUB_U32,
-        2 => line::MUL_U32,
-        3 => line::DIV_U32,
-        4 => line::DIV_I32,
-        5 => line::MOD_U32,
-        6 => line::MOD_I32,
-        7 => line::AND_U32,
-        8 => line::OR_U32,
-        9 => line::XOR_U32,
-        10 => line::LSHIFT_U32,
-        11 => line::RSHIFT_U32,
-        12 => line::RSHIFT_I32,
-        13 => line::EQ_U32,
-        14 => line::NE_U32,
-        15 => line::GT_U32,
-        16 => line::GE_U32,
-        17 => line::LT_U32,
-        18 => line::LE_U32,
-        19 => line::GT_I32,
-        20 => line::GE_I32,
-        21 => line::LT_I32,
-        _ => line::LE_I32,
-    }
-}
-
-// The same at 64 bits.
-fn operation_64(number: u16) -> u16
-    requires { number < 23 }
-    ensures { result ≡ 44 + number }
-{
-    match number {
-        0 => line::ADD_U64,
-        1 => line::SUB_U64,
-        2 => line::MUL_U64,
-        3 => line::DIV_U64,
-        4 => line::DIV_I64,
-        5 => line::MOD_U64,
-        6 => line::MOD_I64,
-        7 => line::AND_U64,
-        8 => line::OR_U64,
-        9 => line::XOR_U64,
-        10 => line::LSHIFT_U64,
-        11 => line::RSHIFT_U64,
-        12 => line::RSHIFT_I64,
-        13 => line::EQ_U64,
-        14 => line::NE_U64,
-        15 => line::GT_U64,
-        16 => line::GE_U64,
-        17 => line::LT_U64,
-        18 => line::LE_U64,
-        19 => line::GT_I64,
-        20 => line::GE_I64,
-        21 => line::LT_I64,
-        _ => line::LE_I64,
-    }
-}
-
-// The line kind of an operation or predicate at the working width: 32 for up to 32 bits, else 64.
-pub fn operation(number: u16, width: u32) -> u16
+// The line kind of an operation or predicate by its number, at the working width: 32 for up to 32 bits, else 64. The 13 operations are
+// numbered first, then the 10 predicates, each in the order of ast.rs.
+fn operation(number: u16, width: u32) -> u16
     requires { number < 23 }
     ensures { result ≡ operationOf number (work_of width) }
 {
     match width {
-        0..=32 => operation_32(number),
-        _ => operation_64(number),
+        0..=32 => line::ADD_U32 + number,
+        _ => line::ADD_U64 + number,
     }
+}
+
+// The kind of an operation's line at the working width.
+pub fn bin_line(op: BinOp, width: u32) -> u16
+    ensures { result ≡ operationOf (bin_number (bin_of op)) (work_of width) }
+{
+    operation(op.number(), width)
+}
+
+// The kind of a predicate's line at the working width.
+pub fn icmp_line(pred: ICmpPred, width: u32) -> u16
+    ensures { result ≡ operationOf (icmp_number (icmp_of pred)) (work_of width) }
+{
+    operation(line::EQ_U32 - line::ADD_U32 + pred.number(), width)
 }
 
 // `emit_trunc_to`
@@ -274,7 +227,7 @@ fn sext_bit(to: u32, lines: &mut [u16], operands: &mut [u64], s: Reached) -> Rea
     ensures { Puts (sext_bit to) s result lines.old operands.old lines.new operands.new }
 {
     let a = put(lines, operands, s, line::PUSH, 1);
-    let b = put(lines, operands, a, operation(7, to), 0);
+    let b = put(lines, operands, a, bin_line(BinOp::And, to), 0);
     let c = put(
         lines,
         operands,
@@ -282,25 +235,25 @@ fn sext_bit(to: u32, lines: &mut [u16], operands: &mut [u64], s: Reached) -> Rea
         line::PUSH,
         numbers::width::mask_to_width(u64::MAX, to),
     );
-    put(lines, operands, c, operation(2, to), 0)
+    put(lines, operands, c, bin_line(BinOp::Mul, to), 0)
 }
 
-// The kind of the line that extends from 8, 16 or 32 bits to the working width; 0 where there is none.
-fn sx_kind(from: u32, to: u32) -> u16
-    ensures { result ≡ sx_kind from to }
+// The kind of the line that extends from 8, 16 or 32 bits to the working width, where there is one.
+fn sx_kind(from: u32, to: u32) -> Option<u16>
+    ensures { Present (sx_kind from to) result }
 {
     if to <= 32 {
         match from {
-            8 => line::SX_I8_I32,
-            16 => line::SX_I16_I32,
-            _ => 0,
+            8 => Some(line::SX_I8_I32),
+            16 => Some(line::SX_I16_I32),
+            _ => None,
         }
     } else {
         match from {
-            8 => line::SX_I8_I64,
-            16 => line::SX_I16_I64,
-            32 => line::SX_I32_I64,
-            _ => 0,
+            8 => Some(line::SX_I8_I64),
+            16 => Some(line::SX_I16_I64),
+            32 => Some(line::SX_I32_I64),
+            _ => None,
         }
     }
 }
@@ -325,12 +278,13 @@ pub fn emit_sext(from: u32, to: u32, lines: &mut [u16], operands: &mut [u64], s:
     if from == 1 {
         return sext_bit(to, lines, operands, s);
     }
-    let kind = sx_kind(from, to);
-    if kind == 0 {
-        return refuse(s, 13);
+    match sx_kind(from, to) {
+        Some(kind) => {
+            let extended = put(lines, operands, s, kind, 0);
+            trunc_below(to, lines, operands, extended)
+        }
+        None => refuse(s, Refusal::SignExtension),
     }
-    let extended = put(lines, operands, s, kind, 0);
-    trunc_below(to, lines, operands, extended)
 }
 
 // Extended to the working width where that is asked for and the width is none.

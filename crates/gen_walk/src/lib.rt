@@ -11,14 +11,12 @@ pub fn next_inst(kinds: &[u64], at: usize) -> usize
     requires { at ≤ length kinds.now }
     ensures { FirstHigh kinds.now at result }
 {
-    let mut i = at;
-    while i < kinds.len() {
+    for i in at..kinds.len() {
         if entry::ADD <= kinds[i] {
             return i;
         }
-        i += 1;
     }
-    i
+    kinds.len()
 }
 
 // The first place from `at` on, before `end`, whose entry is a block; `end` where there is none.
@@ -26,12 +24,10 @@ pub fn next_block(kinds: &[u64], at: usize, end: usize) -> usize
     requires { (at ≤ end) × (end ≤ length kinds.now) }
     ensures { FirstBlock kinds.now end at result }
 {
-    let mut i = at;
-    while i < end {
+    for i in at..end {
         if kinds[i] == entry::BLOCK {
             return i;
         }
-        i += 1;
     }
-    i
+    end
 }

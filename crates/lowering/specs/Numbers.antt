@@ -513,7 +513,7 @@ function_refuses : (m : Codegen) (f : Function) → Refuses (gen_function m f)
 unfolding gen_function
 function_refuses m f = search (numbered, frame_numbered, function_lines_refuses)
 
-functions_refuses : (m : Codegen) (fs : List Function) → Refuses (gen_functions m fs)
+pub functions_refuses : (m : Codegen) (fs : List Function) → Refuses (gen_functions m fs)
 unfolding gen_functions
 functions_refuses m fs = search (numbered, function_refuses)
 

@@ -78,7 +78,7 @@ returns c = λ p k fields maps.
     let last = maps_after measured stated.after in
     record {
       puts = laws.dynamic_puts k p.0 p.1.0 p.1.1.0 (lent.size_asked ks ws fields maps size)
-          (stated.asked _ p k p.1.1.0 fields measured (align_at_lem ks ws _ count.behind)) c.larger.ensures
+          (stated.asked _ p k p.1.1.0 fields measured (align_at_lem ks ws _ count.behind)) c.max.ensures
           (c.raised-start.ensures _ _ _ _ (then_puts (c.push_count-counted.ensures m k p.1.0 (laws.count_part count.at) last.locals) c.moved.ensures));
       maps = last;
     }

@@ -52,14 +52,14 @@ slice_bounds-to_words-start c = omega (arith, (first_value c.args.kinds.now c.ar
 pub push_value-requires : goal.push_value-requires
 push_value-requires c = (operand_there c.args.work.now c.requires.room (first_value c.args.kinds.now c.args.words.now c.requires.fields c.skip-val.ensures))
 
-pub returns-then-op-eq5 : goal.returns-then-op-eq5
-returns-then-op-eq5 c =
+pub returns-in-BitCast : goal.returns-in-BitCast
+returns-in-BitCast c =
     let ks = c.args.kinds.now in
     let ws = c.args.words.now in
     let m = c.args.names in
-    λ k o e maps p f.
-    cast_lines k p.0 p.1.0 p.1.1.0 (c.need_width-from.ensures p.0 (width_is ks ws 0 f)) c.args.op c.if-op-eq5.true
-    (c.push_value.ensures m k p.1.0 (value_part (first_value ks ws f c.skip-val.ensures)) maps) o e
+    λ k maps p f.
+    rw c.in-BitCast.is (cast_lines k p.0 p.1.0 p.1.1.0 (c.need_width-from.ensures p.0 (width_is ks ws 0 f))
+    (c.push_value.ensures m k p.1.0 (value_part (first_value ks ws f c.skip-val.ensures)) maps))
 
 pub need_width-to-requires : goal.need_width-to-requires
 need_width-to-requires c = (type_in (part_from c.args.kinds.now (c.skip-val.result + 1)) (part_from c.args.words.now (c.skip-val.result + 1)) 0 (fields_part c.args.kinds.now c.args.words.now (c.skip-val.result + 1) (behind_first_lem c.args.kinds.now c.args.words.now c.requires.fields c.skip-val.ensures)))
@@ -73,8 +73,8 @@ returns c =
     let ws = c.args.words.now in
     let m = c.args.names in
     let to = c.skip-val.result + 1 in
-    λ k o e maps p f.
+    λ k maps p f.
     conv_lines k p.0 p.1.0 p.1.1.0 (c.need_width-from.ensures p.0 (width_is ks ws 0 f))
     (c.need_width-to.ensures p.1.1.0 (width_is (part_from ks to) (part_from ws to) 0 (fields_part ks ws to (behind_first_lem ks ws f c.skip-val.ensures))))
     (c.push_value-value.ensures m k p.1.0 (value_part (first_value ks ws f c.skip-val.ensures)) maps)
-    c.args.op c.if-op-eq5.false c.emit_conv_op.ensures o e
+    c.args.op c.in_default.not-BitCast c.emit_conv_op.ensures

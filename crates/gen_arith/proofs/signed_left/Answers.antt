@@ -1,7 +1,12 @@
--- `gen_arith::signed_left` meets its contract, number by number.
-use Rattle.gen_arith.specs.Arith as laws
+-- `gen_arith::signed_left` meets its contract.
+use Rattle.std.proofs.Common.{⊎_elim}
+use Rattle.lowering.specs.Arith.{signed_left}
+use Rattle.gen_arith.specs.Arith.{unsigned_left}
 use Rattle.gen_arith.proofs.signed_left.Goals as goal
 
--- src/lib.rt:28:1
-pub returns : goal.returns
-returns c = laws.left_by c.args.op
+pub returns-in-SDiv : goal.returns-in-SDiv
+unfolding signed_left
+returns-in-SDiv c = ⊎_elim (λ e. rw e) (⊎_elim (λ e. rw e) (λ e. rw e)) c.in-SDiv.is
+
+pub returns-in_default : goal.returns-in_default
+returns-in_default c = unsigned_left _ c.in_default.not-SDiv c.in_default.not-SRem c.in_default.not-AShr

@@ -1,5 +1,5 @@
 -- `gen_atomic::agg_slot` meets its contract.
-use Rattle.std.proofs.Common.{get_or, sym, ◌∙◌, arith}
+use Rattle.std.proofs.Common.{get_or, sym, ◌∙◌}
 use Rattle.gen_values.specs.Fields.{local_below}
 use Rattle.gen_fields.specs.Kinds.{is_local}
 use Rattle.gen_atomic.specs.Atomic as laws
@@ -9,7 +9,7 @@ pub name_slot-requires : goal.name_slot-requires
 name_slot-requires c =
     let kind = get_or c.args.kinds.now 0 0 in
     let word = get_or c.args.words.now 0 0 in
-    (c.requires.reaches.there (is_local kind word c.if-kinds-eq-LOCAL.true), omega arith)
+    c.requires.reaches.there (is_local kind word c.if-kinds-eq-LOCAL.true)
 
 pub returns-then-kinds-eq-LOCAL : goal.returns-then-kinds-eq-LOCAL
 returns-then-kinds-eq-LOCAL c = λ m k v at maps.

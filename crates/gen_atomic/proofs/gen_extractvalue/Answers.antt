@@ -1,4 +1,5 @@
 -- `gen_atomic::gen_extractvalue` meets its contract.
+use mathlib.Core.Path.{refl}
 use Rattle.std.proofs.Common.{sym}
 use Rattle.gen_values.specs.Fields.{operand_at, value_at, behind_value}
 use Rattle.gen_fields.specs.Places as places
@@ -28,5 +29,5 @@ returns c = λ p k fields maps.
     let index = places.index_is ks ws 1 (behind_value ks ws 0 fields) in
     rw (sym index)
     (laws.extract_puts k p.0 _ _ (c.agg_slot-first.ensures m k p.0 (value_at ks ws 0 fields) maps)
-    c.need-known.ensures c.wrapping_add_u64.ensures.value c.put-got.ensures
+    c.need-known.ensures refl c.put-got.ensures
     (c.store_dest.ensures m k c.requires.result maps))

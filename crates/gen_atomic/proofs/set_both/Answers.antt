@@ -1,4 +1,5 @@
 -- `gen_atomic::set_both` meets its contract.
+use mathlib.Core.Path.{refl}
 use Rattle.std.proofs.Common.{◌∙◌, rules}
 use Rattle.gen_atomic.specs.Atomic as laws
 use Rattle.gen_atomic.proofs.set_both.Goals as goal
@@ -14,4 +15,4 @@ shape_of-operands c =
 pub returns : goal.returns
 returns c = λ m k v at maps.
     laws.both_puts k v c.args.slot (search rules) c.put-twice.ensures c.put-found.ensures
-    (c.push_value-compared.ensures m k v at maps) c.put-equal.ensures c.wrapping_add_u64.ensures.value c.put.ensures
+    (c.push_value-compared.ensures m k v at maps) c.put-equal.ensures refl c.put.ensures

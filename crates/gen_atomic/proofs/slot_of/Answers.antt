@@ -9,7 +9,7 @@ returns-then-dest-eq0 c = λ m k below maps.
 
 pub name_slot-requires : goal.name_slot-requires
 name_slot-requires c =
-    (c.requires.there c.if-dest-eq0.false, omega arith)
+    c.requires.there c.if-dest-eq0.false
 
 pub returns : goal.returns
 returns c = λ m k below maps.

@@ -1,6 +1,8 @@
 use Rattle.gen_blocks.specs.Words.{words_none, words_then}
 use Rattle.gen_blocks.specs.Blocks as laws
 use borrow.Author.Rules.{rules}
+use mathlib.Core.Path.{◌≡◌}
+use native.Mathlib.Omega.{arith}
 use Rattle.gen_blocks.proofs.place_blocks.Goals as goal
 use Rattle.gen_blocks.proofs.place_blocks.Goals.{then-kinds-next-eq-BLOCK, else-kinds-next-eq-BLOCK}
 
@@ -146,16 +148,6 @@ bounds-work-words c =
     let r = i.room in
     search rules
 
-pub overflow_add-next : goal.overflow_add-next
-overflow_add-next c =
-    let ks = c.args.kinds.now in
-    let ws = c.args.words.now in
-    let l = rw c.shorter-end.ensures at c.loop-next-test.true in
-    let k = c.requires.1.1 in
-    let i = (c.loop-next.invariant c.requires.0 c.requires.1.0 k.0 k.1).0 in
-    let h = laws.in_kinds _ ks ws _ _ _ _ _ _ i l in
-    search rules
-
 pub loop-next-preserved : goal.loop-next-preserved
 loop-next-preserved c =
     let ks = c.args.kinds.now in
@@ -180,4 +172,5 @@ returns c =
     λ blocks rest book k.
     let i = c.loop-next.invariant blocks rest book k in
     let z = laws.blocks_last _ ks ws _ _ _ _ _ _ i.0 (rw c.shorter-end.ensures at c.loop-next-test.false) in
-    laws.blocks_done _ ks ws _ _ _ _ _ _ i.0 _ z.0 z.1 i.1
+    let e : c.shorter-end.result ≡ c.loop-next.next = omega arith in
+    rw e (laws.blocks_done _ ks ws _ _ _ _ _ _ i.0 _ z.0 z.1 i.1)

@@ -1,5 +1,4 @@
 -- `gen_blocks::place_blocks` meets its contract: an entry of kind 7 is the next block that is left, one of kind 5 the next function.
-use Prim.Native.Nat.{◌-◌}
 use mathlib.Core.List.{List}
 use Rattle.book.specs.Ast.{BasicBlock}
 use Rattle.book.specs.Entry.{Entry, entries}
@@ -11,6 +10,3 @@ abbrev pub invariant-loop-next : goal.invariant-loop-next
 invariant-loop-next l =
     (blocks : List BasicBlock) (rest book : List Entry) → laws.BlocksAsked l.names blocks rest book l.at (entries l.kinds l.words) l.initial.work
     → laws.BlocksAt l.names blocks rest book l.at (entries l.kinds l.words) l.work l.next × WordsKept l.names 2 l.initial.work l.work
-
-abbrev pub decreases-loop-next : goal.decreases-loop-next
-decreases-loop-next l = l.end - l.next

@@ -1,4 +1,4 @@
-use Rattle.std.proofs.Common.{◌-◌, arith}
+use Rattle.std.proofs.Common.{arith}
 use Rattle.gen_call.specs.Args as laws
 use Rattle.gen_call.proofs.count_args.Goals as goal
 

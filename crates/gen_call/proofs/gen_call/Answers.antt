@@ -1,5 +1,5 @@
 -- `gen_call::gen_call` meets its contract: the mark of the callee tells which call it is.
-use Rattle.std.proofs.Common.{get_or, sym, ◌∙◌, arith}
+use Rattle.std.proofs.Common.{get_or, sym, ap, ◌∙◌, arith}
 use Rattle.gen_values.specs.Fields.{part_from, value_at, type_in}
 use Rattle.gen_call.specs.Calls as laws
 use Rattle.gen_call.proofs.gen_call.Goals as goal
@@ -96,8 +96,8 @@ gen_plain_call-requires c =
     let callee = laws.callee_part ks ws c.requires.fields c.skip-at.ensures in
     record { holds = c.requires.holds.1; fields = callee.2; result = c.requires.result; room = c.requires.room }
 
-pub returns-in-2 : goal.returns-in-2
-returns-in-2 c = λ bs p k fields maps.
+pub returns-in-Syscall : goal.returns-in-Syscall
+returns-in-Syscall c = λ bs p k fields maps.
     let ks = c.args.kinds.now in
     let ws = c.args.words.now in
     let m = c.args.names in
@@ -106,11 +106,11 @@ returns-in-2 c = λ bs p k fields maps.
     let value = value_at (part_from ks at) (part_from ws at) 0 part in
     let class = c.call_class-class.ensures m k p.1.0 value maps.marks in
     let system-call = c.gen_syscall.ensures p.1 k p.0 part maps.locals (laws.void_kind ks ws fields) in
-    laws.system_puts k _ p.0 p.1.1.0 p.1.0 class c.in-2.is
+    laws.system_puts k _ p.0 p.1.1.0 p.1.0 class (ap laws.class_number c.in-Syscall.is)
     (λ x e. rw (sym (laws.global_word (get_or (part_from ks at) 0 0) (get_or (part_from ws at) 0 0) (value.is ∙ e))) system-call)
 
-pub returns-in-3 : goal.returns-in-3
-returns-in-3 c = λ bs p k fields maps.
+pub returns-in-Memcmp : goal.returns-in-Memcmp
+returns-in-Memcmp c = λ bs p k fields maps.
     let ks = c.args.kinds.now in
     let ws = c.args.words.now in
     let m = c.args.names in
@@ -118,10 +118,10 @@ returns-in-3 c = λ bs p k fields maps.
     let part = (laws.callee_part ks ws fields c.skip-at.ensures).2 in
     let value = value_at (part_from ks at) (part_from ws at) 0 part in
     let class = c.call_class-class.ensures m k p.1.0 value maps.marks in
-    laws.memory_puts k _ p.0 p.1.1.0 p.1.0 class c.in-3.is (c.gen_memcmp_call.ensures p.1 k part maps.locals)
+    laws.memory_puts k _ p.0 p.1.1.0 p.1.0 class (ap laws.class_number c.in-Memcmp.is) (c.gen_memcmp_call.ensures p.1 k part maps.locals)
 
-pub returns-in_default : goal.returns-in_default
-returns-in_default c = λ bs p k fields maps.
+pub returns-in-Defined : goal.returns-in-Defined
+returns-in-Defined c = λ bs p k fields maps.
     let ks = c.args.kinds.now in
     let ws = c.args.words.now in
     let m = c.args.names in
@@ -129,7 +129,6 @@ returns-in_default c = λ bs p k fields maps.
     let part = (laws.callee_part ks ws fields c.skip-at.ensures).2 in
     let value = value_at (part_from ks at) (part_from ws at) 0 part in
     let class = c.call_class-class.ensures m k p.1.0 value maps.marks in
-    let no-syscall = c.in_default.in_default-own.rest.0.1 in
-    let no-memcmp = c.in_default.in_default-own.rest.1 in
-    laws.other_puts k _ p.0 p.1.1.0 p.1.0 class no-syscall no-memcmp
-    (c.gen_plain_call.ensures p.1 k part maps.locals (laws.defined_by_lem k p.1.0 class no-syscall no-memcmp))
+    let plain = laws.plain_class c.in-Defined.is in
+    laws.other_puts k _ p.0 p.1.1.0 p.1.0 class plain.0 plain.1
+    (c.gen_plain_call.ensures p.1 k part maps.locals (rw c.is_defined.ensures (laws.defined_by_lem k p.1.0 class plain.0 plain.1)))

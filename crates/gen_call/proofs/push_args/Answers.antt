@@ -1,4 +1,4 @@
-use Rattle.std.proofs.Common.{◌-◌, arith}
+use Rattle.std.proofs.Common.{arith}
 use Rattle.gen_values.specs.Fields.{part_from, fields_part}
 use Rattle.gen_fields.specs.Places.{from_front, typed_at}
 use Rattle.gen_call.specs.Args as laws
@@ -165,14 +165,6 @@ loop-at-preserved c =
     let long = laws.part_len m ks ws at c.skip-value.ensures in
     laws.push_next ks ws work at c.loop-at.invariant c.loop-at-test.true long c.push_typed-reached.auto.lines c.push_typed-reached.auto.operands
     (λ k x xs f maps. c.push_typed-reached.ensures m k _ _ (fields_part ks ws at f) c.skip-value.ensures maps)
-
-pub shape_of-lines : goal.shape_of-lines
-shape_of-lines c =
-    c.loop-at.invariant.long_lines
-
-pub shape_of-operands : goal.shape_of-operands
-shape_of-operands c =
-    c.loop-at.invariant.long_operands
 
 pub returns : goal.returns
 returns c = λ args k f maps.

@@ -1,7 +1,8 @@
-use Rattle.std.proofs.Common.{◌+◌, ◌%◌, ◌^◌, set, refl, ap, ◌∙◌, arith}
+use Rattle.std.proofs.Common.{◌+◌, ◌-◌, ◌%◌, ◌^◌, set, refl, ap, ◌∙◌, arith}
 use Rattle.book.specs.Entry.{entries}
 use Rattle.gen_lines.specs.Puts.{further}
 use Rattle.gen_edge.specs.Phis.{leading_in}
+use Rattle.gen_edge.specs.Copies.{slot_or}
 use Rattle.gen_edge.specs.Edges.{few_phis, set_start, set_in, set_lent, set_behind, set_reaches, set_next, set_end}
 use Rattle.gen_edge.proofs.set_slots.Goals as goal
 
@@ -23,7 +24,7 @@ offset_bounds-words-at c =
     let work = a.work.now in
     let phis = c.requires.phis in
     let walk = c.loop-left.invariant phis c.requires.front c.requires.counted in
-    let inside = set_in m ks ws work phis walk c.loop-left-test.true in
+    let inside = set_in m ks ws work phis walk (λ z. omega arith) in
     omega (arith, inside.0, inside.1, c.well_formed)
 
 pub bounds-words-at : goal.bounds-words-at
@@ -35,11 +36,11 @@ bounds-words-at c =
     let work = a.work.now in
     let phis = c.requires.phis in
     let walk = c.loop-left.invariant phis c.requires.front c.requires.counted in
-    let inside = set_in m ks ws work phis walk c.loop-left-test.true in
+    let inside = set_in m ks ws work phis walk (λ z. omega arith) in
     inside.1
 
-pub slot_number-slot-requires : goal.slot_number-slot-requires
-slot_number-slot-requires c =
+pub slot-requires : goal.slot-requires
+slot-requires c =
     let a = c.args in
     let ks = a.kinds.now in
     let ws = a.words.now in
@@ -47,7 +48,7 @@ slot_number-slot-requires c =
     let work = a.work.now in
     let phis = c.requires.phis in
     let walk = c.loop-left.invariant phis c.requires.front c.requires.counted in
-    set_reaches m ks ws work phis walk c.loop-left-test.true c.requires.room
+    set_reaches m ks ws work phis walk (λ z. omega arith) c.requires.room
 
 pub offset_bounds-kinds-at : goal.offset_bounds-kinds-at
 offset_bounds-kinds-at c =
@@ -58,7 +59,7 @@ offset_bounds-kinds-at c =
     let work = a.work.now in
     let phis = c.requires.phis in
     let walk = c.loop-left.invariant phis c.requires.front c.requires.counted in
-    let inside = set_in m ks ws work phis walk c.loop-left-test.true in
+    let inside = set_in m ks ws work phis walk (λ z. omega arith) in
     omega (arith, inside.0, inside.1, c.well_formed)
 
 pub slice_bounds-phi_len-count : goal.slice_bounds-phi_len-count
@@ -70,7 +71,7 @@ slice_bounds-phi_len-count c =
     let work = a.work.now in
     let phis = c.requires.phis in
     let walk = c.loop-left.invariant phis c.requires.front c.requires.counted in
-    let inside = set_in m ks ws work phis walk c.loop-left-test.true in
+    let inside = set_in m ks ws work phis walk (λ z. omega arith) in
     omega (arith, inside.0, inside.1, c.well_formed)
 
 pub slice_bounds-phi_len-start : goal.slice_bounds-phi_len-start
@@ -82,7 +83,7 @@ slice_bounds-phi_len-start c =
     let work = a.work.now in
     let phis = c.requires.phis in
     let walk = c.loop-left.invariant phis c.requires.front c.requires.counted in
-    let inside = set_in m ks ws work phis walk c.loop-left-test.true in
+    let inside = set_in m ks ws work phis walk (λ z. omega arith) in
     omega (arith, inside.0, inside.1, c.well_formed)
 
 pub slice_bounds-phi_len-end : goal.slice_bounds-phi_len-end
@@ -94,7 +95,7 @@ slice_bounds-phi_len-end c =
     let work = a.work.now in
     let phis = c.requires.phis in
     let walk = c.loop-left.invariant phis c.requires.front c.requires.counted in
-    let inside = set_in m ks ws work phis walk c.loop-left-test.true in
+    let inside = set_in m ks ws work phis walk (λ z. omega arith) in
     omega (arith, inside.0, inside.1, c.well_formed)
 
 pub offset_bounds-words-at-in-loop-left : goal.offset_bounds-words-at-in-loop-left
@@ -106,7 +107,7 @@ offset_bounds-words-at-in-loop-left c =
     let work = a.work.now in
     let phis = c.requires.phis in
     let walk = c.loop-left.invariant phis c.requires.front c.requires.counted in
-    let inside = set_in m ks ws work phis walk c.loop-left-test.true in
+    let inside = set_in m ks ws work phis walk (λ z. omega arith) in
     omega (arith, inside.0, inside.1, c.well_formed)
 
 pub slice_bounds-phi_len-count-in-loop-left : goal.slice_bounds-phi_len-count-in-loop-left
@@ -118,7 +119,7 @@ slice_bounds-phi_len-count-in-loop-left c =
     let work = a.work.now in
     let phis = c.requires.phis in
     let walk = c.loop-left.invariant phis c.requires.front c.requires.counted in
-    let inside = set_in m ks ws work phis walk c.loop-left-test.true in
+    let inside = set_in m ks ws work phis walk (λ z. omega arith) in
     omega (arith, inside.0, inside.1, c.well_formed)
 
 pub slice_bounds-phi_len-start-in-loop-left : goal.slice_bounds-phi_len-start-in-loop-left
@@ -130,7 +131,7 @@ slice_bounds-phi_len-start-in-loop-left c =
     let work = a.work.now in
     let phis = c.requires.phis in
     let walk = c.loop-left.invariant phis c.requires.front c.requires.counted in
-    let inside = set_in m ks ws work phis walk c.loop-left-test.true in
+    let inside = set_in m ks ws work phis walk (λ z. omega arith) in
     omega (arith, inside.0, inside.1, c.well_formed)
 
 pub slice_bounds-phi_len-end-in-loop-left : goal.slice_bounds-phi_len-end-in-loop-left
@@ -142,7 +143,7 @@ slice_bounds-phi_len-end-in-loop-left c =
     let work = a.work.now in
     let phis = c.requires.phis in
     let walk = c.loop-left.invariant phis c.requires.front c.requires.counted in
-    let inside = set_in m ks ws work phis walk c.loop-left-test.true in
+    let inside = set_in m ks ws work phis walk (λ z. omega arith) in
     omega (arith, inside.0, inside.1, c.well_formed)
 
 pub phi_len-at-requires : goal.phi_len-at-requires
@@ -154,7 +155,7 @@ phi_len-at-requires c =
     let work = a.work.now in
     let phis = c.requires.phis in
     let walk = c.loop-left.invariant phis c.requires.front c.requires.counted in
-    set_lent m ks ws work phis walk c.loop-left-test.true
+    set_lent m ks ws work phis walk (λ z. omega arith)
 
 pub overflow_add-at : goal.overflow_add-at
 overflow_add-at c =
@@ -166,7 +167,7 @@ overflow_add-at c =
     let phis = c.requires.phis in
     let at = c.loop-left.at in
     let walk = c.loop-left.invariant phis c.requires.front c.requires.counted in
-    let behind = set_behind m ks ws work phis walk c.loop-left-test.true c.phi_len-at.result c.phi_len-at.ensures in
+    let behind = set_behind m ks ws work phis walk (λ z. omega arith) c.phi_len-at.result c.phi_len-at.ensures in
     omega (arith, (leading_in ks ws (at + c.phi_len-at.result) _ behind).0, c.well_formed)
 
 pub loop-left-preserved : goal.loop-left-preserved
@@ -177,11 +178,10 @@ loop-left-preserved c = λ ps front e.
     let m = a.names in
     let work = a.work.now in
     let phis = c.requires.phis in
-    let walk = c.loop-left.invariant phis c.requires.front c.requires.counted in
     let walk = c.loop-left.invariant ps front e in
-    set_next m ks ws work ps walk c.loop-left-test.true (set_behind m ks ws work ps walk c.loop-left-test.true c.phi_len-at.result c.phi_len-at.ensures)
-    c.wrapping_add_usize.ensures.value c.put_at.ensures.0
-    (c.put_at.ensures.1 ∙ ap (λ x. set c.loop-left.operands c.wrapping_add_usize.result (x % 2 ^ 64)) c.slot_number-slot.ensures)
+    set_next m ks ws work ps walk (λ z. omega arith) (set_behind m ks ws work ps walk (λ z. omega arith) c.phi_len-at.result c.phi_len-at.ensures)
+    refl c.put_at.ensures.0
+    (c.put_at.ensures.1 ∙ ap (λ x. set c.loop-left.operands ((a.s.at + (c.loop-left.left - 1)) % 2 ^ 64) (x % 2 ^ 64)) (c.unwrap_or-slot.ensures ∙ slot_or _ _ c.slot.ensures))
 
 pub beyond-requires : goal.beyond-requires
 beyond-requires c =
@@ -211,5 +211,5 @@ returns c = λ k ps cps front e slots.
     let ws = a.words.now in
     let m = a.names in
     let work = a.work.now in
-    set_end m ks ws work ps (c.loop-left.invariant ps front e) c.loop-left-test.false k cps slots refl
+    set_end m ks ws work ps (c.loop-left.invariant ps front e) (omega (arith, c.loop-left-test.false)) k cps slots refl
     (c.beyond.ensures ∙ ap (further a.s.at) e) refl refl

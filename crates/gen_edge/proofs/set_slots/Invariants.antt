@@ -8,6 +8,3 @@ use Rattle.gen_edge.proofs.set_slots.Given as goal
 abbrev pub invariant-loop-left : goal.invariant-loop-left
 invariant-loop-left l = (ps : List Phi) → Leading l.names ps (entries l.kinds l.words) → l.phis ≡ length ps
     → SetWalk l.names l.kinds l.words l.work ps l.first l.at l.left l.initial.lines l.initial.operands l.lines l.operands
-
-abbrev pub decreases-loop-left : goal.decreases-loop-left
-decreases-loop-left l = l.left

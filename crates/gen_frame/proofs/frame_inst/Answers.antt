@@ -4,10 +4,6 @@ use Rattle.gen_frame.specs.Taken as facts
 use borrow.Author.Rules.{rules}
 use Rattle.gen_frame.proofs.frame_inst.Goals as goal
 
-pub returns-then-f-ne0 : goal.returns-then-f-ne0
-returns-then-f-ne0 c =
-    laws.step_refused c.args.kinds.now c.args.words.now c.args.work.now c.args.f c.requires.ready c.if-f-ne0.true
-
 pub take_slots-taken-requires : goal.take_slots-taken-requires
 take_slots-taken-requires c =
     laws.take_ask c.args.kinds.now c.args.words.now c.args.work.now c.args.f c.requires
@@ -19,7 +15,7 @@ bounds-kinds-0 c =
 
 pub returns-then-kinds-ne-ALLOCA : goal.returns-then-kinds-ne-ALLOCA
 returns-then-kinds-ne-ALLOCA c =
-    laws.step_plain c.args.kinds.now c.args.words.now c.args.work.now c.args.f c.if-f-ne0.false
+    laws.step_plain c.args.kinds.now c.args.words.now c.args.work.now c.args.f
     c.take_slots-taken.ensures c.requires.ready c.if-kinds-ne-ALLOCA.true
 
 pub slice_bounds-alloca-count : goal.slice_bounds-alloca-count
@@ -49,10 +45,10 @@ bounds-words-0 c =
 
 pub alloca-requires : goal.alloca-requires
 alloca-requires c =
-    laws.alloca_ask c.args.kinds.now c.args.words.now c.args.work.now c.args.f c.if-f-ne0.false
+    laws.alloca_ask c.args.kinds.now c.args.words.now c.args.work.now c.args.f
     c.take_slots-taken.ensures c.if-kinds-ne-ALLOCA.false c.requires
 
 pub returns : goal.returns
 returns c =
-    laws.step_alloca c.args.kinds.now c.args.words.now c.args.work.now c.args.f c.if-f-ne0.false
+    laws.step_alloca c.args.kinds.now c.args.words.now c.args.work.now c.args.f
     c.take_slots-taken.ensures c.if-kinds-ne-ALLOCA.false c.requires c.alloca.ensures

@@ -1,5 +1,6 @@
 -- `gen_functions::gen_turn` meets its contract: what was set is cleared, the function prepared, and its lines put.
 use native.Mathlib.Omega.{arith}
+use Rattle.book.specs.Refusal.{number_positive}
 use Rattle.gen_lines.specs.Puts.{made_refused_lem}
 use Rattle.gen_clear.specs.Clear.{cut_within, clear_part}
 use Rattle.gen_functions.specs.Turns as laws
@@ -50,46 +51,42 @@ pub clear_function-requires : goal.clear_function-requires
 clear_function-requires c =
     clear_part c.args.book_kinds.now c.args.book_words.now c.requires.ask
 
-pub prepare-head-requires : goal.prepare-head-requires
-prepare-head-requires c =
+pub prepare-requires : goal.prepare-requires
+prepare-requires c =
     let a = c.requires in
     laws.prepare_ask c.args.book_kinds.now c.args.book_words.now a.codegen a.fn a.others a.here a.shared c.clear_function.ensures
 
-pub returns-then-head-ne0 : goal.returns-then-head-ne0
-returns-then-head-ne0 c g f fs here shared ask =
+pub returns-in-Err : goal.returns-in-Err
+returns-in-Err c g f fs here shared ask =
     let ks = c.args.book_kinds.now in
     let ws = c.args.book_words.now in
-    let cleared = c.clear_function.ensures in
-    let prepared = c.prepare-head.ensures in
+    let stopped = made_refused_lem _ (number_positive c.in-Err.e) c.args.t.s c.refuse.ensures in
     record {
-      puts = laws.refused_turn ks ws g f fs here shared cleared prepared c.if-head-ne0.true _ _ c.refuse.ensures;
-      next = laws.next ks ws g f fs here shared cleared prepared;
-      further = laws.further ks ws g f fs here shared cleared prepared;
-      again = λ e. laws.never (made_refused_lem _ (omega (arith, c.if-head-ne0.true)) c.args.t.s c.refuse.ensures) e;
+      puts = laws.refused_turn ks ws g f fs here shared c.clear_function.ensures _ c.in-Err.ensures _ _ c.refuse.ensures;
+      next = λ e. laws.never stopped e;
+      further = λ e. laws.never stopped e;
+      again = λ e. laws.never stopped e;
     }
 
 pub gen_function-s-requires : goal.gen_function-s-requires
 gen_function-s-requires c =
     let ks = c.args.book_kinds.now in
     let ws = c.args.book_words.now in
-    let cleared = c.clear_function.ensures in
-    let prepared = c.prepare-head.ensures in
     let a = c.requires in
-    laws.function_asked ks ws a.codegen a.fn a.others a.here a.shared cleared prepared c.if-head-ne0.false
+    laws.function_asked ks ws a.codegen a.fn a.others a.here a.shared c.clear_function.ensures c.in-Ok.ensures
 
-pub returns : goal.returns
-returns c g f fs here shared ask =
+pub returns-in-Ok : goal.returns-in-Ok
+returns-in-Ok c g f fs here shared ask =
     let ks = c.args.book_kinds.now in
     let ws = c.args.book_words.now in
     let cleared = c.clear_function.ensures in
-    let prepared = c.prepare-head.ensures in
-    let going = c.if-head-ne0.false in
-    let x = laws.context ks ws g f fs here shared cleared prepared going in
+    let prepared = c.in-Ok.ensures in
+    let x = laws.context ks ws g f fs here shared cleared prepared in
     let did = c.gen_function-s.ensures _ f (laws.function_here ks ws g f fs here shared cleared prepared)
-    (laws.context_framed ks ws g f fs here shared cleared prepared going) x.set.maps in
+    (laws.context_framed ks ws g f fs here shared cleared prepared) x.set.maps in
     record {
-      puts = laws.lines_put ks ws g f fs here shared cleared prepared going did;
-      next = laws.next ks ws g f fs here shared cleared prepared;
-      further = laws.further ks ws g f fs here shared cleared prepared;
-      again = λ _. laws.for_next ks ws g f fs here shared cleared prepared going did;
+      puts = laws.lines_put ks ws g f fs here shared cleared prepared did;
+      next = λ _. laws.next ks ws g f fs here shared cleared prepared;
+      further = λ _. laws.further ks ws g f fs here shared cleared prepared;
+      again = λ _. laws.for_next ks ws g f fs here shared cleared prepared did;
     }

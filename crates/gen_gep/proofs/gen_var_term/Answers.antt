@@ -6,6 +6,7 @@ use native.Mathlib.Omega.{arith}
 use lib.ListN.{get_or}
 use Rattle.gen_values.specs.Fields.{part_from, part_front, part_there, value_part, operand_part, type_in, operand_at}
 use Rattle.gen_values.specs.Values.{width_by}
+use Rattle.gen_values.specs.Present.{width_or_0}
 use Rattle.gen_gep.specs.Indices.{value_behind}
 use Rattle.gen_gep.specs.Lines.{term_lines}
 use Rattle.gen_gep.proofs.gen_var_term.Goals as goal
@@ -50,8 +51,8 @@ slice_bounds-width_of-start-2 c =
     let q = type_in a.book_kinds.now a.book_words.now a.index c.requires.is.fields in
     omega (arith, q.1, c.well_formed)
 
-pub width_of-width-requires : goal.width_of-width-requires
-width_of-width-requires c =
+pub width_of-requires : goal.width_of-requires
+width_of-requires c =
     let a = c.args in
     let q = type_in a.book_kinds.now a.book_words.now a.index c.requires.is.fields in
     (part_there a.book_kinds.now a.index q.0, part_there a.book_words.now a.index q.1)
@@ -123,7 +124,7 @@ shape_of-operands c =
 pub returns : goal.returns
 returns c =
     let a = c.args in
-    let width = c.width_of-width.ensures ∙ part_width a.book_kinds.now a.book_words.now a.index in
+    let width = c.unwrap_or-width.ensures ∙ width_or_0 _ c.width_of.ensures ∙ part_width a.book_kinds.now a.book_words.now a.index in
     λ k t locals h.
     let v = value_behind a.book_kinds.now a.book_words.now a.index h.fields c.skip_at.ensures refl in
     term_lines k t h.val (h.width ∙ sym width) h.stride (c.push_value-pushed.ensures a.names k h.holds.1.0 (value_part v) locals)

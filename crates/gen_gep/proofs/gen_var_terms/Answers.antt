@@ -1,4 +1,3 @@
-use Prim.Native.Nat.{◌-◌}
 use mathlib.Core.Path.{refl, ◌∙◌}
 use native.Mathlib.Omega.{arith}
 use Rattle.lowering.specs.Gep.{gen_var_term}
@@ -10,7 +9,7 @@ use Rattle.gen_gep.proofs.gen_var_terms.Goals as goal
 pub loop-i-init : goal.loop-i-init
 loop-i-init c =
     let a = c.args in
-    (omega arith, refl, refl, λ k ts locals terms e. none_puts (gen_var_term k) a.s a.lines.now a.operands.now)
+    (refl, refl, λ k ts locals terms e. none_puts (gen_var_term k) a.s a.lines.now a.operands.now)
 
 pub overflow_mul-from : goal.overflow_mul-from
 overflow_mul-from c =
@@ -55,36 +54,27 @@ pub gen_var_term-reached-requires : goal.gen_var_term-reached-requires
 gen_var_term-reached-requires c =
     term_asked c.requires c.loop-i.i c.loop-i-test.true
 
-pub overflow_add-i : goal.overflow_add-i
-overflow_add-i c =
-    omega (arith, c.loop-i-test.true)
-
-pub loop-i-smaller : goal.loop-i-smaller
-loop-i-smaller c =
-    omega (arith, c.loop-i-test.true)
-
 pub loop-i-preserved : goal.loop-i-preserved
 loop-i-preserved c =
     let a = c.args in
     let inv = c.loop-i.invariant in
     let called = c.gen_var_term-reached in
     let less = c.loop-i-test.true in (
-      omega arith,
-      called.auto.lines ∙ inv.1,
-      called.auto.operands ∙ inv.2,
+      called.auto.lines ∙ inv.0,
+      called.auto.operands ∙ inv.1,
       λ k ts locals terms e.
-          let so_far = inv.3 k ts locals terms e in
+          let so_far = inv.2 k ts locals terms e in
           terms_on k a.names a.book_kinds.now a.book_words.now a.work.now c.loop-i.i ts (omega arith) terms so_far (λ x here. called.ensures k x locals here),
     )
 
 pub shape_of-lines : goal.shape_of-lines
 shape_of-lines c =
-    c.loop-i.invariant.1
+    c.loop-i.invariant.0
 
 pub shape_of-operands : goal.shape_of-operands
 shape_of-operands c =
-    c.loop-i.invariant.2
+    c.loop-i.invariant.1
 
 pub returns : goal.returns
 returns c =
-    λ k ts locals terms e. terms_all k c.loop-i.i ts (omega (arith, c.loop-i-test.false)) (c.loop-i.invariant.3 k ts locals terms e)
+    λ k ts locals terms e. terms_all k c.loop-i.i ts (omega (arith, c.loop-i-test.false)) (c.loop-i.invariant.2 k ts locals terms e)

@@ -1,4 +1,3 @@
-use Prim.Native.Nat.{◌-◌}
 use mathlib.Core.Path.{refl}
 use native.Mathlib.Omega.{arith}
 use Rattle.gen_gep.specs.Loop.{loop_start, loop_in, loop_there, loop_value, loop_take, loop_more, loop_done}

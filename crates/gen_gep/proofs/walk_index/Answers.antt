@@ -2,7 +2,7 @@
 use Rattle.book.specs.Entry.{entries}
 use Rattle.layout_memo.specs.Work.{structs_in}
 use Rattle.gen_gep.specs.Indices.{index_in}
-use Rattle.gen_gep.specs.Walks.{take_value, take_took, step_numbered, same_step, walk_after, went_after}
+use Rattle.gen_gep.specs.Walks.{take_value, take_took, same_step, walk_after, went_after}
 use Rattle.gen_gep.proofs.walk_index.Goals as goal
 
 pub index_at-requires : goal.index_at-requires
@@ -13,7 +13,7 @@ index_at-requires c =
 pub took-requires : goal.took-requires
 took-requires c =
     let o = c.next_step-step.ensures in
-    (take_took c.requires o.after, step_numbered _ _ _ _ c.next_step-step.result o)
+    take_took c.requires o.after
 
 pub returns : goal.returns
 returns c =

@@ -1,6 +1,7 @@
 -- `gen_inst::gen_inst` meets its contract: the body, and the result where one is stored.
+use mathlib.Core.Path.{sym}
 use native.Mathlib.Omega.{arith}
-use Rattle.gen_inst.specs.View.{kind_is, dest_word_lem, inst_in}
+use Rattle.gen_inst.specs.View.{kind_is, group_is, dest_word_lem, inst_in}
 use Rattle.gen_inst.specs.Body.{result}
 use Rattle.gen_inst.specs.Whole.{inst_within, body_held, part_fields, dest_few, inst_stored, inst_unstored}
 use Rattle.gen_inst.proofs.gen_inst.Goals as goal
@@ -35,7 +36,7 @@ overflow_add-at c =
 
 pub inst_body-body-requires : goal.inst_body-body-requires
 inst_body-body-requires c =
-    body_held c.args.kinds.now c.args.words.now c.args.book_kinds.now c.args.book_words.now c.args.at c.requires
+    body_held c.args.kinds.now c.args.words.now c.args.book_kinds.now c.args.book_words.now c.args.at c.requires c.inst_group-group.ensures
 
 pub store_dest-requires : goal.store_dest-requires
 store_dest-requires c =
@@ -44,16 +45,16 @@ store_dest-requires c =
 pub returns-then-stores : goal.returns-then-stores
 returns-then-stores c =
     λ k i here base maps.
-    let e = kind_is c.args.kinds.now c.args.words.now here in
+    let e = group_is i.kind (kind_is c.args.kinds.now c.args.words.now here) c.inst_group-group.ensures in
     let d = dest_word_lem c.args.kinds.now c.args.words.now here in
     let b = c.inst_body-body.ensures k i.dest i.kind e d base maps (part_fields c.args.kinds.now c.args.words.now here) in
-    inst_stored k i e (c.stores.ensures.0 c.if-stores.true) b
+    inst_stored k i e (sym c.if-stores.ensures) b
     (result k _ i.dest d
     (c.store_dest.ensures c.args.names k (dest_few c.args.kinds.now c.args.words.now here) b.maps.locals))
 
 pub returns : goal.returns
 returns c =
     λ k i here base maps.
-    let e = kind_is c.args.kinds.now c.args.words.now here in
+    let e = group_is i.kind (kind_is c.args.kinds.now c.args.words.now here) c.inst_group-group.ensures in
     let b = c.inst_body-body.ensures k i.dest i.kind e (dest_word_lem c.args.kinds.now c.args.words.now here) base maps (part_fields c.args.kinds.now c.args.words.now here) in
-    inst_unstored k i e (c.stores.ensures.1 c.if-stores.false) b
+    inst_unstored k i e (sym c.if-stores.ensures) b

@@ -17,10 +17,6 @@ returns-then-end-at-lt15 c =
 pub loop-i-init : goal.loop-i-init
 loop-i-init c = look_start c.requires
 
-pub overflow_add-i : goal.overflow_add-i
-overflow_add-i c =
-    omega (arith, c.loop-i.invariant.left.ends, c.loop-i.invariant.left.inside, c.well_formed)
-
 pub bounds-names-i : goal.bounds-names-i
 bounds-names-i c =
     omega (arith, c.loop-i.invariant.left.inside)

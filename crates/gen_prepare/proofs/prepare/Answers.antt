@@ -2,6 +2,8 @@
 use Rattle.book_types.specs.Laws.{within_kinds, within_words}
 use Rattle.gen_prepare.specs.Passes as laws
 use borrow.Author.Rules.{rules}
+use mathlib.Core.Path.{◌≡◌}
+use Rattle.std.proofs.Common.{Err}
 use Rattle.gen_prepare.proofs.prepare.Goals as goal
 
 pub offset_bounds-kinds-at : goal.offset_bounds-kinds-at
@@ -120,19 +122,27 @@ slice_bounds-frame_pass-end-2 c =
     let h = within_words _ ks ws placed.there in
     search rules
 
-pub frame_pass-f-requires : goal.frame_pass-f-requires
-frame_pass-f-requires c =
+pub frame_pass-requires : goal.frame_pass-requires
+frame_pass-requires c =
     let ks = c.args.kinds.now in
     let ws = c.args.words.now in
     laws.frame_ask ks ws c.requires (c.place_function-placed.ensures _ _ (laws.function_ask ks ws c.requires))
 
 pub framed-requires : goal.framed-requires
 framed-requires c =
-    c.frame_pass-f.ensures.ends
+    c.in_ok-f.ensures.ends
+
+pub returns-in_err-f : goal.returns-in_err-f
+returns-in_err-f c =
+    let ks = c.args.kinds.now in
+    let ws = c.args.words.now in
+    let placed = c.place_function-placed.ensures _ _ (laws.function_ask ks ws c.requires) in
+    let is : c.from_residual.result ≡ Err c.in_err-f.field-0.0 = search rules in
+    rw is (laws.place_refused ks ws c.requires placed c.in_err-f.ensures)
 
 pub returns : goal.returns
 returns c =
     let ks = c.args.kinds.now in
     let ws = c.args.words.now in
     let placed = c.place_function-placed.ensures _ _ (laws.function_ask ks ws c.requires) in
-    rw c.framed.ensures (laws.prepared ks ws c.requires placed c.frame_pass-f.ensures)
+    rw c.framed.ensures (laws.prepared ks ws c.requires placed c.in_ok-f.ensures)

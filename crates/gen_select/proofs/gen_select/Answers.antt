@@ -78,16 +78,6 @@ pub push_value-second_value-requires : goal.push_value-second_value-requires
 push_value-second_value-requires c =
     operand_there c.args.work.now c.requires.room ((false_side c.args.kinds.now c.args.words.now c.requires.fields c.skip-on_true.ensures))
 
-pub shape_of-lines : goal.shape_of-lines
-shape_of-lines c =
-    c.put.auto.lines ∙ c.push_value-second_value.auto.lines ∙ c.put-other.auto.lines ∙ c.put-left.auto.lines
-    ∙ c.push_value-taken.auto.lines ∙ c.put-jumped.auto.lines ∙ c.push_value-tested.auto.lines
-
-pub shape_of-operands : goal.shape_of-operands
-shape_of-operands c =
-    c.put.auto.operands ∙ c.push_value-second_value.auto.operands ∙ c.put-other.auto.operands ∙ c.put-left.auto.operands
-    ∙ c.push_value-taken.auto.operands ∙ c.put-jumped.auto.operands ∙ c.push_value-tested.auto.operands
-
 pub returns : goal.returns
 returns c =
     let ks = c.args.kinds.now in

@@ -1,5 +1,5 @@
 -- `gen_term::gen_cond_br` meets its contract.
-use Rattle.std.proofs.Common.{◌∙◌, arith}
+use Rattle.std.proofs.Common.{◌∙◌, arith, refl}
 use Rattle.gen_values.specs.Fields.{value_part, operand_part}
 use Rattle.gen_edge.specs.Walks.{value_reaches}
 use Rattle.gen_term.specs.Terms.{br_at, cond_at}
@@ -126,5 +126,5 @@ returns c = λ k v x y fields maps.
     let m = a.names in
     let is = br_at ks ws _ x y fields in
     let push = c.push_value-pushed.ensures m k v (value_part (cond_at ks ws fields)) maps.locals in
-    laws.both_ways_puts k a.pred x y v _ (is.both_ways c.if-kinds-eq-ABSENT.false).0 push c.fresh-made.ensures c.word-label.ensures.0 c.word-label.ensures.1
+    laws.both_ways_puts k a.pred x y v _ (is.both_ways c.if-kinds-eq-ABSENT.false).0 push c.fresh-made.ensures refl (omega arith)
     c.put-jumped.ensures (rw is.true_is at (c.edge-gone.ensures k maps)) c.put-labelled.ensures (c.edge.ensures k maps)

@@ -2,6 +2,5 @@
 use mathlib.Core.Path.{◌∙◌}
 use Rattle.gen_values.proofs.need.Goals as goal
 
--- src/lib.rt:20:1
 pub returns-else-test : goal.returns-else-test
 returns-else-test c = c.refuse.ensures ∙ rw c.if-test.false

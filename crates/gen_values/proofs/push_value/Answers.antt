@@ -1,8 +1,10 @@
 -- `gen_values::push_value` meets its contract: the group of the kind tells the value.
-use mathlib.Core.Path.{sym, ◌∙◌}
+use mathlib.Core.Logic.{⊎_elim}
+use mathlib.Core.Path.{◌≡◌, sym, ◌∙◌}
+use Rattle.book.specs.Ast.{Value}
 use native.Mathlib.Omega.{arith}
 use lib.ListN.{get_or}
-use Rattle.gen_values.specs.Values.{value_shape}
+use Rattle.gen_values.specs.Values.{value_of, value_shape}
 use Rattle.gen_values.specs.Fields.{local_below}
 use Rattle.gen_values.specs.Push as laws
 use Rattle.gen_values.proofs.push_value.Goals as goal
@@ -35,10 +37,8 @@ returns-in-Zero c = λ m k v at maps.
 
 pub returns-in-Other : goal.returns-in-Other
 returns-in-Other c = λ m k v at maps.
-    let shape = value_shape (get_or c.args.kinds.now 0 0) (get_or c.args.words.now 0 0) (sym c.in-Other.is ∙ c.value_group.ensures) in
+    let kind = get_or c.args.kinds.now 0 0 in
+    let word = get_or c.args.words.now 0 0 in
+    let shape : value_of kind word ≡ Value.other =
+    ⊎_elim (λ e. value_shape kind word (sym e ∙ c.value_group.ensures)) (λ e. value_shape kind word (sym e ∙ c.value_group.ensures)) c.in-Other.is in
     rw (sym at.is, shape) (laws.other_puts k c.args.width c.args.lines.now c.args.operands.now c.refuse.ensures)
-
-pub returns-in-Bad : goal.returns-in-Bad
-returns-in-Bad c = λ m k v at maps.
-    let shape = value_shape (get_or c.args.kinds.now 0 0) (get_or c.args.words.now 0 0) (sym c.in-Bad.is ∙ c.value_group.ensures) in
-    rw (sym at.is, shape) (laws.other_puts k c.args.width c.args.lines.now c.args.operands.now c.refuse-in-Bad.ensures)

@@ -6,38 +6,31 @@ use Rattle.gen_values.specs.Widths as laws
 use Rattle.book.specs.Work.{slot_at}
 use Rattle.gen_values.proofs.store_dest.Goals as goal
 
--- src/lib.rt:101:9
 pub returns-then-dest-eq0 : goal.returns-then-dest-eq0
 returns-then-dest-eq0 c = λ m k below maps.
     laws.nameless_puts k m c.args.dest c.args.work.now below maps c.args.lines.now c.args.operands.now c.if-dest-eq0.true c.refuse.ensures
 
--- src/lib.rt:103:21
 pub overflow_mul-slot : goal.overflow_mul-slot
 overflow_mul-slot c =
     omega (arith, c.requires.there c.if-dest-eq0.false, c.well_formed)
 
--- src/lib.rt:103:21
 pub overflow_add-slot : goal.overflow_add-slot
 overflow_add-slot c =
     omega (arith, c.requires.there c.if-dest-eq0.false, c.well_formed)
 
--- src/lib.rt:103:16
 pub offset_bounds-work-dest : goal.offset_bounds-work-dest
 offset_bounds-work-dest c =
     omega (arith, c.requires.there c.if-dest-eq0.false, c.well_formed)
 
--- src/lib.rt:103:16
 pub bounds-work-dest : goal.bounds-work-dest
 bounds-work-dest c =
     c.requires.there c.if-dest-eq0.false
 
--- src/lib.rt:105:9
 pub returns-then-slot-eq0 : goal.returns-then-slot-eq0
 returns-then-slot-eq0 c = λ m k below maps.
     laws.slotless_puts k m c.args.dest c.args.work.now below maps c.args.lines.now c.args.operands.now c.if-dest-eq0.false refl
     c.if-slot-eq0.true c.refuse-then-slot-eq0.ensures
 
--- src/lib.rt:95:1
 pub returns : goal.returns
 returns c = λ m k below maps.
     laws.stored_puts k m c.args.dest c.args.work.now below maps c.if-dest-eq0.false refl c.if-slot-eq0.false

@@ -2,17 +2,14 @@
 use Rattle.gen_values.specs.Widths as laws
 use Rattle.gen_values.proofs.trunc_below.Goals as goal
 
--- src/lib.rt:186:9
 pub returns-then-width-eq32 : goal.returns-then-width-eq32
 returns-then-width-eq32 c =
     laws.whole_32_puts c.args.width _ c.args.s c.args.lines.now c.args.operands.now c.if-width-eq32.true
 
--- src/lib.rt:189:9
 pub returns-then-width-lt64 : goal.returns-then-width-lt64
 returns-then-width-lt64 c =
     laws.below_puts c.args.width c.if-width-eq32.false c.if-width-lt64.true c.emit_trunc_to.ensures
 
--- src/lib.rt:182:1
 pub returns : goal.returns
 returns c =
     laws.whole_64_puts c.args.width _ c.args.s c.args.lines.now c.args.operands.now c.if-width-lt64.false

@@ -7,7 +7,7 @@ use Rattle.gen_frame.proofs.places.alloca.Goals as goal
 pub returns-then-dest-eq0 : goal.returns-then-dest-eq0
 returns-then-dest-eq0 c =
     λ args k. laws.alloca_unnamed c.args.names c.args.dest c.args.kinds.now c.args.words.now args k
-    c.if-dest-eq0.true c.requires.ready c.barred.ensures
+    c.if-dest-eq0.true c.requires.ready
 
 pub offset_bounds-kinds-at : goal.offset_bounds-kinds-at
 offset_bounds-kinds-at c =
@@ -60,18 +60,18 @@ place-requires c =
       ends = ask.ends;
     }
 
-pub returns-in-Fixed : goal.returns-in-Fixed
-returns-in-Fixed c =
+pub returns-in-Some : goal.returns-in-Some
+returns-in-Some c =
     λ args k.
     laws.alloca_fixed c.args.names c.args.dest c.args.kinds.now c.args.words.now args k c.if-dest-eq0.false _
     (c.count_of.ensures args.1.0
     (laws.count_at c.args.names c.args.dest c.args.kinds.now c.args.words.now args k c.skip-at.ensures))
-    c.in-Fixed.is c.place.ensures
+    c.in-Some.is c.place.ensures
 
-pub returns-in-Varying : goal.returns-in-Varying
-returns-in-Varying c =
+pub returns-in-None : goal.returns-in-None
+returns-in-None c =
     λ args k.
     laws.alloca_varying c.args.names c.args.dest c.args.kinds.now c.args.words.now args k c.if-dest-eq0.false _
     (c.count_of.ensures args.1.0
     (laws.count_at c.args.names c.args.dest c.args.kinds.now c.args.words.now args k c.skip-at.ensures))
-    c.in-Varying.is c.requires.ready
+    c.in-None.is c.requires.ready

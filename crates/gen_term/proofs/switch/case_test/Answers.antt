@@ -13,5 +13,5 @@ shape_of-operands c =
 
 pub returns : goal.returns
 returns c = λ m k v l case more value maps label number.
-    laws.test_puts k c.args.width v l case more label number c.operation.ensures (c.push_value-pushed.ensures m k v value maps) c.push_int-both.ensures
+    laws.test_puts k c.args.width v l case more label number c.icmp_line.ensures (c.push_value-pushed.ensures m k v value maps) c.push_int-both.ensures
     c.put-tested.ensures c.put.ensures

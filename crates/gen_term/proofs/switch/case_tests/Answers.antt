@@ -1,4 +1,4 @@
-use Rattle.std.proofs.Common.{◌-◌, refl, ◌∙◌, arith}
+use Rattle.std.proofs.Common.{refl, ◌∙◌, arith}
 use Rattle.lowering.specs.Term.{case_tests}
 use Rattle.gen_term.specs.Switches.{case_in, case_at, case_left, walk_start, walk_more, walk_end, no_tests}
 use Rattle.gen_term.proofs.switch.case_tests.Goals as goal

@@ -1,4 +1,4 @@
-use Rattle.std.proofs.Common.{◌-◌, arith}
+use Rattle.std.proofs.Common.{arith}
 use Rattle.gen_term.specs.Switches.{count_in_lem, count_next, count_end}
 use Rattle.gen_term.proofs.switch.count_cases.Goals as goal
 

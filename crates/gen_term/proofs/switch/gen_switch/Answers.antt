@@ -1,5 +1,5 @@
 -- `gen_term::switch::gen_switch` meets its contract.
-use Rattle.std.proofs.Common.{arith}
+use Rattle.std.proofs.Common.{arith, refl}
 use Rattle.gen_values.specs.Fields.{part_from, part_there, fields_part, type_in, width_is}
 use Rattle.gen_edge.specs.Walks.{value_reaches}
 use Rattle.gen_values.specs.Fields.{part_length}
@@ -250,8 +250,8 @@ returns c = λ k ty val default cs fields maps.
     let m = a.names in
     let typed = fields_part ks ws 1 fields in
     let at = (behind (part_from ks 1) (part_from ws 1) ty val default cs typed c.skip-at.ensures).at in
-    switch_puts k a.pred ty val default cs c.need_width-wide.result.width c.count_cases.result c.word-label.result
+    switch_puts k a.pred ty val default cs c.need_width-wide.result.width c.count_cases.result c.need_width-wide.result.s.counter
     (c.need_width-wide.ensures ty (width_is (part_from ks 1) (part_from ws 1) 0 typed))
-    (c.count_cases.ensures m cs at.cases) c.fresh-made.ensures c.word-label.ensures.0 c.word-label.ensures.1
+    (c.count_cases.ensures m cs at.cases) c.fresh-made.ensures refl (omega arith)
     (λ l e. c.case_tests-tested.ensures m k val l cs at.value maps.locals at.cases e)
     (rw at.default_is at (c.edge-gone.ensures k maps)) (λ l e. c.case_edges.ensures k l cs maps at.cases e)

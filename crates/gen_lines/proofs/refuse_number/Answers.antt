@@ -1,6 +1,6 @@
--- `gen_lines::refuse` meets its contract.
+-- `gen_lines::refuse_number` meets its contract.
 use Rattle.std.proofs.Common.{ne_eqb}
-use Rattle.gen_lines.proofs.refuse.Goals as goal
+use Rattle.gen_lines.proofs.refuse_number.Goals as goal
 
 pub returns-then-s-ne0 : goal.returns-then-s-ne0
 returns-then-s-ne0 c = rw (ne_eqb _ 0 c.if-s-ne0.true)
