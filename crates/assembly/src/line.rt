@@ -1,4 +1,4 @@
-// The kinds of lines, by the words that they print; docs/LINES.md lists them.
+// The kinds of lines, by the words that they print; docs/LINES.md lists them. Numbers, and no enum: a kind is a `u16` of the lent slices.
 pub const COMMENT: u16 = 0;
 
 pub const FN_LABEL: u16 = 1;

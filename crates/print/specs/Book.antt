@@ -1,6 +1,6 @@
 -- The slice of a sound book: how many entries and names it has, its kinds and its words.
 use Prim.Native.Nat.{ℕ, suc, ◌+◌, ◌-◌, ◌*◌, ◌≤◌}
-use Rattle.std.specs.Prelude.{◌≡◌, refl, Bool, ◌&&◌, leb, length, get_or, take, drop}
+use Rattle.std.specs.Prelude.{◌≡◌, refl, Bool, ◌&&◌, leb, length, get_or, take, drop, Result}
 use Rattle.std.proofs.Common.{ap, le_of_eq, length-drop, length-take, take_all}
 use Rattle.std.proofs.Math.Path.{subst}
 use Rattle.std.proofs.Math.Bool.{true, false}
@@ -21,7 +21,7 @@ use Rattle.print_forms.specs.Allowed.{is_some}
 use Rattle.print.specs.Heads.{Decoded, book_at, book_is}
 use Rattle.print.specs.Reply.{Prints}
 use Rattle.print.specs.Passes.{with_names}
-use Rattle.print.specs.declared.passes.Printed.{Printed}
+use Rattle.book.specs.declared.refusal.Refusal.{Refusal}
 
 pub record Booked (book : List ℕ) : Type 0 where
   pub some : is_some (book_in book) ≡ true
@@ -103,7 +103,7 @@ module _ (book : List ℕ) (d : Booked book) where
   pub book_short : length kinds_part ≤ 1048576
   book_short = rw kinds_is (omega (arith, length-take (get_or book 0 0) (drop 2 book), s.short))
 
-  pub booked_printed : (bs kinds operands text : List ℕ) {r : Printed} {y : List ℕ} → Prints (with_names (get_or book 1 0) bs (book_at (get_or book 1 0) kinds_part words_part) kinds operands text) r y
+  pub booked_printed : (bs kinds operands text : List ℕ) {r : Result ℕ Refusal} {y : List ℕ} → Prints (with_names (get_or book 1 0) bs (book_at (get_or book 1 0) kinds_part words_part) kinds operands text) r y
       → Prints (print book bs kinds operands text) r y
   unfolding print with_names needed
   booked_printed bs kinds operands text {r} {y} p =

@@ -1,9 +1,10 @@
 -- The function that entries begin with.
-use Rattle.std.specs.Prelude.{ℕ, zero, suc, ◌+◌, ◌≤◌, ◌<◌, Bool, true, false, List, [], ◌∷◌, ◌++◌, eqb, length, get_or, take, drop}
+use Rattle.std.specs.Prelude.{ℕ, zero, suc, ◌+◌, ◌≤◌, ◌<◌, Bool, true, false, List, [], ◌∷◌, ◌++◌, cond, count_by, eqb, length, take, drop}
 use Rattle.std.proofs.Math.Path.{◌≡◌, refl, ap}
-use Rattle.std.proofs.Common.{sym, ◌∙◌, subst, add-one, arith, eq-eqb, ne_eqb, length-append, length-drop, drop-cons, drop-drop}
+use Rattle.std.proofs.Common.{sym, ◌∙◌, subst, arith, length-append, length-drop, drop-drop}
 use Rattle.std.proofs.lemmas.Bool.{false≢true}
-use Rattle.std.proofs.Math.Seq.{take-append_seam, drop-length}
+use Rattle.std.proofs.lemmas.List.Recursion.{is_count_by}
+use Rattle.std.proofs.Math.Seq.{take-append_seam}
 use Rattle.book.specs.Ast.{Ty, Tys, Sizeless, Param, Function}
 use Rattle.book.specs.Entry.{Entry, entry, entries}
 use Rattle.book.specs.Fields.{Item}
@@ -16,9 +17,8 @@ use Rattle.book_types.specs.Length.{len_of}
 use Rattle.book_types.specs.Found.{found_of}
 use Rattle.book_types.specs.Passes.{found_got, found_bad}
 use Rattle.book_types.specs.declared.Found.{Found}
-use Rattle.book_types.specs.declared.Found.TheVariants as answer
 use Rattle.book_types.specs.Laws.{length_entries, entries_part, lent_from, len_got, len_fits}
-use Rattle.book_types.specs.declared.Length.TheVariants as len
+use Rattle.std.specs.Prelude.{Some, None}
 use Rattle.book_types.specs.TypeLaws.{behind_front}
 use Rattle.print_types.specs.Types.{is_got}
 
@@ -48,31 +48,13 @@ abbrev pub sixes : List ℕ → ℕ
 sixes [] = 0
 sixes (k ∷ ks) = one_if (eqb k 6) + sixes ks
 
--- n of kind 6 among the first i
-pub record Counting6 (ks : List ℕ) (n i : ℕ) : Type 0 where
-  pub inside : i ≤ length ks
-  pub few : n ≤ i
-  pub same : n + sixes (drop i ks) ≡ sixes ks
-
-pub counting_start : (ks : List ℕ) → Counting6 ks 0 0
-counting_start ks = record { inside = omega arith; few = omega arith; same = omega arith }
-
-module _ {ks : List ℕ} {n i : ℕ} (c : Counting6 ks n i) where
-  next : i < length ks → n + (one_if (eqb (get_or ks i 0) 6) + sixes (drop (i + 1) ks)) ≡ sixes ks
-  next h = rw (add-one i) (rw (drop-cons ks i 0 h) at c.same)
-
-  pub counting_six : i < length ks → get_or ks i 0 ≡ 6 → Counting6 ks (n + 1) (i + 1)
-  counting_six h e = let f = rw (eq-eqb (get_or ks i 0) 6 e) at (next h) in record { inside = omega arith; few = omega (arith, c.few); same = omega (arith, f) }
-
-  pub counting_other : i < length ks → (get_or ks i 0 ≡ 6 → ⊥) → Counting6 ks n (i + 1)
-  counting_other h e = let f = rw (ne_eqb (get_or ks i 0) 6 e) at (next h) in record { inside = omega arith; few = omega (arith, c.few); same = omega (arith, f) }
-
-  pub counting_end : length ks ≤ i → n ≡ sixes ks
-  counting_end h =
-      let e : i ≡ length ks = omega (arith, c.inside) in
-      let f : drop i ks ≡ [] = rw e (drop-length ks) in
-      let g : n + 0 ≡ sixes ks = rw f at c.same in
-      omega (arith, g)
+-- as the code counts them
+pub sixes_counted : (ks : List ℕ) → sixes ks ≡ count_by (λ k. eqb k 6) ks
+sixes_counted ks = is_count_by sixes (λ k. eqb k 6) refl (λ k l. go (eqb k 6) (sixes l)) ks
+  where
+    go : (t : Bool) (n : ℕ) → one_if t + n ≡ cond t (1 + n) n
+    go true n = refl
+    go false n = omega arith
 
 -- ---- the entries of parameters
 abbrev sixes_in : List Entry → ℕ
@@ -214,11 +196,11 @@ module _ (m : ℕ) (ks ws : List ℕ) (h : FunctionThere m ks ws) where
   type_is : type_to m 64 (behind_front ks ws) ≡ got found.0.ret_ty parts.size
   type_is = ap (type_to m 64) behind_is ∙ parts.typed
 
-  size_is : (n : ℕ) → len.Entries n ≡ len_of (type_to m 64 (behind_front ks ws)) → n ≡ parts.size
-  size_is n e = let u : len.Entries n ≡ len.Entries parts.size = e ∙ ap len_of type_is in cc
+  size_is : (n : ℕ) → Some n ≡ len_of (type_to m 64 (behind_front ks ws)) → n ≡ parts.size
+  size_is n e = let u : Some n ≡ Some parts.size = e ∙ ap len_of type_is in cc
 
-  pub fn_no_type : {X : Type 0} → len.Bad ≡ len_of (type_to m 64 (behind_front ks ws)) → X
-  fn_no_type e = absurd (let u : len.Bad ≡ len.Entries parts.size = e ∙ ap len_of type_is in let z : ◌≡◌ {A = ℕ} 0 1 = cc in omega arith)
+  pub fn_no_type : {X : Type 0} → None ≡ len_of (type_to m 64 (behind_front ks ws)) → X
+  fn_no_type e = absurd (let u : None ≡ Some parts.size = e ∙ ap len_of type_is in let z : ◌≡◌ {A = ℕ} 0 1 = cc in omega arith)
 
   size_fits : parts.size + 1 ≤ length (entries ks ws)
   size_fits =
@@ -231,7 +213,7 @@ module _ (m : ℕ) (ks ws : List ℕ) (h : FunctionThere m ks ws) where
       let u : drop (n + 1) (entries ks ws) ≡ drop parts.size (drop 1 (entries ks ws)) = rw (o, drop-drop parts.size 1 (entries ks ws)) in
       ap (many (item m Item.param)) (entries_part (n + 1) ks ws ∙ u) ∙ parts.params
 
-  module _ (n : ℕ) (l : len.Entries n ≡ len_of (type_to m 64 (behind_front ks ws))) where
+  module _ (n : ℕ) (l : Some n ≡ len_of (type_to m 64 (behind_front ks ws))) where
     pub fn_kinds_at : n + 1 ≤ length ks
     fn_kinds_at = omega (arith, size_is n l, size_fits, length_entries ks ws)
 
@@ -246,21 +228,21 @@ module _ (m : ℕ) (ks ws : List ℕ) (h : FunctionThere m ks ws) where
 
 -- ---- a list of parameters, as the code counts it
 -- from what a list was found to be to its length
-pub found_len : {A : Type 0} (t : A → Bool) (r : Read A) (f : Found) (n : ℕ) (b : Bool) → f ≡ found_of t r → f ≡ answer.Entries n b → len.Entries n ≡ len_of r
-found_len t r f n b ef h = sym (ap len_of (found_got t r n b (sym ef ∙ h)).1.0)
+pub found_len : {A : Type 0} (t : A → Bool) (r : Read A) (f : Found) → Some f ≡ found_of t r → Some f.entries ≡ len_of r
+found_len t r f h = sym (ap len_of (found_got t r f (sym h)).1.0)
 
-pub none_len : {A : Type 0} (t : A → Bool) (r : Read A) (f : Found) → f ≡ found_of t r → f ≡ answer.Bad → len.Bad ≡ len_of r
-none_len t r f ef h = sym (ap len_of (found_bad t r (sym ef ∙ h)))
+pub none_len : {A : Type 0} (t : A → Bool) (r : Read A) → None ≡ found_of t r → None ≡ len_of r
+none_len t r h = sym (ap len_of (found_bad t r (sym h)))
 
 module _ (m : ℕ) (ks ws : List ℕ) (h : There (many (item m Item.param) (entries ks ws))) where
-  pub no_params : {X : Type 0} → len.Bad ≡ len_of (many (item m Item.param) (entries ks ws)) → X
+  pub no_params : {X : Type 0} → None ≡ len_of (many (item m Item.param) (entries ks ws)) → X
   no_params e = absurd (go (many (item m Item.param) (entries ks ws)) h.got e)
     where
-      go : (r : Read (List Param)) → is_got r ≡ true → len.Bad ≡ len_of r → ⊥
+      go : (r : Read (List Param)) → is_got r ≡ true → None ≡ len_of r → ⊥
       go (got ps n) g e = let z : ◌≡◌ {A = ℕ} 0 1 = cc in omega arith
       go bad g e = false≢true g
 
-  module _ (n : ℕ) (l : len.Entries n ≡ len_of (many (item m Item.param) (entries ks ws))) where
+  module _ (n : ℕ) (l : Some n ≡ len_of (many (item m Item.param) (entries ks ws))) where
     read : (ps : List Param) × (many (item m Item.param) (entries ks ws) ≡ got ps n)
     read = len_got (many (item m Item.param) (entries ks ws)) n (sym l)
 

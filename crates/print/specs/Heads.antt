@@ -25,7 +25,7 @@ use Rattle.print_types.specs.Types.{is_got}
 use Rattle.print_forms.specs.Allowed.{is_some}
 use Rattle.print.specs.Function.{FunctionThere, FunctionParts, function_parts, params_read}
 use Rattle.print.specs.declared.heads.Head.{Head}
-use Rattle.print.specs.declared.heads.Head.TheVariants.{At, Nowhere}
+use Rattle.std.specs.Prelude.{Option as RustOption, Some, None}
 
 -- ---- the book in two slices
 pub record Decoded (m : ℕ) (ks ws : List ℕ) : Type 0 where
@@ -67,14 +67,14 @@ pub record Standing (m : ℕ) (ks ws : List ℕ) (own p n : ℕ) : Type 0 where
   pub count : n ≡ length (fn_named m ks ws own).params
 
 -- what a search for it answers
-abbrev pub Sought : (m : ℕ) (ks ws : List ℕ) (own : ℕ) → Head → Type 0
-Sought m ks ws own (At p n) = Standing m ks ws own p n
-Sought m ks ws own Nowhere = is_fn m ks ws own ≡ false
+abbrev pub Sought : (m : ℕ) (ks ws : List ℕ) (own : ℕ) → RustOption Head → Type 0
+Sought m ks ws own (Some h) = Standing m ks ws own h.at h.params
+Sought m ks ws own None = is_fn m ks ws own ≡ false
 
-pub stands_at : {m : ℕ} {ks ws : List ℕ} {own : ℕ} {r : Head} (p n : ℕ) → Sought m ks ws own r → r ≡ At p n → Standing m ks ws own p n
-stands_at {m} {ks} {ws} {own} p n s e = subst (Sought m ks ws own) e s
+pub stands_at : {m : ℕ} {ks ws : List ℕ} {own : ℕ} {r : RustOption Head} (h : Head) → Sought m ks ws own r → r ≡ Some h → Standing m ks ws own h.at h.params
+stands_at {m} {ks} {ws} {own} h s e = subst (Sought m ks ws own) e s
 
-pub stands_nowhere : (m : ℕ) (ks ws : List ℕ) (own : ℕ) {r : Head} → Sought m ks ws own r → r ≡ Nowhere → is_fn m ks ws own ≡ false
+pub stands_nowhere : (m : ℕ) (ks ws : List ℕ) (own : ℕ) {r : RustOption Head} → Sought m ks ws own r → r ≡ None → is_fn m ks ws own ≡ false
 stands_nowhere m ks ws own s e = subst (Sought m ks ws own) e s
 
 -- ---- the first function of a name
@@ -361,7 +361,7 @@ module _ {ks : List ℕ} {i : ℕ} (s : Seeking ks i) where
       let g : first_five ks ≡ i + suc (first_five (drop (suc i) ks)) = rw (ne_eqb (get_or ks i 0) 5 e) at f in
       record { inside = omega arith; same = rw (add-one i) (omega (arith, g)) }
 
-  pub seeking_end : length ks ≤ i → i ≡ first_five ks
+  pub seeking_end : length ks ≤ i → length ks ≡ first_five ks
   seeking_end h = omega (arith, s.same, s.inside, none (drop i ks) (omega (arith, length-drop i ks)))
     where
       none : (l : List ℕ) → length l ≡ 0 → first_five l ≡ 0

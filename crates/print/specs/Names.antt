@@ -1,5 +1,5 @@
 -- What the check of the names says of the printer's answer.
-use Rattle.std.specs.Prelude.{ℕ, ◌≤◌, ◌<◌, ◌≡◌, Bool, List, length, set}
+use Rattle.std.specs.Prelude.{ℕ, ◌≤◌, ◌<◌, ◌≡◌, Bool, List, Result, Err, length, set}
 use Rattle.std.proofs.Math.Path.{refl, ap}
 use Rattle.std.proofs.Common.{sym, ◌∙◌, arith, length-set, get_or-set_same}
 use Rattle.std.proofs.Math.Bool.{true, false}
@@ -9,10 +9,9 @@ use Rattle.names.specs.Name.{lines, names_of, counts, accepted}
 use Rattle.names.specs.Lines.{accepted_iff, lines_counted, names_lines}
 use Rattle.names.specs.Text.{bytes}
 use Rattle.names.specs.Prefix.{first_with, past_with, PrefixRange}
-use Rattle.names_check.specs.Read.{names_read, sorted_read, bad_read}
+use Rattle.names_check.specs.Read.{Names, names_read, sorted_read, bad_read}
+use Rattle.names_check.specs.Read as names
 use Rattle.names_check.specs.Nexts.{Noted}
-use Rattle.names_check.specs.declared.Names.{Names}
-use Rattle.names_check.specs.declared.Names.TheVariants as names
 use Rattle.book.specs.Ast.{Book}
 use Rattle.book.specs.Rule.{pick}
 use Rattle.book.specs.Input.{names_in}
@@ -20,16 +19,16 @@ use Rattle.assembly.specs.Printer.{refusing, needed, print_lines}
 use Rattle.print_types.specs.Starts.{Starts, sound, starts_noted}
 use Rattle.print.specs.Reply.{Prints}
 use Rattle.print.specs.Passes.{with_names, Named}
-use Rattle.print.specs.declared.passes.Printed.{Printed}
-use Rattle.print.specs.declared.passes.Printed.TheVariants.{Refused}
+use Rattle.book.specs.declared.refusal.Refusal.{Refusal}
+use Rattle.book.specs.declared.refusal.Refusal.TheVariants as refusal
 
 module _ (m : ℕ) (bs : List ℕ) (r : Names)
     (e : r ≡ names_read (accepted bs m) (first_with (bytes "__uvm_") (lines bs)) (past_with (bytes "__uvm_") (lines bs))) where
-  pub names_barred : r ≡ names.Bad → (b : Book) (ks xs x : List ℕ) → Prints (with_names m bs b ks xs x) (Refused 2) x
+  pub names_barred : r ≡ names.Bad → (b : Book) (ks xs x : List ℕ) → Prints (with_names m bs b ks xs x) (Err refusal.Names) x
   unfolding with_names accepted names_in needed refusing
   names_barred f b ks xs x = go (counts m (names_of bs)) (bad_read _ _ _ (sym e ∙ f))
     where
-      go : (t : Bool) → t ≡ false → Prints (needed 2 x (pick t (names_of bs) none) (λ ns. print_lines ns b ks xs x)) (Refused 2) x
+      go : (t : Bool) → t ≡ false → Prints (needed 2 x (pick t (names_of bs) none) (λ ns. print_lines ns b ks xs x)) (Err refusal.Names) x
       go true e = absurd (false≢true (sym e))
       go false e = record { reply = refl; text = refl }
 
@@ -54,6 +53,6 @@ module _ (m : ℕ) (bs : List ℕ) (r : Names)
         let some : 0 < length starts = omega arith in
         starts_noted (n sorted.0) d.sound d.count (omega (arith, length-set starts 0 0)) (get_or-set_same starts 0 0 0 some)
 
-    pub names_printed : (b : Book) (ks xs x : List ℕ) {r : Printed} {y : List ℕ} → Prints (print_lines (lines bs) b ks xs x) r y → Prints (with_names m bs b ks xs x) r y
+    pub names_printed : (b : Book) (ks xs x : List ℕ) {r : Result ℕ Refusal} {y : List ℕ} → Prints (print_lines (lines bs) b ks xs x) r y → Prints (with_names m bs b ks xs x) r y
     unfolding with_names names_in accepted needed
     names_printed b ks xs x p = rw (sorted.0, named.1 ∙ ap some (sym (names_lines bs named.0 named.1))) p

@@ -1,7 +1,7 @@
 -- The two passes, and the answer of the call.
-use Rattle.std.specs.Prelude.{ℕ, zero, suc, ◌+◌, ◌-◌, ◌≤◌, min, ◌≡◌, Bool, ◌&&◌, eqb, leb, ltb, length, take, drop}
+use Rattle.std.specs.Prelude.{ℕ, zero, suc, ◌+◌, ◌-◌, ◌≤◌, ◌<◌, min, ◌≡◌, ◌⊎◌, Bool, Result, Ok, Err, ◌&&◌, eqb, leb, ltb, length, take, drop}
 use Rattle.std.proofs.Math.Path.{refl, ap}
-use Rattle.std.proofs.Common.{sym, ◌∙◌, subst, arith, length-take}
+use Rattle.std.proofs.Common.{sym, ◌∙◌, subst, inl, inr, arith, length-take}
 use Rattle.std.proofs.Math.Bool.{true, false, cond}
 use Rattle.std.proofs.Math.Option.{Option, none, some}
 use mathlib.Core.List.{List, [], ◌∷◌, ◌++◌, append_assoc}
@@ -31,14 +31,12 @@ use Rattle.print_forms.specs.Allowed.{is_some, allowed_line, allowed_comment, co
 use Rattle.print_lines.specs.Lines.{printed}
 use Rattle.print_lines.specs.All.{printed_all}
 use Rattle.print_lines.specs.Same.{put_for, line_same, consed_some}
-use Rattle.print_lines.specs.Weigh.{Weighed, is_bytes, is_short, is_barred, barred_is}
-use Rattle.print_lines.specs.declared.weigh.Weight.{Weight}
-use Rattle.print_lines.specs.declared.weigh.Weight.TheVariants.{Bytes, Short, Barred}
+use Rattle.print_lines.specs.Weigh.{Weighed, is_bytes, is_err, barred_is}
+use Rattle.book.specs.declared.refusal.Refusal.{Refusal}
+use Rattle.book.specs.declared.refusal.Refusal.TheVariants.{NoRoom, BadLine}
 use Rattle.print.specs.Heads.{Decoded, book_at, is_fn, fn_named, first_of, Standing, named_name, first_is, first_named}
 use Rattle.print.specs.Segments.{turned, printed_from, stand_from, headed_kinds}
 use Rattle.print.specs.Reply.{Prints}
-use Rattle.print.specs.declared.passes.Printed.{Printed}
-use Rattle.print.specs.declared.passes.Printed.TheVariants.{Accepted, Refused}
 
 -- lines that may stand are written where they fit; others are refused with 21
 abbrev pub passed : Bool → (bytes text : List ℕ) → Printing
@@ -46,23 +44,21 @@ passed t bs x = cond t (writing bs x) (refusing 21 x)
 
 -- ---- the passes
 -- what was counted, where it fits
-pub passes_count : {t : Bool} {size : ℕ} {x y : List ℕ} {r : Weight} → Weighed t size x y r → (n : ℕ) → r ≡ Bytes n → (t ≡ true) × ((n ≡ size) × (n ≤ length y))
+pub passes_count : {t : Bool} {size : ℕ} {x y : List ℕ} {r : Result ℕ Refusal} → Weighed t size x y r → (n : ℕ) → r ≡ Ok n → (t ≡ true) × ((n ≡ size) × (n ≤ length y))
 passes_count {t} {size} {x} {y} {r} w n e =
     let s = is_bytes t size (length x) n (sym w.is ∙ e) in
     (s.0, (s.1.0, omega (arith, s.1.0, s.1.1, ap length w.text)))
 
-module _ (bs : List ℕ) {t : Bool} {x y : List ℕ} {r : Weight} (w : Weighed t (length bs) x y r) where
-  pub passes_barred : r ≡ Barred → Prints (passed t bs x) (Refused 21) y
-  unfolding refusing
-  passes_barred e = rw (is_barred t (length bs) (length x) (sym w.is ∙ e), w.text) (record { reply = refl; text = refl })
-
-  pub passes_short : r ≡ Short → Prints (passed t bs x) (Refused 20) y
+module _ (bs : List ℕ) {t : Bool} {x y : List ℕ} {r : Result ℕ Refusal} (w : Weighed t (length bs) x y r) where
+  pub passes_refused : (d : Refusal) → r ≡ Err d → Prints (passed t bs x) (Err d) y
   unfolding writing refusing
-  passes_short e =
-      let s = is_short t (length bs) (length x) (sym w.is ∙ e) in
-      rw (s.0, lt-leb (length bs) (length x) s.1, w.text) (record { reply = refl; text = refl })
+  passes_refused d e = go (is_err t (length bs) (length x) d (sym w.is ∙ e))
+    where
+      go : ((t ≡ false) × (d ≡ BadLine)) ⊎ ((t ≡ true) × ((length x < length bs) × (d ≡ NoRoom))) → Prints (passed t bs x) (Err d) y
+      go (inl s) = rw (s.0, s.1, w.text) (record { reply = refl; text = refl })
+      go (inr s) = rw (s.0, lt-leb (length bs) (length x) s.1.0, s.1.1, w.text) (record { reply = refl; text = refl })
 
-  pub passes_done : (n : ℕ) (z : List ℕ) → r ≡ Bytes n → z ≡ bs ++ drop n y → Prints (passed t bs x) (Accepted n) z
+  pub passes_done : (n : ℕ) (z : List ℕ) → r ≡ Ok n → z ≡ bs ++ drop n y → Prints (passed t bs x) (Ok n) z
   unfolding writing
   passes_done n z e f =
       let s = is_bytes t (length bs) (length x) n (sym w.is ∙ e) in
@@ -70,7 +66,7 @@ module _ (bs : List ℕ) {t : Bool} {x y : List ℕ} {r : Weight} (w : Weighed t
 
 -- lines that are not headed
 module _ (t u : Bool) (bs x : List ℕ) where
-  pub passes_unheaded : t ≡ false → Prints (passed (t && u) bs x) (Refused 21) x
+  pub passes_unheaded : t ≡ false → Prints (passed (t && u) bs x) (Err BadLine) x
   unfolding refusing
   passes_unheaded e = rw e (record { reply = refl; text = refl })
 
@@ -109,7 +105,7 @@ module _ {bs : List ℕ} {m from to : ℕ} (d : Named bs m from to) {ks ws : Lis
         (ap (λ (t : Read Ty). type_bytes (lines bs) t) s.type) in
         rw (named, typed, s.count)
 
-    pub under_weighed : (lk ops : List ℕ) (before : ℕ) {x y : List ℕ} {r : Weight} → Weighed (allowed_all m own from to lk ops) (before + length (printed_all put lk ops)) x y r
+    pub under_weighed : (lk ops : List ℕ) (before : ℕ) {x y : List ℕ} {r : Result ℕ Refusal} → Weighed (allowed_all m own from to lk ops) (before + length (printed_all put lk ops)) x y r
         → Weighed (is_fn m ks ws own && allowed_all m own from to lk ops) (before + length (printed_all (one_of bs m ks ws own) lk ops)) x y r
     under_weighed lk ops before {x} {y} {r} w =
         rw s.is (subst (λ (one : ℕ → ℕ → List ℕ). Weighed (allowed_all m own from to lk ops) (before + length (printed_all one lk ops)) x y r) under_same w)
@@ -121,7 +117,7 @@ module _ {bs : List ℕ} {m from to : ℕ} (d : Named bs m from to) {ks ws : Lis
     under_wrote lk ops {x} {y} {start} {end} {r} w = subst (λ (one : ℕ → ℕ → List ℕ). Wrote (printed_all one lk ops) start end x y r) under_same w
 
 -- where there is none
-pub nowhere_weighed : (t u : Bool) (size : ℕ) (x : List ℕ) → t ≡ false → Weighed (t && u) size x x Barred
+pub nowhere_weighed : (t u : Bool) (size : ℕ) (x : List ℕ) → t ≡ false → Weighed (t && u) size x x (Err BadLine)
 nowhere_weighed t u size x e = record { is = barred_is _ _ _ (rw e); text = refl }
 
 -- as many lines as both slices hold
@@ -237,7 +233,7 @@ module _ {bs : List ℕ} {m from to : ℕ} (d : Named bs m from to) where
 
 -- the same for the lines of slices that may differ in length
 pub known_printed : {bs : List ℕ} {m from to : ℕ} (d : Named bs m from to) (ks ws : List ℕ) → Decoded m ks ws → (own : ℕ) → own ≡ first_of m ks ws
-    → (lk ops x : List ℕ) (n : ℕ) → n ≡ min (length lk) (length ops) → {r : Printed} {y : List ℕ}
+    → (lk ops x : List ℕ) (n : ℕ) → n ≡ min (length lk) (length ops) → {r : Result ℕ Refusal} {y : List ℕ}
     → Prints (passed (headed_kinds (take n lk) && stand_from (is_fn m ks ws) m from to own (take n lk) (take n ops)) (printed_from (one_of bs m ks ws) own (take n lk) (take n ops)) x) r y
     → Prints (print_lines (lines bs) (book_at m ks ws) lk ops x) r y
 unfolding print_lines

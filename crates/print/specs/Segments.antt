@@ -1,16 +1,17 @@
 -- Lines in segments: from one comment line up to the next that names another function. A line belongs to the function that the last comment
 -- line names, up to the line itself.
-use Rattle.std.specs.Prelude.{ℕ, suc, ◌+◌, ◌-◌, ◌≤◌, ◌<◌, ◌≡◌, refl, Bool, true, false, cond, not, ◌&&◌, ◌||◌, List, [], ◌∷◌, ◌++◌, eqb, length, get_or, take, drop}
-use Rattle.std.proofs.Common.{sym, ap, ◌∙◌, append_assoc, append-nil, add-one, arith, eqb-true, eq-eqb, ne_eqb, length-drop, length-append, take-append-drop, drop-cons, drop-drop}
+use Rattle.std.specs.Prelude.{ℕ, suc, ◌+◌, ◌-◌, ◌≤◌, ◌<◌, ◌≡◌, refl, Bool, true, false, cond, not, ◌&&◌, ◌||◌, ◌⊎◌, List, [], ◌∷◌, ◌++◌, Result, Ok, Err, eqb, length, get_or, take, drop}
+use Rattle.std.proofs.Common.{sym, ⊎_elim, inl, inr, ap, ◌∙◌, append_assoc, append-nil, add-one, arith, eqb-true, eq-eqb, ne_eqb, length-drop, length-append, take-append-drop, drop-cons, drop-drop}
 use Rattle.std.proofs.lemmas.Bool.{false≢true}
+use Rattle.numbers.specs.Tests.{lt_or_le}
 use Rattle.names.specs.Tests.{both}
 use Rattle.print_pen.specs.Write.{Wrote}
 use Rattle.print_forms.specs.Forms.{form_of, allowed_by}
 use Rattle.print_forms.specs.All.{allowed_all}
 use Rattle.print_lines.specs.All.{printed_all}
-use Rattle.print_lines.specs.Weigh.{Weighed, is_bytes, is_short, is_barred, bytes_are, short_alone, barred_is}
-use Rattle.print_lines.specs.declared.weigh.Weight.{Weight}
-use Rattle.print_lines.specs.declared.weigh.Weight.TheVariants.{Bytes, Short, Barred}
+use Rattle.print_lines.specs.Weigh.{Weighed, is_bytes, is_short, is_err, bytes_are, short_alone, barred_is}
+use Rattle.book.specs.declared.refusal.Refusal.{Refusal}
+use Rattle.book.specs.declared.refusal.Refusal.TheVariants.{NoRoom, BadLine}
 
 -- the name in the last comment line, up to a line of kind k and operand x, where own is the one before it
 abbrev pub turned : (own k x : ℕ) → ℕ
@@ -74,11 +75,12 @@ module _ {ks : List ℕ} {i : ℕ} (a : Ahead ks i) where
   pub ahead_comment : i < length ks → get_or ks i 0 ≡ 0 → true ≡ headed_kinds ks
   ahead_comment h e = sym (ahead_step h ∙ rw (eq-eqb (get_or ks i 0) 0 e))
 
-  pub ahead_label : i < length ks → (get_or ks i 0 ≡ 0 → ⊥) → get_or ks i 0 ≡ 2 → false ≡ headed_kinds ks
-  ahead_label h e f = sym (ahead_step h ∙ rw (ne_eqb (get_or ks i 0) 0 e, eq-eqb (get_or ks i 0) 2 f))
-
-  pub ahead_jump : i < length ks → (get_or ks i 0 ≡ 0 → ⊥) → (get_or ks i 0 ≡ 2 → ⊥) → get_or ks i 0 ≡ 3 → false ≡ headed_kinds ks
-  ahead_jump h e f g = sym (ahead_step h ∙ rw (ne_eqb (get_or ks i 0) 0 e, ne_eqb (get_or ks i 0) 2 f, eq-eqb (get_or ks i 0) 3 g))
+  pub ahead_block : i < length ks → 2 ≤ get_or ks i 0 → get_or ks i 0 < 4 → false ≡ headed_kinds ks
+  ahead_block h e f = sym (ahead_step h ∙ go (get_or ks i 0) e f)
+    where
+      go : (k : ℕ) → 2 ≤ k → k < 4 → (eqb k 0 || (not (eqb k 2 || eqb k 3) && headed_kinds (drop (i + 1) ks))) ≡ false
+      go k e f =
+          ⊎_elim (λ l. let z : k ≡ 2 = omega arith in rw z) (λ l. let z : k ≡ 3 = omega arith in rw z) (lt_or_le k 3)
 
   pub ahead_next : i < length ks → (get_or ks i 0 ≡ 0 → ⊥) → (get_or ks i 0 ≡ 2 → ⊥) → (get_or ks i 0 ≡ 3 → ⊥) → Ahead ks (i + 1)
   ahead_next h e f g = record { same = ahead_step h ∙ rw (ne_eqb (get_or ks i 0) 0 e, ne_eqb (get_or ks i 0) 2 f, ne_eqb (get_or ks i 0) 3 g) }
@@ -114,8 +116,8 @@ module _ {own : ℕ} {ks xs : List ℕ} {s i : ℕ} (v : Staying own ks xs s i) 
       let f : run own (drop i ks) (drop i xs) ≡ 0 = rw e at step in
       omega (arith, v.same, f)
 
-pub staying_end : {own : ℕ} {ks xs : List ℕ} {s i : ℕ} → Staying own ks xs s i → length ks ≤ i → i ≡ s + run own (drop s ks) (drop s xs)
-staying_end {own} {ks} {xs} {s} {i} v h = omega (arith, v.same, none (drop i ks) (omega (arith, length-drop i ks)))
+pub staying_end : {own : ℕ} {ks xs : List ℕ} {s i : ℕ} → Staying own ks xs s i → length ks ≤ i → length ks ≡ s + run own (drop s ks) (drop s xs)
+staying_end {own} {ks} {xs} {s} {i} v h = omega (arith, v.inside, v.same, none (drop i ks) (omega (arith, length-drop i ks)))
   where
     none : (l : List ℕ) → length l ≡ 0 → run own l (drop i xs) ≡ 0
     none [] e = refl
@@ -256,7 +258,7 @@ weighing_start is m a b one own ks xs x = record { lines = omega arith; stand = 
 
 module _ {is : ℕ → Bool} {m a b : ℕ} {one : ℕ → ℕ → ℕ → List ℕ} {own₀ : ℕ} {ks xs x : List ℕ} {own i : ℕ} {y : List ℕ} {n : ℕ} {short : Bool}
     (s : Weighing is m a b one own₀ ks xs x own i y n short) where
-  module _ {o j : ℕ} (g : Segment own ks xs i o j) {z : List ℕ} {r : Weight}
+  module _ {o j : ℕ} (g : Segment own ks xs i o j) {z : List ℕ} {r : Result ℕ Refusal}
       (w : Weighed (is o && allowed_all m o a b (take (j - i) (drop i ks)) (take (j - i) (drop i xs))) (n + length (printed_all (one o) (take (j - i) (drop i ks)) (take (j - i) (drop i xs)))) y z r) where
     more : length (printed_from one own (drop i ks) (drop i xs)) ≡ length (printed_all (one o) (take (j - i) (drop i ks)) (take (j - i) (drop i xs))) + length (printed_from one o (drop j ks) (drop j xs))
     more = ap length (segment_printed g one) ∙ length-append (printed_all (one o) (take (j - i) (drop i ks)) (take (j - i) (drop i xs))) (printed_from one o (drop j ks) (drop j xs))
@@ -264,7 +266,7 @@ module _ {is : ℕ → Bool} {m a b : ℕ} {one : ℕ → ℕ → ℕ → List �
     passes : (is o && allowed_all m o a b (take (j - i) (drop i ks)) (take (j - i) (drop i xs))) ≡ true → stand_from is m a b own₀ ks xs ≡ stand_from is m a b o (drop j ks) (drop j xs)
     passes e = s.stand ∙ segment_both g is m a b ∙ rw e
 
-    pub weighing_next : (k : ℕ) → r ≡ Bytes k → Weighing is m a b one own₀ ks xs x o j z k short
+    pub weighing_next : (k : ℕ) → r ≡ Ok k → Weighing is m a b one own₀ ks xs x o j z k short
     weighing_next k e =
         let t = is_bytes _ _ _ k (sym w.is ∙ e) in
         record {
@@ -276,7 +278,7 @@ module _ {is : ℕ → Bool} {m a b : ℕ} {one : ℕ → ℕ → ℕ → List �
           text = w.text ∙ s.text;
         }
 
-    pub weighing_short : r ≡ Short → Weighing is m a b one own₀ ks xs x o j z n true
+    pub weighing_short : r ≡ Err NoRoom → Weighing is m a b one own₀ ks xs x o j z n true
     weighing_short e =
         let t = is_short _ _ _ (sym w.is ∙ e) in
         record {
@@ -292,21 +294,25 @@ module _ {is : ℕ → Bool} {m a b : ℕ} {one : ℕ → ℕ → ℕ → List �
         go true f l = s.over f
         go false f l = omega (arith, s.size f, more, ap length s.text)
 
-    pub weighing_barred : r ≡ Barred → Weighed (stand_from is m a b own₀ ks xs) (length (printed_from one own₀ ks xs)) x z Barred
-    weighing_barred e =
-        let t = is_barred _ _ _ (sym w.is ∙ e) in
-        record { is = barred_is _ _ _ (s.stand ∙ segment_both g is m a b ∙ rw t); text = w.text ∙ s.text }
+    pub weighing_barred : (d : Refusal) → r ≡ Err d → (d ≡ NoRoom → ⊥) → Weighed (stand_from is m a b own₀ ks xs) (length (printed_from one own₀ ks xs)) x z (Err d)
+    weighing_barred d e f = go (is_err _ _ _ d (sym w.is ∙ e))
+      where
+        go : {size room : ℕ} → (((is o && allowed_all m o a b (take (j - i) (drop i ks)) (take (j - i) (drop i xs))) ≡ false) × (d ≡ BadLine))
+            ⊎ (((is o && allowed_all m o a b (take (j - i) (drop i ks)) (take (j - i) (drop i xs))) ≡ true) × ((room < size) × (d ≡ NoRoom)))
+            → Weighed (stand_from is m a b own₀ ks xs) (length (printed_from one own₀ ks xs)) x z (Err d)
+        go (inl t) = rw t.1 (record { is = barred_is _ _ _ (s.stand ∙ segment_both g is m a b ∙ rw t.0); text = w.text ∙ s.text })
+        go (inr t) = absurd (f t.1.1)
 
   module _ (h : length ks ≤ i) where
     all_stand : stand_from is m a b own₀ ks xs ≡ true
     all_stand = s.stand ∙ none_stand is m a b own ks xs i h
 
-    pub weighing_end : short ≡ false → Weighed (stand_from is m a b own₀ ks xs) (length (printed_from one own₀ ks xs)) x y (Bytes n)
+    pub weighing_end : short ≡ false → Weighed (stand_from is m a b own₀ ks xs) (length (printed_from one own₀ ks xs)) x y (Ok n)
     weighing_end e =
         let same : n ≡ length (printed_from one own₀ ks xs) = omega (arith, s.size e, ap length (no_line one own ks xs i h)) in
         record { is = rw same (bytes_are _ _ _ all_stand (omega (arith, s.inside))); text = s.text }
 
-    pub weighing_over : short ≡ true → Weighed (stand_from is m a b own₀ ks xs) (length (printed_from one own₀ ks xs)) x y Short
+    pub weighing_over : short ≡ true → Weighed (stand_from is m a b own₀ ks xs) (length (printed_from one own₀ ks xs)) x y (Err NoRoom)
     weighing_over e = record { is = short_alone _ _ _ all_stand (s.over e); text = s.text }
 
 -- ---- writing segment after segment

@@ -4,8 +4,8 @@ ghost use Rattle.assembly.specs.Printer.{print};
 ghost use Rattle.print.specs.Reply.{Prints};
 ghost use Rattle.print.specs.Book.{Booked};
 
-use crate::passes::Printed;
 use crate::rooms::print_sound;
+use book::refusal::Refusal;
 
 // Prints the lines of a sound book: refuses with 2, 21 and 20 in this order.
 pub fn print_booked(
@@ -14,7 +14,7 @@ pub fn print_booked(
     line_kinds: &[u16],
     operands: &[u64],
     text: &mut [u8],
-) -> Printed
+) -> Result<usize, Refusal>
     requires { Booked book.now }
     ensures { Prints (print book.now names.now line_kinds.now operands.now text.old) result text.new }
 {

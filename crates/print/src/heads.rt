@@ -3,34 +3,34 @@ ghost use Rattle.std.specs.Prelude.{◌≡◌, ◌&&◌, List, ℕ, ◌+◌, ◌
 ghost use Rattle.print.specs.Heads.{first_five, head_of, Zeroed, Noted, Here, Indexed, Sought};
 
 use crate::params::function_params;
+use book::entry;
 
-// Where a function stands, and how many parameters it has; that there is none of the name.
-#[derive(Drop)]
-pub enum Head {
-    At(usize, u64),
-    Nowhere,
+// Where a function stands, and how many parameters it has.
+#[derive(Clone, Copy, Debug, PartialEq, Eq)]
+pub struct Head {
+    pub at: usize,
+    pub params: u64,
 }
 
 // The index of the first entry of kind 5, that of the first function; the number of entries where there is none.
 pub fn function_place(kinds: &[u64]) -> usize
     ensures { result ≡ first_five kinds.now }
 {
-    let mut i: usize = 0;
-    while i < kinds.len() {
-        if kinds[i] == 5 {
+    for (i, kind) in kinds.iter().enumerate() {
+        if *kind == entry::FUNCTION {
             return i;
         }
-        i += 1;
     }
-    i
+    kinds.len()
 }
 
-// Notes for the name x the window of 32 entries that the place i lies in, counted from 1, where a function begins there and no window is noted.
+// Notes for the name x the window of 32 entries that the place i lies in, counted from 1, where a function begins there and no window is noted
+// (0 stands for none: fixed memory).
 fn note_head(index: &mut [u16], kind: u64, x: u64, i: usize)
     requires { i < 1048576 }
     ensures { (ks ws : List ℕ) → Here ks ws i kind x → Noted ks ws i index.old → Noted ks ws (i + 1) index.new }
 {
-    if kind != 5 {
+    if kind != entry::FUNCTION {
         return;
     }
     let name = x as usize;
@@ -50,10 +50,8 @@ pub fn note_functions(kinds: &[u64], words: &[u64], index: &mut [u16])
     requires zeroed { Zeroed index.old }
     ensures { Noted kinds.now words.now (length kinds.now) index.new }
 {
-    let mut i: usize = 0;
-    while i < kinds.len() {
-        note_head(index, kinds[i], words[i], i);
-        i += 1;
+    for (i, kind) in kinds.iter().enumerate() {
+        note_head(index, *kind, words[i], i);
     }
 }
 
@@ -61,7 +59,7 @@ pub fn note_functions(kinds: &[u64], words: &[u64], index: &mut [u16])
 fn is_head(kind: u64, word: u64, x: u64) -> bool
     ensures { result ≡ (eqb kind 5 && eqb x word) }
 {
-    (kind == 5) & (x == word)
+    (kind == entry::FUNCTION) & (x == word)
 }
 
 // The place where a window begins.
@@ -83,27 +81,26 @@ fn place_of(kinds: &[u64], words: &[u64], index: &[u16], x: u64) -> usize
     if window == 0 {
         return kinds.len();
     }
-    let mut i = window_start(window);
-    while i < kinds.len() {
+    for i in window_start(window)..kinds.len() {
         if is_head(kinds[i], words[i], x) {
             return i;
         }
-        i += 1;
     }
-    i
+    kinds.len()
 }
 
-// The function that is named `own`, in a book of `count` names.
-pub fn find_head(kinds: &[u64], words: &[u64], count: u64, index: &[u16], own: u64) -> Head
+// The function that is named `own`, in a book of `count` names; none where there is none.
+pub fn find_head(kinds: &[u64], words: &[u64], count: u64, index: &[u16], own: u64) -> Option<Head>
     requires { Indexed count kinds.now words.now index.now }
     ensures { Sought count kinds.now words.now own result }
 {
     if count <= own {
-        return Head::Nowhere;
+        return None;
     }
     let at = place_of(kinds, words, index, own);
     if kinds.len() <= at {
-        return Head::Nowhere;
+        return None;
     }
-    Head::At(at, function_params(&kinds[at..], &words[at..], count))
+    let params = function_params(&kinds[at..], &words[at..], count);
+    Some(Head { at, params })
 }

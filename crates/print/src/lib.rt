@@ -11,7 +11,7 @@ ghost use Rattle.assembly.specs.Printer.{print};
 ghost use Rattle.print.specs.Reply.{PrintAnswer, Numbered};
 
 use crate::booked::print_booked;
-use crate::passes::Printed;
+use book::refusal::Refusal;
 
 // Prints the lines of a book as text: refuses with 1, 2, 21 and 20 in this order, and then changes nothing.
 pub fn print(
@@ -20,12 +20,12 @@ pub fn print(
     line_kinds: &[u16],
     operands: &[u64],
     text: &mut [u8],
-) -> Printed
+) -> Result<usize, Refusal>
     ensures print_answer { PrintAnswer (print book.now names.now line_kinds.now operands.now text.old) result text.new }
     ensures numbered { Numbered result }
 {
     if !book_check::check_book(book) {
-        return Printed::Refused(1);
+        return Err(Refusal::Book);
     }
     print_booked(book, names, line_kinds, operands, text)
 }

@@ -1,5 +1,5 @@
 // The two passes over the lines: one tests them and counts the bytes, the other stores them if they fit.
-ghost use Rattle.std.specs.Prelude.{◌≡◌, ◌&&◌, min, length};
+ghost use Rattle.std.specs.Prelude.{◌≡◌, ◌&&◌, length};
 ghost use Rattle.names.specs.Name.{lines};
 ghost use Rattle.assembly.specs.Printer.{print_lines};
 ghost use Rattle.print_types.specs.Starts.{Starts};
@@ -9,17 +9,10 @@ ghost use Rattle.print.specs.Reply.{Prints};
 ghost use Rattle.print.specs.Passes.{passed, Named, one_of};
 
 use crate::segments::{headed, weigh_segments, write_segments};
-use print_lines::weigh::Weight;
+use book::refusal::Refusal;
 use print_words::{word_letters, word_places};
 
-// The bytes put from index 0 on, or a refusal's number.
-#[derive(Drop)]
-pub enum Printed {
-    Accepted(usize),
-    Refused(u64),
-}
-
-// Weighs the lines and writes them, or refuses with 21, then with 20. Those before the first comment line belong to the function named `first`.
+// Weighs the lines and writes them: how many bytes were put from index 0 on. Refuses with 21, then with 20. Those before the first comment line belong to the function named `first`.
 fn put_twice(
     names: &[u8],
     starts: &[u64],
@@ -34,7 +27,7 @@ fn put_twice(
     line_kinds: &[u16],
     operands: &[u64],
     text: &mut [u8],
-) -> Printed
+) -> Result<usize, Refusal>
     requires starts { Starts every names.now starts.now }
     requires named { Named names.now count from to }
     requires indexed { Indexed count kinds.now words.now index.now }
@@ -43,38 +36,22 @@ fn put_twice(
         (printed_from (one_of names.now count kinds.now words.now) first line_kinds.now operands.now) text.old) result text.new }
 {
     if !headed(line_kinds) {
-        return Printed::Refused(21);
+        return Err(Refusal::BadLine);
     }
     let letters = word_letters();
     let places = word_places();
-    let weighed = weigh_segments(
+    let n = weigh_segments(
         text, &places, names, starts, every, kinds, words, count, from, to, index, first,
         line_kinds, operands,
+    )?;
+    write_segments(
+        text, n, &letters, &places, names, starts, every, kinds, words, count, from, to, index,
+        first, line_kinds, operands,
     );
-    match weighed {
-        Weight::Bytes(n) => {
-            write_segments(
-                text, n, &letters, &places, names, starts, every, kinds, words, count, from, to,
-                index, first, line_kinds, operands,
-            );
-            Printed::Accepted(n)
-        }
-        Weight::Short => Printed::Refused(20),
-        Weight::Barred => Printed::Refused(21),
-    }
+    Ok(n)
 }
 
-// How many lines there are: as many as both slices hold.
-fn line_count(line_kinds: &[u16], operands: &[u64]) -> usize
-    ensures { result ≡ min (length line_kinds.now) (length operands.now) }
-{
-    if operands.len() < line_kinds.len() {
-        return operands.len();
-    }
-    line_kinds.len()
-}
-
-// Prints lines of a book whose functions are noted, of which `first` is the first one's name: refuses with 21, then with 20.
+// Prints lines of a book whose functions are noted, of which `first` is the first one's name, as many as both slices hold: refuses with 21, then with 20.
 pub fn print_known(
     names: &[u8],
     starts: &[u64],
@@ -89,14 +66,14 @@ pub fn print_known(
     line_kinds: &[u16],
     operands: &[u64],
     text: &mut [u8],
-) -> Printed
+) -> Result<usize, Refusal>
     requires starts { Starts every names.now starts.now }
     requires named { Named names.now count from to }
     requires indexed { Indexed count kinds.now words.now index.now }
     requires first_value { first ≡ first_of count kinds.now words.now }
     ensures { Prints (print_lines (lines names.now) (book_at count kinds.now words.now) line_kinds.now operands.now text.old) result text.new }
 {
-    let n = line_count(line_kinds, operands);
+    let n = line_kinds.len().min(operands.len());
     put_twice(
         names,
         starts,

@@ -8,8 +8,8 @@ ghost use Rattle.print.specs.Reply.{Prints};
 ghost use Rattle.print.specs.Passes.{Named, with_names};
 
 use crate::heads::{function_place, note_functions};
-use crate::passes::{Printed, print_known};
-use names_check::Names;
+use crate::passes::print_known;
+use book::refusal::Refusal;
 use print_types::starts::note_eighths;
 
 // Prints lines with the starts of the names, notes the functions in the lent words. The names from `from` up to and without `to` start `__uvm_`.
@@ -26,7 +26,7 @@ fn print_noted(
     starts: &[u64],
     every: bool,
     index: &mut [u16],
-) -> Printed
+) -> Result<usize, Refusal>
     requires decoded { Decoded count kinds.now words.now }
     requires kinds_len_bound { length kinds.now ≤ 1048576 }
     requires named { Named names.now count from to }
@@ -56,7 +56,7 @@ fn print_every(
     text: &mut [u8],
     starts: &mut [u64],
     index: &mut [u16],
-) -> Printed
+) -> Result<usize, Refusal>
     requires decoded { Decoded count kinds.now words.now }
     requires kinds_len_bound { length kinds.now ≤ 1048576 }
     requires count_bound { count ≤ 131072 }
@@ -66,47 +66,27 @@ fn print_every(
     ensures { Prints (with_names count names.now (book_at count kinds.now words.now) line_kinds.now operands.now text.old) result text.new }
 {
     starts[0] = 0;
-    let Names::Sorted(from, to) = names_check::read_names(names, count, b"__uvm_", starts, 1, 1)
-    else {
-        return Printed::Refused(2);
+    let Some(calls) = names_check::read_names(names, count, b"__uvm_", starts, 1, 1) else {
+        return Err(Refusal::Names);
     };
     print_noted(
-        kinds, words, count, from, to, names, line_kinds, operands, text, starts, true, index,
-    )
-}
-
-// The same with words for up to 255 names.
-fn few_print(
-    kinds: &[u64],
-    words: &[u64],
-    count: u64,
-    names: &[u8],
-    line_kinds: &[u16],
-    operands: &[u64],
-    text: &mut [u8],
-) -> Printed
-    requires decoded { Decoded count kinds.now words.now }
-    requires kinds_len_bound { length kinds.now ≤ 1048576 }
-    requires count_bound { count < 256 }
-    ensures { Prints (with_names count names.now (book_at count kinds.now words.now) line_kinds.now operands.now text.old) result text.new }
-{
-    let mut starts = [0u64; 256];
-    let mut index = [0u16; 256];
-    print_every(
         kinds,
         words,
         count,
+        calls.start,
+        calls.end,
         names,
         line_kinds,
         operands,
         text,
-        &mut starts,
-        &mut index,
+        starts,
+        true,
+        index,
     )
 }
 
-// The same with words for up to 2,047 names.
-fn some_print(
+// The same with words for fewer than N names.
+fn print_few<const N: usize>(
     kinds: &[u64],
     words: &[u64],
     count: u64,
@@ -114,14 +94,15 @@ fn some_print(
     line_kinds: &[u16],
     operands: &[u64],
     text: &mut [u8],
-) -> Printed
+) -> Result<usize, Refusal>
     requires decoded { Decoded count kinds.now words.now }
     requires kinds_len_bound { length kinds.now ≤ 1048576 }
-    requires count_bound { count < 2048 }
+    requires room { N ≤ 2048 }
+    requires count_bound { count < N }
     ensures { Prints (with_names count names.now (book_at count kinds.now words.now) line_kinds.now operands.now text.old) result text.new }
 {
-    let mut starts = [0u64; 2048];
-    let mut index = [0u16; 2048];
+    let mut starts = [0u64; N];
+    let mut index = [0u16; N];
     print_every(
         kinds,
         words,
@@ -136,7 +117,7 @@ fn some_print(
 }
 
 // The same with the start of every 8th name, by a second pass over the names.
-fn many_print(
+fn print_many(
     kinds: &[u64],
     words: &[u64],
     count: u64,
@@ -144,29 +125,38 @@ fn many_print(
     line_kinds: &[u16],
     operands: &[u64],
     text: &mut [u8],
-) -> Printed
+) -> Result<usize, Refusal>
     requires decoded { Decoded count kinds.now words.now }
     requires kinds_len_bound { length kinds.now ≤ 1048576 }
     requires count_bound { count ≤ 131072 }
     ensures { Prints (with_names count names.now (book_at count kinds.now words.now) line_kinds.now operands.now text.old) result text.new }
 {
     let mut none = [0u64; 0];
-    let Names::Sorted(from, to) = names_check::read_names(names, count, b"__uvm_", &mut none, 1, 1)
-    else {
-        return Printed::Refused(2);
+    let Some(calls) = names_check::read_names(names, count, b"__uvm_", &mut none, 1, 1) else {
+        return Err(Refusal::Names);
     };
     let mut starts = [0u64; 16384];
     let mut index = [0u16; 131072];
     note_eighths(names, &mut starts);
     print_noted(
-        kinds, words, count, from, to, names, line_kinds, operands, text, &starts, false,
+        kinds,
+        words,
+        count,
+        calls.start,
+        calls.end,
+        names,
+        line_kinds,
+        operands,
+        text,
+        &starts,
+        false,
         &mut index,
     )
 }
 
 // Prints lines of a sound book with the least room that does, from `room` on: refuses with 2, 21 and 20 in this order. A function with a large
 // array touches all of it at each call, and one that is called once becomes a part of its caller, but not of a caller that calls itself: so each
-// room has its function, and this one grows the room by a call.
+// room has its function, `print_few` one for each N, and this one grows the room by a call.
 pub fn print_sound(
     kinds: &[u64],
     words: &[u64],
@@ -176,7 +166,7 @@ pub fn print_sound(
     operands: &[u64],
     text: &mut [u8],
     room: u64,
-) -> Printed
+) -> Result<usize, Refusal>
     requires decoded { Decoded count kinds.now words.now }
     requires kinds_len_bound { length kinds.now ≤ 1048576 }
     requires count_bound { count ≤ 131072 }
@@ -184,7 +174,7 @@ pub fn print_sound(
     ensures { Prints (with_names count names.now (book_at count kinds.now words.now) line_kinds.now operands.now text.old) result text.new }
 {
     if 2048 < room {
-        return many_print(kinds, words, count, names, line_kinds, operands, text);
+        return print_many(kinds, words, count, names, line_kinds, operands, text);
     }
     if room <= count {
         return print_sound(
@@ -199,7 +189,7 @@ pub fn print_sound(
         );
     }
     if 256 < room {
-        return some_print(kinds, words, count, names, line_kinds, operands, text);
+        return print_few::<2048>(kinds, words, count, names, line_kinds, operands, text);
     }
-    few_print(kinds, words, count, names, line_kinds, operands, text)
+    print_few::<256>(kinds, words, count, names, line_kinds, operands, text)
 }

@@ -11,9 +11,11 @@ ghost use Rattle.print.specs.Heads.{is_fn, Indexed};
 ghost use Rattle.print.specs.Segments.{stays, run, headed_kinds, stand_from, printed_from};
 ghost use Rattle.print.specs.Passes.{Named, one_of};
 
-use crate::heads::{Head, find_head};
+use crate::heads::find_head;
+use assembly::line;
+use book::refusal::Refusal;
 use print_forms::pick;
-use print_lines::weigh::{Weight, weigh_lines};
+use print_lines::weigh::weigh_lines;
 use print_lines::write_lines;
 use print_types::starts::name_of;
 
@@ -21,18 +23,12 @@ use print_types::starts::name_of;
 pub fn headed(line_kinds: &[u16]) -> bool
     ensures { result ≡ headed_kinds line_kinds.now }
 {
-    let mut i: usize = 0;
-    while i < line_kinds.len() {
-        if line_kinds[i] == 0 {
-            return true;
+    for kind in line_kinds {
+        match *kind {
+            line::COMMENT => return true,
+            line::BLOCK_LABEL | line::JMP_BLOCK => return false,
+            _ => {}
         }
-        if line_kinds[i] == 2 {
-            return false;
-        }
-        if line_kinds[i] == 3 {
-            return false;
-        }
-        i += 1;
     }
     true
 }
@@ -41,7 +37,7 @@ pub fn headed(line_kinds: &[u16]) -> bool
 fn same_segment(kind: u16, x: u64, own: u64) -> bool
     ensures { result ≡ stays own kind x }
 {
-    !(kind == 0) | (x == own)
+    (kind != line::COMMENT) | (x == own)
 }
 
 // The end of the segment of the function named `own` from the line `start` on: the next comment line that names another.
@@ -50,14 +46,12 @@ fn segment_end(line_kinds: &[u16], operands: &[u64], start: usize, own: u64) -> 
     requires start_in_bounds { start ≤ length line_kinds.now }
     ensures { result ≡ start + run own (drop start line_kinds.now) (drop start operands.now) }
 {
-    let mut i = start;
-    while i < line_kinds.len() {
+    for i in start..line_kinds.len() {
         if !same_segment(line_kinds[i], operands[i], own) {
             return i;
         }
-        i += 1;
     }
-    i
+    line_kinds.len()
 }
 
 // Weighs lines of the function named `own` behind `before` bytes; they may not stand where there is none.
@@ -77,7 +71,7 @@ fn weigh_under(
     own: u64,
     line_kinds: &[u16],
     operands: &[u64],
-) -> Weight
+) -> Result<usize, Refusal>
     requires places_value { places.now ≡ word_places }
     requires starts { Starts every names.now starts.now }
     requires named { Named names.now count from to }
@@ -86,10 +80,10 @@ fn weigh_under(
     ensures { Weighed (is_fn count kinds.now words.now own && allowed_all count own from to line_kinds.now operands.now)
         (before + length (printed_all (one_of names.now count kinds.now words.now own) line_kinds.now operands.now)) text.old text.new result }
 {
-    let Head::At(at, params) = find_head(kinds, words, count, index, own) else {
-        return Weight::Barred;
+    let Some(head) = find_head(kinds, words, count, index, own) else {
+        return Err(Refusal::BadLine);
     };
-    let behind = at + 1;
+    let behind = head.at + 1;
     weigh_lines(
         text,
         before,
@@ -100,7 +94,7 @@ fn weigh_under(
         name_of(names, starts, every, own),
         &kinds[behind..],
         &words[behind..],
-        params,
+        head.params,
         line_kinds,
         operands,
         count,
@@ -127,7 +121,7 @@ pub fn weigh_segments(
     first: u64,
     line_kinds: &[u16],
     operands: &[u64],
-) -> Weight
+) -> Result<usize, Refusal>
     requires places_value { places.now ≡ word_places }
     requires starts { Starts every names.now starts.now }
     requires named { Named names.now count from to }
@@ -137,11 +131,13 @@ pub fn weigh_segments(
         (length (printed_from (one_of names.now count kinds.now words.now) first line_kinds.now operands.now)) text.old text.new result }
 {
     let mut own = first;
+    // (no `Option` of n: behind a text that is too short the others are weighed from n on)
     let mut short = false;
     let mut n: usize = 0;
     let mut i: usize = 0;
+    // (no `for`: a step is as long as a segment)
     while i < line_kinds.len() {
-        own = pick(line_kinds[i] == 0, operands[i], own);
+        own = pick(line_kinds[i] == line::COMMENT, operands[i], own);
         let j = segment_end(line_kinds, operands, i, own);
         match weigh_under(
             text,
@@ -160,21 +156,13 @@ pub fn weigh_segments(
             &line_kinds[i..j],
             &operands[i..j],
         ) {
-            Weight::Bytes(next) => {
-                n = next;
-            }
-            Weight::Short => {
-                short = true;
-            }
-            Weight::Barred => return Weight::Barred,
+            Ok(next) => n = next,
+            Err(Refusal::NoRoom) => short = true,
+            Err(refused) => return Err(refused),
         }
         i = j;
     }
-    if short {
-        Weight::Short
-    } else {
-        Weight::Bytes(n)
-    }
+    if short { Err(Refusal::NoRoom) } else { Ok(n) }
 }
 
 // Writes lines of the function named `own`, which is there, from the index `start` on, where it is known that they fit: gives the index behind them.
@@ -207,10 +195,10 @@ fn write_under(
     requires end_in_bounds { end ≤ length text.old }
     ensures { Wrote (printed_all (one_of names.now count kinds.now words.now own) line_kinds.now operands.now) start end text.old text.new result }
 {
-    let Head::At(at, params) = find_head(kinds, words, count, index, own) else {
+    let Some(head) = find_head(kinds, words, count, index, own) else {
         return start;
     };
-    let behind = at + 1;
+    let behind = head.at + 1;
     write_lines(
         text,
         start,
@@ -223,7 +211,7 @@ fn write_under(
         name_of(names, starts, every, own),
         &kinds[behind..],
         &words[behind..],
-        params,
+        head.params,
         line_kinds,
         operands,
     )
@@ -261,8 +249,9 @@ pub fn write_segments(
     let mut own = first;
     let mut at: usize = 0;
     let mut i: usize = 0;
+    // (no `for`, as above; the walk is not shared: a closure would have both contracts)
     while i < line_kinds.len() {
-        own = pick(line_kinds[i] == 0, operands[i], own);
+        own = pick(line_kinds[i] == line::COMMENT, operands[i], own);
         let j = segment_end(line_kinds, operands, i, own);
         at = write_under(
             text,

@@ -1,5 +1,5 @@
 -- All lines: those of kinds and operands, as many as the shorter of the two lists has.
-use Rattle.std.specs.Prelude.{ℕ, ◌+◌, ◌/◌, ◌≤◌, ◌<◌, ◌≡◌, refl, Bool, true, false, ◌&&◌, List, [], ◌∷◌, length, get_or, drop}
+use Rattle.std.specs.Prelude.{ℕ, ◌+◌, ◌/◌, ◌≤◌, ◌<◌, ◌≡◌, refl, Bool, true, false, ◌&&◌, List, [], ◌∷◌, length, get_or, drop, min}
 use Rattle.std.proofs.Common.{◌∙◌, add-one, arith, length-drop, drop-cons}
 use Rattle.names.specs.Name.{name_at}
 use Rattle.print_forms.specs.Forms.{form_of, allowed_by}
@@ -38,17 +38,10 @@ pub record AllReady (ns : List (List ℕ)) (ks xs : List ℕ) : Type 0 where
 
 -- ---- the check
 module _ (n f a b : ℕ) where
-  pub checked_kinds : (ks xs : List ℕ) (i : ℕ) → length ks ≤ i → allowed_all n f a b (drop i ks) (drop i xs) ≡ true
-  checked_kinds ks xs i h = go (drop i ks) (omega (arith, length-drop i ks))
+  pub checked_end : (ks xs : List ℕ) (i : ℕ) → min (length ks) (length xs) ≤ i → allowed_all n f a b (drop i ks) (drop i xs) ≡ true
+  checked_end ks xs i h = go (drop i ks) (drop i xs) (omega (arith, length-drop i ks, length-drop i xs))
     where
-      go : (l : List ℕ) → length l ≡ 0 → allowed_all n f a b l (drop i xs) ≡ true
-      go [] e = refl
-      go (k ∷ l) e = absurd (omega arith)
-
-  pub checked_operands : (ks xs : List ℕ) (i : ℕ) → length xs ≤ i → allowed_all n f a b (drop i ks) (drop i xs) ≡ true
-  checked_operands ks xs i h = go (drop i ks) (drop i xs) (omega (arith, length-drop i xs))
-    where
-      go : (l m : List ℕ) → length m ≡ 0 → allowed_all n f a b l m ≡ true
+      go : (l m : List ℕ) → min (length l) (length m) ≡ 0 → allowed_all n f a b l m ≡ true
       go [] m e = refl
       go (k ∷ l) [] e = refl
       go (k ∷ l) (x ∷ m) e = absurd (omega arith)

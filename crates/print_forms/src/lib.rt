@@ -1,14 +1,14 @@
 #![tactic(auto)]
 // Which form a line's kind has: what its operand may be, and what is put for it.
 ghost use Rattle.std.specs.Prelude.{◌≡◌, cond, ℕ, ◌<◌, ◌≤◌};
-ghost use Rattle.print_forms.specs.Forms.{form_of, number_form, name_form, allowed_by, most_of};
+ghost use Rattle.print_forms.specs.Forms.{form_of, allowed_by, most_of};
 ghost use Rattle.print_forms.specs.All.{allowed_all};
 
 use assembly::line;
 
 // The operand: the function, a name, a block, a call, a syscall, a count of slots, any number, a slot, a number of arguments,
 // none.
-#[derive(Drop)]
+#[derive(Clone, Copy, Debug, PartialEq, Eq)]
 pub enum Form {
     Comment,
     Name,
@@ -26,55 +26,18 @@ pub enum Form {
 pub fn form_of(kind: u16) -> Form
     ensures { result ≡ form_of kind }
 {
-    if line::ADD_U32 <= kind {
-        return if kind < 94 { Form::Bare } else { Form::Unknown };
-    }
-    if line::SEL_FALSE <= kind {
-        return Form::Any;
-    }
-    if line::PUSH_0N <= kind {
-        return number_form(kind);
-    }
-    name_form(kind)
-}
-
-// Kinds 7 to 12.
-fn number_form(kind: u16) -> Form
-    ensures { result ≡ number_form kind }
-{
-    if kind == line::PUSH_0N {
-        return Form::Count;
-    }
-    if kind < line::GET_LOCAL {
-        return Form::Any;
-    }
-    if kind < line::CALL_FP {
-        Form::Slot
-    } else {
-        Form::Args
-    }
-}
-
-// Kinds 0 to 6.
-fn name_form(kind: u16) -> Form
-    ensures { result ≡ name_form kind }
-{
-    if kind == line::COMMENT {
-        return Form::Comment;
-    }
-    if kind == line::CALL {
-        return Form::Call;
-    }
-    if kind == line::SYSCALL {
-        return Form::Syscall;
-    }
-    if kind == line::FN_LABEL {
-        return Form::Name;
-    }
-    if kind == line::PUSH_NAME {
-        Form::Name
-    } else {
-        Form::Block
+    match kind {
+        line::COMMENT => Form::Comment,
+        line::FN_LABEL | line::PUSH_NAME => Form::Name,
+        line::BLOCK_LABEL | line::JMP_BLOCK => Form::Block,
+        line::CALL => Form::Call,
+        line::SYSCALL => Form::Syscall,
+        line::PUSH_0N => Form::Count,
+        line::PUSH | line::GET_ARG | line::SEL_FALSE..=line::JNZ_SW_CASE => Form::Any,
+        line::GET_LOCAL | line::SET_LOCAL => Form::Slot,
+        line::CALL_FP => Form::Args,
+        line::ADD_U32..=line::BLANK => Form::Bare,
+        _ => Form::Unknown,
     }
 }
 
@@ -85,8 +48,7 @@ pub fn allowed(form: Form, x: u64, names: u64, function: u64, from: u64, to: u64
 {
     match form {
         Form::Comment => x == function,
-        Form::Name => x < names,
-        Form::Block => x < names,
+        Form::Name | Form::Block => x < names,
         Form::Call => x / 256 < names,
         Form::Syscall => (from <= x) & (x < to),
         Form::Count => (1 <= x) & (x <= 65535),
@@ -98,8 +60,8 @@ pub fn allowed(form: Form, x: u64, names: u64, function: u64, from: u64, to: u64
     }
 }
 
-// One of two numbers that are both there, so that no branch is taken.
-pub fn pick(first: bool, a: u64, b: u64) -> u64
+// One of two values that are both there, so that no branch is taken.
+pub fn pick<T: Copy>(first: bool, a: T, b: T) -> T
     ensures { result ≡ cond first a b }
 {
     if first { a } else { b }
@@ -112,7 +74,7 @@ fn most(kind: u16) -> u64
     let slot = pick(
         (kind == line::PUSH_0N) | (kind == line::GET_LOCAL) | (kind == line::SET_LOCAL),
         65535,
-        18446744073709551615,
+        u64::MAX,
     );
     pick(
         line::ADD_U32 <= kind,
@@ -137,7 +99,7 @@ pub fn number_allowed(kind: u16, x: u64) -> bool
     requires { 7 ≤ kind }
     ensures { (names function from to : ℕ) → result ≡ allowed_by (form_of kind) x names function from to }
 {
-    (kind < 94) & ((line::PUSH <= kind) | (1 <= x)) & (x <= most(kind))
+    (kind < line::KINDS) & ((line::PUSH <= kind) | (1 <= x)) & (x <= most(kind))
 }
 
 // Whether every line may stand, of as many as both slices hold. `names` is the number of names, `function` the function's name; the
@@ -152,11 +114,7 @@ pub fn check_lines(
 ) -> bool
     ensures { result ≡ allowed_all names function from to line_kinds.now operands.now }
 {
-    let mut i: usize = 0;
-    while i < line_kinds.len() {
-        if operands.len() <= i {
-            return true;
-        }
+    for i in 0..line_kinds.len().min(operands.len()) {
         if !allowed(
             form_of(line_kinds[i]),
             operands[i],
@@ -167,7 +125,6 @@ pub fn check_lines(
         ) {
             return false;
         }
-        i += 1;
     }
     true
 }

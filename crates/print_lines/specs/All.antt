@@ -1,10 +1,10 @@
 -- All lines: those of kinds and operands, as many as the shorter of the two lists has.
-use Rattle.std.specs.Prelude.{ℕ, ◌+◌, ◌≤◌, ◌<◌, ◌≡◌, refl, List, [], ◌∷◌, ◌++◌, length, get_or, take, drop}
+use Rattle.std.specs.Prelude.{ℕ, ◌+◌, ◌≤◌, ◌<◌, ◌≡◌, refl, List, [], ◌∷◌, ◌++◌, length, get_or, take, drop, min}
 use Rattle.std.proofs.Common.{sym, ap, ◌∙◌, append_assoc, append-nil, add-one, arith, length-drop, length-append, drop-cons}
 use Rattle.print_pen.specs.Pen.{Put}
-use Rattle.print_pen.specs.Write.{Wrote, pen_wrote, never_writes}
+use Rattle.print_pen.specs.Write.{Wrote, pen_wrote}
 use Rattle.print_pen.specs.declared.Pen.{Pen}
-use Rattle.print_pen.specs.declared.Pen.TheVariants.{Counting, Writing, Full}
+use Rattle.print_pen.specs.declared.Pen.TheVariants.{Writing}
 
 -- the bytes of all lines
 abbrev pub printed_all : (ℕ → ℕ → List ℕ) → List ℕ → List ℕ → List ℕ
@@ -14,14 +14,14 @@ printed_all one (k ∷ ks) (x ∷ xs) = one k x ++ printed_all one ks xs
 
 -- ---- over lists
 module _ (one : ℕ → ℕ → List ℕ) where
-  pub no_kind : (ks xs : List ℕ) → length ks ≡ 0 → printed_all one ks xs ≡ []
-  no_kind [] xs h = refl
-  no_kind (k ∷ ks) xs h = absurd (omega arith)
-
-  pub no_operand : (ks xs : List ℕ) → length xs ≡ 0 → printed_all one ks xs ≡ []
-  no_operand [] xs h = refl
-  no_operand (k ∷ ks) [] h = refl
-  no_operand (k ∷ ks) (x ∷ xs) h = absurd (omega arith)
+  -- none is left
+  pub all_done : (ks xs : List ℕ) (i : ℕ) → min (length ks) (length xs) ≤ i → printed_all one (drop i ks) (drop i xs) ≡ []
+  all_done ks xs i h = go (drop i ks) (drop i xs) (omega (arith, length-drop i ks, length-drop i xs))
+    where
+      go : (l m : List ℕ) → min (length l) (length m) ≡ 0 → printed_all one l m ≡ []
+      go [] m e = refl
+      go (k ∷ l) [] e = refl
+      go (k ∷ l) (x ∷ m) e = absurd (omega arith)
 
   pub all_step : (ks xs : List ℕ) (i : ℕ) → i < length ks → i < length xs
       → printed_all one (drop i ks) (drop i xs) ≡ one (get_or ks i 0) (get_or xs i 0) ++ printed_all one (drop (i + 1) ks) (drop (i + 1) xs)
@@ -69,11 +69,8 @@ module _ {one : ℕ → ℕ → List ℕ} {ks xs x : List ℕ} {start end i : �
     back = s.back;
   }
 
-  pub written_kinds : length ks ≤ i → Wrote (printed_all one ks xs) start end x y at
-  written_kinds h = written_end (no_kind one (drop i ks) (drop i xs) (omega (arith, length-drop i ks)))
-
-  pub written_operands : length xs ≤ i → Wrote (printed_all one ks xs) start end x y at
-  written_operands h = written_end (no_operand one (drop i ks) (drop i xs) (omega (arith, length-drop i xs)))
+  pub written_done : min (length ks) (length xs) ≤ i → Wrote (printed_all one ks xs) start end x y at
+  written_done h = written_end (all_done one ks xs i h)
 
 -- ---- a line put with a writing pen, where it fits
 module _ {bs x y : List ℕ} {q : Pen} {at : ℕ} (end r : ℕ) (h : Put bs (Writing at) x y q) (f : at + length bs ≤ end) (g : end ≤ length x) where
@@ -82,12 +79,3 @@ module _ {bs x y : List ℕ} {q : Pen} {at : ℕ} (end r : ℕ) (h : Put bs (Wri
       let w = pen_wrote end h f g in
       let i : r ≡ at + length bs = cc (w.0, e) in
       rw i w.1
-
-  pub pen_counted : q ≡ Counting r → Wrote bs at end x y at
-  pen_counted e = let w = (pen_wrote end h f g).0 in absurd (let z : ◌≡◌ {A = ℕ} 0 1 = cc (w, e) in omega arith)
-
-  pub pen_full : q ≡ Full → Wrote bs at end x y at
-  pen_full e = let w = (pen_wrote end h f g).0 in absurd (let z : ◌≡◌ {A = ℕ} 0 1 = cc (w, e) in omega arith)
-
-pub put_never : {bs x y : List ℕ} {q : Pen} {a : ℕ} (b : ℕ) → Put bs (Counting a) x y q → q ≡ Writing b → ⊥
-put_never {bs} {x} {y} {q} {a} b h e = never_writes q (length x) (length bs) a b h.says e

@@ -44,13 +44,8 @@ fn put_operand(
         Form::Block => put_block(text, pen, function, name_of(names, starts, every, x)),
         Form::Call => put_call(text, pen, name_of(names, starts, every, x / 256), x % 256),
         Form::Syscall => put_syscall(text, pen, name_of(names, starts, every, x)),
-        Form::Count => put_number(text, pen, x),
-        Form::Any => put_number(text, pen, x),
-        Form::Slot => put_number(text, pen, x),
-        Form::Args => put_number(text, pen, x),
-        Form::Comment => put_bytes(text, pen, b""),
-        Form::Bare => put_bytes(text, pen, b""),
-        Form::Unknown => put_bytes(text, pen, b""),
+        Form::Count | Form::Any | Form::Slot | Form::Args => put_number(text, pen, x),
+        Form::Comment | Form::Bare | Form::Unknown => put_bytes(text, pen, b""),
     }
 }
 
@@ -163,7 +158,7 @@ fn write_line(
     if line::PUSH_0N <= kind {
         return write_plain(text, at, end, letters, places, kind, x);
     }
-    match put_line(
+    let Pen::Writing(next) = put_line(
         text,
         Pen::Writing(at),
         letters,
@@ -177,11 +172,10 @@ fn write_line(
         params,
         kind,
         x,
-    ) {
-        Pen::Writing(next) => next,
-        Pen::Counting(_) => at,
-        Pen::Full => at,
-    }
+    ) else {
+        return at;
+    };
+    next
 }
 
 // Writes as many lines as both slices hold from the index `start` on, where it is known that they fit: gives the index behind them.
@@ -210,11 +204,7 @@ pub fn write_lines(
     ensures { Wrote (printed_all (printed (lines names.now) function.now (type_bytes (lines names.now) (type_to (length (lines names.now)) 64 (entries kinds.now words.now))) params) line_kinds.now operands.now) start end text.old text.new result }
 {
     let mut at = start;
-    let mut i: usize = 0;
-    while i < line_kinds.len() {
-        if operands.len() <= i {
-            return at;
-        }
+    for i in 0..line_kinds.len().min(operands.len()) {
         at = write_line(
             text,
             at,
@@ -231,7 +221,6 @@ pub fn write_lines(
             line_kinds[i],
             operands[i],
         );
-        i += 1;
     }
     at
 }

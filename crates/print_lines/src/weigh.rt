@@ -1,4 +1,4 @@
-// What lines weigh before any is written: whether every one may stand (21), and how many bytes they have (20), in one pass.
+// What lines weigh before any is written: whether every one may stand, and how many bytes they have, in one pass.
 ghost use Rattle.std.specs.Prelude.{◌≡◌, cond, List, ℕ, ◌+◌, ◌<◌, ◌≤◌, length, drop};
 ghost use Rattle.names.specs.Name.{lines};
 ghost use Rattle.names.specs.Spelling.{sanitize};
@@ -17,6 +17,7 @@ ghost use Rattle.print_lines.specs.Weigh.{weight, Weighed};
 
 use crate::put_comment;
 use assembly::line;
+use book::refusal::Refusal;
 use names_spelling::clean_len;
 use numbers::digits::decimal_len;
 use print_forms::{check_lines, name_allowed, number_allowed, pick};
@@ -24,36 +25,21 @@ use print_pen::Pen;
 use print_types::starts::name_of;
 use print_words::plain::{plain_len, word_len};
 
-// How many bytes there are; that the text is too short for them; that a line may not stand.
-#[derive(Drop)]
-pub enum Weight {
-    Bytes(usize),
-    Short,
-    Barred,
-}
-
 // Weighs a line of kind 7 or more behind n bytes.
-fn weigh_number(places: &[u16], n: usize, room: usize, kind: u16, x: u64) -> Weight
+fn weigh_number(places: &[u16], n: usize, room: usize, kind: u16, x: u64) -> Result<usize, Refusal>
     requires places_value { places.now ≡ word_places }
     requires n_le_room { n ≤ room }
     requires le_kind { 7 ≤ kind }
     ensures { (names function from to : ℕ) → result ≡ weight (allowed_by (form_of kind) x names function from to) (n + length (plain_text kind x)) room }
 {
     if !number_allowed(kind, x) {
-        return Weight::Barred;
+        return Err(Refusal::BadLine);
     }
     let more = plain_len(places, kind, x);
     if room - n < more {
-        return Weight::Short;
+        return Err(Refusal::NoRoom);
     }
-    Weight::Bytes(n + more)
-}
-
-// One of two lengths that are both there, so that no branch is taken.
-fn pick_len(first: bool, a: usize, b: usize) -> usize
-    ensures { result ≡ cond first a b }
-{
-    if first { a } else { b }
+    Ok(n + more)
 }
 
 // How many bytes a line has of the name that it names: a syscall's all but the first six, the others' as a label spells them.
@@ -76,13 +62,13 @@ fn around_len(places: &[u16], label: usize, kind: u16, x: u64) -> usize
     ensures { result ≡ around label kind x }
 {
     let word = word_len(places, kind);
-    let block = pick_len(
+    let block = pick(
         (line::BLOCK_LABEL <= kind) & (kind <= line::JMP_BLOCK),
         label + 2,
         0,
     );
     let digits = decimal_len(pick(kind == line::CALL, x % 256, 0));
-    let args = pick_len(kind == line::CALL, digits + 2, 0);
+    let args = pick(kind == line::CALL, digits + 2, 0);
     word + block + args + 2
 }
 
@@ -100,7 +86,7 @@ fn weigh_named(
     count: u64,
     from: u64,
     to: u64,
-) -> Weight
+) -> Result<usize, Refusal>
     requires places_value { places.now ≡ word_places }
     requires starts { Starts every names.now starts.now }
     requires callable { Callable (lines names.now) count from to }
@@ -111,19 +97,19 @@ fn weigh_named(
     ensures { (own : ℕ) (fname : List ℕ) → label ≡ length (sanitize fname) → result ≡ weight (allowed_by (form_of kind) x count own from to) (n + length (parts_text (lines names.now) fname kind x)) room }
 {
     if !name_allowed(kind, x, count, from, to) {
-        return Weight::Barred;
+        return Err(Refusal::BadLine);
     }
     let name = name_of(names, starts, every, pick(kind == line::CALL, x / 256, x));
     let spelled = spelled_len(name, kind);
     let rest = around_len(places, label, kind, x);
     let left = room - n;
     if left < spelled {
-        return Weight::Short;
+        return Err(Refusal::NoRoom);
     }
     if left - spelled < rest {
-        return Weight::Short;
+        return Err(Refusal::NoRoom);
     }
-    Weight::Bytes(n + (spelled + rest))
+    Ok(n + (spelled + rest))
 }
 
 // Weighs a line behind n bytes; a function's opening comment, of kind 0, is counted as it is written, by a pen. There are `count` names, the
@@ -146,7 +132,7 @@ fn weigh_line(
     own: u64,
     from: u64,
     to: u64,
-) -> Weight
+) -> Result<usize, Refusal>
     requires places_value { places.now ≡ word_places }
     requires starts { Starts every names.now starts.now }
     requires typed { Typed (length (lines names.now)) 64 kinds.now words.now }
@@ -175,9 +161,9 @@ fn weigh_line(
         );
     }
     if x != own {
-        return Weight::Barred;
+        return Err(Refusal::BadLine);
     }
-    match put_comment(
+    let Pen::Counting(next) = put_comment(
         text,
         Pen::Counting(n),
         names,
@@ -187,15 +173,14 @@ fn weigh_line(
         kinds,
         words,
         params,
-    ) {
-        Pen::Counting(next) => Weight::Bytes(next),
-        Pen::Writing(_) => Weight::Short,
-        Pen::Full => Weight::Short,
-    }
+    ) else {
+        return Err(Refusal::NoRoom);
+    };
+    Ok(next)
 }
 
-// What lines weigh where those before line i may stand, and the text is too short for line i or before: whether the others may stand
-// is still to be told, since that comes first.
+// What lines weigh where those before line i may stand, and line i may not or the text is too short for it or before: whether all the
+// others may stand is still to be told, since that comes first.
 fn weigh_rest(
     line_kinds: &[u16],
     operands: &[u64],
@@ -204,15 +189,15 @@ fn weigh_rest(
     own: u64,
     from: u64,
     to: u64,
-) -> Weight
+) -> Result<usize, Refusal>
     requires i_in_bounds { i ≤ length line_kinds.now }
     requires i_in_bounds_2 { i ≤ length operands.now }
-    ensures { result ≡ cond (allowed_all count own from to (drop i line_kinds.now) (drop i operands.now)) Weight.Short Weight.Barred }
+    ensures { result ≡ cond (allowed_all count own from to (drop i line_kinds.now) (drop i operands.now)) (Err Refusal.NoRoom) (Err Refusal.BadLine) }
 {
     if check_lines(&line_kinds[i..], &operands[i..], count, own, from, to) {
-        Weight::Short
+        Err(Refusal::NoRoom)
     } else {
-        Weight::Barred
+        Err(Refusal::BadLine)
     }
 }
 
@@ -234,7 +219,7 @@ pub fn weigh_lines(
     own: u64,
     from: u64,
     to: u64,
-) -> Weight
+) -> Result<usize, Refusal>
     requires places_value { places.now ≡ word_places }
     requires starts { Starts every names.now starts.now }
     requires typed { Typed (length (lines names.now)) 64 kinds.now words.now }
@@ -246,11 +231,7 @@ pub fn weigh_lines(
 {
     let label = clean_len(function);
     let mut n = before;
-    let mut i: usize = 0;
-    while i < line_kinds.len() {
-        if operands.len() <= i {
-            return Weight::Bytes(n);
-        }
+    for i in 0..line_kinds.len().min(operands.len()) {
         match weigh_line(
             text,
             n,
@@ -270,13 +251,9 @@ pub fn weigh_lines(
             from,
             to,
         ) {
-            Weight::Bytes(next) => {
-                n = next;
-            }
-            Weight::Short => return weigh_rest(line_kinds, operands, i, count, own, from, to),
-            Weight::Barred => return Weight::Barred,
+            Ok(next) => n = next,
+            Err(_) => return weigh_rest(line_kinds, operands, i, count, own, from, to),
         }
-        i += 1;
     }
-    Weight::Bytes(n)
+    Ok(n)
 }

@@ -1,13 +1,13 @@
 -- What writing bytes at a place leaves behind, where it is known that all bytes fit. More than those asked for may be stored, up to an end that is reached in the end:
 -- what is stored later stands over it.
-use Rattle.std.specs.Prelude.{ℕ, suc, ◌+◌, ◌≤◌, ◌≡◌, refl, Bool, true, false, List, [], ◌∷◌, ◌++◌, leb, length, take, drop, set}
+use Rattle.std.specs.Prelude.{ℕ, suc, ◌+◌, ◌≤◌, ◌≡◌, refl, List, [], ◌∷◌, ◌++◌, length, take, drop, set}
 use Rattle.std.proofs.Common.{ap, ◌∙◌, append_assoc, arith, le-leb, length-append, drop-set-lt, length-take-le}
 use Rattle.std.proofs.lemmas.List.Edits.{sets, sets-eq}
 use Rattle.std.proofs.Math.Seq.{length-sets, take-length, take-append-add}
 use Rattle.std.proofs.lemmas.List.{take-append-le}
-use Rattle.print_pen.specs.Pen.{Put, reached, fitting}
+use Rattle.print_pen.specs.Pen.{Put}
 use Rattle.print_pen.specs.declared.Pen.{Pen}
-use Rattle.print_pen.specs.declared.Pen.TheVariants.{Counting, Writing}
+use Rattle.print_pen.specs.declared.Pen.TheVariants.{Writing}
 
 -- the bytes bs were written from the place `at` on into the text x; y is the text then, and r the place behind them
 pub record Wrote (bs : List ℕ) (at end : ℕ) (x y : List ℕ) (r : ℕ) : Type 0 where
@@ -61,11 +61,3 @@ pub pen_wrote : {bs x y : List ℕ} {q : Pen} {at : ℕ} (end : ℕ) → Put bs 
 pen_wrote {bs} {x} {y} {q} {at} end h f g =
     let l : at + length bs ≤ length x = omega arith in
     (h.says ∙ rw (le-leb _ _ l), rw (h.text l) (wrote_all bs x at end f g))
-
--- a counting pen never writes
-pub never_writes : (q : Pen) (room n a b : ℕ) → q ≡ reached room n (Counting a) → q ≡ Writing b → ⊥
-never_writes q room n a b e h = go (leb (a + n) room) e
-  where
-    go : (t : Bool) → q ≡ fitting t (Counting (a + n)) → ⊥
-    go true g = let z : ◌≡◌ {A = ℕ} 0 1 = cc in omega arith
-    go false g = let z : ◌≡◌ {A = ℕ} 0 1 = cc in omega arith

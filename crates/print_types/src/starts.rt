@@ -12,6 +12,7 @@ pub fn note_eighths(names: &[u8], starts: &mut [u64])
 {
     let mut at: usize = 0;
     let mut i: usize = 0;
+    // (no `for`: a step is as long as a name)
     while at < names.len() {
         if i % 8 == 0 {
             starts[i / 8] = at as u64;
@@ -29,10 +30,8 @@ fn name_start(names: &[u8], starts: &[u64], x: u64) -> usize
 {
     let number = x as usize;
     let mut at = starts[number / 8] as usize;
-    let mut left = number % 8;
-    while 0 < left {
+    for _ in 0..number % 8 {
         at = names_spelling::name_end(names, at) + 1;
-        left -= 1;
     }
     at
 }

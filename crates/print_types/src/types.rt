@@ -7,37 +7,18 @@ ghost use Rattle.book.specs.Entry.{entries};
 ghost use Rattle.book.specs.Decode.{type_to};
 ghost use Rattle.print_pen.specs.Pen.{Put};
 ghost use Rattle.print_types.specs.Starts.{Starts};
-ghost use Rattle.print_types.specs.Types.{opened, closed, array_head, sizeless_text, type_bytes, Typed};
+ghost use Rattle.print_types.specs.Types.{array_head, sizeless_text, type_bytes, Typed};
 
 use crate::starts::name_of;
+use book::entry;
 use book_types::types::{TypeGroup, type_group};
-use print_pen::{Pen, put_bytes, put_number};
-
-// Puts the bracket that opens an array.
-fn put_open(text: &mut [u8], pen: Pen, packed: bool) -> Pen
-    ensures { Put (opened packed) pen text.old text.new result }
-{
-    if packed {
-        return put_bytes(text, pen, b"<");
-    }
-    put_bytes(text, pen, b"[")
-}
-
-// Puts the bracket that closes an array.
-fn put_close(text: &mut [u8], pen: Pen, packed: bool) -> Pen
-    ensures { Put (closed packed) pen text.old text.new result }
-{
-    if packed {
-        return put_bytes(text, pen, b">");
-    }
-    put_bytes(text, pen, b"]")
-}
+use print_pen::{Pen, put_bytes, put_either, put_number};
 
 // Puts what stands before an array's element.
 fn put_array_head(text: &mut [u8], pen: Pen, packed: bool, len: u64) -> Pen
     ensures { Put (array_head packed len) pen text.old text.new result }
 {
-    let open = put_open(text, pen, packed);
+    let open = put_either(text, pen, packed, b"<", b"[");
     let number = put_number(text, open, len);
     put_bytes(text, number, b" x ")
 }
@@ -62,13 +43,11 @@ fn put_named(text: &mut [u8], pen: Pen, name: &[u8]) -> Pen
 fn put_sizeless(text: &mut [u8], pen: Pen, kind: u64) -> Pen
     ensures { Put (sizeless_text kind) pen text.old text.new result }
 {
-    if kind == book::entry::FUNC {
-        return put_bytes(text, pen, b"fn");
+    match kind {
+        entry::FUNC => put_bytes(text, pen, b"fn"),
+        entry::LABEL => put_bytes(text, pen, b"label"),
+        _ => put_bytes(text, pen, b"metadata"),
     }
-    if kind == book::entry::LABEL {
-        return put_bytes(text, pen, b"label");
-    }
-    put_bytes(text, pen, b"metadata")
 }
 
 // Puts the type at the front of the entries, of at most `level` levels.
@@ -101,7 +80,7 @@ pub fn put_type(
                 &words[1..],
                 level - 1,
             );
-            put_close(text, elem, packed)
+            put_either(text, elem, packed, b">", b"]")
         }
         TypeGroup::Void => put_bytes(text, pen, b"void"),
         TypeGroup::Int => put_int(text, pen, word),

@@ -11,7 +11,7 @@ ghost use Rattle.print_words.specs.Words.{word, word_letters, word_places, Table
 ghost use Rattle.print_words.specs.Ends.{is_label, ending, params_text};
 
 use assembly::line;
-use print_pen::{Pen, put_bytes, put_clean, put_number, put_part};
+use print_pen::{Pen, put_bytes, put_clean, put_either, put_number};
 
 // The word of kind k has PLACES[k] % 32 letters, from place PLACES[k] / 32 on.
 const PLACES: [u16; 94] = [
@@ -38,27 +38,19 @@ pub fn word_places() -> [u16; 94]
     PLACES
 }
 
-// A place among the letters, and how many of them.
-fn place(at: u16) -> usize
-    ensures { result ≡ at }
-{
-    at as usize
-}
-
 // Puts the word of a line's kind.
 pub fn put_word(text: &mut [u8], pen: Pen, letters: &[u8], places: &[u16], kind: u16) -> Pen
     requires tables { Tables letters.now places.now }
     requires kind_bound { kind < 94 }
     ensures { Put (word kind) pen text.old text.new result }
 {
-    let k = kind as usize;
-    let both = place(places[k]);
+    let both = usize::from(places[usize::from(kind)]);
     let start = both / 32;
     let end = start + both % 32;
-    put_part(text, pen, letters, start, end)
+    put_bytes(text, pen, &letters[start..end])
 }
 
-// Whether the line is a label.
+// Whether the line is a label; by no branch, since which lines are is hard to foresee.
 fn is_label(kind: u16) -> bool
     ensures { result ≡ is_label kind }
 {
@@ -70,10 +62,7 @@ fn is_label(kind: u16) -> bool
 pub fn put_end(text: &mut [u8], pen: Pen, kind: u16) -> Pen
     ensures { Put (ending kind) pen text.old text.new result }
 {
-    if is_label(kind) {
-        return put_bytes(text, pen, b":\n");
-    }
-    put_bytes(text, pen, b";\n")
+    put_either(text, pen, is_label(kind), b":\n", b";\n")
 }
 
 // Puts a block's label: `fn__block`.
@@ -99,7 +88,7 @@ pub fn put_syscall(text: &mut [u8], pen: Pen, name: &[u8]) -> Pen
     requires { 6 ≤ length name.now }
     ensures { Put (drop 6 name.now) pen text.old text.new result }
 {
-    put_part(text, pen, name, 6, name.len())
+    put_bytes(text, pen, &name[6..])
 }
 
 // Puts how many parameters there are, and the end of the comment.

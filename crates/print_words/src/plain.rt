@@ -6,7 +6,7 @@ ghost use Rattle.print_words.specs.Words.{word, word_places, Tables};
 ghost use Rattle.print_words.specs.Ends.{ending};
 ghost use Rattle.print_words.specs.Plain.{plain_text};
 
-use crate::{is_label, place};
+use crate::is_label;
 use assembly::line;
 use numbers::digits::{decimal_len, put_decimal, put_short};
 use print_pen::copy;
@@ -17,8 +17,7 @@ pub fn word_len(places: &[u16], kind: u16) -> usize
     requires kind_bound { kind < 94 }
     ensures { result ≡ length (word kind) }
 {
-    let k = kind as usize;
-    place(places[k]) % 32
+    usize::from(places[usize::from(kind)]) % 32
 }
 
 // How many bytes the line has.
@@ -52,8 +51,7 @@ fn write_word(
     requires end_in_bounds { end ≤ length text.old }
     ensures { Wrote (word kind) at end text.old text.new result }
 {
-    let k = kind as usize;
-    let both = place(places[k]);
+    let both = usize::from(places[usize::from(kind)]);
     let start = both / 32;
     if 24 <= end - at {
         let far = start + 24;
@@ -70,8 +68,8 @@ fn write_end(text: &mut [u8], at: usize, kind: u16) -> usize
     requires { at + 2 ≤ length text.old }
     ensures { (result ≡ at + length (ending kind)) × (text.new ≡ sets text.old at (ending kind)) }
 {
-    text[at] = if is_label(kind) { 58 } else { 59 };
-    text[at + 1] = 10;
+    text[at] = if is_label(kind) { b':' } else { b';' };
+    text[at + 1] = b'\n';
     at + 2
 }
 

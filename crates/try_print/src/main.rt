@@ -3,7 +3,6 @@
 // after the call.
 use assembly::line;
 use book::entry;
-use print::passes::Printed;
 use print::print;
 use print_pen::{Pen, put_number};
 use std::io;
@@ -80,13 +79,13 @@ fn show_lent(
 ) -> io::Result<()> {
     let answer = print(book, names, line_kinds, operands, text);
     match answer {
-        Printed::Accepted(n) => {
+        Ok(n) => {
             rt.write_all(b"accepted ")?;
             show_number(rt, wide(n))?;
         }
-        Printed::Refused(e) => {
+        Err(e) => {
             rt.write_all(b"refused ")?;
-            show_number(rt, e)?;
+            show_number(rt, e.number())?;
         }
     }
     rt.write_all(text)?;

@@ -12,15 +12,6 @@ returns-then-kind-eq-COMMENT c =
     let low : c.args.kind < 21 = omega (arith, c.requires.kind_bound) in
     put_same (rw (lt-leb 21 _ low, eq-eqb _ 0 c.if-kind-eq-COMMENT.true)) c.put_comment.ensures
 
-pub put_parts-requires : goal.put_parts-requires
-put_parts-requires c =
-    record {
-      tables = c.requires.tables;
-      starts = c.requires.starts;
-      ready = c.requires.ready;
-      kind_bound = omega (arith, c.requires.kind_bound);
-    }
-
 pub returns : goal.returns
 unfolding printed
 returns c =

@@ -5,13 +5,6 @@ use Rattle.names.specs.Name.{lines}
 use Rattle.print_lines.specs.Lines.{operand_text, parts_text}
 use Rattle.print_lines.proofs.put_parts.Goals as goal
 
-pub put_operand-operand-requires : goal.put_operand-operand-requires
-put_operand-operand-requires c =
-    record {
-      starts = c.requires.starts;
-      ready = rw c.form_of.ensures c.requires.ready;
-    }
-
 pub returns : goal.returns
 unfolding parts_text
 returns c =

@@ -1,6 +1,5 @@
--- `write_lines` meets its contract: the lines written so far and those left are all lines. The measure is the number of lines left.
-use Prim.Native.Nat.{◌-◌}
-use lib.ListN.{length}
+-- `write_lines` meets its contract: the lines written so far and those left are all lines.
+use Rattle.std.proofs.Common.{length}
 use Rattle.names.specs.Name.{lines}
 use Rattle.book.specs.Entry.{entries}
 use Rattle.book.specs.Decode.{type_to}
@@ -12,7 +11,3 @@ use Rattle.print_lines.proofs.write_lines.Given as goal
 abbrev pub invariant-loop-i : goal.invariant-loop-i
 invariant-loop-i l =
     Written (printed (lines l.names) l.function (type_bytes (lines l.names) (type_to (length (lines l.names)) 64 (entries l.kinds l.words))) l.params) l.line_kinds l.operands l.initial.text l.start l.end l.i l.text l.at
-
-abbrev pub decreases-loop-i : goal.decreases-loop-i
-decreases-loop-i l =
-    length l.line_kinds - l.i

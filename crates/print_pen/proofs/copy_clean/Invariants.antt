@@ -1,11 +1,6 @@
 -- `copy_clean` meets its contract: what is left to be stored gives the text that is asked for.
-use Prim.Native.Nat.{◌-◌}
-use lib.ListN.{length}
 use Rattle.print_pen.specs.Pen.{Cleaned}
 use Rattle.print_pen.proofs.copy_clean.Given as goal
 
-abbrev pub invariant-loop-i : goal.invariant-loop-i
-invariant-loop-i l = Cleaned l.src l.initial.text l.at l.text l.i l.to
-
-abbrev pub decreases-loop-i : goal.decreases-loop-i
-decreases-loop-i l = length l.src - l.i
+abbrev pub invariant-loop-b : goal.invariant-loop-b
+invariant-loop-b l = Cleaned l.src l.initial.text l.at l.text l.b-index l.to

@@ -22,8 +22,8 @@ returns-then-kinds-at c =
     let d = c.requires.book in
     no_head_lem c.args.count c.args.kinds.now c.args.words.now d c.args.own (omega (arith, c.if-kinds-at.true, c.place_of-at.ensures))
 
-pub function_params-requires : goal.function_params-requires
-function_params-requires c =
+pub function_params-params-requires : goal.function_params-params-requires
+function_params-params-requires c =
     let d = c.requires.book in
     head_there c.args.count c.args.kinds.now c.args.words.now d c.args.own _ c.place_of-at.ensures (omega (arith, c.if-kinds-at.false))
 
@@ -31,4 +31,4 @@ pub returns : goal.returns
 returns c =
     let d = c.requires.book in
     head_stands c.args.count c.args.kinds.now c.args.words.now d c.args.own _ c.place_of-at.ensures (omega (arith, c.if-kinds-at.false)) _
-    c.function_params.ensures
+    c.function_params-params.ensures

@@ -1,5 +1,5 @@
--- `note_functions` meets its contract: the entries passed are noted. The measure is the number of entries left.
-use Prim.Native.Nat.{◌-◌, ◌≤◌}
+-- `note_functions` meets its contract: the entries passed are noted.
+use Prim.Native.Nat.{◌≤◌}
 use mathlib.Core.Path.{◌≡◌}
 use lib.ListN.{length}
 use Rattle.print.specs.Heads.{Noted}
@@ -7,6 +7,3 @@ use Rattle.print.proofs.heads.note_functions.Given as goal
 
 abbrev pub invariant-loop-i : goal.invariant-loop-i
 invariant-loop-i l = (length l.index ≡ length l.initial.index) × ((l.i ≤ length l.kinds) × Noted l.kinds l.words l.i l.index)
-
-abbrev pub decreases-loop-i : goal.decreases-loop-i
-decreases-loop-i l = length l.kinds - l.i

@@ -3,8 +3,8 @@ use native.Mathlib.Omega.{arith}
 use Rattle.print.specs.Heads.{noted_other, noted_beyond, noted_kept, noted_set}
 use Rattle.print.proofs.heads.note_head.Goals as goal
 
-pub returns-then-kind-ne5 : goal.returns-then-kind-ne5
-returns-then-kind-ne5 c = λ ks ws a n. noted_other a n c.if-kind-ne5.true
+pub returns-then-kind-ne-FUNCTION : goal.returns-then-kind-ne-FUNCTION
+returns-then-kind-ne-FUNCTION c = λ ks ws a n. noted_other a n c.if-kind-ne-FUNCTION.true
 
 pub returns-then-index-name : goal.returns-then-index-name
 returns-then-index-name c = λ ks ws a n. noted_beyond a n c.if-index-name.true

@@ -26,7 +26,7 @@ overflow_add-at c =
     omega (
       arith,
       fn_kinds_at c.args.names c.args.kinds.now c.args.words.now c.requires _
-          (sym c.in-Entries.is ∙ c.type_len.ensures),
+          c.in-Some.ensures,
       c.well_formed,
     )
 
@@ -35,45 +35,45 @@ offset_bounds-kinds-at c =
     omega (
       arith,
       fn_kinds_at c.args.names c.args.kinds.now c.args.words.now c.requires _
-          (sym c.in-Entries.is ∙ c.type_len.ensures),
+          c.in-Some.ensures,
       c.well_formed,
     )
 
 pub slice_bounds-list_params-count : goal.slice_bounds-list_params-count
 slice_bounds-list_params-count c =
     fn_kinds_at c.args.names c.args.kinds.now c.args.words.now c.requires _
-    (sym c.in-Entries.is ∙ c.type_len.ensures)
+    c.in-Some.ensures
 
 pub slice_bounds-list_params-start : goal.slice_bounds-list_params-start
 slice_bounds-list_params-start c =
     fn_kinds_at c.args.names c.args.kinds.now c.args.words.now c.requires _
-    (sym c.in-Entries.is ∙ c.type_len.ensures)
+    c.in-Some.ensures
 
 pub offset_bounds-words-at : goal.offset_bounds-words-at
 offset_bounds-words-at c =
     omega (
       arith,
       fn_words_at c.args.names c.args.kinds.now c.args.words.now c.requires _
-          (sym c.in-Entries.is ∙ c.type_len.ensures),
+          c.in-Some.ensures,
       c.well_formed,
     )
 
 pub slice_bounds-list_params-count-2 : goal.slice_bounds-list_params-count-2
 slice_bounds-list_params-count-2 c =
     fn_words_at c.args.names c.args.kinds.now c.args.words.now c.requires _
-    (sym c.in-Entries.is ∙ c.type_len.ensures)
+    c.in-Some.ensures
 
 pub slice_bounds-list_params-start-2 : goal.slice_bounds-list_params-start-2
 slice_bounds-list_params-start-2 c =
     fn_words_at c.args.names c.args.kinds.now c.args.words.now c.requires _
-    (sym c.in-Entries.is ∙ c.type_len.ensures)
+    c.in-Some.ensures
 
 pub list_params-requires : goal.list_params-requires
 list_params-requires c =
     fn_params_there c.args.names c.args.kinds.now c.args.words.now c.requires _
-    (sym c.in-Entries.is ∙ c.type_len.ensures)
+    c.in-Some.ensures
 
 pub returns : goal.returns
 returns c =
     fn_params c.args.names c.args.kinds.now c.args.words.now c.requires _
-    (sym c.in-Entries.is ∙ c.type_len.ensures) _ c.list_params.ensures
+    c.in-Some.ensures _ c.list_params.ensures

@@ -1,5 +1,6 @@
 -- `list_params` meets its contract: in the entries of the list each parameter has one of kind 6.
-use mathlib.Core.Path.{sym}
+use mathlib.Core.Path.{sym, ◌∙◌}
+use Rattle.std.specs.Prelude.{Some, None}
 use lib.Seq.{length-take-le}
 use Rattle.book.specs.Fields.{Item as BookItem}
 use Rattle.book.specs.Decode.{item}
@@ -14,9 +15,9 @@ pub returns-in_default : goal.returns-in_default
 returns-in_default c =
     let a = c.args in
     no_params a.names a.kinds.now a.words.now c.requires
-    (none_len (any (other_item BookItem.param)) (many (item a.names BookItem.param) (entries a.kinds.now a.words.now)) _
-    (listed (other_item BookItem.param) (item a.names BookItem.param) (entries a.kinds.now a.words.now) _ _
-    c.list_len.ensures c.shorter.ensures) c.in_default.is)
+    (none_len (any (other_item BookItem.param)) (many (item a.names BookItem.param) (entries a.kinds.now a.words.now))
+    (listed (other_item BookItem.param) (item a.names BookItem.param) (entries a.kinds.now a.words.now) _ None
+    (sym c.in_default.is ∙ c.list_len.ensures) c.shorter.ensures))
 
 pub slice_bounds-count_params-end : goal.slice_bounds-count_params-end
 slice_bounds-count_params-end c =
@@ -24,14 +25,14 @@ slice_bounds-count_params-end c =
     sym
     (length-take-le _ _
     (list_fits a.names a.kinds.now a.words.now c.requires _
-    (found_len (any (other_item BookItem.param)) (many (item a.names BookItem.param) (entries a.kinds.now a.words.now)) _ _ _
-    (listed (other_item BookItem.param) (item a.names BookItem.param) (entries a.kinds.now a.words.now) _ _
-    c.list_len.ensures c.shorter.ensures) c.in-Entries.is)))
+    (found_len (any (other_item BookItem.param)) (many (item a.names BookItem.param) (entries a.kinds.now a.words.now)) c.in-Some.found
+    (listed (other_item BookItem.param) (item a.names BookItem.param) (entries a.kinds.now a.words.now) _ (Some c.in-Some.found)
+    c.in-Some.ensures c.shorter.ensures))))
 
 pub returns : goal.returns
 returns c =
     let a = c.args in
     list_count a.names a.kinds.now a.words.now c.requires _
-    (found_len (any (other_item BookItem.param)) (many (item a.names BookItem.param) (entries a.kinds.now a.words.now)) _ _ _
-    (listed (other_item BookItem.param) (item a.names BookItem.param) (entries a.kinds.now a.words.now) _ _
-    c.list_len.ensures c.shorter.ensures) c.in-Entries.is) _ c.count_params.ensures
+    (found_len (any (other_item BookItem.param)) (many (item a.names BookItem.param) (entries a.kinds.now a.words.now)) c.in-Some.found
+    (listed (other_item BookItem.param) (item a.names BookItem.param) (entries a.kinds.now a.words.now) _ (Some c.in-Some.found)
+    c.in-Some.ensures c.shorter.ensures)) _ c.count_params.ensures

@@ -1,14 +1,15 @@
 -- `put_twice` meets its contract: the second pass writes what the first has counted.
 use mathlib.Core.Path.{sym, ◌∙◌}
+use Rattle.std.proofs.lemmas.Result.{err_from_is_err_and}
 use Rattle.print_words.specs.Words.{Tables}
-use Rattle.print.specs.Passes.{passes_count, passes_done, passes_short, passes_barred, passes_unheaded}
+use Rattle.print.specs.Passes.{passes_count, passes_done, passes_refused, passes_unheaded}
 use Rattle.print.proofs.passes.put_twice.Goals as goal
 
 pub returns-then-not-headed : goal.returns-then-not-headed
 returns-then-not-headed c = passes_unheaded _ _ _ _ (sym c.headed.ensures ∙ c.if-not-headed.true)
 
-pub weigh_segments-weighed-requires : goal.weigh_segments-weighed-requires
-weigh_segments-weighed-requires c =
+pub weigh_segments-requires : goal.weigh_segments-requires
+weigh_segments-requires c =
     record {
       places_value = c.word_places-places.ensures;
       starts = c.requires.starts;
@@ -19,7 +20,7 @@ weigh_segments-weighed-requires c =
 
 pub write_segments-requires : goal.write_segments-requires
 write_segments-requires c =
-    let n = passes_count c.weigh_segments-weighed.ensures _ c.in-Bytes.is in
+    let n = passes_count c.weigh_segments.ensures _ c.in_ok-n.was in
     let tables : Tables c.word_letters-letters.result c.word_places-places.result =
     record { letters_are = c.word_letters-letters.ensures; places_are = c.word_places-places.ensures } in
     record {
@@ -33,17 +34,13 @@ write_segments-requires c =
       end_in_bounds = n.1.1;
     }
 
-pub returns-in-Bytes : goal.returns-in-Bytes
-returns-in-Bytes c =
+pub returns-in_err-n : goal.returns-in_err-n
+returns-in_err-n c =
     let stands = sym c.headed.ensures ∙ c.if-not-headed.false in
-    rw stands (passes_done _ c.weigh_segments-weighed.ensures _ _ c.in-Bytes.is c.write_segments.ensures)
+    let same = err_from_is_err_and c.from_residual.result c.from_residual.ensures.1 in
+    rw (stands, same.1, same.2) (passes_refused _ c.weigh_segments.ensures _ c.in_err-n.was)
 
-pub returns-in-Short : goal.returns-in-Short
-returns-in-Short c =
+pub returns : goal.returns
+returns c =
     let stands = sym c.headed.ensures ∙ c.if-not-headed.false in
-    rw stands (passes_short _ c.weigh_segments-weighed.ensures c.in-Short.is)
-
-pub returns-in-Barred : goal.returns-in-Barred
-returns-in-Barred c =
-    let stands = sym c.headed.ensures ∙ c.if-not-headed.false in
-    rw stands (passes_barred _ c.weigh_segments-weighed.ensures c.in-Barred.is)
+    rw stands (passes_done _ c.weigh_segments.ensures _ _ c.in_ok-n.was c.write_segments.ensures)

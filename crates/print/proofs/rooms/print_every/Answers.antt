@@ -16,7 +16,7 @@ returns-in_default c = names_barred _ _ _ c.read_names.ensures.value c.in_defaul
 pub print_noted-requires : goal.print_noted-requires
 unfolding bytes
 print_noted-requires c =
-    let sorted = c.in-Sorted.is in
+    let sorted = c.in-Some.is in
     let few = c.requires.count_bound in
     let named = names_named _ _ _ c.read_names.ensures.value _ _ sorted few in
     let starts = names_starts _ _ _ c.read_names.ensures.value _ _ sorted few c.args.starts.now c.requires.count_in_bounds c.read_names.ensures.noted_where in
@@ -36,4 +36,4 @@ shape_of-starts c =
 pub returns : goal.returns
 unfolding bytes
 returns c =
-    names_printed _ _ _ c.read_names.ensures.value _ _ c.in-Sorted.is _ _ _ _ c.print_noted.ensures
+    names_printed _ _ _ c.read_names.ensures.value _ _ c.in-Some.is _ _ _ _ c.print_noted.ensures

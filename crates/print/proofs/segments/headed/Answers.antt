@@ -1,24 +1,27 @@
-use mathlib.Core.Path.{refl}
-use Rattle.print.specs.Segments.{ahead_comment, ahead_label, ahead_jump, ahead_next, ahead_end}
+use Rattle.std.proofs.Common.{◌≡◌, ◌≤◌, ◌<◌, get_or, refl, arith}
+use Rattle.print.specs.Segments.{ahead_comment, ahead_block, ahead_next, ahead_end}
 use Rattle.print.proofs.segments.headed.Goals as goal
 
-pub loop-i-init : goal.loop-i-init
-loop-i-init c = record { same = refl }
+pub loop-kind-init : goal.loop-kind-init
+loop-kind-init c = record { same = refl }
 
-pub returns-then-line_kinds-i-eq0 : goal.returns-then-line_kinds-i-eq0
-returns-then-line_kinds-i-eq0 c = ahead_comment c.loop-i.invariant c.loop-i-test.true c.if-line_kinds-i-eq0.true
+pub returns-in-0 : goal.returns-in-0
+returns-in-0 c = ahead_comment c.loop-kind.invariant c.loop-kind-test.true c.in-0.is
 
-pub returns-then-line_kinds-i-eq2 : goal.returns-then-line_kinds-i-eq2
-returns-then-line_kinds-i-eq2 c =
-    ahead_label c.loop-i.invariant c.loop-i-test.true c.if-line_kinds-i-eq0.false c.if-line_kinds-i-eq2.true
+pub returns-in-2 : goal.returns-in-2
+returns-in-2 c =
+    let k = get_or c.args.line_kinds.now c.loop-kind.kind-index 0 in
+    let low : 2 ≤ k = omega arith in
+    let high : k < 4 = omega arith in
+    ahead_block c.loop-kind.invariant c.loop-kind-test.true low high
 
-pub returns-then-line_kinds-i-eq3 : goal.returns-then-line_kinds-i-eq3
-returns-then-line_kinds-i-eq3 c =
-    ahead_jump c.loop-i.invariant c.loop-i-test.true c.if-line_kinds-i-eq0.false c.if-line_kinds-i-eq2.false c.if-line_kinds-i-eq3.true
-
-pub loop-i-preserved : goal.loop-i-preserved
-loop-i-preserved c =
-    ahead_next c.loop-i.invariant c.loop-i-test.true c.if-line_kinds-i-eq0.false c.if-line_kinds-i-eq2.false c.if-line_kinds-i-eq3.false
+pub loop-kind-preserved : goal.loop-kind-preserved
+loop-kind-preserved c =
+    let k = get_or c.args.line_kinds.now c.loop-kind.kind-index 0 in
+    let comment : k ≡ 0 → ⊥ = λ e. omega arith in
+    let label : k ≡ 2 → ⊥ = λ e. omega arith in
+    let jump : k ≡ 3 → ⊥ = λ e. omega arith in
+    ahead_next c.loop-kind.invariant c.loop-kind-test.true comment label jump
 
 pub returns : goal.returns
-returns c = ahead_end c.loop-i.invariant c.loop-i-test.false
+returns c = ahead_end c.loop-kind.invariant c.loop-kind-test.false

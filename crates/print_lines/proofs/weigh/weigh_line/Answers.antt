@@ -5,35 +5,18 @@ use native.Mathlib.Omega.{arith}
 use Rattle.names.specs.Labels.{sanitize_length}
 use Rattle.print_pen.specs.Pen.{put_same}
 use Rattle.print_forms.specs.Kinds.{comment_stands, comment_barred}
-use Rattle.print_lines.specs.All.{put_never}
 use Rattle.print_lines.specs.Weigh.{barred_is, number_weighed, named_weighed, comment_printed, counted_bytes, counted_short}
 use Rattle.print_lines.proofs.weigh.weigh_line.Goals as goal
-
-pub weigh_number-requires : goal.weigh_number-requires
-weigh_number-requires c =
-    record {
-      places_value = c.requires.places_value;
-      n_le_room = c.requires.n_in_bounds;
-      le_kind = c.if-kind-ge-PUSH_0N.true;
-    }
 
 pub returns-then-kind-ge-PUSH_0N : goal.returns-then-kind-ge-PUSH_0N
 returns-then-kind-ge-PUSH_0N c =
     let a = c.args in
     number_weighed _ _ _ _ _ _ _ _ _ _ c.if-kind-ge-PUSH_0N.true (c.weigh_number.ensures a.count a.own a.from a.to)
 
-pub weigh_named-requires : goal.weigh_named-requires
-weigh_named-requires c =
+pub weigh_named-requires-clause-label_bound : goal.weigh_named-requires-clause-label_bound
+weigh_named-requires-clause-label_bound c =
     let short : c.args.label < 9223372036854775808 = omega (arith, c.requires.label_value, sanitize_length c.args.function.now, c.well_formed) in
-    record {
-      places_value = c.requires.places_value;
-      starts = c.requires.starts;
-      callable = c.requires.callable;
-      label_bound = short;
-      n_le_room = c.requires.n_in_bounds;
-      le_kind = c.if-kind-ge-FN_LABEL.true;
-      kind_bound = c.if-kind-ge-PUSH_0N.false;
-    }
+    short
 
 pub returns-then-kind-ge-FN_LABEL : goal.returns-then-kind-ge-FN_LABEL
 returns-then-kind-ge-FN_LABEL c =
@@ -44,16 +27,12 @@ pub returns-then-x-own : goal.returns-then-x-own
 returns-then-x-own c =
     record { is = barred_is _ _ _ (comment_barred _ _ _ _ _ _ c.if-kind-ge-FN_LABEL.false c.if-x-own.true); text = refl }
 
-pub returns-in-Counting : goal.returns-in-Counting
-returns-in-Counting c =
+pub returns-in_default : goal.returns-in_default
+returns-in_default c =
+    let text = put_same (comment_printed _ _ _ _ _ _ c.if-kind-ge-FN_LABEL.false) c.put_comment.ensures in
+    counted_short _ (comment_stands _ _ _ _ _ _ c.if-kind-ge-FN_LABEL.false c.if-x-own.false) text c.in_default.not-Counting
+
+pub returns : goal.returns
+returns c =
     let text = put_same (comment_printed _ _ _ _ _ _ c.if-kind-ge-FN_LABEL.false) c.put_comment.ensures in
     counted_bytes _ (comment_stands _ _ _ _ _ _ c.if-kind-ge-FN_LABEL.false c.if-x-own.false) text _ c.in-Counting.is
-
-pub returns-in-Writing : goal.returns-in-Writing
-returns-in-Writing c =
-    absurd (put_never _ c.put_comment.ensures c.in-Writing.is)
-
-pub returns-in-Full : goal.returns-in-Full
-returns-in-Full c =
-    let text = put_same (comment_printed _ _ _ _ _ _ c.if-kind-ge-FN_LABEL.false) c.put_comment.ensures in
-    counted_short _ (comment_stands _ _ _ _ _ _ c.if-kind-ge-FN_LABEL.false c.if-x-own.false) text c.in-Full.is

@@ -15,12 +15,9 @@ pub returns-then-not-name_allowed : goal.returns-then-not-name_allowed
 returns-then-not-name_allowed c =
     λ own fname l. barred_is _ _ _ (sym (c.name_allowed.ensures own) ∙ c.if-not-name_allowed.true)
 
-pub name_of-name-requires : goal.name_of-name-requires
-name_of-name-requires c =
-    record {
-      starts = c.requires.starts;
-      x_in_bounds = name_inside (lines c.args.names.now) c.args.kind c.args.x c.requires.le_kind c.requires.kind_bound _ c.pick.ensures (ready_form c.requires.callable 0 (form_of c.args.kind) c.args.x (sym (c.name_allowed.ensures 0) ∙ c.if-not-name_allowed.false));
-    }
+pub name_of-name-requires-clause-x_in_bounds : goal.name_of-name-requires-clause-x_in_bounds
+name_of-name-requires-clause-x_in_bounds c =
+    name_inside (lines c.args.names.now) c.args.kind c.args.x c.requires.le_kind c.requires.kind_bound _ c.pick.ensures (ready_form c.requires.callable 0 (form_of c.args.kind) c.args.x (sym (c.name_allowed.ensures 0) ∙ c.if-not-name_allowed.false))
 
 pub spelled_len-spelled-requires : goal.spelled_len-spelled-requires
 spelled_len-spelled-requires c =

@@ -9,12 +9,9 @@ pub returns-then-not-number_allowed : goal.returns-then-not-number_allowed
 returns-then-not-number_allowed c =
     λ m f a b. barred_is _ _ _ (sym (c.number_allowed.ensures m f a b) ∙ c.if-not-number_allowed.true)
 
-pub plain_len-more-requires : goal.plain_len-more-requires
-plain_len-more-requires c =
-    record {
-      places_value = c.requires.places_value;
-      kind_bound = known_form _ c.args.x 0 0 0 0 (sym (c.number_allowed.ensures 0 0 0 0) ∙ c.if-not-number_allowed.false);
-    }
+pub plain_len-more-requires-clause-kind_bound : goal.plain_len-more-requires-clause-kind_bound
+plain_len-more-requires-clause-kind_bound c =
+    known_form _ c.args.x 0 0 0 0 (sym (c.number_allowed.ensures 0 0 0 0) ∙ c.if-not-number_allowed.false)
 
 pub returns-then-room-n : goal.returns-then-room-n
 returns-then-room-n c =

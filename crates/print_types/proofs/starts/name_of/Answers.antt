@@ -4,14 +4,6 @@ use Rattle.print_types.specs.Starts.{between, end_below, name_bytes}
 use borrow.Author.Rules.{rules}
 use Rattle.print_types.proofs.starts.name_of.Goals as goal
 
-pub bounds-starts-number : goal.bounds-starts-number
-bounds-starts-number c =
-    omega (arith, (between _ c.requires.starts c.if-every.true c.requires.x_in_bounds).room)
-
-pub bounds-starts-number-then-every : goal.bounds-starts-number-then-every
-bounds-starts-number-then-every c =
-    (between _ c.requires.starts c.if-every.true c.requires.x_in_bounds).room
-
 pub overflow_sub-to : goal.overflow_sub-to
 overflow_sub-to c =
     omega (arith, (between _ c.requires.starts c.if-every.true c.requires.x_in_bounds).order)
@@ -31,10 +23,6 @@ slice_bounds-result-end c =
 pub returns-then-every : goal.returns-then-every
 returns-then-every c =
     (between _ c.requires.starts c.if-every.true c.requires.x_in_bounds).spelled
-
-pub name_start-at-requires : goal.name_start-at-requires
-name_start-at-requires c =
-    record { starts = rw c.if-every.false at c.requires.starts; x_in_bounds = c.requires.x_in_bounds }
 
 pub slice_bounds-result-end-2 : goal.slice_bounds-result-end-2
 slice_bounds-result-end-2 c =

@@ -5,7 +5,7 @@ use lib.ListN.{length}
 use Rattle.names.specs.Text.{bytes}
 use Rattle.names.specs.Name.{lines}
 use Rattle.print_pen.specs.Pen.{put_same, then_put}
-use Rattle.print_types.specs.Types.{typed_kinds, typed_words, typed_level, elem_typed, named_there, type_arm}
+use Rattle.print_types.specs.Types.{typed_kinds, typed_words, typed_level, elem_typed, named_there, type_arm, closed}
 use Rattle.print_types.proofs.types.+put_type.Goals as goal
 
 pub bounds-kinds-0 : goal.bounds-kinds-0
@@ -48,17 +48,18 @@ put_type-elem-requires t c =
     let a = c.args in
     (omega (arith, c.decreases, typed_level [] (length (lines a.names.now)) a.level a.kinds.now a.words.now c.requires.typed), (c.requires.starts, elem_typed [] (length (lines a.names.now)) a.level a.kinds.now a.words.now c.requires.typed _ c.type_group.ensures _ c.in-Array.is))
 
-pub name_of-requires : goal.name_of-requires
-name_of-requires t c =
+pub name_of-requires-clause-x_in_bounds : goal.name_of-requires-clause-x_in_bounds
+name_of-requires-clause-x_in_bounds t c =
     let a = c.args in
-    record { starts = c.requires.starts; x_in_bounds = named_there [] (length (lines a.names.now)) a.level a.kinds.now a.words.now c.requires.typed _ c.type_group.ensures c.in-Named.is }
+    named_there [] (length (lines a.names.now)) a.level a.kinds.now a.words.now c.requires.typed _ c.type_group.ensures c.in-Named.is
 
 pub returns-in-Array : goal.returns-in-Array
+unfolding closed bytes
 returns-in-Array t c =
     let a = c.args in
     put_same
     (type_arm (lines a.names.now) (length (lines a.names.now)) a.level a.kinds.now a.words.now c.requires.typed _ c.type_group.ensures _ c.in-Array.is)
-    (then_put c.put_array_head-head.ensures (then_put c.put_type-elem.ensures c.put_close.ensures))
+    (then_put c.put_array_head-head.ensures (then_put c.put_type-elem.ensures c.put_either.ensures))
 
 pub returns-in-Void : goal.returns-in-Void
 unfolding bytes

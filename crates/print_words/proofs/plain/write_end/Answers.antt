@@ -1,13 +1,8 @@
 -- `write_end` meets its contract by the test of the kind.
 use mathlib.Core.Path.{sym, ◌∙◌}
-use native.Mathlib.Omega.{arith}
-use lib.ListN.{length-set}
 use Rattle.print_words.specs.Plain.{colon_stored, semicolon_stored}
 use Rattle.print_words.proofs.plain.write_end.Goals.{else-is_label, then-is_label}
 use Rattle.print_words.proofs.plain.write_end.Goals as goal
-
-pub bounds-text-at-2 : goal.bounds-text-at-2
-bounds-text-at-2 c = simp length-set (omega arith)
 
 pub returns : goal.returns
 returns c =

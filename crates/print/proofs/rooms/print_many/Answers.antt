@@ -1,9 +1,9 @@
--- `many_print` meets its contract: names that the check accepts are noted by a pass of their own.
+-- `print_many` meets its contract: names that the check accepts are noted by a pass of their own.
 use Rattle.names.specs.Text.{bytes}
 use Rattle.print.specs.Heads.{zeroed}
 use Rattle.print.specs.Names.{names_barred, names_named, names_printed}
 use borrow.Author.Rules.{rules}
-use Rattle.print.proofs.rooms.many_print.Goals as goal
+use Rattle.print.proofs.rooms.print_many.Goals as goal
 
 pub returns-in_default : goal.returns-in_default
 unfolding bytes
@@ -12,7 +12,7 @@ returns-in_default c = names_barred _ _ _ c.read_names.ensures.value c.in_defaul
 pub note_eighths-requires : goal.note_eighths-requires
 unfolding bytes
 note_eighths-requires c =
-    let named = names_named _ _ _ c.read_names.ensures.value _ _ c.in-Sorted.is c.requires.count_bound in
+    let named = names_named _ _ _ c.read_names.ensures.value _ _ c.in-Some.is c.requires.count_bound in
     let few = named.sound.few in
     record {
       sound = named.sound;
@@ -22,7 +22,7 @@ note_eighths-requires c =
 pub print_noted-requires : goal.print_noted-requires
 unfolding bytes
 print_noted-requires c =
-    let named = names_named _ _ _ c.read_names.ensures.value _ _ c.in-Sorted.is c.requires.count_bound in
+    let named = names_named _ _ _ c.read_names.ensures.value _ _ c.in-Some.is c.requires.count_bound in
     let few = c.requires.count_bound in
     record {
       decoded = c.requires.decoded;
@@ -36,4 +36,4 @@ print_noted-requires c =
 pub returns : goal.returns
 unfolding bytes
 returns c =
-    names_printed _ _ _ c.read_names.ensures.value _ _ c.in-Sorted.is _ _ _ _ c.print_noted.ensures
+    names_printed _ _ _ c.read_names.ensures.value _ _ c.in-Some.is _ _ _ _ c.print_noted.ensures
