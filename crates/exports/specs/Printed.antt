@@ -1,14 +1,14 @@
 -- The printer's answer in numbers.
-use Rattle.std.specs.Prelude.{ℕ, ◌≡◌, List}
+use Rattle.std.specs.Prelude.{ℕ, ◌≡◌, List, Result, Ok, Err}
 use Rattle.std.proofs.Common.{subst}
 use Rattle.assembly.specs.Printer.{Printing}
 use Rattle.print.specs.Reply.{PrintAnswers, PrintAnswer}
-use Rattle.print.specs.declared.passes.Printed.{Printed}
-use Rattle.print.specs.declared.passes.Printed.TheVariants.{Accepted, Refused}
+use Rattle.book.specs.declared.refusal.Refusal.{Refusal}
+use Rattle.book.specs.Refusal.{number_of as refusal_number}
 
-module _ (p : Printing) (r : Printed) (t : List ℕ) (a : PrintAnswer p r t) where
-  pub accepted_is : (n : ℕ) → r ≡ Accepted n → PrintAnswers p 0 n t
-  accepted_is n h = subst (λ (q : Printed). PrintAnswer p q t) h a
+module _ (p : Printing) (r : Result ℕ Refusal) (t : List ℕ) (a : PrintAnswer p r t) where
+  pub accepted_is : (n : ℕ) → r ≡ Ok n → PrintAnswers p 0 n t
+  accepted_is n h = subst (λ (q : Result ℕ Refusal). PrintAnswer p q t) h a
 
-  pub refused_is : (e : ℕ) → r ≡ Refused e → PrintAnswers p e 0 t
-  refused_is e h = subst (λ (q : Printed). PrintAnswer p q t) h a
+  pub refused_is : (e : Refusal) → r ≡ Err e → PrintAnswers p (refusal_number e) 0 t
+  refused_is e h = subst (λ (q : Result ℕ Refusal). PrintAnswer p q t) h a

@@ -2,28 +2,10 @@
 // The boundary for C and Rust: each function lends its slices on and gives document 01's numbers.
 ghost use Rattle.std.specs.Prelude.{◌≡◌};
 ghost use Rattle.book.specs.Check.{checked, refusal_of};
-ghost use Rattle.book_check.specs.Verdict.{number_of};
 ghost use Rattle.assembly.specs.Printer.{print};
 ghost use Rattle.lowering.specs.Translate.{translate};
 ghost use Rattle.translate.specs.Reply.{Answers};
 ghost use Rattle.print.specs.Reply.{PrintAnswers};
-
-use book_check::Verdict;
-use gen_passes::Translation;
-use print::passes::Printed;
-
-// Document 01's number of an answer.
-fn number(verdict: Verdict) -> u64
-    ensures { result ≡ number_of verdict }
-{
-    match verdict {
-        Verdict::Sound => 0,
-        Verdict::BadBook => 1,
-        Verdict::BadNames => 2,
-        Verdict::Barred => 3,
-        Verdict::ShortWork => 4,
-    }
-}
 
 // The first of refusals 1 to 4 that applies to the lent book, names, counter and length of a work slice; 0 where
 // none does.
@@ -31,7 +13,10 @@ fn number(verdict: Verdict) -> u64
 pub extern "C" fn mivolanjy_check(book: &[u64], names: &[u8], counter: u64, work: usize) -> u64
     ensures { result ≡ refusal_of (checked book.now names.now counter work) }
 {
-    number(book_check::check(book, names, counter, work))
+    match book_check::check(book, names, counter, work) {
+        Ok(()) => 0,
+        Err(refusal) => refusal.number(),
+    }
 }
 
 // Translates the lent book into lines. The answer is the refusal's number, 0 where there is none; `lines` is the number of lines, and the
@@ -51,15 +36,15 @@ pub extern "C" fn mivolanjy_translate(
         result lines.new next.new work.new kinds.new operands.new }
 {
     match translate::translate(book, names, counter, work, kinds, operands) {
-        Translation::Accepted(n, after) => {
-            *lines = n as u64;
-            *next = after;
+        Ok(t) => {
+            *lines = t.lines as u64;
+            *next = t.counter;
             0
         }
-        Translation::Refused(e) => {
+        Err(e) => {
             *lines = 0;
             *next = counter;
-            e
+            e.number()
         }
     }
 }
@@ -79,13 +64,13 @@ pub extern "C" fn mivolanjy_print(
         result count.new text.new }
 {
     match print::print(book, names, line_kinds, operands, text) {
-        Printed::Accepted(n) => {
+        Ok(n) => {
             *count = n as u64;
             0
         }
-        Printed::Refused(e) => {
+        Err(e) => {
             *count = 0;
-            e
+            e.number()
         }
     }
 }

@@ -10,12 +10,12 @@ use Rattle.assembly.specs.Printer.{Printing, refusing, print}
 use Rattle.lowering.specs.Translate.{Translating, translate}
 use Rattle.lowering.proofs.Printable.{translate_accepted}
 use Rattle.print.specs.Reply.{Replied, Prints}
-use Rattle.print.specs.declared.passes.Printed.{Printed}
-use Rattle.print.specs.declared.passes.Printed.TheVariants as reply
 use Rattle.translate.specs.Reply.{Answer, accepted_reply, refused_reply}
-use Rattle.gen_passes.specs.Reply.{Numbered}
+use Rattle.std.specs.Prelude.{Result, Ok, Err}
+use Rattle.book.specs.Refusal.{number_of}
+use Rattle.book.specs.declared.refusal.Refusal.{Refusal}
+use Rattle.gen_passes.specs.Reply.{Reply, Numbered}
 use Rattle.gen_passes.specs.declared.Translation.{Translation}
-use Rattle.gen_passes.specs.declared.Translation.TheVariants.{Accepted, Refused}
 use Rattle.lines.proofs.Words.{rest_is}
 use Rattle.lines.proofs.Room.{roomy}
 use Rattle.lines.proofs.Text.{print_inside}
@@ -23,59 +23,58 @@ use Rattle.lines.specs.Shown.{line_room, text_room, zeros, word, words, printed,
 
 -- ---- a book: what the translator and the printer promise is used here alone
 module _ (d : definition.Printed) where
-  replied_accepted : (m : ℕ) → Replied d (reply.Accepted m) → d ≡ definition.Printed.accepted m
+  replied_accepted : (m : ℕ) → Replied d (Ok m) → d ≡ definition.Printed.accepted m
   replied_accepted m = go d
     where
-      go : (d : definition.Printed) → Replied d (reply.Accepted m) → d ≡ definition.Printed.accepted m
-      go (definition.Printed.accepted n) e = let i : n ≡ m = cc in ap definition.Printed.accepted i
-      go (definition.Printed.refused x) e = absurd (let z : ◌≡◌ {A = ℕ} 0 1 = cc in omega arith)
+      go : (d : definition.Printed) → Replied d (Ok m) → d ≡ definition.Printed.accepted m
+      go (definition.Printed.accepted n) e = ap definition.Printed.accepted (sym e)
+      go (definition.Printed.refused x) e = absurd e
 
-  replied_refused : (x : ℕ) → Replied d (reply.Refused x) → d ≡ definition.Printed.refused x
+  replied_refused : (x : Refusal) → Replied d (Err x) → d ≡ definition.Printed.refused (number_of x)
   replied_refused x = go d
     where
-      go : (d : definition.Printed) → Replied d (reply.Refused x) → d ≡ definition.Printed.refused x
-      go (definition.Printed.accepted n) e = absurd (let z : ◌≡◌ {A = ℕ} 0 1 = cc in omega arith)
-      go (definition.Printed.refused y) e = let i : y ≡ x = cc in ap definition.Printed.refused i
+      go : (d : definition.Printed) → Replied d (Err x) → d ≡ definition.Printed.refused (number_of x)
+      go (definition.Printed.accepted n) e = absurd e
+      go (definition.Printed.refused y) e = ap definition.Printed.refused (sym e)
 
-module _ (book names work kinds operands : List ℕ) (r : Translation) (w k o : List ℕ) (a : Answer 0 (translate book names 0 work kinds operands) r w k o) where
-  pub lines_fit : (n next : ℕ) → r ≡ Accepted n next → n ≤ min (length kinds) (length operands)
-  lines_fit n next h =
-      (translate_accepted book names 0 work kinds operands n next (accepted_reply book names 0 work kinds operands r w k o a n next h)).1
+module _ (book names work kinds operands : List ℕ) (r : Reply) (w k o : List ℕ) (a : Answer 0 (translate book names 0 work kinds operands) r w k o) where
+  pub lines_fit : (m : Translation) → r ≡ Ok m → m.lines ≤ min (length kinds) (length operands)
+  lines_fit m h =
+      (translate_accepted book names 0 work kinds operands m.lines m.counter (accepted_reply book names 0 work kinds operands r w k o a m h)).1
 
   module _ (text : List ℕ) where
     abbrev t : Translating
     t = translate book names 0 work kinds operands
 
-    module _ (n next : ℕ) (h : r ≡ Accepted n next) (p : Printed) (y : List ℕ) (g : Prints (print book names (take (n - 0) k) (take (n - 0) o) text) p y) where
+    module _ (made : Translation) (h : r ≡ Ok made) (p : Result ℕ Refusal) (y : List ℕ) (g : Prints (print book names (take made.lines k) (take made.lines o) text) p y) where
       abbrev q : Printing
-      q = print book names (take (n - 0) k) (take (n - 0) o) text
+      q = print book names (take made.lines k) (take made.lines o) text
 
       lines_shown : q ≡ translated book names work kinds operands text
       unfolding translated printed
       lines_shown =
-          let c : n - 0 ≡ n = omega arith in
-          let e : q ≡ print book names (take n t.kinds) (take n t.operands) text = rw (c, a.kinds, a.operands) in
-          e ∙ ap (λ d. printed book names text t d) (sym (accepted_reply book names 0 work kinds operands r w k o a n next h))
+          let e : q ≡ print book names (take made.lines t.kinds) (take made.lines t.operands) text = rw (a.kinds, a.operands) in
+          e ∙ ap (λ d. printed book names text t d) (sym (accepted_reply book names 0 work kinds operands r w k o a made h))
 
-      pub text_shown : (m : ℕ) → p ≡ reply.Accepted m → Begins (said (translated book names work kinds operands text)) y m
+      pub text_shown : (m : ℕ) → p ≡ Ok m → Begins (said (translated book names work kinds operands text)) y m
       unfolding said said_of
       text_shown m i =
           let e = replied_accepted q.reply m (subst (Replied q.reply) i g.reply) in
           let is : said q ≡ take m y = ap (said_of q.text) e ∙ ap (take m) (sym g.text) in
           record {
-            fits = rw g.text (print_inside book names (take (n - 0) k) (take (n - 0) o) text m e);
+            fits = rw g.text (print_inside book names (take made.lines k) (take made.lines o) text m e);
             front = sym is ∙ ap said lines_shown;
           }
 
       -- what the printer refuses
-      pub unprinted : (x : ℕ) → p ≡ reply.Refused x → (z : List ℕ) (m : ℕ) → Begins (refusal x) z m → Begins (said (translated book names work kinds operands text)) z m
+      pub unprinted : (x : Refusal) → p ≡ Err x → (z : List ℕ) (m : ℕ) → Begins (refusal (number_of x)) z m → Begins (said (translated book names work kinds operands text)) z m
       unfolding said said_of
       unprinted x i z m b =
-          let is : said q ≡ refusal x = ap (said_of q.text) (replied_refused q.reply x (subst (Replied q.reply) i g.reply)) in
+          let is : said q ≡ refusal (number_of x) = ap (said_of q.text) (replied_refused q.reply x (subst (Replied q.reply) i g.reply)) in
           record { fits = b.fits; front = b.front ∙ sym is ∙ ap said lines_shown }
 
     -- what the translator refuses
-    pub untranslated : Numbered r → (x : ℕ) → r ≡ Refused x → (z : List ℕ) (m : ℕ) → Begins (refusal x) z m → Begins (said (translated book names work kinds operands text)) z m
+    pub untranslated : Numbered r → (x : Refusal) → r ≡ Err x → (z : List ℕ) (m : ℕ) → Begins (refusal (number_of x)) z m → Begins (said (translated book names work kinds operands text)) z m
     unfolding translated said said_of printed refusing
     untranslated s x h z m b = record {
       fits = b.fits;

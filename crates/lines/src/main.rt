@@ -3,9 +3,7 @@
 ghost use Rattle.std.specs.Prelude.{◌≡◌, ◌≤◌, ◌<◌, ◌*◌, length, take, IfOk};
 ghost use Rattle.lines.specs.Shown.{longest, text_room, zeros, word, words, translated, answered, refusal, said, shown, Begins};
 
-use gen_passes::Translation;
 use numbers::digits::put_decimal;
-use print::passes::Printed;
 use std::io;
 use std::io::Read;
 use translate::translate;
@@ -59,13 +57,13 @@ fn show_book(
         text.new result }
 {
     match translate(book, names, 0, work, kinds, operands) {
-        Translation::Accepted(n, _) => {
-            match print::print(book, names, &kinds[0..n], &operands[0..n], text) {
-                Printed::Accepted(bytes) => bytes,
-                Printed::Refused(e) => put_refusal(e, text),
+        Ok(t) => {
+            match print::print(book, names, &kinds[..t.lines], &operands[..t.lines], text) {
+                Ok(bytes) => bytes,
+                Err(e) => put_refusal(e.number(), text),
             }
         }
-        Translation::Refused(e) => put_refusal(e, text),
+        Err(e) => put_refusal(e.number(), text),
     }
 }
 

@@ -1,5 +1,5 @@
 -- What a call answers, in document 01's numbers.
-use Rattle.std.specs.Prelude.{ℕ, ◌%◌, ◌^◌, ◌≡◌, List, map, length, replicate}
+use Rattle.std.specs.Prelude.{ℕ, ◌%◌, ◌^◌, ◌≡◌, List, map, length, replicate, Ok, Err}
 use Rattle.std.proofs.Math.Path.{refl, subst}
 use Rattle.std.proofs.Common.{sym, ap, ◌∙◌, arith}
 use Rattle.std.proofs.Math.Bool.{true}
@@ -13,9 +13,10 @@ use Rattle.lowering.specs.Translate as definition
 use Rattle.lowering.specs.Translate.{Translating, generated, translation_number, translation_lines, translation_counter, replied, translate}
 use Rattle.gen_lines.specs.Puts.{operand_word}
 use Rattle.gen_passes.specs.Passes.{Answered, room}
-use Rattle.gen_passes.specs.Reply.{number_of, lines_of, counter_of, Numbered}
+use Rattle.book.specs.Refusal as refusal
+use Rattle.book.specs.declared.refusal.Refusal.{Refusal}
+use Rattle.gen_passes.specs.Reply.{Reply, number_of, lines_of, counter_of, Numbered}
 use Rattle.gen_passes.specs.declared.Translation.{Translation}
-use Rattle.gen_passes.specs.declared.Translation.TheVariants.{Accepted, Refused}
 use Rattle.gen_slices.specs.Clear.{clear_long}
 
 -- the refusal's number, 0 for none; how many lines, 0 where refused; the next counter, the given one where refused; and the lent slices after the call: each
@@ -29,7 +30,7 @@ pub record Answers (counter : ℕ) (p : Translating) (e n c : ℕ) (w k o : List
   pub operands : o ≡ p.operands
 
 -- those of the code's answer
-abbrev pub Answer : (counter : ℕ) → Translating → Translation → (work kinds operands : List ℕ) → Type 0
+abbrev pub Answer : (counter : ℕ) → Translating → Reply → (work kinds operands : List ℕ) → Type 0
 Answer counter p r work kinds operands = Answers counter p (number_of r) (lines_of r) (counter_of counter r) work kinds operands
 
 -- the words of an accepted answer are its numbers
@@ -44,7 +45,7 @@ module _ (book names : List ℕ) (counter : ℕ) (work ks os : List ℕ) {cleare
   long = clear_long (length work) cleared z
 
   -- what was answered, with the work words cleared again
-  module _ (r : Translation) (used work' ks' os' : List ℕ) (a : Answered (generated book names counter (length cleared) (room ks os)) r ks os ks' os')
+  module _ (r : Reply) (used work' ks' os' : List ℕ) (a : Answered (generated book names counter (length cleared) (room ks os)) r ks os ks' os')
       (l : length used ≡ length cleared) (y : work' ≡ replicate (length used) 0) where
     all : work' ≡ replicate (length work) 0
     all = y ∙ ap (λ (n : ℕ). replicate n 0) (l ∙ long)
@@ -63,7 +64,7 @@ module _ (book names : List ℕ) (counter : ℕ) (work ks os : List ℕ) {cleare
             rw (e, h.reply, all, h.kinds, h.operands, same_operands out f, n)
             (record { number = refl; lines = refl; next = refl; work = refl; kinds = refl; operands = refl })
         go (err x) e h =
-            rw (e, h.reply, all, h.kinds, h.operands)
+            rw (e, h.reply, h.number, all, h.kinds, h.operands)
             (record { number = refl; lines = refl; next = refl; work = refl; kinds = refl; operands = refl })
 
     -- a refusal has one of document 01's numbers
@@ -72,32 +73,32 @@ module _ (book names : List ℕ) (counter : ℕ) (work ks os : List ℕ) {cleare
       where
         go : (g : Result Out) → lent ≡ g → Answered g r ks os ks' os' → Numbered r
         go (ok out) e h = rw h.reply tt
-        go (err x) e h = rw h.reply ((generated_numbered book names counter (length work) (room ks os)).numbered x e)
+        go (err x) e h = rw (h.reply, h.number) ((generated_numbered book names counter (length work) (room ks os)).numbered x e)
 
 -- ---- the definition's reply to a call that was answered so
-module _ (book names : List ℕ) (counter : ℕ) (work ks os : List ℕ) (r : Translation) (w k o : List ℕ)
+module _ (book names : List ℕ) (counter : ℕ) (work ks os : List ℕ) (r : Reply) (w k o : List ℕ)
     (a : Answer counter (translate book names counter work ks os) r w k o) where
   abbrev reply : definition.Translation
   reply = (translate book names counter work ks os).reply
 
-  pub accepted_reply : (n next : ℕ) → r ≡ Accepted n next → reply ≡ definition.Translation.accepted n next
+  pub accepted_reply : (t : Translation) → r ≡ Ok t → reply ≡ definition.Translation.accepted t.lines t.counter
   unfolding translation_number translation_lines translation_counter
-  accepted_reply n next e =
+  accepted_reply t e =
       go reply refl (ap number_of (sym e) ∙ a.number) (ap lines_of (sym e) ∙ a.lines) (ap (counter_of counter) (sym e) ∙ a.next)
     where
-      go : (t : definition.Translation) → reply ≡ t → 0 ≡ translation_number t → n ≡ translation_lines t → next ≡ translation_counter counter t
-          → t ≡ definition.Translation.accepted n next
+      go : (d : definition.Translation) → reply ≡ d → 0 ≡ translation_number d → t.lines ≡ translation_lines d → t.counter ≡ translation_counter counter d
+          → d ≡ definition.Translation.accepted t.lines t.counter
       go (definition.Translation.accepted m c) h i j l = rw (j, l)
       go (definition.Translation.refused x) h i j l =
           absurd (let s = refusal_range x (refused_numbered book names counter work ks os x h) in omega arith)
 
-  pub refused_reply : Numbered r → (x : ℕ) → r ≡ Refused x → reply ≡ definition.Translation.refused x
+  pub refused_reply : Numbered r → (x : Refusal) → r ≡ Err x → reply ≡ definition.Translation.refused (refusal.number_of x)
   unfolding translation_number
   refused_reply s x e = go reply (ap number_of (sym e) ∙ a.number)
     where
-      numbered : is_refusal x ≡ true
+      numbered : is_refusal (refusal.number_of x) ≡ true
       numbered = subst Numbered e s
 
-      go : (t : definition.Translation) → x ≡ translation_number t → t ≡ definition.Translation.refused x
-      go (definition.Translation.accepted m c) i = absurd (let l = refusal_range x numbered in omega arith)
+      go : (d : definition.Translation) → refusal.number_of x ≡ translation_number d → d ≡ definition.Translation.refused (refusal.number_of x)
+      go (definition.Translation.accepted m c) i = absurd (let l = refusal_range (refusal.number_of x) numbered in omega arith)
       go (definition.Translation.refused y) i = rw i

@@ -1,5 +1,5 @@
 -- What the check's answer says of a call: one of the first four refusals, or a sound book with its entries, names and work words.
-use Rattle.std.specs.Prelude.{ℕ, ◌+◌, ◌-◌, ◌*◌, ◌≤◌, ◌^◌, Bool, not, List, [], length, get_or, take, drop, replicate, leb}
+use Rattle.std.specs.Prelude.{ℕ, ◌+◌, ◌-◌, ◌*◌, ◌≤◌, ◌^◌, Bool, not, List, [], length, get_or, take, drop, replicate, leb, Err}
 use Rattle.std.proofs.Math.Path.{◌≡◌, refl, sym, ap, subst}
 use Rattle.std.proofs.Common.{◌∙◌, arith, leb-true, length-take, length-drop}
 use Rattle.std.proofs.Math.Bool.{true, false}
@@ -9,6 +9,8 @@ use Rattle.names.specs.Name.{names_of, counts}
 use Rattle.names.specs.Lines.{accepted_iff}
 use Rattle.names_check.specs.Nexts.{Noted, NextsAlone, nexts_alone}
 use Rattle.book.specs.Entry.{entries}
+use Rattle.book.specs.Refusal.{number_of, number_positive}
+use Rattle.book.specs.declared.refusal.Refusal.{Refusal}
 use Rattle.book.specs.Rule.{pick}
 use Rattle.book.specs.Decode.{decode}
 use Rattle.book.specs.Encode.{encode}
@@ -27,8 +29,7 @@ use Rattle.lowering.proofs.Printable.{Lent, checked_lent, names_counted}
 use Rattle.lowering.specs.Translate.{generated}
 use Rattle.gen_passes.specs.Passes.{fitted, Answered}
 use Rattle.gen_passes.specs.Generate.{GenerateAsk}
-use Rattle.gen_passes.specs.declared.Translation.{Translation}
-use Rattle.gen_passes.specs.declared.Translation.TheVariants.{Refused}
+use Rattle.gen_passes.specs.Reply.{Reply}
 use Rattle.gen_slices.specs.Clear.{Blank, clear_blank}
 
 -- ---- the check's refusals
@@ -43,9 +44,11 @@ module _ (book names : List ℕ) (counter work : ℕ) where
       go (err x) i = let z : x ≡ n = sym (e ∙ ap refusal_of i) in i ∙ ap err z
 
   -- it is the answer
-  pub refused_answer : (n : ℕ) → n ≡ refusal_of (checked book names counter work) → 1 ≤ n → (k : ℕ) (ks os : List ℕ) → Answered (generated book names counter work k) (Refused n) ks os ks os
+  pub refused_answer : (x : Refusal) → number_of x ≡ refusal_of (checked book names counter work) → (k : ℕ) (ks os : List ℕ)
+      → Answered (generated book names counter work k) (Err x) ks os ks os
   unfolding generated bind
-  refused_answer n e l k ks os = rw (refused_by n e l) (record { reply = refl; kinds = refl; operands = refl })
+  refused_answer x e k ks os =
+      rw (refused_by (number_of x) e (omega (arith, number_positive x))) (record { refusal = x; reply = refl; number = refl; kinds = refl; operands = refl })
 
   -- a sound book
   pub sound_by : 0 ≡ refusal_of (checked book names counter work) → (s : Sound) × (checked book names counter work ≡ ok s)
@@ -163,7 +166,7 @@ module _ {book names : List ℕ} {counter lent : ℕ} {work : List ℕ} (a : Sou
   unfolding generated bind
   generated_is k = ap (λ (r : Result Sound). bind r (λ s. fitted (gen_functions (codegen_of s.names s.book) s.book.functions counter) k)) is
 
-  pub sound_answer : (k : ℕ) (q : Translation) (ks os ks' os' : List ℕ) → Answered (fitted (gen_functions (codegen_of s.names s.book) s.book.functions counter) k) q ks os ks' os'
+  pub sound_answer : (k : ℕ) (q : Reply) (ks os ks' os' : List ℕ) → Answered (fitted (gen_functions (codegen_of s.names s.book) s.book.functions counter) k) q ks os ks' os'
       → Answered (generated book names counter lent k) q ks os ks' os'
   sound_answer k q ks os ks' os' h = subst (λ (g : Result Out). Answered g q ks os ks' os') (sym (generated_is k)) h
 

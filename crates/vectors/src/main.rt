@@ -7,8 +7,8 @@
 // the lines, their operands, and the bytes of the text.
 ghost use Rattle.std.specs.Prelude.{◌≡◌, ◌≤◌, length, IfOk, vec_len};
 
+use book::refusal::Refusal;
 use gen_passes::Translation;
-use print::passes::Printed;
 use std::io;
 use std::io::Read;
 use translate::translate;
@@ -136,8 +136,8 @@ fn prints_into(
     slice: &mut [u8],
 ) -> bool {
     match print::print(book, names, kinds, operands, slice) {
-        Printed::Accepted(n) => { (owed == 0) & (n == text.len()) & holds_bytes(slice, text, rest) }
-        Printed::Refused(e) => { (e != 0) & (e == owed) & holds_bytes(slice, front(text, 0), rest) }
+        Ok(n) => (owed == 0) & (n == text.len()) & holds_bytes(slice, text, rest),
+        Err(e) => (e.number() == owed) & holds_bytes(slice, front(text, 0), rest),
     }
 }
 
@@ -192,14 +192,14 @@ fn prints_all(
 }
 
 // Whether a reply is the recorded one.
-fn replied(row: &[u64], reply: &Translation) -> bool {
-    match *reply {
-        Translation::Accepted(n, next) => {
-            (number(row, REFUSAL) == 0)
-                & (n as u64 == number(row, LINES))
-                & (next == number(row, NEXT))
+fn replied(row: &[u64], reply: Result<Translation, Refusal>) -> bool {
+    match reply {
+        Ok(t) => {
+            number(row, REFUSAL) == 0
+                && t.lines as u64 == number(row, LINES)
+                && t.counter == number(row, NEXT)
         }
-        Translation::Refused(e) => (e != 0) & (e == number(row, REFUSAL)),
+        Err(e) => e.number() == number(row, REFUSAL),
     }
 }
 
@@ -222,15 +222,15 @@ fn shows(
     book: &[u64],
     names: &[u8],
     lines: &[u64],
-    reply: &Translation,
+    reply: Result<Translation, Refusal>,
     kinds: &[u16],
     operands: &[u64],
 ) -> bool {
-    let Translation::Accepted(count, _) = *reply else {
+    let Ok(t) = reply else {
         return true;
     };
     let n = number(row, LINES);
-    let end = least(count, least(kinds.len(), operands.len()));
+    let end = least(t.lines, least(kinds.len(), operands.len()));
     let text = front(behind(behind(lines, n), n), number(row, TEXT));
     prints_all(
         book,
@@ -254,9 +254,9 @@ fn translates_into(
     operands: &mut [u64],
 ) -> bool {
     let reply = translate(book, names, number(row, COUNTER), work, kinds, operands);
-    replied(row, &reply)
+    replied(row, reply)
         & leaves(row, lines, work, kinds, operands)
-        & shows(row, book, names, lines, &reply, kinds, operands)
+        & shows(row, book, names, lines, reply, kinds, operands)
 }
 
 // The same with slices of the recorded lengths.
@@ -306,7 +306,7 @@ fn replay(row: &[u64]) -> bool {
 fn count(counts: &mut [u64], number: u64) {
     let at = number as usize;
     if at < counts.len() {
-        counts[at] = std::num::wrapping_add_u64(counts[at], 1);
+        counts[at] = counts[at].wrapping_add(1);
     }
 }
 
@@ -334,7 +334,7 @@ fn put_times(row: &mut [u64], before: usize, value: u64, times: u64) -> usize {
 
 // A number with one digit more, modulo 2^64; a digit's value is the low half of its byte.
 fn with_digit(value: u64, b: u8) -> u64 {
-    std::num::wrapping_add_u64(numbers::wrap::wrapping_mul(value, 10), (b % 16) as u64)
+    value.wrapping_mul(10).wrapping_add((b % 16) as u64)
 }
 
 // Takes the next byte: a line is replayed where it ends.
@@ -363,7 +363,7 @@ fn take(
                 put: 0,
                 value: 0,
                 times: 1,
-                line: std::num::wrapping_add_u64(r.line, 1),
+                line: r.line.wrapping_add(1),
             };
         }
         _ => {

@@ -2,8 +2,8 @@
 use Rattle.exports.specs.Printed.{accepted_is, refused_is}
 use Rattle.exports.proofs.mivolanjy_print.Goals as goal
 
-pub returns-in-Accepted : goal.returns-in-Accepted
-returns-in-Accepted c = accepted_is _ _ _ c.print.ensures.print_answer _ c.in-Accepted.is
+pub returns-in-Ok : goal.returns-in-Ok
+returns-in-Ok c = accepted_is _ _ _ c.print.ensures.print_answer _ c.in-Ok.is
 
-pub returns-in-Refused : goal.returns-in-Refused
-returns-in-Refused c = refused_is _ _ _ c.print.ensures.print_answer _ c.in-Refused.is
+pub returns-in-Err : goal.returns-in-Err
+returns-in-Err c = rw c.number.ensures (refused_is _ _ _ c.print.ensures.print_answer _ c.in-Err.is)

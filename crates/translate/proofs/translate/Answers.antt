@@ -1,5 +1,4 @@
 -- `translate::translate` meets its contract: the work words are cleared before and after.
-use native.Mathlib.Omega.{arith}
 use lib.ListN.{length}
 use Rattle.gen_slices.specs.Clear.{clear_blank}
 use Rattle.translate.specs.Reply.{reply_cleared, reply_numbered}
@@ -7,7 +6,7 @@ use Rattle.translate.proofs.translate.Goals as goal
 
 pub translate_sized-r-requires : goal.translate_sized-r-requires
 translate_sized-r-requires c =
-    (omega arith, clear_blank (length c.args.work.now) _ c.clear.ensures)
+    clear_blank (length c.args.work.now) _ c.clear.ensures
 
 pub returns : goal.returns
 returns c =

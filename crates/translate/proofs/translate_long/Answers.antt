@@ -4,5 +4,5 @@ use Rattle.translate.specs.Sound.{blank_own}
 use borrow.Author.Rules.{rules}
 use Rattle.translate.proofs.translate_long.Goals as goal
 
-pub translate_blank-requires : goal.translate_blank-requires
-translate_blank-requires c = record { blank_ask = blank_own _ _ 34816 (omega arith); own_kinds_len = search rules }
+pub translate_own-requires : goal.translate_own-requires
+translate_own-requires c = record { own_len = search rules; blank_ask = blank_own _ _ 34816 (omega arith) }
