@@ -6,7 +6,7 @@ ghost use Rattle.numbers.specs.Align.{align_up, is_align};
 pub fn is_align(a: u64) -> bool
     ensures { result ≡ is_align a }
 {
-    a <= 4096 && a.is_power_of_two()
+    a <= 4096 && a.count_ones() == 1
 }
 
 // off rounded up to a multiple of align. An align of 0 or 1 leaves it as it is. A power of two
@@ -20,7 +20,7 @@ pub fn align_up(off: u64, align: u64) -> u64
         return off;
     }
     let last = off + (align - 1);
-    if align.is_power_of_two() {
+    if align.count_ones() == 1 {
         let e = align.trailing_zeros();
         return (last >> e) << e;
     }

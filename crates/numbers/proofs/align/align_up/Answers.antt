@@ -1,6 +1,6 @@
 -- `align_up` meets its contract: where one digit of the align is set, the align is the power of two whose exponent its trailing zeros are.
 -- Assumes nothing.
-use Rattle.std.proofs.Common.{◌≡◌, ℕ, ◌+◌, ◌-◌, ◌*◌, ◌/◌, ◌%◌, ◌^◌, ◌<◌, ◌≤◌, sym, ap, ◌∙◌, lt_of_le_of_lt, mod-eq_of_lt, div-mul-le_self, rules, refl, eqb-true}
+use Rattle.std.proofs.Common.{◌≡◌, ℕ, ◌+◌, ◌-◌, ◌*◌, ◌/◌, ◌%◌, ◌^◌, ◌<◌, ◌≤◌, sym, ap, ◌∙◌, lt_of_le_of_lt, mod-eq_of_lt, div-mul-le_self, rules, refl}
 use lib.Count.{ones}
 use Rattle.numbers.specs.Power.{power_ones, power_below_lem}
 use Rattle.numbers.specs.Align.{align_up, exponent_of, align_small, align_step}
@@ -20,8 +20,8 @@ module _ (a e : ℕ) (f : a < 2 ^ 64) (one : ones a ≡ 1) (is : e ≡ exponent_
 pub returns-then-align-le1 : goal.returns-then-align-le1
 returns-then-align-le1 c = sym (align_small _ _ (search rules))
 
-pub returns-then-is_power_of_two : goal.returns-then-is_power_of_two
-returns-then-is_power_of_two c = rounded c.args.align _ (search rules) (eqb-true _ 1 (sym c.is_power_of_two.ensures ∙ c.if-is_power_of_two.true)) refl c.args.off (search rules) (search rules)
+pub returns-then-align-eq1 : goal.returns-then-align-eq1
+returns-then-align-eq1 c = rounded c.args.align _ (search rules) c.if-align-eq1.true refl c.args.off (search rules) (search rules)
 
 pub returns : goal.returns
 returns c = sym (align_step _ _ (search rules))

@@ -21,7 +21,7 @@ counted a h =
     same_test_lem (eqb (ones a) 1) (is_align a) (λ e. one_digit a h (eqb-true (ones a) 1 e)) (λ e. eq-eqb (ones a) 1 (digit_one a e))
 
 pub returns-then-a-le4096 : goal.returns-then-a-le4096
-returns-then-a-le4096 c = c.is_power_of_two.ensures ∙ counted c.args.a (search rules)
+returns-then-a-le4096 c = counted c.args.a (search rules)
 
 pub returns-else-a-le4096 : goal.returns-else-a-le4096
 returns-else-a-le4096 c = lt-leb c.args.a 4096 c.if-a-le4096.false ∙ fails (is_align c.args.a) (λ e. omega (arith, align_bounds c.args.a e))
