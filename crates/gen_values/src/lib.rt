@@ -180,15 +180,60 @@ pub fn store_or_pop(
     store_dest(dest, work, lines, operands, s)
 }
 
-// The line kind of an operation or predicate by its number, at the working width: 32 for up to 32 bits, else 64. The 13 operations are
-// numbered first, then the 10 predicates, each in the order of ast.rs.
+// The line kind of an operation or predicate by its number and the working width: 32 for up to 32 bits, else 64. The 13 operations are
+// numbered first, then the 10 predicates, each in the order of ast.rs. The width stands in front: so it compiles without a jump.
+#[tactic(auto, using(crate::specs::Widths::narrow_operation, crate::specs::Widths::wide_operation))]
 fn operation(number: u16, width: u32) -> u16
     requires { number < 23 }
     ensures { result ≡ operationOf number (work_of width) }
 {
-    match width {
-        0..=32 => line::ADD_U32 + number,
-        _ => line::ADD_U64 + number,
+    match (width, number) {
+        (0..=32, 0) => line::ADD_U32,
+        (0..=32, 1) => line::SUB_U32,
+        (0..=32, 2) => line::MUL_U32,
+        (0..=32, 3) => line::DIV_U32,
+        (0..=32, 4) => line::DIV_I32,
+        (0..=32, 5) => line::MOD_U32,
+        (0..=32, 6) => line::MOD_I32,
+        (0..=32, 7) => line::AND_U32,
+        (0..=32, 8) => line::OR_U32,
+        (0..=32, 9) => line::XOR_U32,
+        (0..=32, 10) => line::LSHIFT_U32,
+        (0..=32, 11) => line::RSHIFT_U32,
+        (0..=32, 12) => line::RSHIFT_I32,
+        (0..=32, 13) => line::EQ_U32,
+        (0..=32, 14) => line::NE_U32,
+        (0..=32, 15) => line::GT_U32,
+        (0..=32, 16) => line::GE_U32,
+        (0..=32, 17) => line::LT_U32,
+        (0..=32, 18) => line::LE_U32,
+        (0..=32, 19) => line::GT_I32,
+        (0..=32, 20) => line::GE_I32,
+        (0..=32, 21) => line::LT_I32,
+        (0..=32, _) => line::LE_I32,
+        (_, 0) => line::ADD_U64,
+        (_, 1) => line::SUB_U64,
+        (_, 2) => line::MUL_U64,
+        (_, 3) => line::DIV_U64,
+        (_, 4) => line::DIV_I64,
+        (_, 5) => line::MOD_U64,
+        (_, 6) => line::MOD_I64,
+        (_, 7) => line::AND_U64,
+        (_, 8) => line::OR_U64,
+        (_, 9) => line::XOR_U64,
+        (_, 10) => line::LSHIFT_U64,
+        (_, 11) => line::RSHIFT_U64,
+        (_, 12) => line::RSHIFT_I64,
+        (_, 13) => line::EQ_U64,
+        (_, 14) => line::NE_U64,
+        (_, 15) => line::GT_U64,
+        (_, 16) => line::GE_U64,
+        (_, 17) => line::LT_U64,
+        (_, 18) => line::LE_U64,
+        (_, 19) => line::GT_I64,
+        (_, 20) => line::GE_I64,
+        (_, 21) => line::LT_I64,
+        (_, _) => line::LE_I64,
     }
 }
 
