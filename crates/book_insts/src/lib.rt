@@ -41,16 +41,21 @@ pub enum InstGroup {
 pub fn inst_group(kind: u64) -> InstGroup
     ensures { result ≡ inst_group_of (inst_tag kind) }
 {
-    if let Ok(op) = BinOp::try_from(kind) {
-        return InstGroup::Bin(op);
+    match kind {
+        entry::ADD..=entry::ASHR => match BinOp::try_from(kind) {
+            Ok(op) => InstGroup::Bin(op),
+            Err(_) => InstGroup::Other,
+        },
+        entry::TRUNC..=entry::BIT_CAST => match ConvOp::try_from(kind) {
+            Ok(op) => InstGroup::Conv(op),
+            Err(_) => InstGroup::Other,
+        },
+        entry::EQ..=entry::SLE => match ICmpPred::try_from(kind) {
+            Ok(pred) => InstGroup::ICmp(pred),
+            Err(_) => InstGroup::Other,
+        },
+        _ => single_group(kind),
     }
-    if let Ok(op) = ConvOp::try_from(kind) {
-        return InstGroup::Conv(op);
-    }
-    if let Ok(pred) = ICmpPred::try_from(kind) {
-        return InstGroup::ICmp(pred);
-    }
-    single_group(kind)
 }
 
 // The kinds that are a group of their own.
