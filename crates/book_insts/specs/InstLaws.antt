@@ -1,10 +1,11 @@
 -- Laws on instructions, terminators and their fields.
 use Prim.Native.Nat.{ℕ, zero, suc, ◌+◌, ◌-◌, ◌≤◌, ◌<◌}
 use Rattle.std.proofs.Math.Path.{◌≡◌, refl, ap}
-use Rattle.std.proofs.Common.{sym, ◌∙◌, arith, ne_eqb, leb-false}
+use Rattle.std.proofs.Common.{sym, ◌∙◌, arith, ne_eqb, leb-false, ltb-true, ltb-false}
 use Rattle.std.specs.Prelude.{Bool, List, [], ◌∷◌, ◌++◌, length, eqb, leb, ltb}
 use Rattle.std.proofs.Math.Bool.{true, false}
 use Rattle.std.proofs.Math.Option.{Option, none, some}
+use Rattle.std.proofs.Math.ListN.{get_or-eq_default}
 use Rattle.book.specs.Entry.{Entry}
 use Rattle.book.specs.Rule.{when, pick, unmentioned}
 use Rattle.book.specs.Kinds.{InstTag, TermTag, inst_tag, term_tag}
@@ -17,6 +18,7 @@ use Rattle.book.specs.Forbidden.{other_field, other_fields, other_inst, other_te
 use Rattle.book.specs.Agree.{no_got}
 use Rattle.book.proofs.AgreeInst.{agrees_field}
 use Rattle.book_types.specs.Found.{found, found_of, joined, followed_by}
+use Rattle.book_types.specs.Tables.{in_range_lem}
 use Rattle.book_types.specs.Passes.{both_found, found_got}
 use Rattle.book_insts.specs.Insts.{inst_group_of, term_group_of, inst_shape, term_shape, digit_fields, field_of, digit_of, field_by, tag_fields, fields_behind}
 use Rattle.book_insts.specs.declared.Field.{Field}
@@ -55,6 +57,22 @@ digit_small variant.Incoming = omega arith
 digit_small variant.Arguments = omega arith
 digit_small variant.Cases = omega arith
 
+-- ---- a digit that is none of a field's
+abbrev pub NoField : ℕ → Type 0
+NoField d = ((((((((((Unit {0} × (d ≡ 2 → ⊥)) × (d ≡ 3 → ⊥)) × (d ≡ 4 → ⊥)) × (d ≡ 5 → ⊥)) × (d ≡ 6 → ⊥)) × (d ≡ 7 → ⊥)) × (d ≡ 8 → ⊥)) × (d ≡ 9 → ⊥)) × (d ≡ 10 → ⊥)) × (d ≡ 11 → ⊥)) × (d ≡ 12 → ⊥)
+
+pub other_digit : (d : ℕ) → NoField d → field_of d ≡ book.Field.plain book.Item.type
+unfolding digit_fields
+other_digit d r = go (ltb d 13) refl
+  where
+    go : (t : Bool) → ltb d 13 ≡ t → field_of d ≡ book.Field.plain book.Item.type
+    go true e =
+        in_range_lem (λ d. NoField d → field_of d ≡ book.Field.plain book.Item.type) 0 13
+        (λ r. refl, (λ r. refl, (λ r. absurd (r.0.0.0.0.0.0.0.0.0.0.1 refl), (λ r. absurd (r.0.0.0.0.0.0.0.0.0.1 refl), (λ r. absurd (r.0.0.0.0.0.0.0.0.1 refl), (λ r. absurd (r.0.0.0.0.0.0.0.1 refl), (λ r. absurd (r.0.0.0.0.0.0.1 refl), (λ r. absurd (r.0.0.0.0.0.1 refl), (λ r. absurd (r.0.0.0.0.1 refl), (λ r. absurd (r.0.0.0.1 refl), (λ r. absurd (r.0.0.1 refl), (λ r. absurd (r.0.1 refl), (λ r. absurd (r.1 refl), tt)))))))))))))
+        d (omega arith) (omega (arith, ltb-true d 13 e)) r
+    go false e = get_or-eq_default digit_fields (book.Field.plain book.Item.type) (ltb-false d 13 e)
+
+-- ---- fields one after the other
 module _ (m : ℕ) where
   -- the answers for a field and for fields
   abbrev pub field_found : book.Field → List Entry → code.Option Found
