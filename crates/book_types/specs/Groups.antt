@@ -3,7 +3,7 @@ use Rattle.std.specs.Prelude.{ℕ, eqb, ltb, Option, Some, None}
 use Rattle.std.specs.Bool.{then_some}
 use Rattle.std.proofs.Math.Option as math
 use Rattle.numbers.specs.Width.{width_ok}
-use Rattle.book.specs.Kinds.{TyTag}
+use Rattle.book.specs.Kinds.{TyTag, ty_tag}
 use Rattle.book_types.specs.declared.types.TypeHead.{TypeHead}
 use Rattle.book_types.specs.declared.types.TypeHead.TheVariants as head
 use Rattle.book_types.specs.declared.types.TypeGroup.{TypeGroup}
@@ -29,3 +29,8 @@ group_head m w (Array p) = Some head.Array
 group_head m w Named = then_some (ltb w m) head.Leaf
 group_head m w (Struct p) = then_some (eqb w 0) head.Struct
 group_head m w Sizeless = then_some (eqb w 0) head.Leaf
+
+-- what the entry in front begins, which may be none
+abbrev pub type_head_of : ℕ → Option (ℕ × ℕ) → Option TypeHead
+type_head_of m None = None
+type_head_of m (Some e) = group_head m e.1 (type_group_of (ty_tag e.0))

@@ -1,8 +1,8 @@
 -- Laws on lists of types and on the type at the front of the entries.
-use Prim.Native.Nat.{ℕ, zero, suc, ◌-◌}
+use Prim.Native.Nat.{ℕ, zero, suc, ◌-◌, ◌≤◌}
 use Rattle.std.specs.Prelude.{◌≡◌, Bool, drop, take, eqb, ltb}
 use Rattle.std.proofs.Math.Path.{refl}
-use Rattle.std.proofs.Common.{ap, ◌∙◌, sub-one, ne_eqb}
+use Rattle.std.proofs.Common.{ap, sym, ◌∙◌, sub-one, ne_eqb}
 use Rattle.std.proofs.Math.Bool.{true, false}
 use Rattle.std.proofs.Math.Option as math
 use Rattle.std.specs.Prelude.{Option, Some, None}
@@ -23,8 +23,8 @@ use Rattle.book.specs.Ast.{Ty}
 use Rattle.book.specs.Decode.{tys, type_as, type_to}
 use Rattle.std.specs.Bool.{then_some}
 use Rattle.book_types.specs.Length.{len_of, further, front_of}
-use Rattle.book_types.specs.Groups.{type_group_of, group_head}
-use Rattle.book_types.specs.Laws.{entries_part}
+use Rattle.book_types.specs.Groups.{type_group_of, group_head, type_head_of}
+use Rattle.book_types.specs.Laws.{entries_part, front_there}
 use Rattle.book_types.specs.declared.types.TypeHead.{TypeHead}
 use Rattle.book_types.specs.declared.types.TypeHead.TheVariants as ty
 
@@ -103,6 +103,23 @@ module _ (m l : ℕ) (ks ws : List ℕ) (k w : ℕ) (f : Some (k, w) ≡ front_o
   -- the type is as long as what the entry in front begins says
   pub type_arm : (h : Option TypeHead) → h ≡ head_here → len_of (type_to m l (entries ks ws)) ≡ type_len h (len_of (type_to m (l - 1) (behind_front ks ws))) (len_of (many (type_to m (l - 1)) (behind_front ks ws)))
   type_arm h e = type_len_lem m l (entries ks ws) k w d f ∙ rw (e, entries_part 1 ks ws)
+
+-- the same, where there may be no entry
+module _ (m l : ℕ) (ks ws : List ℕ) (f : Option (ℕ × ℕ)) (ef : f ≡ front_of (entries ks ws)) where
+  -- where the entry begins something, it is there
+  pub head_there : (h : TypeHead) → Some h ≡ type_head_of m f → 1 ≤ length (entries ks ws)
+  head_there h e = go f ef e
+    where
+      go : (f : Option (ℕ × ℕ)) → f ≡ front_of (entries ks ws) → Some h ≡ type_head_of m f → 1 ≤ length (entries ks ws)
+      go None ef e = absurd (let z : ◌≡◌ {A = ℕ} 0 1 = cc in omega arith)
+      go (Some x) ef e = front_there (entries ks ws) x ef
+
+  pub head_arm : (l ≡ 0 → ⊥) → (h : Option TypeHead) → h ≡ type_head_of m f → len_of (type_to m l (entries ks ws)) ≡ type_len h (len_of (type_to m (l - 1) (behind_front ks ws))) (len_of (many (type_to m (l - 1)) (behind_front ks ws)))
+  head_arm d h e = go f ef e
+    where
+      go : (f : Option (ℕ × ℕ)) → f ≡ front_of (entries ks ws) → h ≡ type_head_of m f → len_of (type_to m l (entries ks ws)) ≡ type_len h (len_of (type_to m (l - 1) (behind_front ks ws))) (len_of (many (type_to m (l - 1)) (behind_front ks ws)))
+      go None ef e = rw e (sym (type_none m l (entries ks ws) ef))
+      go (Some x) ef e = type_arm m l ks ws x.0 x.1 ef d h e
 
 pub agrees_types : (m l : ℕ) → Agrees (many (type_to m l)) (closed enc_ty) (Each (TyTo m l))
 agrees_types m l = agrees_many (type_to m l) enc_ty (TyTo m l) (λ t rest k. ty_head is_closing (λ j p q. ne_eqb j 0 (λ z. omega arith)) t rest) (agrees_type_to m l)

@@ -5,7 +5,7 @@ ghost use Rattle.book.specs.Kinds.{ty_tag};
 ghost use Rattle.book.specs.Read.{many};
 ghost use Rattle.book.specs.Decode.{type_to};
 ghost use Rattle.book_types.specs.Length.{len_of};
-ghost use Rattle.book_types.specs.Groups.{type_group_of, group_head};
+ghost use Rattle.book_types.specs.Groups.{type_group_of, type_head_of};
 ghost use Rattle.book_types.specs.Leaf.{leaf_ok};
 
 use crate::{first_entry, shorter};
@@ -49,7 +49,7 @@ pub fn type_group(kind: u64) -> TypeGroup
     }
 }
 
-// What an entry begins: a type of this entry alone, an array's element, a struct's fields.
+// What the entry at the front begins: a type of this entry alone, an array's element, a struct's fields.
 #[derive(Clone, Copy)]
 pub enum TypeHead {
     Leaf,
@@ -57,9 +57,10 @@ pub enum TypeHead {
     Struct,
 }
 
-pub fn type_head(kind: u64, word: u64, names: u64) -> Option<TypeHead>
-    ensures { result ≡ group_head names word (type_group_of (ty_tag kind)) }
+pub fn type_head(entry: Option<(u64, u64)>, names: u64) -> Option<TypeHead>
+    ensures { result ≡ type_head_of names entry }
 {
+    let (kind, word) = entry?;
     match type_group(kind) {
         TypeGroup::Void | TypeGroup::Ptr | TypeGroup::Sizeless => {
             (word == 0).then_some(TypeHead::Leaf)
@@ -114,9 +115,9 @@ fn type_deep(kinds: &[u64], words: &[u64], names: u64, level: u32) -> Option<usi
     if level == 0 {
         return None;
     }
-    let (kind, word) = first_entry(kinds, words)?;
+    let head = type_head(first_entry(kinds, words), names)?;
     let (kinds, words) = (&kinds[1..], &words[1..]);
-    match type_head(kind, word, names)? {
+    match head {
         TypeHead::Leaf => Some(1),
         TypeHead::Array => Some(1 + type_deep(kinds, words, names, level - 1)?),
         TypeHead::Struct => Some(1 + types_len(kinds, words, names, level - 1)?),

@@ -19,63 +19,68 @@ use Rattle.book_types.proofs.types.+type_deep_type_len_types_len.Goals as goal
 pub type_deep-returns-then-level-eq0 : goal.type_deep-returns-then-level-eq0
 type_deep-returns-then-level-eq0 t c = sym (types.type_zero _ _ _ c.if-level-eq0.true)
 
-pub type_deep-returns-in_err-kind : goal.type_deep-returns-in_err-kind
-type_deep-returns-in_err-kind t c = c.from_residual.ensures ∙ types.type_none c.args.names _ _ c.in_err-kind.ensures
-
 pub type_deep-slice_bounds-kinds-count : goal.type_deep-slice_bounds-kinds-count
-type_deep-slice_bounds-kinds-count t c = laws.within_kinds 1 _ _ (laws.front_there _ _ c.in_ok-kind.ensures)
+type_deep-slice_bounds-kinds-count t c =
+    let a = c.args in
+    laws.within_kinds 1 _ _ (types.head_there a.names a.level a.kinds.now a.words.now _ c.first_entry.ensures _ c.in_ok-head.ensures)
 
 pub type_deep-slice_bounds-kinds-start : goal.type_deep-slice_bounds-kinds-start
-type_deep-slice_bounds-kinds-start t c = laws.within_kinds 1 _ _ (laws.front_there _ _ c.in_ok-kind.ensures)
+type_deep-slice_bounds-kinds-start t c =
+    let a = c.args in
+    laws.within_kinds 1 _ _ (types.head_there a.names a.level a.kinds.now a.words.now _ c.first_entry.ensures _ c.in_ok-head.ensures)
 
 pub type_deep-slice_bounds-words-count : goal.type_deep-slice_bounds-words-count
-type_deep-slice_bounds-words-count t c = laws.within_words 1 _ _ (laws.front_there _ _ c.in_ok-kind.ensures)
+type_deep-slice_bounds-words-count t c =
+    let a = c.args in
+    laws.within_words 1 _ _ (types.head_there a.names a.level a.kinds.now a.words.now _ c.first_entry.ensures _ c.in_ok-head.ensures)
 
 pub type_deep-slice_bounds-words-start : goal.type_deep-slice_bounds-words-start
-type_deep-slice_bounds-words-start t c = laws.within_words 1 _ _ (laws.front_there _ _ c.in_ok-kind.ensures)
-
-pub type_deep-returns-in_err-type_head : goal.type_deep-returns-in_err-type_head
-type_deep-returns-in_err-type_head t c =
+type_deep-slice_bounds-words-start t c =
     let a = c.args in
-    c.from_residual-in_err-type_head.ensures ∙ sym
-    (types.type_arm a.names a.level a.kinds.now a.words.now _ _ c.in_ok-kind.ensures c.if-level-eq0.false None c.in_err-type_head.ensures)
+    laws.within_words 1 _ _ (types.head_there a.names a.level a.kinds.now a.words.now _ c.first_entry.ensures _ c.in_ok-head.ensures)
+
+pub type_deep-returns-in_err-head : goal.type_deep-returns-in_err-head
+type_deep-returns-in_err-head t c =
+    let a = c.args in
+    c.from_residual.ensures ∙ sym
+    (types.head_arm a.names a.level a.kinds.now a.words.now _ c.first_entry.ensures c.if-level-eq0.false None c.in_err-head.ensures)
 
 pub type_deep-returns-in-Leaf : goal.type_deep-returns-in-Leaf
 type_deep-returns-in-Leaf t c =
     let a = c.args in
     sym
-    (types.type_arm a.names a.level a.kinds.now a.words.now _ _ c.in_ok-kind.ensures c.if-level-eq0.false (Some Leaf) (ap Some (sym c.in-Leaf.is) ∙ c.in_ok-type_head.ensures))
+    (types.head_arm a.names a.level a.kinds.now a.words.now _ c.first_entry.ensures c.if-level-eq0.false (Some Leaf) (ap Some (sym c.in-Leaf.is) ∙ c.in_ok-head.ensures))
 
 pub type_deep-returns-in_err-type_deep-in-Array : goal.type_deep-returns-in_err-type_deep-in-Array
 type_deep-returns-in_err-type_deep-in-Array t c =
     let a = c.args in
     c.from_residual-in_err-type_deep-in-Array.ensures ∙ ap (further 1) c.in_err-type_deep-in-Array.ensures ∙ sym
-    (types.type_arm a.names a.level a.kinds.now a.words.now _ _ c.in_ok-kind.ensures c.if-level-eq0.false (Some Array) (ap Some (sym c.in-Array.is) ∙ c.in_ok-type_head.ensures))
+    (types.head_arm a.names a.level a.kinds.now a.words.now _ c.first_entry.ensures c.if-level-eq0.false (Some Array) (ap Some (sym c.in-Array.is) ∙ c.in_ok-head.ensures))
 
 pub type_deep-returns-in_ok-type_deep-in-Array : goal.type_deep-returns-in_ok-type_deep-in-Array
 type_deep-returns-in_ok-type_deep-in-Array t c =
     let a = c.args in
     ap (further 1) c.in_ok-type_deep-in-Array.ensures ∙ sym
-    (types.type_arm a.names a.level a.kinds.now a.words.now _ _ c.in_ok-kind.ensures c.if-level-eq0.false (Some Array) (ap Some (sym c.in-Array.is) ∙ c.in_ok-type_head.ensures))
+    (types.head_arm a.names a.level a.kinds.now a.words.now _ c.first_entry.ensures c.if-level-eq0.false (Some Array) (ap Some (sym c.in-Array.is) ∙ c.in_ok-head.ensures))
 
 pub type_deep-returns-in_err-types_len-in-Struct : goal.type_deep-returns-in_err-types_len-in-Struct
 type_deep-returns-in_err-types_len-in-Struct t c =
     let a = c.args in
     c.from_residual-in_err-types_len-in-Struct.ensures ∙ ap (further 1) c.in_err-types_len-in-Struct.ensures ∙ sym
-    (types.type_arm a.names a.level a.kinds.now a.words.now _ _ c.in_ok-kind.ensures c.if-level-eq0.false (Some Struct) (ap Some (sym c.in-Struct.is) ∙ c.in_ok-type_head.ensures))
+    (types.head_arm a.names a.level a.kinds.now a.words.now _ c.first_entry.ensures c.if-level-eq0.false (Some Struct) (ap Some (sym c.in-Struct.is) ∙ c.in_ok-head.ensures))
 
 pub type_deep-returns-in_ok-types_len-in-Struct : goal.type_deep-returns-in_ok-types_len-in-Struct
 type_deep-returns-in_ok-types_len-in-Struct t c =
     let a = c.args in
     ap (further 1) c.in_ok-types_len-in-Struct.ensures ∙ sym
-    (types.type_arm a.names a.level a.kinds.now a.words.now _ _ c.in_ok-kind.ensures c.if-level-eq0.false (Some Struct) (ap Some (sym c.in-Struct.is) ∙ c.in_ok-type_head.ensures))
+    (types.head_arm a.names a.level a.kinds.now a.words.now _ c.first_entry.ensures c.if-level-eq0.false (Some Struct) (ap Some (sym c.in-Struct.is) ∙ c.in_ok-head.ensures))
 
 pub type_deep-overflow_add-result : goal.type_deep-overflow_add-result
 type_deep-overflow_add-result t c =
     let a = c.args in
     omega (
       arith,
-      laws.within_kinds (1 + c.in_ok-type_deep-in-Array.field-0) _ _ (laws.lent_fits (agrees_type_to _ _) a.kinds.now a.words.now 1 _ (laws.front_there _ _ c.in_ok-kind.ensures) c.in_ok-type_deep-in-Array.ensures),
+      laws.within_kinds (1 + c.in_ok-type_deep-in-Array.field-0) _ _ (laws.lent_fits (agrees_type_to _ _) a.kinds.now a.words.now 1 _ (types.head_there a.names a.level a.kinds.now a.words.now _ c.first_entry.ensures _ c.in_ok-head.ensures) c.in_ok-type_deep-in-Array.ensures),
     )
 
 pub type_deep-overflow_add-result-in-Struct : goal.type_deep-overflow_add-result-in-Struct
@@ -83,7 +88,7 @@ type_deep-overflow_add-result-in-Struct t c =
     let a = c.args in
     omega (
       arith,
-      laws.within_kinds (1 + c.in_ok-types_len-in-Struct.field-0) _ _ (laws.lent_fits (types.agrees_types _ _) a.kinds.now a.words.now 1 _ (laws.front_there _ _ c.in_ok-kind.ensures) c.in_ok-types_len-in-Struct.ensures),
+      laws.within_kinds (1 + c.in_ok-types_len-in-Struct.field-0) _ _ (laws.lent_fits (types.agrees_types _ _) a.kinds.now a.words.now 1 _ (types.head_there a.names a.level a.kinds.now a.words.now _ c.first_entry.ensures _ c.in_ok-head.ensures) c.in_ok-types_len-in-Struct.ensures),
     )
 
 pub type_len-returns-then-leaf : goal.type_len-returns-then-leaf
