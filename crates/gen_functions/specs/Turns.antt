@@ -20,7 +20,7 @@ use Rattle.gen_lines.specs.Puts.{Puts, is_refused, made_refused, refuse_puts, sa
 use Rattle.gen_values.specs.Maps.{Did}
 use Rattle.gen_blocks.specs.Function.{function_in, behind_in, FunctionsAt, first_is, first_at, next_at}
 use Rattle.gen_prepare.specs.declared.Prepared.{Prepared}
-use Rattle.gen_prepare.specs.Prepare.{Shared, PrepareAsk, PreparedAs, PreparedAt, PlaceRefused, SetUp}
+use Rattle.gen_prepare.specs.Prepare.{Shared, PrepareAsk, PreparedAs, FunctionStands, PreparedAt, PlaceRefused, SetUp}
 use Rattle.gen_function.specs.Function.{FunctionHere, FunctionAsk, Framed, slots_of}
 use Rattle.gen_clear.specs.Clear.{AllCleared, ClearAsk, shared_after, function_ask}
 use Rattle.gen_functions.specs.declared.Turn.{Turn}
@@ -34,11 +34,11 @@ pub record TurnAsk (m : ℕ) (bk bw : List ℕ) (at last : ℕ) (work : List ℕ
   pub shared : Shared m (entries bk bw) codegen work
   pub ask : ClearAsk m (entries bk bw) t.from t.to work
 
--- its lines are put, and the others stand behind it. Left free: what is answered else, and what the work words hold, where it is refused
+-- its lines are put, and the others stand behind it. Left free: what the work words hold where it is refused
 pub record Turned (g : Codegen) (f : Function) (fs : List Function) (m : ℕ) (es : List Entry) (last at : ℕ) (work' : List ℕ) (t r : Turn) (ks os ks' os' : List ℕ) : Type 0 where
   pub puts : Puts (gen_function g f) t.s r.s ks os ks' os'
-  pub next : is_refused r.s ≡ false → FunctionsAt m es last r.to fs
-  pub further : is_refused r.s ≡ false → at < r.to
+  pub next : FunctionsAt m es last r.to fs
+  pub further : at < r.to
   pub again : is_refused r.s ≡ false → Shared m es g work' × ClearAsk m es r.from r.to work'
 
 -- no answer is refused and not
@@ -51,6 +51,51 @@ module _ {m : ℕ} (bk bw : List ℕ) {at last : ℕ} (g : Codegen) (f : Functio
 
   abbrev fn : Function
   fn = function_in m (entries bk bw) at
+
+  front : drop at es ≡ enc_function f ++ behind_in m es at
+  front = (first_at here).here ∙ ap (λ (h : Function). enc_function h ++ behind_in m es at) (first_is here)
+
+  -- ---- where it stands, refused or not
+  module _ {p b e : ℕ} (s : FunctionStands m es at p b e) where
+    end_is : e ≡ at + length (enc_function f)
+    end_is =
+        omega (arith, ap length front, ap length s.after, length-append (enc_function f) (behind_in m es at), length-drop at es, length-drop e es, here.there, s.there)
+
+    pub next : FunctionsAt m es last e fs
+    next = next_at here e s.there s.after
+
+    pub further : at < e
+    further = omega (arith, end_is, function_long f)
+
+    first_blocks : drop b es ≡ closed enc_basic_block f.blocks ++ behind_in m es at
+    first_blocks = s.blocks ∙ ap (λ (h : Function). closed enc_basic_block h.blocks ++ behind_in m es at) (first_is here)
+
+  pub function_here : {r : Prepared} → FunctionStands m es at r.at r.blocks r.end → FunctionHere m bk bw r f
+  function_here {r} s =
+      record {
+        rest = behind_in m es at;
+        here = ap (λ (n : ℕ). drop n es) s.at ∙ front;
+        blocks = record {
+          rest = behind_in m es at;
+          here = first_blocks s;
+          ends = omega (arith, ap length s.after, length-drop r.end es, s.there);
+          keeps = here.limits.0.1.1.1;
+          few = here.few;
+          there = s.first_there;
+        };
+        order =
+            omega (
+              arith,
+              ap length (first_blocks s),
+              ap length s.after,
+              length-append (closed enc_basic_block f.blocks) (behind_in m es at),
+              length-drop r.blocks es,
+              length-drop r.end es,
+              s.first_there,
+              s.there,
+            );
+        in_kinds = omega (arith, s.there, length_entries bk bw);
+      }
 
   -- ---- what `prepare` asks
   module _ {work₀ : List ℕ} (shared₀ : Shared m es g work₀) {work : List ℕ} (c : AllCleared m work₀ work) where
@@ -78,49 +123,6 @@ module _ {m : ℕ} (bk bw : List ℕ) {at last : ℕ} (g : Codegen) (f : Functio
       says : PreparedAs (frame_pass g.structs (all_insts f.blocks) no_frame) g f m es work' r
       says = subst (λ (h : Function). PreparedAs (frame_pass g.structs (all_insts h.blocks) no_frame) g h m es work' r) (first_is here) (d.says g shared)
 
-      front : drop at es ≡ enc_function f ++ behind_in m es at
-      front = (first_at here).here ∙ ap (λ (h : Function). enc_function h ++ behind_in m es at) (first_is here)
-
-      end_is : r.end ≡ at + length (enc_function f)
-      end_is =
-          omega (arith, ap length front, ap length d.after, length-append (enc_function f) (behind_in m es at), length-drop at es, length-drop r.end es, here.there, d.there)
-
-      pub next : FunctionsAt m es last r.end fs
-      next = next_at here r.end d.there d.after
-
-      pub further : at < r.end
-      further = omega (arith, end_is, function_long f)
-
-      first_blocks : drop r.blocks es ≡ closed enc_basic_block f.blocks ++ behind_in m es at
-      first_blocks = d.blocks ∙ ap (λ (h : Function). closed enc_basic_block h.blocks ++ behind_in m es at) (first_is here)
-
-      pub function_here : FunctionHere m bk bw r f
-      function_here =
-          record {
-            rest = behind_in m es at;
-            here = ap (λ (n : ℕ). drop n es) d.at ∙ front;
-            blocks = record {
-              rest = behind_in m es at;
-              here = first_blocks;
-              ends = omega (arith, ap length d.after, length-drop r.end es, d.there);
-              keeps = here.limits.0.1.1.1;
-              few = here.few;
-              there = d.first_there;
-            };
-            order =
-                omega (
-                  arith,
-                  ap length first_blocks,
-                  ap length d.after,
-                  length-append (closed enc_basic_block f.blocks) (behind_in m es at),
-                  length-drop r.blocks es,
-                  length-drop r.end es,
-                  d.first_there,
-                  d.there,
-                );
-            in_kinds = omega (arith, d.there, length_entries bk bw);
-          }
-
       -- the function's context
       pub record Context : Type 0 where
         pub places : Places
@@ -141,7 +143,7 @@ module _ {m : ℕ} (bk bw : List ℕ) {at last : ℕ} (g : Codegen) (f : Functio
       context_framed = record { slots = context.set.slots; size = context.set.size; framed = context.set.framed }
 
       pub function_asked : FunctionAsk m bk bw r work'
-      function_asked = record { ctx = ctx; maps = context.set.maps; framed = context_framed; fn = f; here = function_here; few = d.few }
+      function_asked = record { ctx = ctx; maps = context.set.maps; framed = context_framed; fn = f; here = function_here d.stands; few = d.few }
 
       total_is : total_slots g f context.places ≡ slots_of r
       unfolding total_slots slots_of context_of
@@ -163,5 +165,5 @@ module _ {m : ℕ} (bk bw : List ℕ) {at last : ℕ} (g : Codegen) (f : Functio
         for_next =
             let k = did.maps in (
               record { room = k.room; marks = k.marks; structs = k.structs; measured = k.measured },
-              function_ask m es work'' at r.end g f context.places (behind_in m es at) front here.there end_is here.limits.0 here.few context.is k,
+              function_ask m es work'' at r.end g f context.places (behind_in m es at) front here.there (end_is d.stands) here.limits.0 here.few context.is k,
             )

@@ -89,11 +89,11 @@ module _ {m : ℕ} (bk bw : List ℕ) {first last : ℕ} {work₀ ks os : List �
       → Turned g f fs m es last at work'' r u ks' os' ks'' os''
 
   module _ (l : at < last) {work'' ks'' os'' : List ℕ} {u : Turn} (one : Did-turn work'' u ks'' os'') where
-    pub turn_further : is_refused u.s ≡ false → FunctionsAsk m bk bw first last work₀ t → at < u.to
-    turn_further e a =
+    pub turn_further : FunctionsAsk m bk bw first last work₀ t → at < u.to
+    turn_further a =
         let v = asked a in
         let f = first_of v.todo v.left l in
-        (one a.codegen f.fn f.others f.here v.shared v.ask).further e
+        (one a.codegen f.fn f.others f.here v.shared v.ask).further
 
     -- a refusal ends the walk
     pub walk_refused : is_refused u.s ≡ true → (g : Codegen) (fs : List Function) → FunctionsAt m es last first fs → Shared m es g work₀ → ClearAsk m es t.from t.to work₀
@@ -123,7 +123,7 @@ module _ {m : ℕ} (bk bw : List ℕ) {first last : ℕ} {work₀ ks os : List �
               let way = subst (λ (xs : List Function). Toward (each (gen_function g) fs) (each (gen_function g) xs) t.s r.s ks os ks' os') f.same v.toward in
               record {
                 todo = f.others;
-                left = d.next e;
+                left = d.next;
                 toward = toward_then way (toward_first (each (gen_function g) f.others) d.puts);
                 shared = (d.again e).0;
                 ask = (d.again e).1;

@@ -58,9 +58,9 @@ fn gen_turn(
             }
         }
         Err(e) => Turn {
-            s: refuse(t.s, e),
+            s: refuse(t.s, e.refusal),
             from: at,
-            to: at,
+            to: e.end,
         },
     }
 }

@@ -1,7 +1,7 @@
 -- One pass after the other: what each asks of the ones before it, and what they leave together.
-use Rattle.std.specs.Prelude.{ℕ, ◌+◌, ◌*◌, ◌<◌, ◌≤◌, ◌≡◌, refl, List, [], ◌++◌, length, get_or, drop}
+use Rattle.std.specs.Prelude.{ℕ, ◌+◌, ◌<◌, ◌≤◌, ◌≡◌, refl, List, [], ◌++◌, length, get_or, drop}
 use Rattle.std.proofs.Math.Path.{sym}
-use Rattle.std.proofs.Common.{ap, ◌∙◌, subst, append-nil, arith, length-drop, length-append}
+use Rattle.std.proofs.Common.{ap, ◌∙◌, append-nil, arith, length-drop, length-append}
 use Rattle.std.proofs.Math.Option.{some}
 use Rattle.names.specs.Name.{names_of}
 use Rattle.names.specs.Lines.{accepted_iff}
@@ -31,7 +31,7 @@ use Rattle.std.specs.Prelude.{Ok, Err}
 use Rattle.book.specs.Refusal.{number_of}
 use Rattle.book.specs.declared.refusal.Refusal.{Refusal}
 use Rattle.gen_frame.specs.declared.Frame.{Frame}
-use Rattle.gen_prepare.specs.Prepare.{prepared_of, Shared, BookAsk, BookDone, PrepareAsk, SetUp, PreparedAs, PreparedAt, PlaceRefused}
+use Rattle.gen_prepare.specs.Prepare.{prepared_of, refused_of, Shared, BookAsk, BookDone, PrepareAsk, SetUp, PreparedAs, FunctionStands, PreparedAt, PlaceRefused, RefusedAt}
 
 -- ---- the book
 -- its structs
@@ -152,6 +152,9 @@ module _ {m : ℕ} (ks ws : List ℕ) {last a : ℕ} {work : List ℕ} (k : Prep
           places = λ x l. w.same (place_at x) (λ y _ e. omega arith) (λ y _ e. omega arith) ∙ k.clean.places x l;
         }
 
+    stands : FunctionStands m es a a p.blocks p.end
+    stands = record { at = refl; blocks = w.first; first_there = w.first_there; after = w.after; there = w.there }
+
     marks₁ : (g : Codegen) → Shared m es g work → (x : ℕ) → x < m → get_or work₁ (mark_at x) 0 ≡ mark_word g x
     marks₁ g sh x l = w.same (mark_at x) (λ y _ e. omega arith) (λ y _ e. omega arith) ∙ sh.marks x l
 
@@ -194,11 +197,7 @@ module _ {m : ℕ} (ks ws : List ℕ) {last a : ℕ} {work : List ℕ} (k : Prep
       pub prepared : PreparedAt m es a work work₂ (prepared_of a p t)
       prepared =
           record {
-            at = refl;
-            blocks = w.first;
-            first_there = w.first_there;
-            after = w.after;
-            there = w.there;
+            stands = stands;
             few = omega (arith, r.few, few_part, k.fn.few);
             says = says;
           }
@@ -210,3 +209,6 @@ module _ {m : ℕ} (ks ws : List ℕ) {last a : ℕ} {work : List ℕ} (k : Prep
         go : (y : Result Places) → frame_pass g.structs (all_insts fn.blocks) no_frame ≡ y → y ≡ err (number_of x)
         go (ok fr) e = absurd (frame_context g fn sh.structs blocks_at r (marks₁ g sh) e)
         go (err n) e = ap err (sym (frame_refused g fn sh.structs blocks_at r e))
+
+    pub refused : {work₂ : List ℕ} {x : Refusal} → FrameDone m (part ks ws p) es work₁ work₂ (Err x) → RefusedAt m es a work (refused_of a p x)
+    refused r = record { stands = stands; says = place_refused r }

@@ -25,6 +25,7 @@ use Rattle.book.specs.Refusal.{number_of}
 use Rattle.book.specs.declared.refusal.Refusal.{Refusal}
 use Rattle.gen_frame.specs.declared.Frame.{Frame}
 use Rattle.gen_prepare.specs.declared.Prepared.{Prepared}
+use Rattle.gen_prepare.specs.declared.RefusedFunction.{RefusedFunction}
 
 -- the answer, from the frame pass's: the bytes are rounded up to 8; a frame is there for bytes and for varying places
 abbrev pub prepared_of : (at : ℕ) → Placed → Frame → Prepared
@@ -37,6 +38,10 @@ prepared_of at placed f =
       size = align_up f.off 8;
       framed = ltb 0 (align_up f.off 8) || f.dynamic;
     }
+
+-- the same where a place is refused
+abbrev pub refused_of : (at : ℕ) → Placed → Refusal → RefusedFunction
+refused_of at placed x = record { at = at; blocks = placed.blocks; end = placed.end; refusal = x }
 
 -- ---- the book
 -- words 0 to 3 of names are 0: no function has left anything
@@ -85,13 +90,16 @@ abbrev pub PreparedAs : Result Places → Codegen → Function → (m : ℕ) →
 PreparedAs (ok fr) g f m es work' r = SetUp g f fr m es work' r
 PreparedAs (err e) g f m es work' r = ⊥
 
--- the function's entry stands at the place a, its list of blocks at `blocks`, what stands behind it at `end`
+-- the function's entry stands at p, the place a, its list of blocks at b, what stands behind it at e
+pub record FunctionStands (m : ℕ) (es : List Entry) (a p b e : ℕ) : Type 0 where
+  pub at : p ≡ a
+  pub blocks : drop b es ≡ closed enc_basic_block (function_in m es a).blocks ++ behind_in m es a
+  pub first_there : b ≤ length es
+  pub after : drop e es ≡ behind_in m es a
+  pub there : e ≤ length es
+
 pub record PreparedAt (m : ℕ) (es : List Entry) (a : ℕ) (work work' : List ℕ) (r : Prepared) : Type 0 where
-  pub at : r.at ≡ a
-  pub blocks : drop r.blocks es ≡ closed enc_basic_block (function_in m es a).blocks ++ behind_in m es a
-  pub first_there : r.blocks ≤ length es
-  pub after : drop r.end es ≡ behind_in m es a
-  pub there : r.end ≤ length es
+  pub stands : FunctionStands m es a r.at r.blocks r.end
   pub few : r.slots ≤ 2097152
   pub says : (g : Codegen) → Shared m es g work → PreparedAs (frame_pass g.structs (all_insts (function_in m es a).blocks) no_frame) g (function_in m es a) m es work' r
 
@@ -99,7 +107,11 @@ pub record PreparedAt (m : ℕ) (es : List Entry) (a : ℕ) (work work' : List �
 abbrev pub PlaceRefused : (m : ℕ) (es : List Entry) (a : ℕ) (work : List ℕ) → Refusal → Type 0
 PlaceRefused m es a work e = (g : Codegen) → Shared m es g work → frame_pass g.structs (all_insts (function_in m es a).blocks) no_frame ≡ err (number_of e)
 
+pub record RefusedAt (m : ℕ) (es : List Entry) (a : ℕ) (work : List ℕ) (r : RefusedFunction) : Type 0 where
+  pub stands : FunctionStands m es a r.at r.blocks r.end
+  pub says : PlaceRefused m es a work r.refusal
+
 -- Left free: what the work words hold where it refuses
-abbrev pub PrepareDone : (m : ℕ) (es : List Entry) (a : ℕ) (work work' : List ℕ) → Prelude.Result Prepared Refusal → Type 0
+abbrev pub PrepareDone : (m : ℕ) (es : List Entry) (a : ℕ) (work work' : List ℕ) → Prelude.Result Prepared RefusedFunction → Type 0
 PrepareDone m es a work work' (Ok r) = PreparedAt m es a work work' r
-PrepareDone m es a work work' (Err e) = PlaceRefused m es a work e
+PrepareDone m es a work work' (Err e) = RefusedAt m es a work e

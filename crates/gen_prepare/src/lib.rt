@@ -24,6 +24,15 @@ pub struct Prepared {
     pub framed: bool,
 }
 
+// A function one of whose places is refused: where it stands, its list of blocks and its end, and why.
+#[derive(Clone, Copy, Debug, PartialEq, Eq)]
+pub struct RefusedFunction {
+    pub at: usize,
+    pub blocks: usize,
+    pub end: usize,
+    pub refusal: Refusal,
+}
+
 // The answer, from that of the frame pass.
 fn framed(at: usize, placed: Placed, f: Frame) -> Prepared
     requires { f.off ≤ 2147483648 }
@@ -57,7 +66,8 @@ pub fn prepare_book(
     find_function(kinds, words, count)
 }
 
-// The context of the function at the place, or the refusal of one of its places. The functions end at `last`.
+// The context of the function at the place, or the refusal of one of its places; where it stands either way. The functions end at
+// `last`.
 pub fn prepare(
     kinds: &[u64],
     words: &[u64],
@@ -65,20 +75,27 @@ pub fn prepare(
     count: u64,
     at: usize,
     last: usize,
-) -> Result<Prepared, Refusal>
+) -> Result<Prepared, RefusedFunction>
     requires { PrepareAsk count (entries kinds.now words.now) last at work.old }
     ensures { PrepareDone count (entries kinds.now words.now) at work.old work.new result }
 {
     let placed = place_function(&kinds[at..last], &words[at..last], work, count, at);
     let from = placed.blocks;
     let end = placed.end;
-    let f = frame_pass(
+    match frame_pass(
         &kinds[from..end],
         &words[from..end],
         kinds,
         words,
         work,
         count,
-    )?;
-    Ok(framed(at, placed, f))
+    ) {
+        Ok(f) => Ok(framed(at, placed, f)),
+        Err(refusal) => Err(RefusedFunction {
+            at,
+            blocks: from,
+            end,
+            refusal,
+        }),
+    }
 }

@@ -31,8 +31,7 @@ returns-then-turn-ne0 c =
 
 pub loop-at-smaller : goal.loop-at-smaller
 loop-at-smaller c =
-    let going = ap not (eq-eqb _ 0 c.if-turn-ne0.false) in
-    let further = laws.turn_further c.args.book_kinds.now c.args.book_words.now c.loop-at.invariant c.loop-at-test.true c.gen_turn-turn.ensures going c.requires in
+    let further = laws.turn_further c.args.book_kinds.now c.args.book_words.now c.loop-at.invariant c.loop-at-test.true c.gen_turn-turn.ensures c.requires in
     omega (arith, further, c.loop-at-test.true)
 
 pub loop-at-preserved : goal.loop-at-preserved

@@ -1,5 +1,4 @@
 -- `gen_functions::gen_turn` meets its contract: what was set is cleared, the function prepared, and its lines put.
-use native.Mathlib.Omega.{arith}
 use Rattle.book.specs.Refusal.{number_positive}
 use Rattle.gen_lines.specs.Puts.{made_refused_lem}
 use Rattle.gen_clear.specs.Clear.{cut_within, clear_part}
@@ -60,12 +59,12 @@ pub returns-in-Err : goal.returns-in-Err
 returns-in-Err c g f fs here shared ask =
     let ks = c.args.book_kinds.now in
     let ws = c.args.book_words.now in
-    let stopped = made_refused_lem _ (number_positive c.in-Err.e) c.args.t.s c.refuse.ensures in
+    let refused = c.in-Err.ensures in
     record {
-      puts = laws.refused_turn ks ws g f fs here shared c.clear_function.ensures _ c.in-Err.ensures _ _ c.refuse.ensures;
-      next = λ e. laws.never stopped e;
-      further = λ e. laws.never stopped e;
-      again = λ e. laws.never stopped e;
+      puts = laws.refused_turn ks ws g f fs here shared c.clear_function.ensures _ refused.says _ _ c.refuse.ensures;
+      next = laws.next ks ws g f fs here refused.stands;
+      further = laws.further ks ws g f fs here refused.stands;
+      again = λ e. laws.never (made_refused_lem _ (number_positive c.in-Err.e.refusal) c.args.t.s c.refuse.ensures) e;
     }
 
 pub gen_function-s-requires : goal.gen_function-s-requires
@@ -82,11 +81,11 @@ returns-in-Ok c g f fs here shared ask =
     let cleared = c.clear_function.ensures in
     let prepared = c.in-Ok.ensures in
     let x = laws.context ks ws g f fs here shared cleared prepared in
-    let did = c.gen_function-s.ensures _ f (laws.function_here ks ws g f fs here shared cleared prepared)
+    let did = c.gen_function-s.ensures _ f (laws.function_here ks ws g f fs here prepared.stands)
     (laws.context_framed ks ws g f fs here shared cleared prepared) x.set.maps in
     record {
       puts = laws.lines_put ks ws g f fs here shared cleared prepared did;
-      next = λ _. laws.next ks ws g f fs here shared cleared prepared;
-      further = λ _. laws.further ks ws g f fs here shared cleared prepared;
+      next = laws.next ks ws g f fs here prepared.stands;
+      further = laws.further ks ws g f fs here prepared.stands;
       again = λ _. laws.for_next ks ws g f fs here shared cleared prepared did;
     }

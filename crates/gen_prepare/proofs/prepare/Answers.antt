@@ -2,8 +2,6 @@
 use Rattle.book_types.specs.Laws.{within_kinds, within_words}
 use Rattle.gen_prepare.specs.Passes as laws
 use borrow.Author.Rules.{rules}
-use mathlib.Core.Path.{◌≡◌}
-use Rattle.std.proofs.Common.{Err}
 use Rattle.gen_prepare.proofs.prepare.Goals as goal
 
 pub offset_bounds-kinds-at : goal.offset_bounds-kinds-at
@@ -130,19 +128,18 @@ frame_pass-requires c =
 
 pub framed-requires : goal.framed-requires
 framed-requires c =
-    c.in_ok-f.ensures.ends
+    c.in-Ok.ensures.ends
 
-pub returns-in_err-f : goal.returns-in_err-f
-returns-in_err-f c =
+pub returns-in-Ok : goal.returns-in-Ok
+returns-in-Ok c =
     let ks = c.args.kinds.now in
     let ws = c.args.words.now in
     let placed = c.place_function-placed.ensures _ _ (laws.function_ask ks ws c.requires) in
-    let is : c.from_residual.result ≡ Err c.in_err-f.field-0.0 = search rules in
-    rw is (laws.place_refused ks ws c.requires placed c.in_err-f.ensures)
+    rw c.framed.ensures (laws.prepared ks ws c.requires placed c.in-Ok.ensures)
 
-pub returns : goal.returns
-returns c =
+pub returns-in-Err : goal.returns-in-Err
+returns-in-Err c =
     let ks = c.args.kinds.now in
     let ws = c.args.words.now in
     let placed = c.place_function-placed.ensures _ _ (laws.function_ask ks ws c.requires) in
-    rw c.framed.ensures (laws.prepared ks ws c.requires placed c.in_ok-f.ensures)
+    laws.refused ks ws c.requires placed c.in-Err.ensures
