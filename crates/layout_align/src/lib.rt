@@ -93,7 +93,7 @@ fn named_align(
         names,
         level - 1,
     ))?;
-    work[at + book::work::MEASURED] = with_align(work[at + book::work::MEASURED], r);
+    work[at + book::work::MEASURED] = with_align(work[at + book::work::MEASURED], Ok(r));
     Ok(r)
 }
 

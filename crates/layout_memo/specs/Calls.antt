@@ -20,7 +20,6 @@ use Rattle.layout_memo.specs.Work.{structs_in, BodyAt, size_part, align_part, si
 use Rattle.layout_memo.specs.Arms as arms
 use Rattle.layout_memo.specs.Arms.{times_of, SmallBytes, field_sizes, field_aligns}
 use Rattle.layout_memo.specs.Helpers.{size_bytes, align_bytes}
-use Rattle.layout_memo.specs.declared.Measure.{Measure}
 
 -- the entries from a on, as the logic has them
 abbrev pub lent : List ℕ → List ℕ → ℕ → List Entry
@@ -204,24 +203,21 @@ module _ (m x : ℕ) (bk bw : List ℕ) (work : List ℕ) (level : ℕ) (k : Ask
           → Outcome m (entries bk bw) work work' (sizes named (Ty.named_struct x)) level s
       size_kept o = outcome (size_says o) o.after
 
-      -- a measure is stored
-      module _ (b : Measure) (is : s ≡ Ok b) where
-        pub align_body_small : Outcome m (entries bk bw) work work' (aligns named (ty_of m (lent bk bw (get_or work (body_at x) 0 - 1)))) (level - 1) r → (b.bytes ≤ 16777216) × (b.levels ≤ 64)
-        align_body_small o = (rw is at (align_bytes named (Ty.named_struct x) level s k.levels (align_says o)), rw is at (measures_few _ level s k.levels (align_says o)))
+      -- whatever was measured is stored
+      pub align_body_small : Outcome m (entries bk bw) work work' (aligns named (ty_of m (lent bk bw (get_or work (body_at x) 0 - 1)))) (level - 1) r → SmallBytes s × Few s
+      align_body_small o = (align_bytes named (Ty.named_struct x) level s k.levels (align_says o), measures_few _ level s k.levels (align_says o))
 
-        pub size_body_small : Outcome m (entries bk bw) work work' (sizes named (ty_of m (lent bk bw (get_or work (body_at x) 0 - 1)))) (level - 1) r → (b.bytes ≤ 16777216) × (b.levels ≤ 64)
-        size_body_small o = (rw is at (size_bytes named (Ty.named_struct x) level s k.levels (size_says o)), rw is at (measures_few _ level s k.levels (size_says o)))
+      pub size_body_small : Outcome m (entries bk bw) work work' (sizes named (ty_of m (lent bk bw (get_or work (body_at x) 0 - 1)))) (level - 1) r → SmallBytes s × Few s
+      size_body_small o = (size_bytes named (Ty.named_struct x) level s k.levels (size_says o), measures_few _ level s k.levels (size_says o))
 
-        pub align_stored : Outcome m (entries bk bw) work work' (aligns named (ty_of m (lent bk bw (get_or work (body_at x) 0 - 1)))) (level - 1) r → (v : ℕ) → v ≡ with_align (get_or work' (measured_at x) 0) b
-            → Outcome m (entries bk bw) work (set work' (measured_at x) v) (aligns named (Ty.named_struct x)) level (Ok b)
-        align_stored o v ev =
-            let says : Measures (aligns named (Ty.named_struct x)) level (Ok b) = rw is at (align_says o) in
-            outcome says
-            (after_then o.after (after_set x v o.after.ready k.name (rw ev (align_remembered named x _ level b k.levels says (o.after.ready.known x k.name)))))
+      pub align_stored : Outcome m (entries bk bw) work work' (aligns named (ty_of m (lent bk bw (get_or work (body_at x) 0 - 1)))) (level - 1) r → (v : ℕ) → v ≡ with_align (get_or work' (measured_at x) 0) s
+          → Outcome m (entries bk bw) work (set work' (measured_at x) v) (aligns named (Ty.named_struct x)) level s
+      align_stored o v ev =
+          outcome (align_says o)
+          (after_then o.after (after_set x v o.after.ready k.name (rw ev (align_remembered named x _ level s k.levels (align_says o) (o.after.ready.known x k.name)))))
 
-        pub size_stored : Outcome m (entries bk bw) work work' (sizes named (ty_of m (lent bk bw (get_or work (body_at x) 0 - 1)))) (level - 1) r → (v : ℕ) → v ≡ with_size (get_or work' (measured_at x) 0) b
-            → Outcome m (entries bk bw) work (set work' (measured_at x) v) (sizes named (Ty.named_struct x)) level (Ok b)
-        size_stored o v ev =
-            let says : Measures (sizes named (Ty.named_struct x)) level (Ok b) = rw is at (size_says o) in
-            outcome says
-            (after_then o.after (after_set x v o.after.ready k.name (rw ev (size_remembered named x _ level b k.levels says (o.after.ready.known x k.name)))))
+      pub size_stored : Outcome m (entries bk bw) work work' (sizes named (ty_of m (lent bk bw (get_or work (body_at x) 0 - 1)))) (level - 1) r → (v : ℕ) → v ≡ with_size (get_or work' (measured_at x) 0) s
+          → Outcome m (entries bk bw) work (set work' (measured_at x) v) (sizes named (Ty.named_struct x)) level s
+      size_stored o v ev =
+          outcome (size_says o)
+          (after_then o.after (after_set x v o.after.ready k.name (rw ev (size_remembered named x _ level s k.levels (size_says o) (o.after.ready.known x k.name)))))

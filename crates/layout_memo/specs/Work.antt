@@ -22,7 +22,6 @@ use Rattle.std.specs.Prelude.{Ok, Err}
 use Rattle.book.specs.declared.refusal.Refusal.TheVariants as refusal
 use Rattle.layout_memo.specs.Measured.{Measured, bytes_of, result_of, Known, Measures, measures_result}
 use Rattle.layout_memo.specs.Front.{Starts, StartsFields, ty_of, tys_of}
-use Rattle.layout_memo.specs.declared.Measure.{Measure}
 
 -- the structs of the book
 abbrev pub structs_or : Option Book → List StructType
@@ -199,11 +198,13 @@ module _ {m : ℕ} {es : List Entry} {work work' : List ℕ} (a : After m es wor
 abbrev pub part_of : ℕ → ℕ → ℕ
 part_of n h = n * 128 + h
 
-abbrev pub with_size : ℕ → Measure → ℕ
-with_size w m = part_of m.bytes m.levels * 2 ^ 32 + w % 2 ^ 32
+abbrev pub with_size : ℕ → Measured → ℕ
+with_size w (Ok m) = part_of m.bytes m.levels * 2 ^ 32 + w % 2 ^ 32
+with_size w (Err e) = w
 
-abbrev pub with_align : ℕ → Measure → ℕ
-with_align w m = w / 2 ^ 32 * 2 ^ 32 + part_of m.bytes m.levels
+abbrev pub with_align : ℕ → Measured → ℕ
+with_align w (Ok m) = w / 2 ^ 32 * 2 ^ 32 + part_of m.bytes m.levels
+with_align w (Err e) = w
 
 abbrev pub pick_measured : Bool → Measured → Measured → Measured
 pick_measured true a b = a
@@ -252,21 +253,23 @@ module _ (structs : List StructType) where
   unfolding align_of
   align_small t l k = aligned_small t (k.high 64 l)
 
-  pub size_remembered : (x w level : ℕ) (b : Measure) → level ≤ 64 → Measures (sizes structs (Ty.named_struct x)) level (Ok b) → Remembered structs x w → Remembered structs x (with_size w b)
-  size_remembered x w level b l m k =
+  pub size_remembered : (x w level : ℕ) (r : Measured) → level ≤ 64 → Measures (sizes structs (Ty.named_struct x)) level r → Remembered structs x w → Remembered structs x (with_size w r)
+  size_remembered x w level (Err e) l m k = k
+  size_remembered x w level (Ok b) l m k =
       let q : b.levels ≤ 64 = omega (arith, m.within) in
       let s = size_small (Ty.named_struct x) q m.known in
-      let e : align_part (with_size w b) ≡ align_part w = omega arith in
-      let f : size_part (with_size w b) ≡ part_of b.bytes b.levels = omega arith in
+      let e : align_part (with_size w (Ok b)) ≡ align_part w = omega arith in
+      let f : size_part (with_size w (Ok b)) ≡ part_of b.bytes b.levels = omega arith in
       record { align = rw e k.align; size = known_recalls (sizes structs (Ty.named_struct x)) b.bytes b.levels _ f q m.known }
 
-  pub align_remembered : (x w level : ℕ) (b : Measure) → level ≤ 64 → Measures (aligns structs (Ty.named_struct x)) level (Ok b) → Remembered structs x w → Remembered structs x (with_align w b)
-  align_remembered x w level b l m k =
+  pub align_remembered : (x w level : ℕ) (r : Measured) → level ≤ 64 → Measures (aligns structs (Ty.named_struct x)) level r → Remembered structs x w → Remembered structs x (with_align w r)
+  align_remembered x w level (Err e) l m k = k
+  align_remembered x w level (Ok b) l m k =
       let q : b.levels ≤ 64 = omega (arith, m.within) in
       let s = align_small (Ty.named_struct x) q m.known in
       let t : b.bytes ≤ 8 = s.1 in
-      let e : align_part (with_align w b) ≡ part_of b.bytes b.levels = omega arith in
-      let f : size_part (with_align w b) ≡ size_part w = omega arith in
+      let e : align_part (with_align w (Ok b)) ≡ part_of b.bytes b.levels = omega arith in
+      let f : size_part (with_align w (Ok b)) ≡ size_part w = omega arith in
       record { align = known_recalls (aligns structs (Ty.named_struct x)) b.bytes b.levels _ e q m.known; size = rw f k.size }
 
 -- what a measurement answers and leaves: the definition's answer, with the levels that it takes

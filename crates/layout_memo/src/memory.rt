@@ -1,6 +1,8 @@
 // Word 7 of a name: what is known of its struct's size and alignment. The size's part stands above the alignment's, and each
 // part has the bytes above the levels.
 ghost use Rattle.std.specs.Prelude.{◌≡◌, ◌≤◌};
+ghost use Rattle.layout_memo.specs.Arms.{SmallBytes};
+ghost use Rattle.layout_memo.specs.Measured.{Few};
 ghost use Rattle.layout_memo.specs.Work.{recalled as recalledAs, with_size, with_align, part_of as partOf};
 
 use crate::Measure;
@@ -34,18 +36,24 @@ fn part_of(m: Measure) -> u64
     m.bytes * LEVELS + u64::from(m.levels)
 }
 
-// The word with a size that was measured.
-pub fn with_size(word: u64, m: Measure) -> u64
-    requires { (m.bytes ≤ 16777216) × (m.levels ≤ 64) }
+// The word with a size that was measured; a refusal leaves it as it is.
+pub fn with_size(word: u64, m: Result<Measure, Refusal>) -> u64
+    requires { SmallBytes m × Few m }
     ensures { result ≡ with_size word m }
 {
-    part_of(m) * PART + word % PART
+    match m {
+        Ok(m) => part_of(m) * PART + word % PART,
+        Err(_) => word,
+    }
 }
 
-// The word with an alignment that was measured.
-pub fn with_align(word: u64, m: Measure) -> u64
-    requires { (m.bytes ≤ 16777216) × (m.levels ≤ 64) }
+// The word with an alignment that was measured, in the same way.
+pub fn with_align(word: u64, m: Result<Measure, Refusal>) -> u64
+    requires { SmallBytes m × Few m }
     ensures { result ≡ with_align word m }
 {
-    word / PART * PART + part_of(m)
+    match m {
+        Ok(m) => word / PART * PART + part_of(m),
+        Err(_) => word,
+    }
 }

@@ -101,7 +101,7 @@ fn named_size(
         names,
         level - 1,
     ))?;
-    work[at + book::work::MEASURED] = with_size(work[at + book::work::MEASURED], r);
+    work[at + book::work::MEASURED] = with_size(work[at + book::work::MEASURED], Ok(r));
     Ok(r)
 }
 

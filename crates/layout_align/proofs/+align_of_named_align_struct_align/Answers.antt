@@ -149,11 +149,11 @@ named_align-returns-in_err-r t c =
 
 pub named_align-with_align-requires : goal.named_align-with_align-requires
 named_align-with_align-requires t c =
-    calls.align_body_small _ _ _ _ _ _ c.requires c.if-body-eq0.false _ c.one_more.ensures _ c.in_ok-r.was c.align_of.ensures
+    calls.align_body_small _ _ _ _ _ _ c.requires c.if-body-eq0.false _ (sym c.in_ok-r.was ∙ c.one_more.ensures) c.align_of.ensures
 
 pub named_align-returns : goal.named_align-returns
 named_align-returns t c =
-    calls.align_stored _ _ _ _ _ _ c.requires c.if-body-eq0.false _ c.one_more.ensures _ c.in_ok-r.was c.align_of.ensures _
+    calls.align_stored _ _ _ _ _ _ c.requires c.if-body-eq0.false _ (sym c.in_ok-r.was ∙ c.one_more.ensures) c.align_of.ensures _
     c.with_align.ensures
 
 pub struct_align-returns-then-packed : goal.struct_align-returns-then-packed

@@ -50,11 +50,11 @@ named_size-returns-in_err-r t c =
 
 pub named_size-with_size-requires : goal.named_size-with_size-requires
 named_size-with_size-requires t c =
-    calls.size_body_small _ _ _ _ _ _ c.requires c.if-body-eq0.false _ c.one_more.ensures _ c.in_ok-r.was c.size_of.ensures
+    calls.size_body_small _ _ _ _ _ _ c.requires c.if-body-eq0.false _ (sym c.in_ok-r.was ∙ c.one_more.ensures) c.size_of.ensures
 
 pub named_size-returns : goal.named_size-returns
 named_size-returns t c =
-    calls.size_stored _ _ _ _ _ _ c.requires c.if-body-eq0.false _ c.one_more.ensures _ c.in_ok-r.was c.size_of.ensures _
+    calls.size_stored _ _ _ _ _ _ c.requires c.if-body-eq0.false _ (sym c.in_ok-r.was ∙ c.one_more.ensures) c.size_of.ensures _
     c.with_size.ensures
 
 pub size_of-returns-then-level-eq0 : goal.size_of-returns-then-level-eq0
