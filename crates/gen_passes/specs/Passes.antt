@@ -1,5 +1,5 @@
 -- A pass that counts and one that writes: together they answer as the definition does.
-use Rattle.std.specs.Prelude.{ℕ, ◌+◌, ◌<◌, ◌≤◌, ◌%◌, ◌^◌, min, ◌≡◌, ◌⊎◌, Bool, true, false, drop, eqb, leb, Ok, Err}
+use Rattle.std.specs.Prelude.{ℕ, ◌+◌, ◌<◌, ◌≤◌, ◌%◌, ◌^◌, min, ◌≡◌, Bool, true, false, drop, eqb, leb, Ok, Err}
 use Rattle.std.proofs.Math.Path.{refl, ap}
 use Rattle.std.proofs.Common.{sym, subst, ◌∙◌, ⊎_elim, arith, mod-eq_of_lt, eq-eqb, eqb-true, le-leb}
 use Rattle.std.proofs.Math.Bool.{not}
@@ -9,9 +9,8 @@ use Rattle.std.proofs.lemmas.List.Edits.{sets, sets-eq}
 use Rattle.std.proofs.lemmas.Bool.{lt-leb}
 use Rattle.book.specs.Ast.{Function}
 use Rattle.book.specs.Entry.{entries}
-use Rattle.book.specs.Refusal.{number_of, number_positive, Unnumbered}
+use Rattle.book.specs.Refusal.{number_of}
 use Rattle.book.specs.declared.refusal.Refusal.{Refusal}
-use Rattle.book.specs.declared.refusal.Refusal.TheVariants as refusal
 use Rattle.book.specs.Result.{Result, ok, err, bind, given}
 use Rattle.assembly.specs.Number.{kind_of}
 use Rattle.lowering.specs.Context.{Codegen}
@@ -22,6 +21,7 @@ use Rattle.lowering.proofs.Printable.{take_over}
 use Rattle.lowering.specs.Translate.{over}
 use Rattle.gen_lines.specs.declared.Reached.{Reached}
 use Rattle.gen_lines.specs.Puts.{Puts, Able, After, is_refused, most, operand_word, map_length}
+use Rattle.gen_slices.specs.Fits.{FitOf}
 use Rattle.gen_blocks.specs.Function.{FunctionsAt}
 use Rattle.gen_prepare.specs.Prepare.{Clean, Shared}
 use Rattle.gen_clear.specs.Clear.{ClearAsk, none_ask}
@@ -106,34 +106,34 @@ stays_none n h = eqb-true n 0 (go (eqb n 0) h)
     go true h = refl
     go false h = sym h
 
-module _ (g : Gen) (counter : ℕ) {t : Reached} {ks₀ os₀ ks₁ os₁ : List ℕ} (counting : Pass g counter t ks₀ os₀ ks₁ os₁) (ks os : List ℕ) (few : length ks < most) (numbers : Refuses g) where
+-- what is noted is none, or the number of a refusal
+pub noted_range : (g : Gen) (counter : ℕ) {t : Reached} {ks os ks' os' : List ℕ} → Pass g counter t ks os ks' os' → Refuses g → t.refused ≤ 20
+noted_range g counter {t} {ks} {os} {ks'} {os'} p numbers = go (g counter) refl (pass_after p)
+  where
+    go : (r : Result Out) → g counter ≡ r → After r 0 t ks os ks' os' → t.refused ≤ 20
+    go (ok out) i w = let none = stays_none t.refused w.going in omega arith
+    go (err n) i b = let l = refusal_range n ((numbers.refuses counter).numbered n i) in let e = b.number in omega arith
+
+module _ (g : Gen) (counter : ℕ) {t : Reached} {ks₀ os₀ ks₁ os₁ : List ℕ} (counting : Pass g counter t ks₀ os₀ ks₁ os₁) (ks os : List ℕ) (few : length ks < most) where
   going : t.refused ≡ 0 → is_refused t ≡ false
   going e = ap not (eq-eqb t.refused 0 e)
 
-  -- no refusal's number is none
-  none_refused : Unnumbered t.refused → t.refused ≡ 0
-  none_refused u = go (g counter) refl (pass_after counting)
-    where
-      go : (r : Result Out) → g counter ≡ r → After r 0 t ks₀ os₀ ks₁ os₁ → t.refused ≡ 0
-      go (ok out) i w = stays_none t.refused w.going
-      go (err n) i b = let l = refusal_range n ((numbers.refuses counter).numbered n i) in let e = b.number in ⊎_elim (λ z. z) (λ z. absurd (omega arith)) u
-
   -- the count found a refusal
-  pass_refused : (x : Refusal) → number_of x ≡ t.refused → Answered (fitted (g counter) (room ks os)) (Err x) ks os ks os
+  pass_refused : (t.refused ≡ 0 → ⊥) → (x : Refusal) → number_of x ≡ t.refused → Answered (fitted (g counter) (room ks os)) (Err x) ks os ks os
   unfolding bind
-  pass_refused x e = go (g counter) (pass_after counting)
+  pass_refused e x i = go (g counter) (pass_after counting)
     where
       go : (r : Result Out) → After r 0 t ks₀ os₀ ks₁ os₁ → Answered (fitted r (room ks os)) (Err x) ks os ks os
-      go (ok out) w = absurd (let z = stays_none t.refused w.going in let some = number_positive x in omega arith)
-      go (err n) b = record { refusal = x; reply = refl; number = e ∙ b.number; kinds = refl; operands = refl }
+      go (ok out) w = absurd (e (stays_none t.refused w.going))
+      go (err n) b = record { refusal = x; reply = refl; number = i ∙ b.number; kinds = refl; operands = refl }
 
   -- the lines do not fit
-  pass_short : t.refused ≡ 0 → room ks os < t.at → Answered (fitted (g counter) (room ks os)) (Err refusal.NoRoom) ks os ks os
+  pass_short : t.refused ≡ 0 → room ks os < t.at → (x : Refusal) → number_of x ≡ 20 → Answered (fitted (g counter) (room ks os)) (Err x) ks os ks os
   unfolding bind given
-  pass_short e l = go (g counter) (pass_after counting)
+  pass_short e l x i = go (g counter) (pass_after counting)
     where
-      go : (r : Result Out) → After r 0 t ks₀ os₀ ks₁ os₁ → Answered (fitted r (room ks os)) (Err refusal.NoRoom) ks os ks os
-      go (ok out) w = rw (lt-leb (length out.lines) (room ks os) (omega (arith, w.place))) (record { refusal = refusal.NoRoom; reply = refl; number = refl; kinds = refl; operands = refl })
+      go : (r : Result Out) → After r 0 t ks₀ os₀ ks₁ os₁ → Answered (fitted r (room ks os)) (Err x) ks os ks os
+      go (ok out) w = rw (lt-leb (length out.lines) (room ks os) (omega (arith, w.place))) (record { refusal = x; reply = refl; number = i; kinds = refl; operands = refl })
       go (err n) b = never b.refused (going e)
 
   -- they do, and are copied
@@ -177,25 +177,24 @@ module _ (g : Gen) (counter : ℕ) {t : Reached} {ks₀ os₀ ks₁ os₁ : List
       go (err x) b v = never b.refused (going e)
 
   -- the same by what was told of them
-  pub fit_none : (x : Refusal) → (number_of x ≡ t.refused) ⊎ (Unnumbered t.refused × ((room ks os < t.at) × (x ≡ refusal.NoRoom)))
-      → {r : Reply} → r ≡ Err x → Answered (fitted (g counter) (room ks os)) r ks os ks os
-  fit_none x told is = rw is (⊎_elim (λ p. pass_refused x p) (λ p. rw p.1.1 (pass_short (none_refused p.0) p.1.0)) told)
+  pub fit_none : (e : ℕ) → FitOf t (length ks) (length os) (Err e) → (x : Refusal) → number_of x ≡ e → {r : Reply} → r ≡ Err x → Answered (fitted (g counter) (room ks os)) r ks os ks os
+  fit_none e told x i is = rw is (⊎_elim (λ p. pass_refused p.0 x (i ∙ p.1)) (λ p. pass_short p.0 p.1.0 x (i ∙ p.1.1)) told)
 
-  module _ (n : ℕ) (told : Unnumbered t.refused × ((n ≡ t.at) × (n ≤ room ks os))) where
+  module _ (n : ℕ) (told : FitOf t (length ks) (length os) (Ok n)) where
     -- the first pass found nothing to refuse
     pub fit_going : is_refused t ≡ false
-    fit_going = going (none_refused told.0)
+    fit_going = going told.0
 
     pub fit_copied : n ≤ length ks₀ → length ks₀ ≡ length os₀
         → (ks' os' : List ℕ) → ks' ≡ over (take n ks₁) ks → os' ≡ over (take n os₁) os → Answered (fitted (g counter) (room ks os)) (Ok (record { lines = n; counter = t.counter })) ks os ks' os'
     fit_copied own even ks' os' ek eo =
         let e = told.1.0 in
         subst (λ (m : ℕ). Answered (fitted (g counter) (room ks os)) (Ok (record { lines = m; counter = t.counter })) ks os ks' os') (sym e)
-        (pass_copied (none_refused told.0) (omega (arith, told.1.1, e)) (omega (arith, own, e)) even ks' os'
+        (pass_copied told.0 (omega (arith, told.1.1, e)) (omega (arith, own, e)) even ks' os'
         (ek ∙ ap (λ (m : ℕ). over (take m ks₁) ks) e) (eo ∙ ap (λ (m : ℕ). over (take m os₁) os) e))
 
     pub fit_written : {u : Reached} {ks' os' : List ℕ} → Pass g counter u ks os ks' os' → Answered (fitted (g counter) (room ks os)) (Ok (record { lines = n; counter = t.counter })) ks os ks' os'
     fit_written {ks' = ks'} {os' = os'} writing =
         let e = told.1.0 in
         subst (λ (m : ℕ). Answered (fitted (g counter) (room ks os)) (Ok (record { lines = m; counter = t.counter })) ks os ks' os') (sym e)
-        (pass_written (none_refused told.0) (omega (arith, told.1.1, e)) writing)
+        (pass_written told.0 (omega (arith, told.1.1, e)) writing)

@@ -38,3 +38,8 @@ Numbered (Err e) = is_refusal (refusal.number_of e) ≡ true
 pub zero_accepted : (r : Reply) → Numbered r → eqb (number_of r) 0 ≡ is_accepted r
 zero_accepted (Ok t) h = refl
 zero_accepted (Err e) h = let l = refusal_range (refusal.number_of e) h in ne_eqb (refusal.number_of e) 0 (λ z. omega arith)
+
+-- a count, or a refusal by its number
+abbrev pub by_number : Result ℕ Refusal → Result ℕ ℕ
+by_number (Ok n) = Ok n
+by_number (Err e) = Err (refusal.number_of e)

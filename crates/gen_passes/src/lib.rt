@@ -1,7 +1,7 @@
 #![tactic(auto)]
 // The lines of a sound book's functions: a pass into slices of our own finds every refusal, and where the lines of all fit, they are
 // copied or made again.
-ghost use Rattle.std.specs.Prelude.{◌≡◌, List, ℕ, min, length};
+ghost use Rattle.std.specs.Prelude.{◌≡◌, ◌≤◌, List, ℕ, min, length};
 ghost use Rattle.std.proofs.Math.Option.{some};
 ghost use Rattle.names.specs.Name.{names_of};
 ghost use Rattle.book.specs.Ast.{Book};
@@ -10,6 +10,8 @@ ghost use Rattle.book.specs.Entry.{entries};
 ghost use Rattle.lowering.specs.Context.{codegen_of};
 ghost use Rattle.lowering.specs.Function.{gen_functions};
 ghost use Rattle.lowering.specs.Translate.{over};
+ghost use Rattle.gen_slices.specs.Fits.{FitOf};
+ghost use Rattle.gen_passes.specs.Reply.{by_number};
 ghost use Rattle.gen_passes.specs.Passes.{fitted, Answered, PassAsk, Passed};
 ghost use Rattle.gen_passes.specs.Generate.{GenerateAsk};
 
@@ -24,6 +26,17 @@ use gen_slices::{copy, lines_fit};
 pub struct Translation {
     pub lines: usize,
     pub counter: u64,
+}
+
+// How many lines a pass has counted, where they fit slices of these lengths, or the refusal whose number `lines_fit` tells.
+fn counted_lines(counted: Reached, lines: usize, operands: usize) -> Result<usize, Refusal>
+    requires { counted.refused ≤ 20 }
+    ensures { FitOf counted lines operands (by_number result) }
+{
+    match lines_fit(counted, lines, operands) {
+        Ok(many) => Ok(many),
+        Err(number) => Err(Refusal::try_from(number).unwrap()),
+    }
 }
 
 // A pass into slices of our own finds every refusal and the number of lines. Those that fit there are copied, others are
@@ -67,7 +80,7 @@ fn pass_over(
         own_operands,
         none,
     );
-    let many = lines_fit(counted.s, lines.len(), operands.len())?;
+    let many = counted_lines(counted.s, lines.len(), operands.len())?;
     if many <= own_lines.len() {
         copy(own_lines, lines, many);
         copy(own_operands, operands, many);

@@ -22,15 +22,16 @@ pub fn copy<T: Copy>(from: &[T], to: &mut [T], many: usize)
     to[..many].copy_from_slice(&from[..many]);
 }
 
-// Whether the lines that a pass has counted fit slices of these lengths: how many they are, or the pass's own refusal, then `NoRoom`.
-pub fn lines_fit(counted: Reached, lines: usize, operands: usize) -> Result<usize, Refusal>
+// Whether the lines that a pass has counted fit slices of these lengths: how many they are, or the number of the pass's own refusal, then
+// that of `NoRoom`.
+pub fn lines_fit(counted: Reached, lines: usize, operands: usize) -> Result<usize, u64>
     ensures { FitOf counted lines operands result }
 {
-    if let Ok(refusal) = Refusal::try_from(counted.refused) {
-        return Err(refusal);
+    if counted.refused != 0 {
+        return Err(counted.refused);
     }
     if lines.min(operands) < counted.at {
-        return Err(Refusal::NoRoom);
+        return Err(Refusal::NoRoom.number());
     }
     Ok(counted.at)
 }
