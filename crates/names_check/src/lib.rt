@@ -65,6 +65,7 @@ fn front_end(names: &[u8], at: usize) -> usize
 }
 
 // Whether one name comes strictly before another bytewise.
+#[tactic(auto, using(names_compare::specs::Ordering::less_before))]
 fn name_before(a: &[u8], b: &[u8]) -> bool
     ensures { result ≡ before a.now b.now }
 {
