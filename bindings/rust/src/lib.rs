@@ -11,7 +11,7 @@
 //!    instruction that a refusal is about.
 //!
 //! [`raw`] has the same calls on lent slices, for those who hold their own; [`Entries`] writes a book as its maker pleases.
-//! The calls keep nothing between them, so threads may make them side by side; one takes up to 464 KiB of stack.
+//! The calls keep nothing between them, so threads may make them side by side; one takes up to 456 KiB of stack.
 //!
 //! ```
 //! use mivolanjy::ir::*;
