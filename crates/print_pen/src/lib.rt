@@ -37,7 +37,9 @@ pub fn copy(src: &[u8], text: &mut [u8], at: usize)
     requires { at + length src.now ≤ length text.old }
     ensures { text.new ≡ sets text.old at src.now }
 {
-    text[at..at + src.len()].copy_from_slice(src);
+    for i in 0..src.len() {
+        text[at + i] = src[i];
+    }
 }
 
 // Stores bytes as a label spells them.

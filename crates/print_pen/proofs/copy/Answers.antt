@@ -1,12 +1,8 @@
--- `copy` stores the bytes in one piece.
-use Rattle.std.proofs.Common.{◌≡◌, ◌+◌, ◌-◌, length, take, drop, sym, ◌∙◌, append_assoc, drop-drop, arith}
-use Rattle.std.proofs.lemmas.List.Edits.{sets-eq}
+use Rattle.print_pen.specs.Pen.{copy_step_lem, copy_end}
 use Rattle.print_pen.proofs.copy.Goals as goal
 
+pub loop-i-preserved : goal.loop-i-preserved
+loop-i-preserved c = copy_step_lem c.loop-i.invariant c.loop-i-test.true
+
 pub returns : goal.returns
-returns c =
-    let s = c.args.src.now in
-    let t = c.args.text.now in
-    let n : c.args.at + length s - c.args.at ≡ length s = omega arith in
-    rw (n, c.copy_from_slice.ensures.after, drop-drop)
-    (sym (sets-eq s t c.args.at c.requires ∙ append_assoc (take c.args.at t) s (drop (c.args.at + length s) t)))
+returns c = copy_end c.loop-i.invariant c.loop-i-test.false
