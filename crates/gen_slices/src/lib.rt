@@ -19,7 +19,9 @@ pub fn copy<T: Copy>(from: &[T], to: &mut [T], many: usize)
     requires to_reaches { many ≤ length to.old }
     ensures { to.new ≡ take many from.now ++ drop many to.old }
 {
-    to[..many].copy_from_slice(&from[..many]);
+    for i in 0..many {
+        to[i] = from[i];
+    }
 }
 
 // Whether the lines that a pass has counted fit slices of these lengths: how many they are, or the number of the pass's own refusal, then
