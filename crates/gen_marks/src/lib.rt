@@ -4,6 +4,7 @@
 // holds where the next name starts, as the check has noted it.
 ghost use Rattle.std.specs.Prelude.{◌≡◌, ℕ, ◌<◌, ◌||◌, List, length};
 ghost use Rattle.std.proofs.Math.Option.{some};
+ghost use Rattle.names.specs.Text.{bytes, starts};
 ghost use Rattle.names.specs.Name.{names_of, name_from};
 ghost use Rattle.names.specs.Spelling.{is_syscall, is_bcmp, is_memcmp, has_overflow};
 ghost use Rattle.book.specs.Ast.{Book};
@@ -55,6 +56,15 @@ fn spelled(names: &[u8], at: usize, end: usize) -> u64
     work::CALL_NONE
 }
 
+// Whether the name from `at` on starts with `.with.overflow.`. A call of its own: compiled into the loop over a name's bytes, the text is
+// looked for at each of them and not at each `.` alone.
+#[inline(never)]
+fn starts_overflow(names: &[u8], at: usize) -> bool
+    ensures { result ≡ starts (bytes ".with.overflow.") (name_from names.now at) }
+{
+    name_starts(names, at, b".with.overflow.")
+}
+
 // Whether the name that goes from `at` to `end` contains `.with.overflow.`. Most are shorter than these 15 bytes, and not looked through.
 fn overflows(names: &[u8], at: usize, end: usize) -> bool
     requires { Ended names.now at end }
@@ -65,7 +75,7 @@ fn overflows(names: &[u8], at: usize, end: usize) -> bool
     }
     for i in at..end - 14 {
         if names[i] == b'.' {
-            if name_starts(names, i, b".with.overflow.") {
+            if starts_overflow(names, i) {
                 return true;
             }
         }

@@ -2,10 +2,9 @@ use Prim.Native.Nat.{◌-◌}
 use mathlib.Core.Path.{sym, ◌∙◌}
 use mathlib.Core.Logic.{⊎_elim}
 use native.Mathlib.Omega.{arith}
-use Rattle.names.specs.Text.{bytes}
 use Rattle.gen_marks.proofs.Scan.{look_start, look_here, look_end, look_later, look_other}
 use Rattle.gen_marks.proofs.overflows.Goals as goal
-use Rattle.gen_marks.proofs.overflows.Goals.{then-names-i-eq46+else-name_starts, else-names-i-eq46}
+use Rattle.gen_marks.proofs.overflows.Goals.{then-names-i-eq46+else-starts_overflow, else-names-i-eq46}
 
 pub overflow_sub-end : goal.overflow_sub-end
 overflow_sub-end c = omega (arith, c.requires.ends)
@@ -21,16 +20,14 @@ pub bounds-names-i : goal.bounds-names-i
 bounds-names-i c =
     omega (arith, c.loop-i.invariant.left.inside)
 
-pub returns-then-name_starts : goal.returns-then-name_starts
-unfolding bytes
-returns-then-name_starts c =
-    look_here c.loop-i.invariant (sym c.name_starts.ensures ∙ c.if-name_starts.true)
+pub returns-then-starts_overflow : goal.returns-then-starts_overflow
+returns-then-starts_overflow c =
+    look_here c.loop-i.invariant (sym c.starts_overflow.ensures ∙ c.if-starts_overflow.true)
 
 pub loop-i-preserved : goal.loop-i-preserved
-unfolding bytes
 loop-i-preserved c =
     elim c.if-names-i-eq46.branch [
-      | then-names-i-eq46+else-name_starts w ↦ look_later c.loop-i.invariant (omega (arith, c.loop-i-test.true)) (sym w.name_starts.ensures ∙ w.if-name_starts.false)
+      | then-names-i-eq46+else-starts_overflow w ↦ look_later c.loop-i.invariant (omega (arith, c.loop-i-test.true)) (sym w.starts_overflow.ensures ∙ w.if-starts_overflow.false)
       | else-names-i-eq46 w ↦ look_other c.loop-i.invariant (omega (arith, c.loop-i-test.true)) w.if-names-i-eq46.false
     ]
 
