@@ -217,8 +217,8 @@ fn listed_len(kinds: &[u64], words: &[u64], names: u64, item: Item) -> Option<Fo
     item_len(kinds, words, names, item)
 }
 
-// A list of at most so many items, its closing entry with it. `left` is that bound, and no index. The hint lets the compiler make a loop for
-// the cases of a switch alone in their caller: in the one for all items each case takes half as long again.
+// A list of at most so many items, its closing entry with it. `left` is that bound, and no index. The hint lets the compiler make a loop of
+// their own for the cases of a switch in their caller: in the one for all items each case takes half as long again.
 #[inline]
 pub fn list_len(kinds: &[u64], words: &[u64], names: u64, item: Item, most: usize) -> Option<Found>
     ensures { result ≡ found_of (any (other_item (item_of item))) (list_of most (itemReader names (item_of item)) (entries kinds.now words.now)) }
