@@ -56,8 +56,8 @@ fn spelled(names: &[u8], at: usize, end: usize) -> u64
     work::CALL_NONE
 }
 
-// Whether the name from `at` on starts with `.with.overflow.`. A call of its own: compiled into the loop over a name's bytes, the text is
-// looked for at each of them and not at each `.` alone.
+// Whether the name from `at` on starts with `.with.overflow.`. A call of its own: compiled into the loop over a name's bytes, its first
+// tests are made at each of them and not at each `.` alone.
 #[inline(never)]
 fn starts_overflow(names: &[u8], at: usize) -> bool
     ensures { result ≡ starts (bytes ".with.overflow.") (name_from names.now at) }

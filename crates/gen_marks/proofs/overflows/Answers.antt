@@ -1,6 +1,4 @@
-use Prim.Native.Nat.{◌-◌}
 use mathlib.Core.Path.{sym, ◌∙◌}
-use mathlib.Core.Logic.{⊎_elim}
 use native.Mathlib.Omega.{arith}
 use Rattle.gen_marks.proofs.Scan.{look_start, look_here, look_end, look_later, look_other}
 use Rattle.gen_marks.proofs.overflows.Goals as goal

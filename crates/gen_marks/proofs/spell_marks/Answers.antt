@@ -1,5 +1,4 @@
 use borrow.Author.Rules.{rules}
-use Prim.Native.Nat.{◌-◌}
 use native.Mathlib.Omega.{arith}
 use Rattle.gen_marks.specs.Mark.{spelled_small}
 use Rattle.gen_marks.specs.Spelling as laws
