@@ -88,24 +88,26 @@ module _ {m : ℕ} (bk bw : List ℕ) {first last : ℕ} {work₀ ks os : List �
   Did-turn work'' u ks'' os'' = (g : Codegen) (f : Function) (fs : List Function) → FunctionsAt m es last at (f ∷ fs) → Shared m es g work → ClearAsk m es r.from r.to work
       → Turned g f fs m es last at work'' r u ks' os' ks'' os''
 
-  module _ (l : at < last) {work'' ks'' os'' : List ℕ} {u : Turn} (one : Did-turn work'' u ks'' os'') where
-    pub turn_further : FunctionsAsk m bk bw first last work₀ t → at < u.to
-    turn_further a =
-        let v = asked a in
-        let f = first_of v.todo v.left l in
-        (one a.codegen f.fn f.others f.here v.shared v.ask).further
-
-    -- a refusal ends the walk
+  -- a refusal ends the walk: of the turn it asks the lines alone, and not where the others stand
+  module _ (l : at < last) {work'' ks'' os'' : List ℕ} {u : Turn}
+      (lines : (g : Codegen) (f : Function) (fs : List Function) → FunctionsAt m es last at (f ∷ fs) → Shared m es g work → ClearAsk m es r.from r.to work
+      → Puts (gen_function g f) r.s u.s ks' os' ks'' os'') where
     pub walk_refused : is_refused u.s ≡ true → (g : Codegen) (fs : List Function) → FunctionsAt m es last first fs → Shared m es g work₀ → ClearAsk m es t.from t.to work₀
         → FunctionsDone g fs m es work'' t u ks os ks'' os''
     unfolding each gen_functions
     walk_refused e g fs h s a =
         let v = w.walked g fs h s a in
         let f = first_of v.todo v.left l in
-        let d = one g f.fn f.others f.here v.shared v.ask in
         let way = subst (λ (xs : List Function). Toward (each (gen_function g) fs) (each (gen_function g) xs) t.s r.s ks os ks' os') f.same v.toward in
-        let done = toward_then way (toward_first (each (gen_function g) f.others) d.puts) in
+        let done = toward_then way (toward_first (each (gen_function g) f.others) (lines g f.fn f.others f.here v.shared v.ask)) in
         record { puts = done.goes u.s ks'' os'' (refused_puts _ u.s ks'' os'' e); again = λ z. never e z }
+
+  module _ (l : at < last) {work'' ks'' os'' : List ℕ} {u : Turn} (one : Did-turn work'' u ks'' os'') where
+    pub turn_further : FunctionsAsk m bk bw first last work₀ t → at < u.to
+    turn_further a =
+        let v = asked a in
+        let f = first_of v.todo v.left l in
+        (one a.codegen f.fn f.others f.here v.shared v.ask).further
 
     -- one more
     pub walk_more : is_refused u.s ≡ false → length work'' ≡ length work → length ks'' ≡ length ks' → length os'' ≡ length os'

@@ -27,7 +27,8 @@ shape_of-operands-then-turn-ne0 c =
 pub returns-then-turn-ne0 : goal.returns-then-turn-ne0
 returns-then-turn-ne0 c =
     let stopped = ap not (ne_eqb _ 0 c.if-turn-ne0.true) in
-    laws.walk_refused c.args.book_kinds.now c.args.book_words.now c.loop-at.invariant c.loop-at-test.true c.gen_turn-turn.ensures stopped
+    laws.walk_refused c.args.book_kinds.now c.args.book_words.now c.loop-at.invariant c.loop-at-test.true
+    (λ g f fs h s a. (c.gen_turn-turn.ensures g f fs h s a).puts) stopped
 
 pub loop-at-smaller : goal.loop-at-smaller
 loop-at-smaller c =
